@@ -1,0 +1,21 @@
+//! What every other crate stands on: who takes part, how many replicas answer, lists, and bytes.
+#![tactic(auto)]
+
+mod bad_text;
+mod bounds;
+mod cursor;
+mod list;
+mod no_memory;
+mod outbytes;
+mod party;
+
+pub use bad_text::{BadText, ReadFail, Why};
+pub use bounds::{BadBounds, Bounds};
+pub use cursor::Cursor;
+pub use list::List;
+pub use no_memory::NoMemory;
+pub use outbytes::Outbytes;
+pub use party::{ClientId, Digest, ObjectId, Party, ReplicaId};
+
+#[cfg(test)]
+mod tests;
