@@ -1,0 +1,14 @@
+-- What the words of the command line ask for.
+use Rattle.std.specs.Prelude.{ℕ, List, [], ◌∷◌, ◌++◌, Option, None, Some, codes, if◌then◌else◌}
+use Rattle.std.specs.Str.{bytes_eq}
+use Rattle.qu_cli.specs.declared.command.Command.{Command}
+use Rattle.qu_cli.specs.declared.command.Command.TheVariants.{Sim}
+
+unfoldable pub command_of : List (List ℕ) → Option Command
+command_of [] = None
+command_of (word ∷ []) = if bytes_eq word (codes "sim") then Some Sim else None
+command_of (word ∷ second ∷ words) = None
+
+-- the line that tells which words there are
+unfoldable pub usage_text : List ℕ
+usage_text = codes "usage: qu sim [--gen N] | live | gen N" ++ 10 ∷ []

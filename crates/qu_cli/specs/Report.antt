@@ -1,0 +1,12 @@
+-- The exit status of each outcome.
+use Rattle.std.specs.Prelude.{ℕ}
+use Rattle.qu_cli.specs.declared.report.Outcome.{Outcome}
+use Rattle.qu_cli.specs.declared.report.Outcome.TheVariants.{Done, BadWords, BadScript, ReadFault, WriteFault, NoMemory}
+
+abbrev pub status_of : Outcome → ℕ
+status_of Done = 0
+status_of BadWords = 2
+status_of BadScript = 3
+status_of ReadFault = 4
+status_of WriteFault = 5
+status_of NoMemory = 6

@@ -1,0 +1,62 @@
+ghost use Rattle.std.specs.Prelude.{◌≡◌, ◌≢◌, ◌≤◌, ◌↔◌, None, map, string_bytes};
+ghost use Rattle.qu_io.specs.Known.{Rose};
+ghost use Rattle.qu_cli.specs.Command.{command_of, usage_text};
+ghost use Rattle.qu_cli.specs.Transfer.{TakesFew, WritesOrFails};
+ghost use Rattle.qu_cli.specs.Ends.{EndsBad, EndsShort, EndsDone, IsRefused, IsComplete};
+
+use super::answer::{Answer, NoAnswer, answer_for};
+use super::command::{USAGE, read_command};
+use super::writing::{tell_text, write_text};
+use super::{Outcome, Report};
+use qu_io::{Sink, Source};
+use std::alloc::Global;
+
+/// Runs the program: what the words ask for, over the input, with all that it tells in the output.
+///
+/// The status is 0 where all went well, 2 for wrong words, 3 for a script that is refused, 4 for a
+/// fault of the input, 5 for one of the output, and 6 for want of memory.
+#[tactic(auto, using(crate::proofs::EndFacts::end_laws), unfolding(crate::specs::Command::usage_text))]
+pub fn qu<S: Source, K: Sink>(
+    alloc: Global,
+    words: &[String],
+    input: &mut S,
+    output: &mut K,
+) -> Report
+    ensures status { (result.status ≤ 6) × (result.status ≢ 1) }
+    ensures few { TakesFew (S.known input.old) (S.known input.new) }
+
+    ensures bad_words { (result.status ≡ 2) ↔ (command_of (map string_bytes words.now) ≡ None) }
+    ensures usage { result.status ≡ 2 → (input.new ≡ input.old)
+        × WritesOrFails (K.known output.old) (K.known output.new) usage_text }
+    ensures bad_script { result.status ≡ 3 → EndsBad (command_of (map string_bytes words.now))
+        (S.known input.old) (S.known input.new) (K.known output.old) (K.known output.new) }
+    ensures read_fault { result.status ≡ 4 →
+        Rose (S.known input.old) (S.known input.new) × (output.new ≡ output.old) }
+    ensures write_fault { result.status ≡ 5 → EndsShort (command_of (map string_bytes words.now))
+        (S.known input.old) (S.known input.new) (K.known output.old) (K.known output.new) }
+    ensures no_memory { result.status ≡ 6 → output.new ≡ output.old }
+    ensures done { result.status ≡ 0 → EndsDone (command_of (map string_bytes words.now))
+        (S.known input.old) (S.known input.new) (K.known output.old) (K.known output.new) }
+
+    ensures refused { IsRefused (command_of (map string_bytes words.now)) (S.known input.old)
+        (S.known input.new) (K.known output.old) (K.known output.new) result.status }
+    ensures complete { IsComplete (command_of (map string_bytes words.now)) (S.known input.old)
+        (S.known input.new) (K.known output.old) (K.known output.new) result.status }
+{
+    let Some(command) = read_command(words) else {
+        tell_text(output, USAGE);
+        return Report::from(Outcome::BadWords);
+    };
+    match answer_for(alloc, command, input) {
+        Ok(Answer::Text(text)) => match write_text(output, text.as_bytes()) {
+            Ok(()) => Report::from(Outcome::Done),
+            Err(_) => Report::from(Outcome::WriteFault),
+        },
+        Ok(Answer::Refusal(line)) => {
+            tell_text(output, line.as_bytes());
+            Report::from(Outcome::BadScript)
+        }
+        Err(NoAnswer::ReadFault) => Report::from(Outcome::ReadFault),
+        Err(NoAnswer::NoMemory) => Report::from(Outcome::NoMemory),
+    }
+}
