@@ -1,0 +1,73 @@
+ghost use Rattle.std.specs.Prelude.{◌≡◌, ◌↔◌, IfOk, IsTrue};
+
+use qu_base::{List, NoMemory, ObjectId};
+use qu_objects::Answer;
+use qu_stamp::Stamp;
+use std::alloc::Global;
+
+/// The class of an object upon which no operation may rest.
+#[derive(Clone, Copy, Debug, PartialEq, Eq)]
+pub enum ClassCode {
+    Barrier,
+}
+
+/// Why a replica refuses a request. Nothing changed at it.
+#[derive(Clone, Copy, Debug, PartialEq, Eq)]
+pub enum Refusal {
+    /// The history of this object is full.
+    HistoryFull(ObjectId),
+    /// The sets have fewer entries of this object than a quorum.
+    Thin(ObjectId),
+    /// The replica has a later candidate of this object, whose stamp is told.
+    NotCurrent(ObjectId, Stamp),
+    /// An operation may not rest upon this object, which is of the class told.
+    NotMethod(ObjectId, ClassCode),
+    /// The time of this object is spent.
+    TimeSpent(ObjectId),
+    /// The replica does not have this object.
+    UnknownObject(ObjectId),
+}
+
+/// What a replica answers to a request.
+#[derive(Debug, Drop, PartialEq, Eq)]
+pub enum Verdict {
+    /// The act was performed: the stamps of its candidates, and the answer.
+    Done {
+        stamps: List<(ObjectId, Stamp)>,
+        answer: Answer,
+    },
+    /// The query was answered: the stamps of the versions that were read, and the answer.
+    Told {
+        stamps: List<(ObjectId, Stamp)>,
+        answer: Answer,
+    },
+    Refused(Refusal),
+}
+
+impl Verdict {
+    ghost use Rattle.qu_frames.specs.Verdict.{same_verdict};
+
+    /// Whether it is the same verdict, with the same stamps and the same answer.
+    pub fn is_same(&self, other: &Verdict) -> bool
+        ensures { result ≡ same_verdict self.now other.now }
+    {
+        self == other
+    }
+
+    /// An equal verdict.
+    pub fn copy(&self, alloc: Global) -> Result<Verdict, NoMemory>
+        ensures { IfOk result (λ verdict. verdict ≡ self.now) }
+    {
+        Ok(match self {
+            Verdict::Done { stamps, answer } => Verdict::Done {
+                stamps: stamps.copy(alloc)?,
+                answer: answer.copy(alloc)?,
+            },
+            Verdict::Told { stamps, answer } => Verdict::Told {
+                stamps: stamps.copy(alloc)?,
+                answer: answer.copy(alloc)?,
+            },
+            Verdict::Refused(refusal) => Verdict::Refused(*refusal),
+        })
+    }
+}

@@ -1,0 +1,5 @@
+pub mod Rising
+pub mod Stamps
+pub mod Greatest
+pub mod Method
+pub mod SetLaws

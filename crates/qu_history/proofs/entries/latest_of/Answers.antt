@@ -1,0 +1,31 @@
+use Rattle.std.proofs.Common.{◌≡◌, ◌+◌, IsTrue, take, sym, ◌∙◌, ap}
+use Rattle.std.proofs.lemmas.List.Elements.{All-more}
+use Rattle.qu_stamp.specs.declared.stamp.Stamp.{Stamp}
+use Rattle.qu_stamp.specs.Stamp.{is_below}
+use Rattle.qu_history.specs.History.{ObjectHistory, is_history, greater_stamp, latest}
+use Rattle.qu_history.specs.Sets.{latest_of}
+use Rattle.qu_history.proofs.Method.{all_up_to, latest_of_next}
+use Rattle.qu_history.proofs.Stamps.{greater_first, greater_second}
+use Rattle.qu_history.proofs.entries.latest_of.Goals as goal
+use Rattle.qu_history.proofs.entries.latest_of.Goals.{then-is_below, else-is_below}
+
+pub loop-entry-preserved : goal.loop-entry-preserved
+loop-entry-preserved c =
+    let so_far : Stamp = c.loop-entry.latest in
+    let here : Stamp = latest c.entry-item.result.candidates in
+    let next : latest_of (take (c.loop-entry.entry-index + 1) c.args.entries.now) ≡ greater_stamp so_far here =
+    latest_of_next c.args.entries.now c.loop-entry.entry-index so_far c.entry-item.result c.loop-entry-test.true c.loop-entry.invariant.value c.entry-item.is in
+    let test : is_below so_far here ≡ c.is_below.result = ap (is_below so_far) (sym c.last.ensures.greatest) ∙ sym c.is_below.ensures in
+    record {
+      value = elim c.if-is_below.branch [
+        | then-is_below w ↦ w.latest-is ∙ c.last.ensures.greatest ∙ sym (greater_second so_far here (test ∙ w.if-is_below.true)) ∙ sym next
+        | else-is_below w ↦ w.latest-is ∙ sym (greater_first so_far here (test ∙ w.if-is_below.false)) ∙ sym next
+      ];
+      histories =
+          All-more (λ (entry : ObjectHistory). IsTrue (is_history entry.candidates)) c.args.entries.now c.loop-entry.entry-index c.entry-item.result c.loop-entry-test.true c.loop-entry.invariant.histories
+          (ap (λ (entry : ObjectHistory). is_history entry.candidates) (sym c.entry-item.is) ∙ c.last.ensures.rising);
+    }
+
+pub returns-clause-up_to : goal.returns-clause-up_to
+returns-clause-up_to c =
+    all_up_to c.args.entries.now c.loop-entry.entry-index c.loop-entry.latest c.loop-entry-test.false c.loop-entry.invariant.value c.loop-entry.invariant.histories

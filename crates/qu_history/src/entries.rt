@@ -1,0 +1,93 @@
+ghost use Rattle.std.specs.Prelude.{◌≡◌, ◌≤◌, length, All};
+ghost use Rattle.qu_history.specs.Sets.{order_of, latest_of, method_at};
+ghost use Rattle.qu_history.specs.Lasts.{IsEntryUpTo, times_last, is_last_of, greatest_last, greater_of};
+
+use super::History;
+use qu_base::Bounds;
+use qu_stamp::{Candidate, Stamp};
+
+/// How many of the entries of an object hold the candidate.
+#[tactic(auto, unfolding(crate::specs::Sets::order_of), using(crate::proofs::Method::order_of_most))]
+pub fn order_of(entries: &[History], candidate: &Candidate) -> usize
+    ensures value { result ≡ order_of candidate.now entries.now }
+    ensures most { result ≤ length entries.now }
+{
+    entries
+        .iter()
+        .filter(|entry| entry.holds(candidate))
+        .count()
+}
+
+/// The greatest stamp of the entries, the opening one where there are none.
+#[tactic(auto, using(crate::proofs::Method::latest_of_none, crate::proofs::Method::latest_of_more, crate::proofs::Method::entries_up_to))]
+pub fn latest_of(entries: &[History]) -> Stamp
+    ensures value { result ≡ latest_of entries.now }
+    ensures up_to { All (IsEntryUpTo result) entries.now }
+{
+    let mut latest = Stamp::opening();
+    for entry in entries {
+        let stamp = entry.last().stamp;
+        if latest.is_below(&stamp) {
+            latest = stamp;
+        }
+    }
+    latest
+}
+
+/// The candidate of class METHOD of the object of these entries.
+///
+/// Since stamps rise in each entry, only last candidates have the latest stamp.
+#[tactic(auto, using(crate::proofs::Method::method_at_none, crate::proofs::Method::method_at_short, crate::proofs::Method::method_at_full))]
+pub fn method_at(entries: &[History], bounds: &Bounds) -> Option<Candidate>
+    ensures { result ≡ method_at bounds.now entries.now }
+{
+    let latest = latest_of(entries);
+    let candidate = greatest_last(entries, latest, usize::from(bounds.r()))?;
+    if times_last(entries, &candidate) < usize::from(bounds.q()) {
+        return None;
+    }
+    Some(candidate)
+}
+
+/// How many of the entries end with the candidate.
+#[tactic(auto, unfolding(crate::specs::Lasts::times_last))]
+fn times_last(entries: &[History], candidate: &Candidate) -> usize
+    ensures { result ≡ times_last candidate.now entries.now }
+{
+    entries
+        .iter()
+        .filter(|entry| entry.last() == *candidate)
+        .count()
+}
+
+/// Whether the candidate has this stamp, and at least so many of the entries end with it.
+fn is_last_of(entries: &[History], stamp: Stamp, least: usize, candidate: &Candidate) -> bool
+    ensures { result ≡ is_last_of entries.now stamp least candidate.now }
+{
+    candidate.stamp == stamp && times_last(entries, candidate) >= least
+}
+
+/// The greatest candidate with this stamp with which at least so many of the entries end.
+#[tactic(auto, unfolding(crate::specs::Lasts::greatest_last), using(crate::proofs::Greatest::greatest_none, crate::proofs::Greatest::greatest_more))]
+fn greatest_last(entries: &[History], stamp: Stamp, least: usize) -> Option<Candidate>
+    ensures { result ≡ greatest_last entries.now stamp least }
+{
+    let mut greatest = None;
+    for entry in entries {
+        let candidate = entry.last();
+        if is_last_of(entries, stamp, least, &candidate) {
+            greatest = Some(greater_of(greatest, candidate));
+        }
+    }
+    greatest
+}
+
+/// The greater of a candidate and the best so far.
+fn greater_of(best: Option<Candidate>, candidate: Candidate) -> Candidate
+    ensures { result ≡ greater_of best candidate }
+{
+    match best {
+        Some(best) if !best.is_before(&candidate) => best,
+        _ => candidate,
+    }
+}

@@ -1,0 +1,193 @@
+ghost use Rattle.std.specs.Prelude.{◌≡◌, ◌≤◌, ◌↔◌, [], length, true, false, IsTrue, IsNone, IfNone, IfSome, IfOk};
+ghost use Rattle.qu_history.specs.Sets.{is_entry, are_entries, is_set, are_sets, entries_of, order_of, latest_of, method_at};
+
+use super::{History, entries};
+use qu_base::{Bounds, List, NoMemory, ObjectId};
+use qu_stamp::{Candidate, Stamp};
+use std::alloc::Global;
+use std::marker::Model;
+
+/// The most objects in one set of histories.
+pub const OBJECTS_LIMIT: usize = 8;
+
+/// Objects are counted from 0 to below this.
+pub const OBJECT_IDS: u16 = 64;
+
+/// Replicas are counted from 0 to below this.
+pub const REPLICA_IDS: u8 = 16;
+
+/// The histories of one object that some replicas showed, at most one of each, by rising replica.
+#[derive(Debug, Drop)]
+pub struct SetOf {
+    pub object: ObjectId,
+    pub entries: List<History>,
+}
+
+impl SetOf {
+    /// An equal set.
+    pub fn copy(&self, alloc: Global) -> Result<SetOf, NoMemory>
+        ensures { IfOk result (λ set. set ≡ self.now) }
+    {
+        let mut entries = List::new(alloc);
+        for entry in self.entries.as_slice() {
+            entries.push(entry.copy(alloc)?)?;
+        }
+        Ok(SetOf {
+            object: self.object,
+            entries,
+        })
+    }
+}
+
+/// One to eight objects in rising order, each with the histories that some replicas showed of it.
+#[derive(Debug, Drop)]
+pub struct Sets {
+    objects: List<SetOf>,
+}
+
+impl Model for Sets {
+    ghost use Rattle.std.specs.Prelude.{List, IsTrue};
+    ghost use Rattle.qu_history.specs.declared.sets.SetOf.{SetOf};
+    ghost use Rattle.qu_history.specs.Sets.{are_sets};
+
+    ghost Value = { List SetOf };
+
+    ghost view = { λ sets. sets.objects };
+
+    ghost invariant = { λ sets. IsTrue (are_sets sets.objects) };
+}
+
+impl Sets {
+    /// The sets of these objects, if their objects and replicas rise as they should.
+    pub fn new(objects: List<SetOf>) -> Option<Sets>
+        ensures refused { IsNone result ↔ are_sets objects ≡ false }
+        ensures value { IfSome result (λ sets. sets ≡ objects) }
+    {
+        if are_sets(objects.as_slice()) {
+            Some(Sets { objects })
+        } else {
+            None
+        }
+    }
+
+    /// The objects, in rising order.
+    pub fn objects(&self) -> &List<SetOf>
+        ensures value { result.now ≡ self.now }
+        ensures rising { IsTrue (are_sets result.now) }
+    {
+        &self.objects
+    }
+
+    /// Equal sets.
+    pub fn copy(&self, alloc: Global) -> Result<Sets, NoMemory>
+        ensures { IfOk result (λ sets. sets ≡ self.now) }
+    {
+        let mut objects = List::new(alloc);
+        for set in self.objects.as_slice() {
+            objects.push(set.copy(alloc)?)?;
+        }
+        Ok(Sets { objects })
+    }
+
+    /// The histories of an object, by rising replica; none where the object is not in the sets.
+    #[tactic(auto, using(crate::proofs::SetLaws::few_entries))]
+    pub fn find(&self, object: ObjectId) -> &[History]
+        ensures value { result.now ≡ entries_of object self.now }
+        ensures few { length result.now ≤ 16 }
+    {
+        entries_in(self.objects.as_slice(), object)
+    }
+
+    /// How many histories the object has, 0 where it is not in the sets.
+    pub fn entries(&self, object: ObjectId) -> u8
+        ensures { result ≡ length (entries_of object self.now) }
+    {
+        self.find(object).len() as u8
+    }
+
+    /// How many of the object's histories hold the candidate.
+    pub fn count(&self, object: ObjectId, candidate: &Candidate) -> u8
+        ensures { result ≡ order_of candidate.now (entries_of object self.now) }
+    {
+        entries::order_of(self.find(object), candidate) as u8
+    }
+
+    /// The greatest stamp in the object's histories; `None` where it has none.
+    pub fn latest(&self, object: ObjectId) -> Option<Stamp>
+        ensures none { IsNone result ↔ entries_of object self.now ≡ [] }
+        ensures value { IfSome result (λ stamp. stamp ≡ latest_of (entries_of object self.now)) }
+    {
+        let entries = self.find(object);
+        if entries.is_empty() {
+            return None;
+        }
+        Some(entries::latest_of(entries))
+    }
+
+    /// The candidate of class METHOD of the object: an operation may rest upon it.
+    pub fn method_at(&self, object: ObjectId, bounds: &Bounds) -> Option<Candidate>
+        ensures { result ≡ method_at bounds.now (entries_of object self.now) }
+    {
+        entries::method_at(self.find(object), bounds)
+    }
+}
+
+/// The histories of an object in these sets.
+fn entries_in(objects: &[SetOf], object: ObjectId) -> &[History]
+    ensures { result.now ≡ entries_of object objects.now }
+{
+    for set in objects {
+        if set.object == object {
+            return set.entries.as_slice();
+        }
+    }
+    &[]
+}
+
+/// Whether these are one to eight objects as `Sets` wants them.
+fn are_sets(objects: &[SetOf]) -> bool
+    ensures { result ≡ are_sets objects.now }
+{
+    if objects.is_empty() || objects.len() > OBJECTS_LIMIT {
+        return false;
+    }
+    let mut least = 0;
+    for set in objects {
+        if !is_set(least, set) {
+            return false;
+        }
+        least = set.object.0 + 1;
+    }
+    true
+}
+
+/// Whether this is an object from this number on, with its entries.
+fn is_set(least: u16, set: &SetOf) -> bool
+    ensures { result ≡ is_set least set.now }
+{
+    least <= set.object.0
+        && set.object.0 < OBJECT_IDS
+        && are_entries(set.object, set.entries.as_slice())
+}
+
+/// Whether these are histories of the object by different replicas, in rising order.
+fn are_entries(object: ObjectId, entries: &[History]) -> bool
+    ensures { result ≡ are_entries object 0 entries.now }
+{
+    let mut least = 0;
+    for entry in entries {
+        if !is_entry(object, least, entry) {
+            return false;
+        }
+        least = entry.replica().0 + 1;
+    }
+    true
+}
+
+/// Whether this is a history of the object by a replica from this number on.
+fn is_entry(object: ObjectId, least: u8, entry: &History) -> bool
+    ensures { result ≡ is_entry object least entry.now }
+{
+    let replica = entry.replica().0;
+    entry.object() == object && least <= replica && replica < REPLICA_IDS
+}

@@ -1,0 +1,145 @@
+use super::*;
+use qu_base::{Bounds, ClientId, List, ObjectId, ReplicaId};
+use qu_stamp::{Candidate, Stamp};
+use std::alloc::Global;
+use std::test::Fail;
+
+const OBJECT: ObjectId = ObjectId(5);
+
+fn stamp_at(time: u64, client: u16) -> Stamp {
+    Stamp {
+        time,
+        client: ClientId(client),
+        number: 1,
+    }
+}
+
+/// The update of a client upon the opening candidate.
+fn update_by(client: u16) -> Candidate {
+    Candidate {
+        stamp: stamp_at(1, client),
+        prior: Stamp::opening(),
+    }
+}
+
+/// Puts so many histories at the end of the entries, each with the update where there is one.
+fn put(
+    alloc: Global,
+    entries: &mut List<History>,
+    count: u8,
+    update: Option<Candidate>,
+) -> Result<(), Fail> {
+    for _ in 0..count {
+        let replica = u8::try_from(entries.len()).ok().ok_or("replicas")?;
+        let mut history = History::opening(alloc, OBJECT, ReplicaId(replica))?;
+        if let Some(candidate) = update {
+            history.add(candidate)?;
+        }
+        entries.push(history)?;
+    }
+    Ok(())
+}
+
+/// One object with so many histories that end with the update of client 1, with that of client 2,
+/// and with the opening candidate.
+fn sets_of(alloc: Global, first: u8, second: u8, opening: u8) -> Result<Sets, Fail> {
+    let mut entries = List::new(alloc);
+    put(alloc, &mut entries, first, Some(update_by(1)))?;
+    put(alloc, &mut entries, second, Some(update_by(2)))?;
+    put(alloc, &mut entries, opening, None)?;
+    let mut objects = List::new(alloc);
+    objects.push(SetOf {
+        object: OBJECT,
+        entries,
+    })?;
+    Ok(Sets::new(objects).ok_or("sets")?)
+}
+
+#[test]
+fn method_wants_a_quorum_at_the_latest_stamp(rt: HostRuntime) -> Result<(), Fail> {
+    let bounds = Bounds::new(1).ok().ok_or("bounds")?;
+    let cases = [
+        (0, 0, 5, Some(Candidate::opening())),
+        (5, 0, 1, Some(update_by(1))),
+        (0, 5, 1, Some(update_by(2))),
+        (4, 0, 1, None),
+        (3, 3, 0, None),
+        (3, 2, 0, None),
+        (2, 2, 1, None),
+        (0, 0, 0, None),
+    ];
+    for (first, second, opening, expected) in cases {
+        let sets = sets_of(rt.alloc(), first, second, opening)?;
+        assert_eq!(rt;
+            sets.method_at(OBJECT, &bounds),
+            expected,
+            "{first} {second} {opening}"
+        );
+        assert_eq!(rt; sets.count(OBJECT, &update_by(1)), first);
+        assert_eq!(rt; sets.count(OBJECT, &update_by(2)), second);
+    }
+    Ok(())
+}
+
+#[test]
+fn sets_tell_what_their_histories_hold(rt: HostRuntime) -> Result<(), Fail> {
+    let sets = sets_of(rt.alloc(), 2, 1, 1)?.copy(rt.alloc())?;
+    assert_eq!(rt; sets.entries(OBJECT), 4);
+    assert_eq!(rt; sets.count(OBJECT, &Candidate::opening()), 4);
+    assert_eq!(rt; sets.latest(OBJECT), Some(stamp_at(1, 2)));
+    let other = ObjectId(6);
+    assert_eq!(rt; sets.entries(other), 0);
+    assert_eq!(rt; sets.latest(other), None);
+    Ok(())
+}
+
+#[test]
+fn sets_want_replicas_that_rise(rt: HostRuntime) -> Result<(), Fail> {
+    for (first, second, accepted) in [(0, 1, true), (1, 1, false), (1, 0, false), (0, 16, false)] {
+        let mut entries = List::new(rt.alloc());
+        for replica in [first, second] {
+            entries.push(History::opening(rt.alloc(), OBJECT, ReplicaId(replica))?)?;
+        }
+        let mut objects = List::new(rt.alloc());
+        objects.push(SetOf {
+            object: OBJECT,
+            entries,
+        })?;
+        assert_eq!(rt; Sets::new(objects).is_some(), accepted, "{first} {second}");
+    }
+    assert!(rt; Sets::new(List::new(rt.alloc())).is_none());
+    Ok(())
+}
+
+#[test]
+fn a_history_refuses_a_stamp_that_is_not_later(rt: HostRuntime) -> Result<(), Fail> {
+    let mut history = History::opening(rt.alloc(), OBJECT, ReplicaId(0))?;
+    history.add(update_by(2))?;
+    for client in [1, 2] {
+        let refused = history.add(update_by(client));
+        assert_eq!(rt; refused.err(), Some(AddFail::NotLater(stamp_at(1, 2))));
+    }
+    assert_eq!(rt; history.len(), 2);
+    assert!(rt; history.holds(&update_by(2)));
+    assert!(rt; !history.holds(&update_by(1)));
+    Ok(())
+}
+
+#[test]
+fn a_history_holds_1024_candidates(rt: HostRuntime) -> Result<(), Fail> {
+    let mut history = History::opening(rt.alloc(), OBJECT, ReplicaId(0))?;
+    for time in 1..1024 {
+        history.add(Candidate {
+            stamp: stamp_at(time, 1),
+            prior: history.latest(),
+        })?;
+    }
+    assert_eq!(rt; history.len(), 1024);
+    let refused = history.add(Candidate {
+        stamp: stamp_at(1024, 1),
+        prior: history.latest(),
+    });
+    assert_eq!(rt; refused.err(), Some(AddFail::HistoryFull));
+    assert_eq!(rt; history.latest(), stamp_at(1023, 1));
+    Ok(())
+}

@@ -1,0 +1,54 @@
+ghost use Rattle.std.specs.Prelude.{◌≡◌, ◌∷◌, [], length, IfOk};
+ghost use Rattle.qu_objects.specs.Perform.{performed_answer, performed_values, told_answer};
+
+use super::{Act, Answer, Applied, Item, Query, Value};
+use qu_base::{List, NoMemory};
+use std::alloc::Global;
+
+/// What an act makes of the values of its objects: each of them changed or none, and the answer.
+#[derive(Debug, Drop)]
+pub struct Performed {
+    pub values: List<Value>,
+    pub answer: Answer,
+}
+
+/// Performs an act on the values of its objects, given in the order of its parts.
+pub fn perform(alloc: Global, values: &[Value], act: &Act) -> Result<Performed, NoMemory>
+    requires { length values.now ≡ length act.now }
+    ensures values { IfOk result (λ performed. performed.values ≡ performed_values act.now values.now) }
+    ensures answer { IfOk result (λ performed. performed.answer ≡ performed_answer act.now values.now) }
+{
+    match (values, act.parts().as_slice()) {
+        ([value], [(_, method)]) => match value.apply(method) {
+            Applied::Changed(value, item) => Ok(Performed {
+                values: one(alloc, value)?,
+                answer: Answer::Ok(one(alloc, item)?),
+            }),
+            Applied::Refused(why) => Ok(Performed {
+                values: one(alloc, *value)?,
+                answer: Answer::Refused { at: 0, why },
+            }),
+        },
+        _ => unreachable!(),
+    }
+}
+
+/// Answers a query from the values of its objects, given in the order of its parts.
+pub fn tell_all(alloc: Global, values: &[Value], query: &Query) -> Result<Answer, NoMemory>
+    requires { length values.now ≡ length query.now }
+    ensures { IfOk result (λ answer. answer ≡ told_answer query.now values.now) }
+{
+    match (values, query.parts().as_slice()) {
+        ([value], [(_, ask)]) => Ok(Answer::Ok(one(alloc, value.tell(ask))?)),
+        _ => unreachable!(),
+    }
+}
+
+/// The list of one item.
+fn one<T: Drop>(alloc: Global, item: T) -> Result<List<T>, NoMemory>
+    ensures { IfOk result (λ items. items ≡ item ∷ []) }
+{
+    let mut items = List::new(alloc);
+    items.push(item)?;
+    Ok(items)
+}

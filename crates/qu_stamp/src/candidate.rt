@@ -1,0 +1,36 @@
+ghost use Rattle.std.specs.Prelude.{◌≡◌};
+
+use super::Stamp;
+use std::cmp::Ordering;
+
+/// A version of an object that a replica may accept: its own stamp, and the stamp of the version
+/// upon which it rests. Candidates compare by stamp, then prior.
+#[derive(Clone, Copy, Debug, PartialEq, Eq, PartialOrd, Ord, Hash)]
+pub struct Candidate {
+    pub stamp: Stamp,
+    pub prior: Stamp,
+}
+
+impl Candidate {
+    ghost use Rattle.qu_stamp.specs.Candidate.{opening, is_before};
+
+    /// The candidate with which each object begins. It rests upon itself.
+    pub const fn opening() -> Candidate
+        ensures { result ≡ opening }
+    {
+        Candidate {
+            stamp: Stamp::opening(),
+            prior: Stamp::opening(),
+        }
+    }
+
+    /// Whether this candidate is below the other one.
+    pub fn is_before(&self, other: &Candidate) -> bool
+        ensures { result ≡ is_before self.now other.now }
+    {
+        match self.cmp(other) {
+            Ordering::Less => true,
+            Ordering::Equal | Ordering::Greater => false,
+        }
+    }
+}
