@@ -1,0 +1,6 @@
+pub mod Keeping
+pub mod Asking
+pub mod Own
+pub mod Judging
+pub mod Cases
+pub mod Laws

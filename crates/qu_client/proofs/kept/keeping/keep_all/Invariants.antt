@@ -1,0 +1,7 @@
+use Rattle.std.proofs.Common.{◌≡◌, drop}
+use Rattle.qu_client.specs.State.{keep_all}
+use Rattle.qu_client.proofs.kept.keeping.keep_all.Given as goal
+
+abbrev pub invariant-loop-history : goal.invariant-loop-history
+invariant-loop-history l =
+    keep_all l.number l.round (drop l.history-index l.shown) l.all.items ≡ keep_all l.number l.round l.shown l.kept

@@ -1,0 +1,4 @@
+pub mod State
+pub mod Rounds
+pub mod Step
+pub mod Sound

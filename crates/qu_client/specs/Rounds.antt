@@ -1,0 +1,95 @@
+-- How a client begins a round of an operation (Query/Update: the client's requests).
+use Rattle.std.specs.Prelude.{ℕ, zero, suc, Bool, true, false, not, ◌+◌, ◌&&◌, nat_lt, if◌then◌else◌, List, [], ◌∷◌, map, length, None, Some, is_some}
+use Rattle.std.specs.List.{list_all}
+use Rattle.qu_base.specs.declared.party.ClientId.{ClientId}
+use Rattle.qu_base.specs.declared.party.ObjectId.{ObjectId}
+use Rattle.qu_base.specs.declared.party.Party.TheVariants as party
+use Rattle.qu_base.specs.Thresholds.{replicas, quorum}
+use Rattle.qu_history.specs.declared.sets.SetOf.{SetOf}
+use Rattle.qu_history.specs.History.{ObjectHistory}
+use Rattle.qu_history.specs.Sets.{method_at}
+use Rattle.qu_objects.specs.declared.op.Op.{Op}
+use Rattle.qu_objects.specs.declared.op.Op.TheVariants as op
+use Rattle.qu_frames.specs.declared.frame.Frame.TheVariants as frame
+use Rattle.qu_frames.specs.declared.frame.Letter.{Letter}
+use Rattle.qu_frames.specs.Body.{body_of}
+use Rattle.qu_client.specs.declared.kept.Kept.{Kept}
+use Rattle.qu_client.specs.declared.state.Begun.{Begun}
+use Rattle.qu_client.specs.declared.work.Phase.TheVariants.{Asking, Halted}
+use Rattle.qu_client.specs.declared.work.Work.{Work}
+use Rattle.qu_client.specs.State.{ClientState, kept_of}
+
+-- the objects that an operation names
+abbrev pub objects_of : Op → List ObjectId
+objects_of (op.Act parts) = map (λ part. part.0) parts
+objects_of (op.Query parts) = map (λ part. part.0) parts
+
+-- one object below 64
+abbrev pub are_objects : List ObjectId → Bool
+are_objects [] = false
+are_objects (object ∷ []) = nat_lt object.0 64
+are_objects (first ∷ second ∷ objects) = false
+
+abbrev pub is_act : Op → Bool
+is_act (op.Act parts) = true
+is_act (op.Query parts) = false
+
+-- the entries of an object that are kept of so many replicas from this one on
+unfoldable pub entries_from : ObjectId → ℕ → ℕ → List Kept → List ObjectHistory
+entries_from object replica zero kept = []
+entries_from object replica (suc count) kept =
+    elim (kept_of object replica kept) [ None ↦ entries_from object (replica + 1) count kept | Some history ↦ history ∷ entries_from object (replica + 1) count kept ]
+
+abbrev pub set_of : ℕ → List Kept → ObjectId → SetOf
+set_of bounds kept object = record { object = object; entries = entries_from object 0 (replicas bounds) kept }
+
+-- the sets of a round: of each object what is kept of it
+abbrev pub sets_of : ℕ → List Kept → Op → List SetOf
+sets_of bounds kept op = map (λ object. set_of bounds kept object) (objects_of op)
+
+-- each object has a quorum of entries
+abbrev pub are_full : ℕ → List SetOf → Bool
+are_full bounds sets = list_all (λ set. not (nat_lt (length set.entries) (quorum bounds))) sets
+
+-- each object is of class METHOD
+abbrev pub are_current : ℕ → List SetOf → Bool
+are_current bounds sets = list_all (λ set. is_some (method_at bounds set.entries)) sets
+
+-- the same request to so many replicas from this one on
+unfoldable pub requests_from : ℕ → ℕ → ClientId → Work → List SetOf → List Letter
+requests_from replica zero me work sets = []
+requests_from replica (suc count) me work sets = (record {
+  from = party.Client me;
+  to = party.Replica (record { 0 = replica });
+  frame = frame.Request me work.number work.round sets (body_of work.op);
+}) ∷ requests_from (replica + 1) count me work sets
+
+-- the state and the letters that a round makes of this state
+abbrev pub begun_from : ClientState → Begun → ClientState × List Letter
+begun_from state begun =
+    (record state { last_request = begun.last_request; work = Some begun.work }, begun.letters)
+
+-- all replicas are asked
+abbrev pub asked : ClientState → Work → List SetOf → ClientState × List Letter
+asked state work sets = (
+  record state { last_request = Some (work.number, work.round); work = Some (record work { phase = Asking; replies = [] }) },
+  requests_from 0 (replicas state.bounds) state.me work sets,
+)
+
+-- nothing is sent, and the operation stays open
+abbrev pub halted : ClientState → Work → ClientState × List Letter
+halted state work = (record state { work = Some (record work { phase = Halted; replies = [] }) }, [])
+
+-- with a quorum of entries of each object an operation is sent where they all are current, and an
+-- act only once
+abbrev pub begin_full : ClientState → Work → List SetOf → ClientState × List Letter
+begin_full state work sets =
+    if are_current state.bounds sets && not (is_act work.op && work.acted)
+    then asked state (record work { acted = true }) sets
+    else halted state work
+
+-- a round begins from what is kept; where that is less than a quorum, the replicas' answers show more
+abbrev pub begin_round : ClientState → Work → ClientState × List Letter
+begin_round state work =
+    let sets = sets_of state.bounds state.kept work.op in
+    if are_full state.bounds sets then begin_full state work sets else asked state work sets

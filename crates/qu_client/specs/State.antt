@@ -1,0 +1,38 @@
+-- What a client holds: the histories that it was sent, and the operation under way.
+use Rattle.std.specs.Prelude.{ℕ, Bool, ◌==◌, ◌&&◌, ◌||◌, nat_lt, if◌then◌else◌, List, [], ◌∷◌, Option, None, Some}
+use Rattle.qu_base.specs.declared.party.ClientId.{ClientId}
+use Rattle.qu_base.specs.declared.party.ObjectId.{ObjectId}
+use Rattle.qu_history.specs.History.{ObjectHistory}
+use Rattle.qu_client.specs.declared.kept.Kept.{Kept}
+pub use Rattle.qu_client.specs.declared.state.ClientState.{ClientState}
+
+abbrev pub opening_state : ClientId → ℕ → ClientState
+opening_state me bounds = record { me = me; bounds = bounds; kept = []; last_request = None; work = None }
+
+-- an answer to this number and round is older than an answer to that one
+abbrev pub is_older : ℕ → ℕ → ℕ → ℕ → Bool
+is_older number round other later = nat_lt number other || (number == other && nat_lt round later)
+
+-- they are of one object and one replica
+abbrev pub same_source : ObjectHistory → ObjectHistory → Bool
+same_source a b = (a.object).0 == (b.object).0 && (a.replica).0 == (b.replica).0
+
+-- a history takes the place of the one that is kept of its object and replica, unless it is older
+unfoldable pub keep : Kept → List Kept → List Kept
+keep new [] = new ∷ []
+keep new (held ∷ later) =
+    if same_source new.history held.history
+    then (if is_older new.number new.round held.number held.round then held ∷ later else new ∷ later)
+    else held ∷ keep new later
+
+-- all histories of an answer
+unfoldable pub keep_all : ℕ → ℕ → List ObjectHistory → List Kept → List Kept
+keep_all number round [] kept = kept
+keep_all number round (history ∷ later) kept =
+    keep_all number round later (keep (record { history = history; number = number; round = round }) kept)
+
+-- the history that is kept of an object and a replica
+unfoldable pub kept_of : ObjectId → ℕ → List Kept → Option ObjectHistory
+kept_of object replica [] = None
+kept_of object replica (held ∷ later) =
+    if ((held.history).object).0 == object.0 && ((held.history).replica).0 == replica then Some held.history else kept_of object replica later

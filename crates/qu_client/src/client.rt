@@ -1,0 +1,183 @@
+ghost use Rattle.std.specs.Prelude.{◌≡◌, ◌<◌, ◌-◌, ◌^◌, ◌↔◌, Err, None, IsTrue, IsSome, IfOk, OnOk, OnErr, IfSome, option_map};
+ghost use Rattle.qu_client.specs.State.{opening_state};
+ghost use Rattle.qu_client.specs.Step.{client_invoke, client_step, client_tick, next_number};
+
+use super::rounds::begin_round;
+use super::state::shown_to;
+use super::steps::counted_in;
+use super::{Begun, ClientState, Stepped, Work};
+use qu_base::{Bounds, ClientId, List, NoMemory};
+use qu_frames::{Frame, Letter};
+use qu_objects::{Op, Outcome};
+use std::alloc::Global;
+use std::marker::Model;
+
+/// Why an operation is not begun. The client is as before.
+#[derive(Clone, Copy, Debug, PartialEq, Eq)]
+pub enum InvokeFail {
+    /// An operation is under way.
+    Busy,
+    NoMemory,
+}
+
+impl From<NoMemory> for InvokeFail {
+    ghost use Rattle.std.specs.Prelude.{◌≡◌};
+    ghost use Rattle.qu_client.specs.declared.client.InvokeFail.TheVariants as fail;
+
+    ghost from_gives = { λ error given. given ≡ fail.NoMemory };
+
+    fn from(_error: NoMemory) -> InvokeFail {
+        InvokeFail::NoMemory
+    }
+}
+
+/// What a step made: letters to send, and the end of the operation if it ended.
+#[derive(Debug, Drop)]
+pub struct Moved {
+    pub letters: List<Letter>,
+    pub ended: Option<Outcome>,
+}
+
+/// One client. Its operations run one at a time.
+#[derive(Debug, Drop)]
+pub struct Client {
+    alloc: Global,
+    state: ClientState,
+}
+
+impl Model for Client {
+    ghost use Rattle.qu_client.specs.State.{ClientState};
+
+    ghost Value = { ClientState };
+
+    ghost view = { λ client. client.state };
+}
+
+impl Client {
+    /// A client that was sent nothing yet.
+    pub fn start(alloc: Global, me: ClientId, bounds: Bounds) -> Client
+        ensures { result ≡ opening_state me bounds }
+    {
+        Client {
+            alloc,
+            state: ClientState {
+                me,
+                bounds,
+                kept: List::new(alloc),
+                last_request: None,
+                work: None,
+            },
+        }
+    }
+
+    /// Whether an operation is under way.
+    pub fn busy(&self) -> bool
+        ensures { IsTrue result ↔ IsSome self.now.work }
+    {
+        self.state.work.is_some()
+    }
+
+    /// Whether the client waits before its next round.
+    pub fn rests(&self) -> bool
+        ensures { IsTrue result ↔ ⊥ }
+    {
+        false
+    }
+
+    /// Number and round of its last request.
+    pub fn last_request(&self) -> Option<(u64, u8)>
+        ensures { result ≡ self.now.last_request }
+    {
+        self.state.last_request
+    }
+
+    /// The number of the operation under way.
+    pub fn working_on(&self) -> Option<u64>
+        ensures { result ≡ option_map (λ work. work.number) self.now.work }
+    {
+        let work = self.state.work.as_ref()?;
+        Some(work.number)
+    }
+
+    /// Begins an operation, and tells the letters of its first round.
+    pub fn invoke(&mut self, op: Op) -> Result<List<Letter>, InvokeFail>
+        requires { IfSome self.old.last_request (λ last. last.0 < 2 ^ 64 - 1) }
+        ensures busy { result ≡ Err InvokeFail.Busy ↔ IsSome self.old.work }
+        ensures idle { OnOk result (self.old.work ≡ None) }
+        ensures state { OnOk result (self.new ≡ (client_invoke self.old op).state) }
+        ensures letters { IfOk result (λ letters. letters ≡ (client_invoke self.old op).letters) }
+        ensures err { OnErr result (self.new ≡ self.old) }
+    {
+        if self.state.work.is_some() {
+            return Err(InvokeFail::Busy);
+        }
+        let work = Work::new(self.alloc, op, self.next_number());
+        let Begun {
+            last_request,
+            work,
+            letters,
+        } = begin_round(self.alloc, &self.state, work)?;
+        self.state.last_request = last_request;
+        self.state.work = Some(work);
+        Ok(letters)
+    }
+
+    /// Takes a frame. Without memory the client is as before.
+    pub fn step(&mut self, frame: &Frame) -> Result<Moved, NoMemory>
+        ensures state { OnOk result (self.new ≡ (client_step self.old frame.now).state) }
+        ensures letters { IfOk result (λ moved. moved.letters ≡ (client_step self.old frame.now).letters) }
+        ensures ended { IfOk result (λ moved. moved.ended ≡ (client_step self.old frame.now).ended) }
+        ensures err { OnErr result (self.new ≡ self.old) }
+    {
+        match frame {
+            Frame::Reply {
+                replica,
+                client,
+                number,
+                round,
+                verdict,
+                shown,
+            } if client.0 == self.state.me.0 => {
+                let state = shown_to(self.alloc, &self.state, *number, *round, shown.as_slice())?;
+                let Stepped {
+                    state,
+                    letters,
+                    ended,
+                } = counted_in(self.alloc, state, *replica, *number, *round, verdict)?;
+                self.state = state;
+                Ok(Moved { letters, ended })
+            }
+            _ => Ok(Moved {
+                letters: List::new(self.alloc),
+                ended: None,
+            }),
+        }
+    }
+
+    /// Takes a tick of the clock, upon which nothing happens.
+    pub fn tick(&mut self) -> Result<Moved, NoMemory>
+        ensures state { OnOk result (self.new ≡ (client_tick self.old).state) }
+        ensures letters { IfOk result (λ moved. moved.letters ≡ (client_tick self.old).letters) }
+        ensures ended { IfOk result (λ moved. moved.ended ≡ (client_tick self.old).ended) }
+        ensures err { OnErr result (self.new ≡ self.old) }
+    {
+        Ok(Moved {
+            letters: List::new(self.alloc),
+            ended: None,
+        })
+    }
+
+    /// The number of the next operation.
+    fn next_number(&self) -> u64
+        requires { IfSome self.now.last_request (λ last. last.0 < 2 ^ 64 - 1) }
+        ensures { result ≡ next_number self.now.last_request }
+    {
+        match self.state.last_request {
+            Some((number, _)) => number + 1,
+            None => 1,
+        }
+    }
+}
+
+#[cfg(test)]
+mod tests;

@@ -1,0 +1,178 @@
+use super::*;
+use qu_base::{Bounds, ObjectId, Party, ReplicaId};
+use qu_frames::{Refusal, Verdict};
+use qu_history::History;
+use qu_objects::{Act, Answer, Item, Method};
+use qu_stamp::Stamp;
+use std::test::Fail;
+
+const COUNTER: ObjectId = ObjectId(0);
+
+/// A client of six replicas, of which one may lie.
+fn client(alloc: Global) -> Result<Client, &'static str> {
+    let bounds = Bounds::new(1).ok().ok_or("no bounds")?;
+    Ok(Client::start(alloc, ClientId(7), bounds))
+}
+
+/// Begins to add to the counter.
+fn invoke(client: &mut Client) -> Result<List<Letter>, InvokeFail> {
+    let mut parts = List::new(client.alloc);
+    parts.push((COUNTER, Method::Add(2)))?;
+    let Ok(act) = Act::new(parts) else {
+        return Err(InvokeFail::NoMemory);
+    };
+    match client.last_request() {
+        Some((number, _)) if number > 1000 => Err(InvokeFail::NoMemory),
+        _ => client.invoke(Op::Act(act)),
+    }
+}
+
+/// A replica's answer to a round of operation 1, with the history with which the counter begins.
+fn reply(alloc: Global, replica: u8, round: u8, verdict: Verdict) -> Result<Frame, NoMemory> {
+    let mut shown = List::new(alloc);
+    shown.push(History::opening(alloc, COUNTER, ReplicaId(replica))?)?;
+    Ok(Frame::Reply {
+        replica: ReplicaId(replica),
+        client: ClientId(7),
+        number: 1,
+        round,
+        verdict,
+        shown,
+    })
+}
+
+fn thin() -> Verdict {
+    Verdict::Refused(Refusal::Thin(COUNTER))
+}
+
+/// The act was performed, and the counter's value then is this.
+fn done(alloc: Global, value: u64) -> Result<Verdict, NoMemory> {
+    let mut stamps = List::new(alloc);
+    stamps.push((
+        COUNTER,
+        Stamp {
+            time: 1,
+            client: ClientId(7),
+            number: 1,
+        },
+    ))?;
+    let mut items = List::new(alloc);
+    items.push(Item::Number(value))?;
+    Ok(Verdict::Done {
+        stamps,
+        answer: Answer::Ok(items),
+    })
+}
+
+/// The counter's value that the end of an operation tells.
+fn value_told(ended: &Option<Outcome>) -> Option<u64> {
+    match ended {
+        Some(Outcome::Done(Answer::Ok(items))) => {
+            let Item::Number(value) = items.get(0)?;
+            Some(*value)
+        }
+        _ => None,
+    }
+}
+
+/// Receiver, round and number of entries of each request.
+fn requests(alloc: Global, letters: &List<Letter>) -> Result<List<(u8, u8, usize)>, NoMemory> {
+    let mut requests = List::new(alloc);
+    for letter in letters.as_slice() {
+        if let (Party::Replica(to), Frame::Request { round, sets, .. }) = (
+            letter.to,
+            &letter.frame,
+        ) {
+            let mut entries = 0;
+            for set in sets.objects().as_slice() {
+                entries = set.entries.len();
+            }
+            requests.push((to.0, *round, entries))?;
+        }
+    }
+    Ok(requests)
+}
+
+/// A client in round 2, which five replicas let it begin.
+fn in_round_two(alloc: Global) -> Result<(Client, List<Letter>), NoMemory> {
+    let Ok(mut client) = client(alloc) else {
+        return Err(NoMemory);
+    };
+    let Ok(mut letters) = invoke(&mut client) else {
+        return Err(NoMemory);
+    };
+    for replica in 0..5 {
+        let frame = reply(alloc, replica, 1, thin())?;
+        letters = client.step(&frame)?.letters;
+    }
+    Ok((client, letters))
+}
+
+#[test]
+fn an_operation_asks_all_replicas(rt: HostRuntime) -> Result<(), Fail> {
+    let mut client = client(rt.alloc())?;
+    let letters = invoke(&mut client)?;
+    let requests = requests(rt.alloc(), &letters)?;
+    assert_eq!(rt;
+        requests.as_slice(),
+        [
+            (0, 1, 0),
+            (1, 1, 0),
+            (2, 1, 0),
+            (3, 1, 0),
+            (4, 1, 0),
+            (5, 1, 0)
+        ]
+        .as_slice()
+    );
+    assert_eq!(rt; client.last_request(), Some((1, 1)));
+    assert!(rt; client.busy());
+    assert_eq!(rt; invoke(&mut client).err(), Some(InvokeFail::Busy));
+    Ok(())
+}
+
+#[test]
+fn a_round_of_thin_sets_gives_way_to_the_next(rt: HostRuntime) -> Result<(), Fail> {
+    let (mut client, letters) = in_round_two(rt.alloc())?;
+    let requests = requests(rt.alloc(), &letters)?;
+    assert_eq!(rt;
+        requests.as_slice(),
+        [
+            (0, 2, 5),
+            (1, 2, 5),
+            (2, 2, 5),
+            (3, 2, 5),
+            (4, 2, 5),
+            (5, 2, 5)
+        ]
+        .as_slice()
+    );
+    assert_eq!(rt; client.state.kept.len(), 5);
+    // A late answer to the round before is kept, and does no more.
+    let moved = client.step(&reply(rt.alloc(), 5, 1, thin())?)?;
+    assert_eq!(rt; (moved.letters.len(), moved.ended.is_none()), (0, true));
+    assert_eq!(rt; client.state.kept.len(), 6);
+    assert_eq!(rt; client.last_request(), Some((1, 2)));
+    Ok(())
+}
+
+#[test]
+fn a_quorum_of_identical_answers_ends_the_operation(rt: HostRuntime) -> Result<(), Fail> {
+    // Replica and value of each answer, and the place of the answer that ends the operation.
+    let cases: [(&[(u8, u64)], usize); 3] = [
+        (&[(0, 2), (1, 2), (2, 2), (3, 2), (4, 2)], 4),
+        (&[(0, 2), (1, 2), (2, 2), (3, 2), (4, 3), (5, 2)], 5),
+        (&[(0, 2), (1, 2), (2, 2), (3, 2), (3, 2), (4, 2)], 5),
+    ];
+    for (answers, last) in cases {
+        let (mut client, _) = in_round_two(rt.alloc())?;
+        for (place, (replica, value)) in answers.iter().enumerate() {
+            let verdict = done(rt.alloc(), *value)?;
+            let moved = client.step(&reply(rt.alloc(), *replica, 2, verdict)?)?;
+            let told = value_told(&moved.ended);
+            assert_eq!(rt; told, if place == last { Some(2) } else { None });
+        }
+        assert!(rt; !client.busy());
+    }
+    Ok(())
+}

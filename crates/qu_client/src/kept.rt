@@ -1,0 +1,48 @@
+ghost use Rattle.std.specs.Prelude.{◌≡◌, IfOk, OnOk, vec_len};
+ghost use Rattle.std.specs.Option.{option_copied};
+
+use qu_base::{List, NoMemory, ObjectId};
+use qu_history::History;
+use std::alloc::Global;
+
+/// The newest history of an object that a replica sent, and which request it answered.
+#[derive(Debug, Drop)]
+pub struct Kept {
+    pub history: History,
+    pub number: u64,
+    pub round: u8,
+}
+
+impl Kept {
+    ghost use Rattle.qu_client.specs.State.{is_older, same_source};
+
+    /// Whether both are of one object and one replica.
+    fn is_of_source(&self, other: &Kept) -> bool
+        ensures { result ≡ same_source self.now.history other.now.history }
+    {
+        self.history.object().0 == other.history.object().0
+            && self.history.replica().0 == other.history.replica().0
+    }
+
+    /// Whether it was sent in answer to an older request.
+    fn is_older(&self, other: &Kept) -> bool
+        ensures { result ≡ is_older self.now.number self.now.round other.now.number other.now.round }
+    {
+        self.number < other.number || self.number == other.number && self.round < other.round
+    }
+
+    fn copy(&self, alloc: Global) -> Result<Kept, NoMemory>
+        ensures { IfOk result (λ kept. kept ≡ self.now) }
+    {
+        let history = self.history.copy(alloc)?;
+        Ok(Kept {
+            history,
+            number: self.number,
+            round: self.round,
+        })
+    }
+}
+
+mod keeping;
+
+pub use keeping::{keep_all, kept_of};

@@ -1,0 +1,81 @@
+ghost use Rattle.std.specs.Prelude.{◌≡◌, IfOk, OnOk, vec_len};
+ghost use Rattle.std.specs.List.{position};
+ghost use Rattle.std.specs.Option.{option_copied};
+ghost use Rattle.qu_client.specs.State.{keep, keep_all, kept_of, same_source};
+
+use super::Kept;
+use qu_base::{List, NoMemory, ObjectId};
+use qu_history::History;
+use std::alloc::Global;
+
+/// What is kept after an answer to this number and round, which showed these histories.
+#[tactic(auto, unfolding(crate::specs::State::keep_all))]
+pub fn keep_all(
+    alloc: Global,
+    number: u64,
+    round: u8,
+    shown: &[History],
+    kept: &[Kept],
+) -> Result<List<Kept>, NoMemory>
+    ensures { IfOk result (λ all. all ≡ keep_all number round shown.now kept.now) }
+{
+    let mut all = copies(alloc, kept)?;
+    for history in shown {
+        let history = history.copy(alloc)?;
+        keep(
+            &mut all,
+            Kept {
+                history,
+                number,
+                round,
+            },
+        )?;
+    }
+    Ok(List::from(all))
+}
+
+/// The history that is kept of an object and a replica.
+#[tactic(auto, unfolding(crate::specs::State::kept_of))]
+pub fn kept_of(kept: &[Kept], object: ObjectId, replica: u8) -> Option<&History>
+    ensures { option_copied result ≡ kept_of object replica kept.now }
+{
+    for held in kept {
+        if held.history.object().0 == object.0 && held.history.replica().0 == replica {
+            return Some(&held.history);
+        }
+    }
+    None
+}
+
+/// Keeps a history in the place of the one of its source, unless it is older.
+fn keep(kept: &mut Vec<Kept>, new: Kept) -> Result<(), NoMemory>
+    ensures { OnOk result (kept.new.items ≡ keep new kept.old.items) }
+{
+    match place_of(kept.as_slice(), &new) {
+        Some(place) => {
+            if !new.is_older(&kept[place]) {
+                kept[place] = new;
+            }
+        }
+        None => kept.push(new)?,
+    }
+    Ok(())
+}
+
+/// The place of the history of the same object and replica.
+fn place_of(kept: &[Kept], new: &Kept) -> Option<usize>
+    ensures { result ≡ position (λ held. same_source new.now.history held.history) kept.now }
+{
+    kept.iter().position(|held| new.is_of_source(held))
+}
+
+fn copies(alloc: Global, kept: &[Kept]) -> Result<Vec<Kept>, NoMemory>
+    ensures { IfOk result (λ copies. copies.items ≡ kept.now) }
+{
+    let mut copies = Vec::new(alloc);
+    for held in kept {
+        let held = held.copy(alloc)?;
+        copies.push(held)?;
+    }
+    Ok(copies)
+}

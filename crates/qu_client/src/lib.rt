@@ -1,0 +1,16 @@
+//! A client: it asks replicas to perform its operations, and takes the answer of a quorum.
+#![tactic(auto)]
+
+mod client;
+mod kept;
+mod rounds;
+mod sets;
+mod state;
+mod steps;
+mod verdicts;
+mod work;
+
+pub use client::{Client, InvokeFail, Moved};
+pub use kept::Kept;
+pub use state::{Begun, ClientState, Stepped};
+pub use work::{Counted, LAST_ROUND, Phase, Work};

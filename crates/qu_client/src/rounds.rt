@@ -1,0 +1,107 @@
+ghost use Rattle.std.specs.Prelude.{◌≡◌, IfOk};
+ghost use Rattle.qu_client.specs.Rounds.{is_act, requests_from, begun_from, asked, halted, begin_full, begin_round};
+
+use super::sets::{are_current, are_full, sets_of};
+use super::{Begun, ClientState, Phase, Work};
+use qu_base::{ClientId, List, NoMemory, Party, ReplicaId};
+use qu_frames::{Body, Frame, Letter};
+use qu_history::Sets;
+use qu_objects::Op;
+use std::alloc::Global;
+
+/// A round begins from what is kept. Where that is less than a quorum, the replicas' answers show
+/// more.
+pub fn begin_round(alloc: Global, state: &ClientState, work: Work) -> Result<Begun, NoMemory>
+    ensures { IfOk result (λ begun. begun_from state.now begun ≡ begin_round state.now work) }
+{
+    let sets = sets_of(alloc, state.bounds, state.kept.as_slice(), &work.op)?;
+    if are_full(state.bounds, &sets) {
+        begin_full(alloc, state, work, &sets)
+    } else {
+        asked(alloc, state, work, &sets)
+    }
+}
+
+/// With a quorum of entries of each object an operation is sent where they all are current, and an
+/// act only once.
+fn begin_full(
+    alloc: Global,
+    state: &ClientState,
+    mut work: Work,
+    sets: &Sets,
+) -> Result<Begun, NoMemory>
+    ensures { IfOk result (λ begun. begun_from state.now begun ≡ begin_full state.now work sets.now) }
+{
+    let sent_before = is_act(&work.op) && work.acted;
+    if are_current(state.bounds, sets) && !sent_before {
+        work.acted = true;
+        asked(alloc, state, work, sets)
+    } else {
+        Ok(halted(alloc, state, work))
+    }
+}
+
+/// All replicas are asked.
+fn asked(alloc: Global, state: &ClientState, mut work: Work, sets: &Sets) -> Result<Begun, NoMemory>
+    ensures { IfOk result (λ begun. begun_from state.now begun ≡ asked state.now work sets.now) }
+{
+    let letters = requests(alloc, state.me, state.bounds.n(), &work, sets)?;
+    work.phase = Phase::Asking;
+    work.replies = List::new(alloc);
+    Ok(Begun {
+        last_request: Some((work.number, work.round)),
+        work,
+        letters,
+    })
+}
+
+/// Nothing is sent, and the operation stays open.
+fn halted(alloc: Global, state: &ClientState, mut work: Work) -> Begun
+    ensures { begun_from state.now result ≡ halted state.now work }
+{
+    work.phase = Phase::Halted;
+    work.replies = List::new(alloc);
+    Begun {
+        last_request: state.last_request,
+        work,
+        letters: List::new(alloc),
+    }
+}
+
+fn is_act(op: &Op) -> bool
+    ensures { result ≡ is_act op.now }
+{
+    match op {
+        Op::Act(_) => true,
+        Op::Query(_) => false,
+    }
+}
+
+/// The same request to each replica.
+fn requests(
+    alloc: Global,
+    me: ClientId,
+    replicas: u8,
+    work: &Work,
+    sets: &Sets,
+) -> Result<List<Letter>, NoMemory>
+    ensures { IfOk result (λ letters. letters ≡ requests_from 0 replicas me work.now sets.now) }
+{
+    let mut letters = List::new(alloc);
+    for replica in 0..replicas {
+        let sets = sets.copy(alloc)?;
+        let body = Body::of(alloc, &work.op)?;
+        letters.push(Letter {
+            from: Party::Client(me),
+            to: Party::Replica(ReplicaId(replica)),
+            frame: Frame::Request {
+                client: me,
+                number: work.number,
+                round: work.round,
+                sets,
+                body,
+            },
+        })?;
+    }
+    Ok(letters)
+}

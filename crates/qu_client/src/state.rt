@@ -1,0 +1,63 @@
+ghost use Rattle.std.specs.Prelude.{◌≡◌, IfOk};
+ghost use Rattle.qu_client.specs.State.{keep_all};
+
+use super::kept::keep_all;
+use super::{Kept, Work};
+use qu_base::{Bounds, ClientId, List, NoMemory};
+use qu_frames::Letter;
+use qu_history::History;
+use qu_objects::Outcome;
+use std::alloc::Global;
+
+/// What a client holds: the histories that it was sent, and the operation under way.
+#[derive(Debug, Drop)]
+pub struct ClientState {
+    pub me: ClientId,
+    pub bounds: Bounds,
+    /// Of each object and replica the newest history that it was sent.
+    pub kept: List<Kept>,
+    /// Number and round of the last request.
+    pub last_request: Option<(u64, u8)>,
+    pub work: Option<Work>,
+}
+
+/// What a step makes: the state, the letters that it sends, and the end of the operation.
+#[derive(Debug, Drop)]
+pub struct Stepped {
+    pub state: ClientState,
+    pub letters: List<Letter>,
+    pub ended: Option<Outcome>,
+}
+
+/// What a round that begins makes: number and round of its request if it sends one, else of the
+/// one before, the operation under way, and the letters.
+#[derive(Debug, Drop)]
+pub struct Begun {
+    pub last_request: Option<(u64, u8)>,
+    pub work: Work,
+    pub letters: List<Letter>,
+}
+
+/// The state after an answer to this number and round, which showed these histories.
+pub fn shown_to(
+    alloc: Global,
+    state: &ClientState,
+    number: u64,
+    round: u8,
+    shown: &[History],
+) -> Result<ClientState, NoMemory>
+    ensures { IfOk result (λ after. after ≡ record state.now { kept = keep_all number round shown.now state.now.kept }) }
+{
+    let kept = keep_all(alloc, number, round, shown, state.kept.as_slice())?;
+    let work = match &state.work {
+        Some(work) => Some(work.copy(alloc)?),
+        None => None,
+    };
+    Ok(ClientState {
+        me: state.me,
+        bounds: state.bounds,
+        kept,
+        last_request: state.last_request,
+        work,
+    })
+}

@@ -1,0 +1,111 @@
+ghost use Rattle.std.specs.Prelude.{◌≡◌, IfOk};
+ghost use Rattle.qu_client.specs.Step.{stays, goes_on, ends, fitting, judged, next_round, counted_in};
+ghost use Rattle.qu_client.specs.Rounds.{begin_round};
+
+use super::rounds::begin_round;
+use super::verdicts::{fitting, identical, is_hopeless};
+use super::{Begun, ClientState, Counted, LAST_ROUND, Stepped, Work};
+use qu_base::{List, NoMemory, ReplicaId};
+use qu_frames::Verdict;
+use qu_objects::Outcome;
+use std::alloc::Global;
+
+/// A verdict counts where it is of the round under way, and the first of its replica.
+#[tactic(auto, using(crate::proofs::Judging::judged_of_any))]
+pub fn counted_in(
+    alloc: Global,
+    mut state: ClientState,
+    replica: ReplicaId,
+    number: u64,
+    round: u8,
+    verdict: &Verdict,
+) -> Result<Stepped, NoMemory>
+    ensures { IfOk result (λ stepped. stepped ≡ counted_in state state.work replica number round verdict.now) }
+{
+    let Some(mut work) = state.work.take() else {
+        return Ok(stays(alloc, state));
+    };
+    if !work.counts(replica, number, round) {
+        state.work = Some(work);
+        return Ok(stays(alloc, state));
+    }
+    let counted = verdict.copy(alloc)?;
+    work.replies.push(Counted {
+        replica,
+        verdict: counted,
+    })?;
+    judged(alloc, state, work, verdict)
+}
+
+/// The round with this verdict more ends where a quorum agrees with it, or where none can agree.
+fn judged(
+    alloc: Global,
+    mut state: ClientState,
+    work: Work,
+    verdict: &Verdict,
+) -> Result<Stepped, NoMemory>
+    ensures { IfOk result (λ stepped. stepped ≡ judged state work verdict.now (fitting work.op verdict.now)) }
+{
+    if let Some(answer) = fitting(&work.op, verdict) {
+        if identical(verdict, work.replies.as_slice()) >= usize::from(state.bounds.q()) {
+            let answer = answer.copy(alloc)?;
+            return Ok(ends(alloc, state, Outcome::Done(answer)));
+        }
+    }
+    if is_hopeless(state.bounds, &work.op, work.replies.as_slice()) {
+        next_round(alloc, state, work)
+    } else {
+        state.work = Some(work);
+        Ok(stays(alloc, state))
+    }
+}
+
+/// A round ends without an answer.
+fn next_round(alloc: Global, state: ClientState, mut work: Work) -> Result<Stepped, NoMemory>
+    ensures { IfOk result (λ stepped. stepped ≡ next_round state work) }
+{
+    if work.round >= LAST_ROUND {
+        return Ok(ends(alloc, state, Outcome::GaveUp));
+    }
+    work.round += 1;
+    goes_on(alloc, state, work)
+}
+
+/// The next round of the operation begins.
+fn goes_on(alloc: Global, mut state: ClientState, work: Work) -> Result<Stepped, NoMemory>
+    ensures { IfOk result (λ stepped. stepped ≡ goes_on (begin_round state work)) }
+{
+    let Begun {
+        last_request,
+        work,
+        letters,
+    } = begin_round(alloc, &state, work)?;
+    state.last_request = last_request;
+    state.work = Some(work);
+    Ok(Stepped {
+        state,
+        letters,
+        ended: None,
+    })
+}
+
+fn stays(alloc: Global, state: ClientState) -> Stepped
+    ensures { result ≡ stays state }
+{
+    Stepped {
+        state,
+        letters: List::new(alloc),
+        ended: None,
+    }
+}
+
+fn ends(alloc: Global, mut state: ClientState, outcome: Outcome) -> Stepped
+    ensures { result ≡ ends state outcome }
+{
+    state.work = None;
+    Stepped {
+        state,
+        letters: List::new(alloc),
+        ended: Some(outcome),
+    }
+}

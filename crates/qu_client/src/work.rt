@@ -1,0 +1,128 @@
+ghost use Rattle.std.specs.Prelude.{◌≡◌, ◌==◌, IfOk};
+ghost use Rattle.std.specs.List.{list_any};
+
+use qu_base::{List, NoMemory, ReplicaId};
+use qu_frames::Verdict;
+use qu_objects::Op;
+use std::alloc::Global;
+
+/// The last round of an operation. Where it ends without an answer, the operation gives up.
+pub const LAST_ROUND: u8 = 64;
+
+/// A verdict that counts: the first one of its replica in the round.
+#[derive(Debug, Drop)]
+pub struct Counted {
+    pub replica: ReplicaId,
+    pub verdict: Verdict,
+}
+
+/// Where an operation stands.
+#[derive(Clone, Copy, Debug, PartialEq, Eq)]
+pub enum Phase {
+    /// The replicas were asked in this round, and their verdicts are counted.
+    Asking,
+    /// Nothing more is sent: the operation stays open.
+    Halted,
+}
+
+/// The operation under way.
+#[derive(Debug, Drop)]
+pub struct Work {
+    pub op: Op,
+    /// From 1 on.
+    pub number: u64,
+    /// From 1 to `LAST_ROUND`.
+    pub round: u8,
+    pub phase: Phase,
+    /// Whether the act was sent with a quorum of entries for each object.
+    pub acted: bool,
+    /// The verdicts that count in this round, in the order in which they came.
+    pub replies: List<Counted>,
+}
+
+impl Counted {
+    /// An equal verdict of the same replica.
+    pub fn copy(&self, alloc: Global) -> Result<Counted, NoMemory>
+        ensures { IfOk result (λ counted. counted ≡ self.now) }
+    {
+        Ok(Counted {
+            replica: self.replica,
+            verdict: self.verdict.copy(alloc)?,
+        })
+    }
+}
+
+impl Phase {
+    ghost use Rattle.qu_client.specs.Step.{is_asking};
+
+    /// Whether verdicts are counted.
+    fn is_asking(self) -> bool
+        ensures { result ≡ is_asking self }
+    {
+        match self {
+            Phase::Asking => true,
+            Phase::Halted => false,
+        }
+    }
+}
+
+impl Work {
+    ghost use Rattle.qu_client.specs.Step.{counts, first_work};
+
+    /// An operation in its first round.
+    pub fn new(alloc: Global, op: Op, number: u64) -> Work
+        ensures { result ≡ first_work op number }
+    {
+        Work {
+            op,
+            number,
+            round: 1,
+            phase: Phase::Asking,
+            acted: false,
+            replies: List::new(alloc),
+        }
+    }
+
+    /// An equal operation.
+    pub fn copy(&self, alloc: Global) -> Result<Work, NoMemory>
+        ensures { IfOk result (λ work. work ≡ self.now) }
+    {
+        Ok(Work {
+            op: self.op.copy(alloc)?,
+            number: self.number,
+            round: self.round,
+            phase: self.phase,
+            acted: self.acted,
+            replies: copies(alloc, self.replies.as_slice())?,
+        })
+    }
+
+    /// Whether a verdict counts: it is of the round under way, and the first of its replica.
+    pub fn counts(&self, replica: ReplicaId, number: u64, round: u8) -> bool
+        ensures { result ≡ counts self.now replica number round }
+    {
+        self.phase.is_asking()
+            && number == self.number
+            && round == self.round
+            && !self.has_replied(replica)
+    }
+
+    /// Whether a verdict of the replica is among those that count.
+    fn has_replied(&self, replica: ReplicaId) -> bool
+        ensures { result ≡ list_any (λ counted. (counted.replica).0 == replica.0) self.now.replies }
+    {
+        self.replies
+            .iter()
+            .any(|counted| counted.replica.0 == replica.0)
+    }
+}
+
+fn copies(alloc: Global, replies: &[Counted]) -> Result<List<Counted>, NoMemory>
+    ensures { IfOk result (λ copies. copies ≡ replies.now) }
+{
+    let mut copies = List::new(alloc);
+    for counted in replies {
+        copies.push(counted.copy(alloc)?)?;
+    }
+    Ok(copies)
+}

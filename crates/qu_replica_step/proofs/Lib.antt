@@ -1,0 +1,10 @@
+pub mod Growth
+pub mod Allowed
+pub mod Own
+pub mod Opening
+pub mod Finding
+pub mod Held
+pub mod Carried
+pub mod Accepting
+pub mod Showing
+pub mod Stepped

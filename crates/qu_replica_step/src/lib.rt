@@ -1,0 +1,14 @@
+//! A replica: it answers requests from its histories and versions, and accepts candidates.
+#![tactic(auto)]
+
+mod asked;
+mod decision;
+mod replica;
+mod versions;
+
+pub use decision::{Accepted, Decision};
+pub use replica::Replica;
+pub use versions::Stored;
+
+#[cfg(test)]
+mod tests;

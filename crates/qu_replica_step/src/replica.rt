@@ -1,0 +1,121 @@
+ghost use Rattle.std.specs.Prelude.{◌≡◌, ◌≤◌, length, slice_get, IfOk, OnOk, OnErr};
+ghost use Rattle.std.specs.Option.{option_copied};
+ghost use Rattle.qu_replica_step.specs.State.{opening_state};
+ghost use Rattle.qu_replica_step.specs.Versions.{version_at};
+ghost use Rattle.qu_replica_step.specs.Step.{replica_step};
+ghost use Rattle.qu_replica_step.specs.Growth.{AreHistories, HasParts, Grows};
+
+mod acts;
+mod decide;
+mod opening;
+mod queries;
+mod reply;
+mod rows;
+
+use crate::asked::Asked;
+use crate::versions::{self, Stored};
+use qu_base::{Bounds, List, NoMemory, ObjectId, ReplicaId};
+use qu_frames::{Frame, Letter};
+use qu_history::History;
+use qu_objects::{KindName, ObjState};
+use qu_stamp::Stamp;
+use std::alloc::Global;
+use std::marker::Model;
+
+/// One replica. It keeps a history of each object, and the versions that it accepted.
+#[derive(Debug, Drop)]
+pub struct Replica {
+    alloc: Global,
+    me: ReplicaId,
+    bounds: Bounds,
+    histories: Vec<History>,
+    versions: Vec<Stored>,
+}
+
+impl Model for Replica {
+    ghost use Rattle.std.specs.Prelude.{IsTrue};
+    ghost use Rattle.qu_replica_step.specs.State.{ReplicaState};
+    ghost use Rattle.qu_replica_step.specs.Growth.{are_own};
+
+    ghost Value = { ReplicaState };
+
+    ghost view = { λ replica. record { me = replica.me; bounds = replica.bounds; histories = replica.histories.items; versions = replica.versions.items } };
+
+    ghost invariant = { λ replica. IsTrue (are_own replica.me 0 replica.histories.items) };
+}
+
+impl Replica {
+    /// A replica that has accepted nothing but the opening candidates of its objects, which are
+    /// numbered as their kinds stand.
+    #[tactic(auto, using(crate::proofs::Own::are_own_opening))]
+    pub fn start(
+        alloc: Global,
+        me: ReplicaId,
+        bounds: Bounds,
+        kinds: &[KindName],
+    ) -> Result<Replica, NoMemory>
+        requires { length kinds.now ≤ 64 }
+        ensures { IfOk result (λ replica. replica ≡ opening_state me bounds kinds.now) }
+    {
+        Ok(Replica {
+            alloc,
+            me,
+            bounds,
+            histories: opening::histories(alloc, me, kinds)?,
+            versions: opening::versions(alloc, kinds)?,
+        })
+    }
+
+    /// How many replicas there are, and how many may lie.
+    pub fn bounds(&self) -> Bounds
+        ensures { result ≡ self.now.bounds }
+    {
+        self.bounds
+    }
+
+    /// Its history of an object, None exactly where it does not have the object.
+    pub fn history(&self, object: ObjectId) -> Option<&History>
+        ensures value { option_copied result ≡ slice_get self.now.histories object.0 }
+        ensures rising { AreHistories self.now }
+    {
+        self.histories.as_slice().get(usize::from(object.0))
+    }
+
+    /// The version of an object under a stamp, None exactly where it did not accept such a candidate.
+    pub fn version(&self, object: ObjectId, stamp: &Stamp) -> Option<&ObjState>
+        ensures { option_copied result ≡ version_at object stamp.now self.now.versions }
+    {
+        versions::version_at(self.versions.as_slice(), object, stamp)
+    }
+
+    /// Handles a frame, and gives the letters that answer it: one to a request that it decides, none
+    /// to one whose version it lacks, and none to a reply. Without memory it stays as it is.
+    pub fn step(&mut self, frame: &Frame) -> Result<List<Letter>, NoMemory>
+        ensures state { OnOk result (self.new ≡ (replica_step self.old frame.now).0) }
+        ensures letters { IfOk result (λ letters. letters ≡ (replica_step self.old frame.now).1) }
+        ensures err { OnErr result (self.new ≡ self.old) }
+        ensures parts { HasParts frame.now }
+        ensures histories { AreHistories self.new }
+        ensures grows { Grows self.old self.new }
+    {
+        let no_letters = List::new(self.alloc);
+        match frame {
+            Frame::Request {
+                client,
+                number,
+                round,
+                sets,
+                body,
+            } => {
+                let asked = Asked {
+                    client: *client,
+                    number: *number,
+                    sets,
+                };
+                let decision = self.decide(&asked, body)?;
+                self.carry_out(&asked, *round, decision)
+            }
+            Frame::Reply { .. } => Ok(no_letters),
+        }
+    }
+}

@@ -1,0 +1,200 @@
+use super::*;
+use qu_base::{Bounds, ClientId, List, NoMemory, ObjectId, ReplicaId};
+use qu_frames::{Body, ClassCode, Frame, Refusal, Verdict};
+use qu_history::{History, SetOf, Sets};
+use qu_objects::{Act, Answer, Ask, Item, KindName, Method, Query, Value};
+use qu_stamp::{Candidate, Stamp};
+use std::alloc::Global;
+use std::test::Fail;
+
+const COUNTER: ObjectId = ObjectId(0);
+
+/// The stamp of an update upon the opening candidate.
+const FIRST: Stamp = Stamp {
+    time: 1,
+    client: ClientId(1),
+    number: 7,
+};
+
+/// Replica 0 of 6, with one counter.
+fn replica(alloc: Global) -> Result<Replica, Fail> {
+    let bounds = Bounds::new(1)?;
+    Ok(Replica::start(alloc, ReplicaId(0), bounds, &[KindName::Counter])?)
+}
+
+/// The sets of one object: of so many replicas the first ones hold the update, and all the opening candidate.
+fn sets(alloc: Global, object: ObjectId, updated: u8, replicas: u8) -> Result<Sets, Fail> {
+    let mut entries = List::new(alloc);
+    for replica in 0..replicas {
+        let mut entry = History::opening(alloc, object, ReplicaId(replica))?;
+        if replica < updated {
+            entry.add(Candidate {
+                stamp: FIRST,
+                prior: Stamp::opening(),
+            })?;
+        }
+        entries.push(entry)?;
+    }
+    let mut objects = List::new(alloc);
+    objects.push(SetOf { object, entries })?;
+    Ok(Sets::new(objects).ok_or("the sets are refused")?)
+}
+
+fn add_five(alloc: Global) -> Result<Body, Fail> {
+    let mut parts = List::new(alloc);
+    parts.push((COUNTER, Method::Add(5)))?;
+    Ok(Body::Act(Act::new(parts)?))
+}
+
+fn read(alloc: Global) -> Result<Body, Fail> {
+    let mut parts = List::new(alloc);
+    parts.push((COUNTER, Ask::Read))?;
+    Ok(Body::Ask(Query::new(parts)?))
+}
+
+/// The verdict of the one reply, and how many candidates each shown history has.
+fn told(
+    alloc: Global,
+    replica: &mut Replica,
+    client: ClientId,
+    sets: Sets,
+    body: Body,
+) -> Result<(Verdict, List<usize>), Fail> {
+    let letters = replica.step(&Frame::Request {
+        client,
+        number: 7,
+        round: 0,
+        sets,
+        body,
+    })?;
+    match letters.as_slice() {
+        [letter] => match &letter.frame {
+            Frame::Reply { verdict, shown, .. } => {
+                let mut lengths = List::new(alloc);
+                for history in shown.as_slice() {
+                    lengths.push(history.len())?;
+                }
+                Ok((verdict.copy(alloc)?, lengths))
+            }
+            Frame::Request { .. } => Err("a request is sent")?,
+        },
+        _ => Err("not one letter is sent")?,
+    }
+}
+
+fn stamped(alloc: Global) -> Result<List<(ObjectId, Stamp)>, NoMemory> {
+    let mut stamps = List::new(alloc);
+    stamps.push((COUNTER, FIRST))?;
+    Ok(stamps)
+}
+
+fn five(alloc: Global) -> Result<Answer, NoMemory> {
+    let mut items = List::new(alloc);
+    items.push(Item::Number(5))?;
+    Ok(Answer::Ok(items))
+}
+
+#[test]
+fn thin_sets_are_refused(rt: HostRuntime) -> Result<(), Fail> {
+    let mut replica = replica(rt.alloc())?;
+    let (verdict, shown) = told(
+        rt.alloc(),
+        &mut replica,
+        ClientId(1),
+        sets(rt.alloc(), COUNTER, 0, 4)?,
+        add_five(rt.alloc())?,
+    )?;
+    assert_eq!(rt; verdict, Verdict::Refused(Refusal::Thin(COUNTER)));
+    assert_eq!(rt; replica.bounds().n(), 6);
+    assert_eq!(rt; shown.as_slice(), [1].as_slice());
+    Ok(())
+}
+
+#[test]
+fn an_act_is_done_once(rt: HostRuntime) -> Result<(), Fail> {
+    let mut replica = replica(rt.alloc())?;
+    let done = Verdict::Done {
+        stamps: stamped(rt.alloc())?,
+        answer: five(rt.alloc())?,
+    };
+    for _ in 0..2 {
+        let (verdict, shown) = told(
+            rt.alloc(),
+            &mut replica,
+            ClientId(1),
+            sets(rt.alloc(), COUNTER, 0, 5)?,
+            add_five(rt.alloc())?,
+        )?;
+        assert_eq!(rt; verdict, done);
+        assert_eq!(rt; shown.as_slice(), [2].as_slice());
+    }
+    let version = replica.version(COUNTER, &FIRST).ok_or("no version")?;
+    assert_eq!(rt; version.value, Value::Counter(5));
+    let (verdict, shown) = told(
+        rt.alloc(),
+        &mut replica,
+        ClientId(2),
+        sets(rt.alloc(), COUNTER, 0, 5)?,
+        add_five(rt.alloc())?,
+    )?;
+    assert_eq!(rt;
+        verdict,
+        Verdict::Refused(Refusal::NotCurrent(COUNTER, FIRST))
+    );
+    assert_eq!(rt; shown.as_slice(), [2].as_slice());
+    Ok(())
+}
+
+#[test]
+fn a_query_is_told_what_a_quorum_holds(rt: HostRuntime) -> Result<(), Fail> {
+    let mut replica = replica(rt.alloc())?;
+    told(
+        rt.alloc(),
+        &mut replica,
+        ClientId(1),
+        sets(rt.alloc(), COUNTER, 0, 5)?,
+        add_five(rt.alloc())?,
+    )?;
+    let (verdict, _) = told(
+        rt.alloc(),
+        &mut replica,
+        ClientId(2),
+        sets(rt.alloc(), COUNTER, 5, 5)?,
+        read(rt.alloc())?,
+    )?;
+    let told_five = Verdict::Told {
+        stamps: stamped(rt.alloc())?,
+        answer: five(rt.alloc())?,
+    };
+    assert_eq!(rt; verdict, told_five);
+    let (verdict, shown) = told(
+        rt.alloc(),
+        &mut replica,
+        ClientId(2),
+        sets(rt.alloc(), COUNTER, 3, 5)?,
+        read(rt.alloc())?,
+    )?;
+    assert_eq!(rt;
+        verdict,
+        Verdict::Refused(Refusal::NotMethod(COUNTER, ClassCode::Barrier))
+    );
+    assert_eq!(rt; shown.as_slice(), [2].as_slice());
+    Ok(())
+}
+
+#[test]
+fn an_unknown_object_is_refused(rt: HostRuntime) -> Result<(), Fail> {
+    let mut replica = replica(rt.alloc())?;
+    let unknown = ObjectId(1);
+    let (verdict, shown) = told(
+        rt.alloc(),
+        &mut replica,
+        ClientId(1),
+        sets(rt.alloc(), unknown, 0, 5)?,
+        add_five(rt.alloc())?,
+    )?;
+    assert_eq!(rt; verdict, Verdict::Refused(Refusal::UnknownObject(unknown)));
+    assert!(rt; shown.is_empty());
+    assert!(rt; replica.history(unknown).is_none());
+    Ok(())
+}
