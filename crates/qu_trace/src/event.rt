@@ -1,0 +1,30 @@
+ghost use Rattle.std.specs.Prelude.{◌≡◌, IfOk};
+
+use qu_base::{ClientId, NoMemory};
+use qu_objects::Op;
+use std::alloc::Global;
+
+/// One step of a run: something happens at one party.
+#[derive(Debug, Drop)]
+pub enum Event {
+    /// A client begins an operation.
+    Invoke(ClientId, Op),
+    /// The letter with this number, counted from 1, reaches its receiver, for the first time or
+    /// once more.
+    Deliver(u64),
+    /// Time passes at a client.
+    Tick(ClientId),
+}
+
+impl Event {
+    /// An equal event.
+    pub fn copy(&self, alloc: Global) -> Result<Event, NoMemory>
+        ensures { IfOk result (λ event. event ≡ self.now) }
+    {
+        Ok(match self {
+            Event::Invoke(client, op) => Event::Invoke(*client, op.copy(alloc)?),
+            Event::Deliver(letter) => Event::Deliver(*letter),
+            Event::Tick(client) => Event::Tick(*client),
+        })
+    }
+}

@@ -1,0 +1,13 @@
+//! The record of a run: its setup, its events with the letters and the ends that they made, and the
+//! operations that it shows.
+#![tactic(auto)]
+
+mod event;
+mod operation;
+mod record;
+mod trace;
+
+pub use event::Event;
+pub use operation::operations;
+pub use record::{OpRecord, Point};
+pub use trace::{Entry, Setup, Trace};

@@ -1,0 +1,50 @@
+ghost use Rattle.std.specs.Prelude.{◌≡◌, IfOk};
+
+use super::Event;
+use qu_base::{Bounds, ClientId, List, NoMemory};
+use qu_frames::Letter;
+use qu_objects::{KindName, Outcome};
+use std::alloc::Global;
+
+/// Who takes part in a run, and what objects there are.
+#[derive(Debug, Drop)]
+pub struct Setup {
+    pub bounds: Bounds,
+    /// For keys and waits, once there are any.
+    pub seed: u64,
+    /// Clients have the numbers from 1 to this one.
+    pub clients: u16,
+    /// The kinds of objects 0, 1, 2, ..
+    pub kinds: List<KindName>,
+}
+
+impl Setup {
+    /// An equal setup.
+    pub fn copy(&self, alloc: Global) -> Result<Setup, NoMemory>
+        ensures { IfOk result (λ setup. setup ≡ self.now) }
+    {
+        Ok(Setup {
+            bounds: self.bounds,
+            seed: self.seed,
+            clients: self.clients,
+            kinds: self.kinds.copy(alloc)?,
+        })
+    }
+}
+
+/// An event of a run, and what it made.
+#[derive(Debug, Drop)]
+pub struct Entry {
+    pub event: Event,
+    /// The letters that were sent.
+    pub letters: List<Letter>,
+    /// The operation that ended: its client, its number, and how.
+    pub ended: Option<(ClientId, u64, Outcome)>,
+}
+
+/// A run, from its setup on. Events are numbered from 1, and so are letters.
+#[derive(Debug, Drop)]
+pub struct Trace {
+    pub setup: Setup,
+    pub entries: List<Entry>,
+}

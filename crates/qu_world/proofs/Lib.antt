@@ -1,0 +1,5 @@
+pub mod LetterLaws
+pub mod Making
+pub mod Moving
+pub mod OpeningLaws
+pub mod RunLaws

@@ -1,0 +1,231 @@
+-- A run with one event more, and what holds of every world.
+use Rattle.std.proofs.Common.{◌≡◌, ℕ, zero, suc, ◌+◌, ◌-◌, ◌^◌, ◌<◌, ◌≤◌, Bool, true, false, cond, List, [], ◌∷◌, ◌++◌, length, map, Option, None, Some, refl, sym, ap, subst, ◌∙◌, arith, add-zero, zero-add, add_assoc}
+use Rattle.std.specs.Prelude.{slice_get, slice_set, nat_le, is_some, IfSome, IsSomeAnd}
+use Rattle.std.specs.List.{AllByRecursion}
+use Rattle.std.proofs.lemmas.List.{map-append, length-append, length-map}
+use Rattle.std.proofs.lemmas.Bool.{leb-true, leb-false}
+use Rattle.qu_base.specs.declared.party.ClientId.{ClientId}
+use Rattle.qu_base.specs.declared.party.ReplicaId.{ReplicaId}
+use Rattle.qu_base.specs.declared.party.Party.{Party}
+use Rattle.qu_base.specs.declared.party.Party.TheVariants as party
+use Rattle.qu_objects.specs.declared.op.Op.{Op}
+use Rattle.qu_frames.specs.declared.frame.Frame.{Frame}
+use Rattle.qu_frames.specs.declared.frame.Letter.{Letter}
+use Rattle.qu_replica_step.specs.State.{ReplicaState}
+use Rattle.qu_client.specs.declared.state.ClientState.{ClientState}
+use Rattle.qu_client.specs.declared.state.Stepped.{Stepped}
+use Rattle.qu_client.specs.Step.{client_invoke, client_step, client_tick}
+use Rattle.qu_client.specs.Sound.{NumbersWithin}
+use Rattle.qu_client.proofs.Laws.{NumbersWithin-opening, NumbersWithin-step, NumbersWithin-invoke, NumbersWithin-tick, may_invoke}
+use Rattle.qu_trace.specs.declared.event.Event.{Event}
+use Rattle.qu_trace.specs.declared.event.Event.TheVariants.{Invoke, Deliver, Tick}
+use Rattle.qu_trace.specs.declared.trace.Entry.{Entry}
+use Rattle.qu_trace.specs.declared.trace.Setup.{Setup}
+use Rattle.qu_client.specs.declared.work.Work.{Work}
+use Rattle.qu_world.specs.declared.fail.WorldFail.{WorldFail}
+use Rattle.qu_world.specs.declared.fail.WorldFail.TheVariants as fails
+use Rattle.qu_world.specs.declared.fail.TheConstants.{EVENT_LIMIT}
+use Rattle.qu_world.specs.State.{WorldState, opening_world, opening_clients, numbered, with_numbered, letter_of}
+use Rattle.qu_world.specs.Step.{world_step, at_client, at_replica, received, delivered}
+use Rattle.qu_world.specs.Refusals.{refusal_of, refused_at_limit, refused_invocation}
+use Rattle.qu_world.specs.Parties.{MayBegin, CanBegin, IsIdle}
+use Rattle.qu_world.specs.Run.{run_from, run, MayHappen, events_of, IsSetup, IsWorld}
+
+-- ---- one event more
+
+run_more : (world : WorldState) (events : List Event) (event : Event) → run_from world (events ++ event ∷ []) ≡ world_step (run_from world events) event
+unfolding run_from
+run_more world [] event = refl
+run_more world (first ∷ later) event = run_more (world_step world first) later event
+
+happened_more : (world : WorldState) (events : List Event) (event : Event) → MayHappen world events → refusal_of (run_from world events) event ≡ None → MayHappen world (events ++ event ∷ [])
+unfolding run_from MayHappen
+happened_more world [] event happened may = (may, tt)
+happened_more world (first ∷ later) event happened may = (happened.0, happened_more (world_step world first) later event happened.1 may)
+
+-- ---- what a step records
+
+-- the event was recorded, and the setup stays
+record Records (old new : WorldState) (event : Event) : Type 0 where
+  setup : new.setup ≡ old.setup
+  entry : Entry
+  of_event : entry.event ≡ event
+  entries : new.entries ≡ old.entries ++ entry ∷ []
+
+at_replica_records : (world : WorldState) (event : Event) (me : ReplicaId) (frame : Frame) (found : Option ReplicaState) → Records world (at_replica world event me frame found) event
+at_replica_records world event me frame None = record { setup = refl; entry = _; of_event = refl; entries = refl }
+at_replica_records world event me frame (Some state) = record { setup = refl; entry = _; of_event = refl; entries = refl }
+
+at_client_records : (world : WorldState) (event : Event) (me : ClientId) (move : ClientState → Stepped) (found : Option ClientState) → Records world (at_client world event me move found) event
+at_client_records world event me move None = record { setup = refl; entry = _; of_event = refl; entries = refl }
+at_client_records world event me move (Some state) = record { setup = refl; entry = _; of_event = refl; entries = refl }
+
+received_records : (world : WorldState) (event : Event) (to : Party) (frame : Frame) → Records world (received world event to frame) event
+received_records world event (party.Replica me) frame = at_replica_records world event me frame (slice_get world.replicas me.0)
+received_records world event (party.Client me) frame = at_client_records world event me (λ state. client_step state frame) (numbered world.clients me.0)
+
+delivered_records : (world : WorldState) (event : Event) (letter : Option Letter) → Records world (delivered world event letter) event
+delivered_records world event None = record { setup = refl; entry = _; of_event = refl; entries = refl }
+delivered_records world event (Some letter) = received_records world event letter.to letter.frame
+
+step_records : (world : WorldState) (event : Event) → Records world (world_step world event) event
+step_records world (Invoke client op) = at_client_records world (Invoke client op) client (λ state. client_invoke state op) (numbered world.clients client.0)
+step_records world (Deliver number) = delivered_records world (Deliver number) (letter_of world number)
+step_records world (Tick client) = at_client_records world (Tick client) client client_tick (numbered world.clients client.0)
+
+-- ---- worlds
+
+pub IsWorld-opening : (setup : Setup) → IsSetup setup → IsWorld (opening_world setup)
+unfolding run_from MayHappen
+IsWorld-opening setup limits = record { setup = limits; is_run = refl; happened = tt }
+
+step_by : (old new : WorldState) (event : Event) → new ≡ world_step old event → Records old new event → IsWorld old → refusal_of old event ≡ None → IsWorld new
+step_by old new event is made world may =
+    let events : events_of new.entries ≡ events_of old.entries ++ event ∷ [] =
+    ap events_of made.entries ∙ map-append (λ entry. entry.event) old.entries (made.entry ∷ []) ∙ ap (λ (last : Event). events_of old.entries ++ last ∷ []) made.of_event in
+    let before : run_from (opening_world old.setup) (events_of old.entries) ≡ old = world.is_run in
+    record {
+      setup = subst IsSetup (sym made.setup) world.setup;
+      is_run =
+          ap (λ setup. run setup (events_of new.entries)) made.setup
+          ∙ ap (λ events. run old.setup events) events
+          ∙ run_more (opening_world old.setup) (events_of old.entries) event
+          ∙ ap (λ at. world_step at event) before
+          ∙ sym is;
+      happened =
+          let MayFrom : Setup → Type 0 = λ setup. MayHappen (opening_world setup) (events_of new.entries) in
+          let May : List Event → Type 0 = λ events. MayHappen (opening_world old.setup) events in
+          subst MayFrom (sym made.setup)
+          (subst May (sym events)
+          (happened_more (opening_world old.setup) (events_of old.entries) event world.happened (ap (λ at. refusal_of at event) before ∙ may)));
+    }
+
+-- an event that may happen makes a world of a world
+pub IsWorld-step : (old new : WorldState) (event : Event) → new ≡ world_step old event → IsWorld old → refusal_of old event ≡ None → IsWorld new
+IsWorld-step old new event is world may = step_by old new event is (subst (λ at. Records old at event) (sym is) (step_records old event)) world may
+
+-- ---- numbers of operations
+
+all_set : {X : Type 0} (P : X → Type 0) (xs : List X) (index : ℕ) (x : X) → AllByRecursion P xs → P x → AllByRecursion P (slice_set xs index x)
+all_set P [] index x all here = all
+all_set P (first ∷ later) zero x all here = (here, all.1)
+all_set P (first ∷ later) (suc index) x all here = (all.0, all_set P later index x all.1 here)
+
+all_got : {X : Type 0} (P : X → Type 0) (xs : List X) (index : ℕ) (x : X) → AllByRecursion P xs → slice_get xs index ≡ Some x → P x
+all_got P [] index x all found = absurd cc
+all_got P (first ∷ later) zero x all found = let e : first ≡ x = cc in subst P e all.0
+all_got P (first ∷ later) (suc index) x all found = all_got P later index x all.1 found
+
+all_weaker : {X : Type 0} (P Q : X → Type 0) (xs : List X) → ((x : X) → P x → Q x) → AllByRecursion P xs → AllByRecursion Q xs
+all_weaker P Q [] weaker all = all
+all_weaker P Q (first ∷ later) weaker all = (weaker first all.0, all_weaker P Q later weaker all.1)
+
+all_with : {X : Type 0} (P : X → Type 0) (xs : List X) (number : ℕ) (x : X) → AllByRecursion P xs → P x → AllByRecursion P (with_numbered xs number x)
+all_with P xs zero x all here = all
+all_with P xs (suc index) x all here = all_set P xs index x all here
+
+all_numbered : {X : Type 0} (P : X → Type 0) (xs : List X) (number : ℕ) (x : X) → AllByRecursion P xs → numbered xs number ≡ Some x → P x
+all_numbered P xs zero x all found = absurd cc
+all_numbered P xs (suc index) x all found = all_got P xs index x all found
+
+last_more : (most : ℕ) (last : Option (ℕ × ℕ)) → IfSome last (λ last. last.0 ≤ most) → IfSome last (λ last. last.0 ≤ most + 1)
+last_more most None within = tt
+last_more most (Some last) within = omega arith
+
+more : (most : ℕ) (work : Option Work) → IfSome work (λ work. work.number ≤ most) → IfSome work (λ work. work.number ≤ most + 1)
+more most None within = tt
+more most (Some work) within = omega arith
+
+within_more : (most : ℕ) (state : ClientState) → NumbersWithin most state → NumbersWithin (most + 1) state
+within_more most state within = record { last = last_more most state.last_request within.last; work = more most state.work within.work }
+
+numbers_at : (most : ℕ) (world : WorldState) (event : Event) (me : ClientId) (move : ClientState → Stepped) (found : Option ClientState)
+    → numbered world.clients me.0 ≡ found → ((state : ClientState) → NumbersWithin most state → NumbersWithin (most + 1) (move state).state)
+    → AllByRecursion (NumbersWithin most) world.clients → AllByRecursion (NumbersWithin (most + 1)) (at_client world event me move found).clients
+numbers_at most world event me move None is moved all =
+    all_weaker (NumbersWithin most) (NumbersWithin (most + 1)) world.clients (within_more most) all
+numbers_at most world event me move (Some state) is moved all =
+    all_with (NumbersWithin (most + 1)) world.clients me.0 (move state).state
+    (all_weaker (NumbersWithin most) (NumbersWithin (most + 1)) world.clients (within_more most) all)
+    (moved state (all_numbered (NumbersWithin most) world.clients me.0 state all is))
+
+numbers_replica : (most : ℕ) (world : WorldState) (event : Event) (me : ReplicaId) (frame : Frame) (found : Option ReplicaState)
+    → AllByRecursion (NumbersWithin most) world.clients → AllByRecursion (NumbersWithin (most + 1)) (at_replica world event me frame found).clients
+numbers_replica most world event me frame None all = all_weaker (NumbersWithin most) (NumbersWithin (most + 1)) world.clients (within_more most) all
+numbers_replica most world event me frame (Some state) all = all_weaker (NumbersWithin most) (NumbersWithin (most + 1)) world.clients (within_more most) all
+
+numbers_received : (most : ℕ) (world : WorldState) (event : Event) (to : Party) (frame : Frame)
+    → AllByRecursion (NumbersWithin most) world.clients → AllByRecursion (NumbersWithin (most + 1)) (received world event to frame).clients
+numbers_received most world event (party.Replica me) frame all = numbers_replica most world event me frame (slice_get world.replicas me.0) all
+numbers_received most world event (party.Client me) frame all =
+    numbers_at most world event me (λ state. client_step state frame) (numbered world.clients me.0) refl
+    (λ state within. within_more most (client_step state frame).state (NumbersWithin-step most state frame within)) all
+
+numbers_delivered : (most : ℕ) (world : WorldState) (event : Event) (letter : Option Letter)
+    → AllByRecursion (NumbersWithin most) world.clients → AllByRecursion (NumbersWithin (most + 1)) (delivered world event letter).clients
+numbers_delivered most world event None all = all_weaker (NumbersWithin most) (NumbersWithin (most + 1)) world.clients (within_more most) all
+numbers_delivered most world event (Some letter) all = numbers_received most world event letter.to letter.frame all
+
+-- a step makes the numbers of operations at most one greater
+numbers_step : (most : ℕ) (world : WorldState) (event : Event)
+    → AllByRecursion (NumbersWithin most) world.clients → AllByRecursion (NumbersWithin (most + 1)) (world_step world event).clients
+numbers_step most world (Invoke client op) all =
+    numbers_at most world (Invoke client op) client (λ state. client_invoke state op) (numbered world.clients client.0) refl
+    (λ state within. NumbersWithin-invoke most state op within) all
+numbers_step most world (Deliver number) all = numbers_delivered most world (Deliver number) (letter_of world number) all
+numbers_step most world (Tick client) all =
+    numbers_at most world (Tick client) client client_tick (numbered world.clients client.0) refl
+    (λ state within. within_more most (client_tick state).state (NumbersWithin-tick most state within)) all
+
+numbers_from : (events : List Event) (most total : ℕ) (world : WorldState) → total ≡ most + length events
+    → AllByRecursion (NumbersWithin most) world.clients → AllByRecursion (NumbersWithin total) (run_from world events).clients
+unfolding run_from
+numbers_from [] most total world is all =
+    let e : most ≡ total = omega arith in
+    let P : ℕ → Type 0 = λ n. AllByRecursion (NumbersWithin n) world.clients in subst P e all
+numbers_from (event ∷ later) most total world is all =
+    numbers_from later (most + 1) total (world_step world event) (omega arith) (numbers_step most world event all)
+
+numbers_opening : (number count bounds : ℕ) → AllByRecursion (NumbersWithin 0) (opening_clients number count bounds)
+unfolding opening_clients
+numbers_opening number zero bounds = tt
+numbers_opening number (suc count) bounds = (NumbersWithin-opening (record { 0 = number }) bounds, numbers_opening (number + 1) count bounds)
+
+-- the numbers of operations are at most the number of events
+pub numbers_world : (world : WorldState) → IsWorld world → AllByRecursion (NumbersWithin (length world.entries)) world.clients
+numbers_world world is =
+    let P : WorldState → Type 0 = λ at. AllByRecursion (NumbersWithin (length world.entries)) at.clients in
+    let count : length (events_of world.entries) ≡ length world.entries = simp length-map in
+    subst P is.is_run
+    (numbers_from (events_of world.entries) 0 (length world.entries) (opening_world world.setup) (omega arith)
+    (numbers_opening 1 world.setup.clients world.setup.bounds))
+
+-- ---- what may happen
+
+not_full : (full : Bool) → cond full (Some fails.TooManyEvents) None ≡ None → full ≡ false
+not_full true free = absurd cc
+not_full false free = refl
+
+below_limit : (entries : List Entry) → refused_at_limit entries ≡ None → length entries < EVENT_LIMIT
+below_limit entries free = leb-false EVENT_LIMIT (length entries) (not_full (nat_le EVENT_LIMIT (length entries)) free)
+
+idle_by : (work : Option Work) (entries : List Entry) → cond (is_some work) (Some fails.Busy) (refused_at_limit entries) ≡ None → (work ≡ None) × (length entries < EVENT_LIMIT)
+idle_by None entries free = (refl, below_limit entries free)
+idle_by (Some work) entries free = absurd cc
+
+can_begin : (clients : List ClientState) (number : ℕ) (who : Party) (entries : List Entry) (found : Option ClientState) → numbered clients number ≡ found
+    → AllByRecursion (NumbersWithin (length entries)) clients → refused_invocation entries who found ≡ None → IsSomeAnd found CanBegin
+can_begin clients number who entries None is all free = absurd cc
+can_begin clients number who entries (Some state) is all free =
+    let idle = idle_by state.work entries free in
+    record {
+      idle = idle.0;
+      number_left = may_invoke (length entries) state (all_numbered (NumbersWithin (length entries)) clients number state all is) (omega (arith, idle.1));
+    }
+
+-- a client that is invoked can begin
+pub may_begin : (world : WorldState) (event : Event) → IsWorld world → refusal_of world event ≡ None → MayBegin world.clients event
+may_begin world (Invoke client op) is free =
+    can_begin world.clients client.0 (party.Client client) world.entries (numbered world.clients client.0) refl (numbers_world world is) free
+may_begin world (Deliver number) is free = tt
+may_begin world (Tick client) is free = tt

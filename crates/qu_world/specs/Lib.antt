@@ -1,0 +1,5 @@
+pub mod State
+pub mod Step
+pub mod Parties
+pub mod Refusals
+pub mod Run

@@ -1,0 +1,59 @@
+-- A world: the state of each replica and client, and the record of what happened so far.
+use Rattle.std.specs.Prelude.{ℕ, zero, suc, ◌+◌, List, [], ◌∷◌, slice_get, slice_set, Option, None, Some}
+use Rattle.qu_base.specs.declared.party.ClientId.{ClientId}
+use Rattle.qu_base.specs.Thresholds.{replicas}
+use Rattle.qu_objects.specs.declared.kind.KindName.{KindName}
+use Rattle.qu_frames.specs.declared.frame.Letter.{Letter}
+use Rattle.qu_replica_step.specs.State as replica
+use Rattle.qu_client.specs.State as client
+use Rattle.qu_client.specs.declared.state.ClientState.{ClientState}
+use Rattle.qu_trace.specs.declared.trace.Setup.{Setup}
+use Rattle.qu_trace.specs.declared.trace.Entry.{Entry}
+use Rattle.qu_trace.specs.Letters.{letters_of}
+
+pub record WorldState : Type 0 where
+  pub setup : Setup
+  -- replicas 0, 1, 2, ..
+  pub replicas : List replica.ReplicaState
+  -- clients 1, 2, 3, ..
+  pub clients : List ClientState
+  pub entries : List Entry
+
+abbrev pub world_of : Setup → List replica.ReplicaState → List ClientState → List Entry → WorldState
+world_of setup replicas clients entries =
+    record { setup = setup; replicas = replicas; clients = clients; entries = entries }
+
+-- so many replicas from this number on, as they begin
+unfoldable pub opening_replicas : ℕ → ℕ → ℕ → List KindName → List replica.ReplicaState
+opening_replicas number zero bounds kinds = []
+opening_replicas number (suc count) bounds kinds =
+    replica.opening_state (record { 0 = number }) bounds kinds ∷ opening_replicas (number + 1) count bounds kinds
+
+-- so many clients from this number on, as they begin
+unfoldable pub opening_clients : ℕ → ℕ → ℕ → List ClientState
+opening_clients number zero bounds = []
+opening_clients number (suc count) bounds =
+    client.opening_state (record { 0 = number }) bounds ∷ opening_clients (number + 1) count bounds
+
+-- a world in which nothing happened yet
+abbrev pub opening_world : Setup → WorldState
+opening_world setup = record {
+  setup = setup;
+  replicas = opening_replicas 0 (replicas setup.bounds) setup.bounds setup.kinds;
+  clients = opening_clients 1 setup.clients setup.bounds;
+  entries = [];
+}
+
+-- the item with this number, where the first has number 1
+abbrev pub numbered : {X : Type 0} → List X → ℕ → Option X
+numbered items zero = None
+numbered items (suc number) = slice_get items number
+
+-- the items with another one under this number
+abbrev pub with_numbered : {X : Type 0} → List X → ℕ → X → List X
+with_numbered items zero item = items
+with_numbered items (suc number) item = slice_set items number item
+
+-- the letter with this number
+abbrev pub letter_of : WorldState → ℕ → Option Letter
+letter_of world number = numbered (letters_of world.entries) number

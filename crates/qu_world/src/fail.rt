@@ -1,0 +1,29 @@
+ghost use Rattle.std.specs.Prelude.{◌≡◌};
+ghost use Rattle.qu_world.specs.declared.fail.WorldFail.TheVariants as fails;
+
+use qu_base::{NoMemory, Party};
+
+/// The most events of a run.
+pub const EVENT_LIMIT: usize = 20_000;
+
+/// Why an event does not happen. The world is as before.
+#[derive(Clone, Copy, Debug, PartialEq, Eq)]
+pub enum WorldFail {
+    /// No letter has this number.
+    NoSuchLetter(u64),
+    /// This party is not of the setup.
+    NoSuchActor(Party),
+    /// The client has an operation under way.
+    Busy,
+    /// The run has as many events as it may.
+    TooManyEvents,
+    NoMemory,
+}
+
+impl From<NoMemory> for WorldFail {
+    ghost from_gives = { λ _ outcome. outcome ≡ fails.NoMemory };
+
+    fn from(_error: NoMemory) -> WorldFail {
+        WorldFail::NoMemory
+    }
+}

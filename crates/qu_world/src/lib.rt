@@ -1,0 +1,16 @@
+//! A network of correct replicas and clients, in which each event is scripted: which letter is
+//! delivered, which client begins an operation.
+#![tactic(auto)]
+
+mod fail;
+mod letters;
+mod opening;
+mod parties;
+mod recording;
+mod refusals;
+mod world;
+
+pub use fail::{EVENT_LIMIT, WorldFail};
+pub use letters::letter_at;
+pub use parties::Made;
+pub use world::World;

@@ -1,0 +1,38 @@
+ghost use Rattle.std.specs.Prelude.{◌≡◌, ◌≤◌, length, IfOk};
+ghost use Rattle.qu_base.specs.Thresholds.{replicas};
+ghost use Rattle.qu_world.specs.State.{opening_replicas, opening_clients};
+
+use qu_base::{Bounds, ClientId, NoMemory, ReplicaId};
+use qu_client::Client;
+use qu_objects::KindName;
+use qu_replica_step::Replica;
+use std::alloc::Global;
+
+/// The replicas of a run, as they begin.
+pub fn start_replicas(
+    alloc: Global,
+    bounds: Bounds,
+    kinds: &[KindName],
+) -> Result<Vec<Replica>, NoMemory>
+    requires { length kinds.now ≤ 64 }
+    ensures { IfOk result (λ started. started.items ≡ opening_replicas 0 (replicas bounds) bounds kinds.now) }
+{
+    let mut started = Vec::new(alloc);
+    let count = bounds.n();
+    for number in 0..count {
+        started.push(Replica::start(alloc, ReplicaId(number), bounds, kinds)?)?;
+    }
+    Ok(started)
+}
+
+/// So many clients of a run, as they begin; the first has number 1.
+pub fn start_clients(alloc: Global, bounds: Bounds, count: u16) -> Result<Vec<Client>, NoMemory>
+    requires { count ≤ 64 }
+    ensures { IfOk result (λ started. started.items ≡ opening_clients 1 count bounds) }
+{
+    let mut started = Vec::new(alloc);
+    for before in 0..count {
+        started.push(Client::start(alloc, ClientId(before + 1), bounds))?;
+    }
+    Ok(started)
+}

@@ -1,0 +1,131 @@
+ghost use Rattle.std.specs.Prelude.{◌≡◌, ◌≢◌, Err, Some, None, slice_get, IfOk, OnOk, OnErr, IfErr};
+ghost use Rattle.std.specs.Option.{option_copied};
+ghost use Rattle.qu_trace.specs.declared.trace.Setup.{Setup as SetupOf};
+ghost use Rattle.qu_world.specs.declared.fail.WorldFail.{WorldFail as Fail};
+ghost use Rattle.qu_world.specs.State.{opening_world, numbered};
+ghost use Rattle.qu_world.specs.Step.{world_step};
+ghost use Rattle.qu_world.specs.Refusals.{refusal_of};
+ghost use Rattle.qu_world.specs.Run.{IsSetup, IsRun, IsWorld, trace_of};
+
+use super::WorldFail;
+use super::opening::{start_clients, start_replicas};
+use super::parties::client_at;
+use super::recording::record_event;
+use super::refusals::{refuse_delivery, refuse_invocation, refuse_tick};
+use qu_base::{ClientId, List, NoMemory, ReplicaId};
+use qu_client::Client;
+use qu_replica_step::Replica;
+use qu_trace::{Event, Setup, Trace};
+use std::alloc::Global;
+use std::marker::Model;
+
+/// A run under way: the replicas and clients of a setup, and the record of the events so far.
+#[derive(Debug, Drop)]
+pub struct World {
+    alloc: Global,
+    trace: Trace,
+    replicas: Vec<Replica>,
+    clients: Vec<Client>,
+}
+
+impl Model for World {
+    ghost use Rattle.qu_world.specs.State.{WorldState, world_of};
+    ghost use Rattle.qu_world.specs.Run.{IsWorld};
+
+    ghost Value = { WorldState };
+
+    ghost view = { λ world. world_of world.trace.setup world.replicas.items world.clients.items world.trace.entries };
+
+    ghost invariant = { λ world. IsWorld (world_of world.trace.setup world.replicas.items world.clients.items world.trace.entries) };
+}
+
+impl World {
+    /// A world in which nothing happened yet.
+    pub fn start(alloc: Global, setup: Setup) -> Result<World, NoMemory>
+        requires { IsSetup setup }
+        ensures { IfOk result (λ world. world ≡ opening_world setup) }
+    {
+        let replicas = start_replicas(alloc, setup.bounds, setup.kinds.as_slice())?;
+        let clients = start_clients(alloc, setup.bounds, setup.clients)?;
+        let entries = List::new(alloc);
+        Ok(World {
+            alloc,
+            trace: Trace { setup, entries },
+            replicas,
+            clients,
+        })
+    }
+
+    /// Lets an event happen: one party steps, and the event is recorded with what it made.
+    ///
+    /// Its refusals come in the order of `WorldFail`, before any change.
+    pub fn apply(&mut self, event: Event) -> Result<(), WorldFail>
+        ensures ok { OnOk result (self.new ≡ world_step self.old event) }
+        ensures accepted { OnOk result (refusal_of self.old event ≡ None) }
+        ensures refused { IfErr result (λ fail. fail ≢ WorldFail.NoMemory → refusal_of self.old event ≡ Some fail) }
+        ensures told { (fail : Fail) → refusal_of self.old event ≡ Some fail → result ≡ Err fail }
+        ensures err { OnErr result (self.new ≡ self.old) }
+    {
+        if let Some(fail) = self.refusal(&event) {
+            return Err(fail);
+        }
+        record_event(
+            self.alloc,
+            &mut self.replicas,
+            &mut self.clients,
+            &mut self.trace,
+            event,
+        )?;
+        Ok(())
+    }
+
+    /// Why an event does not happen.
+    fn refusal(&self, event: &Event) -> Option<WorldFail>
+        ensures { result ≡ refusal_of self.now event.now }
+    {
+        let entries = self.trace.entries.as_slice();
+        match event {
+            Event::Invoke(me, _) => refuse_invocation(entries, self.clients.as_slice(), *me),
+            Event::Deliver(number) => refuse_delivery(entries, *number),
+            Event::Tick(me) => refuse_tick(entries, self.clients.as_slice(), *me),
+        }
+    }
+
+    /// The record of the events so far.
+    pub fn trace(&self) -> &Trace
+        ensures value { result.now ≡ trace_of self.now }
+        ensures run { IsRun result.now }
+        ensures world { IsWorld self.now }
+    {
+        &self.trace
+    }
+
+    /// The record of all events.
+    pub fn into_trace(self) -> Trace
+        ensures value { result ≡ trace_of self }
+        ensures run { IsRun result }
+    {
+        self.trace
+    }
+
+    /// The replicas as they are now, from that with number 0 on.
+    pub fn replicas(&self) -> &[Replica]
+        ensures { result.now ≡ self.now.replicas }
+    {
+        self.replicas.as_slice()
+    }
+
+    /// The replica with this number as it is now. None exactly where the setup has no such replica.
+    pub fn replica(&self, me: ReplicaId) -> Option<&Replica>
+        ensures { option_copied result ≡ slice_get self.now.replicas me.0 }
+    {
+        self.replicas.as_slice().get(usize::from(me.0))
+    }
+
+    /// The client with this number as it is now. None exactly where the setup has no such client.
+    pub fn client(&self, me: ClientId) -> Option<&Client>
+        ensures { option_copied result ≡ numbered self.now.clients me.0 }
+    {
+        client_at(self.clients.as_slice(), me)
+    }
+}
