@@ -1,0 +1,5 @@
+pub mod Lines
+pub mod Words
+pub mod Timeline
+pub mod Ends
+pub mod Report

@@ -1,0 +1,55 @@
+-- How operations and answers are written.
+use Rattle.std.specs.Prelude.{ℕ, ◌==◌, List, ◌++◌, codes, if◌then◌else◌}
+use Rattle.std.specs.List.{join_by}
+use Rattle.std.specs.Fmt.{decimal}
+use Rattle.qu_base.specs.declared.party.ClientId.{ClientId}
+use Rattle.qu_base.specs.declared.party.ObjectId.{ObjectId}
+use Rattle.qu_objects.specs.declared.act.Method.{Method}
+use Rattle.qu_objects.specs.declared.act.Method.TheVariants.{Add, Take}
+use Rattle.qu_objects.specs.declared.query.Ask.{Ask}
+use Rattle.qu_objects.specs.declared.query.Ask.TheVariants.{Read}
+use Rattle.qu_objects.specs.declared.answer.TheConstants.{OVER}
+use Rattle.qu_objects.specs.declared.answer.Item.{Item}
+use Rattle.qu_objects.specs.declared.answer.Item.TheVariants.{Number}
+use Rattle.qu_objects.specs.declared.answer.Answer.{Answer}
+use Rattle.qu_objects.specs.declared.answer.Answer.TheVariants as answer
+use Rattle.qu_objects.specs.declared.op.Op.{Op}
+use Rattle.qu_objects.specs.declared.op.Op.TheVariants.{Act, Query}
+
+-- an operation is named by its client and its number
+abbrev pub name_text : ClientId → ℕ → List ℕ
+name_text client number = decimal client.0 ++ codes "." ++ decimal number
+
+-- ---- operations
+
+abbrev pub method_text : ℕ → Method → List ℕ
+method_text object (Add n) = codes "add " ++ decimal object ++ codes " " ++ decimal n
+method_text object (Take n) = codes "take " ++ decimal object ++ codes " " ++ decimal n
+
+abbrev pub ask_text : ℕ → Ask → List ℕ
+ask_text object Read = codes "read " ++ decimal object
+
+abbrev pub act_part_text : ObjectId × Method → List ℕ
+act_part_text part = method_text (part.0).0 part.1
+
+abbrev pub query_part_text : ObjectId × Ask → List ℕ
+query_part_text part = ask_text (part.0).0 part.1
+
+-- the parts of an operation, with ` + ` between each two
+unfoldable pub op_text : Op → List ℕ
+op_text (Act act) = join_by act_part_text (codes " + ") act
+op_text (Query query) = join_by query_part_text (codes " + ") query
+
+-- ---- answers
+
+abbrev pub item_text : Item → List ℕ
+item_text (Number n) = decimal n
+
+-- a machine refuses by OVER or UNDER only
+abbrev pub why_text : ℕ → List ℕ
+why_text why = if why == OVER then codes "over" else codes "under"
+
+-- the items, with ` + ` between each two, or the first refused part
+unfoldable pub answer_text : Answer → List ℕ
+answer_text (answer.Ok items) = join_by item_text (codes " + ") items
+answer_text (answer.Refused at why) = why_text why ++ codes " at " ++ decimal at

@@ -1,0 +1,109 @@
+ghost use Rattle.std.specs.Prelude.{◌≡◌, ◌∷◌, [], ◌++◌, OnOk, count_by, string_bytes};
+ghost use Rattle.qu_print.specs.Lines.{lines_text};
+ghost use Rattle.qu_print.specs.Ends.{open_lines, open_lines_of, end_line, ended_done, ended_given_up, never_ended};
+
+use qu_base::NoMemory;
+use qu_objects::Outcome;
+use qu_trace::OpRecord;
+
+/// Writes which operations of clients 1, 2, .. up to this one have no end, and how many operations
+/// ended.
+pub fn put_ends(text: &mut String, clients: u16, operations: &[OpRecord]) -> Result<(), NoMemory>
+    ensures { OnOk result (string_bytes text.new
+        ≡ string_bytes text.old
+        ++ lines_text (open_lines clients operations.now ++ end_line operations.now ∷ [])) }
+{
+    put_open(text, clients, operations)?;
+    put_end_line(text, operations)?;
+    Ok(())
+}
+
+/// Writes a line for each operation of clients 1, 2, .. up to this one that has no end.
+#[tactic(auto, unfolding(crate::specs::Lines::lines_text, crate::specs::Ends::open_lines))]
+fn put_open(text: &mut String, clients: u16, operations: &[OpRecord]) -> Result<(), NoMemory>
+    ensures { OnOk result (string_bytes text.new
+        ≡ string_bytes text.old ++ lines_text (open_lines clients operations.now)) }
+{
+    for earlier in 0..clients {
+        put_open_of(text, earlier + 1, operations)?;
+    }
+    Ok(())
+}
+
+#[tactic(auto, unfolding(crate::specs::Lines::lines_text, crate::specs::Ends::open_lines_of))]
+fn put_open_of(text: &mut String, client: u16, operations: &[OpRecord]) -> Result<(), NoMemory>
+    ensures { OnOk result (string_bytes text.new
+        ≡ string_bytes text.old ++ lines_text (open_lines_of operations.now client)) }
+{
+    for operation in operations {
+        if operation.client.0 == client && is_open(operation) {
+            let number = operation.number;
+            writeln!(text, "open {client}.{number}")?;
+        }
+    }
+    Ok(())
+}
+
+/// Writes how many operations there are, and how they ended.
+#[tactic(auto, unfolding(crate::specs::Lines::lines_text, crate::specs::Ends::end_line))]
+fn put_end_line(text: &mut String, operations: &[OpRecord]) -> Result<(), NoMemory>
+    ensures { OnOk result (string_bytes text.new
+        ≡ string_bytes text.old ++ lines_text (end_line operations.now ∷ [])) }
+{
+    let (calls, done) = (operations.len(), count_done(operations));
+    write!(text, "end calls {calls} done {done}")?;
+    let (gave_up, open) = (count_given_up(operations), count_open(operations));
+    writeln!(text, " gaveup {gave_up} open {open}")?;
+    Ok(())
+}
+
+fn count_done(operations: &[OpRecord]) -> usize
+    ensures { result ≡ count_by ended_done operations.now }
+{
+    operations
+        .iter()
+        .filter(|operation| is_done(operation))
+        .count()
+}
+
+fn count_given_up(operations: &[OpRecord]) -> usize
+    ensures { result ≡ count_by ended_given_up operations.now }
+{
+    operations
+        .iter()
+        .filter(|operation| is_given_up(operation))
+        .count()
+}
+
+fn count_open(operations: &[OpRecord]) -> usize
+    ensures { result ≡ count_by never_ended operations.now }
+{
+    operations
+        .iter()
+        .filter(|operation| is_open(operation))
+        .count()
+}
+
+fn is_done(operation: &OpRecord) -> bool
+    ensures { result ≡ ended_done operation.now }
+{
+    match &operation.reply {
+        Some((_, Outcome::Done(_))) => true,
+        Some((_, Outcome::GaveUp)) | None => false,
+    }
+}
+
+fn is_given_up(operation: &OpRecord) -> bool
+    ensures { result ≡ ended_given_up operation.now }
+{
+    match &operation.reply {
+        Some((_, Outcome::GaveUp)) => true,
+        Some((_, Outcome::Done(_))) | None => false,
+    }
+}
+
+fn is_open(operation: &OpRecord) -> bool
+    ensures { result ≡ never_ended operation.now }
+{
+    operation.reply.is_none()
+}

@@ -1,0 +1,14 @@
+//! The report of a run: what the bounds are, what happened, which operations are open, and how many
+//! ended.
+#![tactic(auto)]
+
+mod ends;
+mod piece;
+mod report;
+mod timeline;
+mod words;
+
+pub use report::report_text;
+
+#[cfg(test)]
+mod tests;

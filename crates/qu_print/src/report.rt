@@ -1,0 +1,45 @@
+ghost use Rattle.std.specs.Prelude.{◌≡◌, ◌∷◌, [], ◌++◌, IfOk, OnOk, string_bytes};
+ghost use Rattle.qu_print.specs.Lines.{lines_text};
+ghost use Rattle.qu_print.specs.Timeline.{timeline};
+ghost use Rattle.qu_print.specs.Report.{report_of, bounds_line};
+
+use super::ends::put_ends;
+use super::timeline::put_timeline;
+use qu_base::{Bounds, List, NoMemory};
+use qu_trace::{Point, Trace, operations};
+use std::alloc::Global;
+
+/// The report of a run, of which `order` tells at which points its operations took effect.
+#[tactic(auto, using(crate::proofs::ReportFacts::report_parts))]
+pub fn report_text(alloc: Global, trace: &Trace, order: &[Point]) -> Result<List<u8>, NoMemory>
+    ensures { IfOk result (λ text. text ≡ report_of trace.now order.now) }
+{
+    let records = operations(alloc, trace)?;
+    let mut text = String::new(alloc);
+    put_events(&mut text, trace, order)?;
+    put_ends(&mut text, trace.setup.clients, records.as_slice())?;
+    Ok(List::from(text.into_bytes()))
+}
+
+/// Writes what happened, under the bounds.
+#[tactic(auto, unfolding(crate::specs::Lines::lines_text))]
+fn put_events(text: &mut String, trace: &Trace, order: &[Point]) -> Result<(), NoMemory>
+    ensures { OnOk result (string_bytes text.new
+        ≡ string_bytes text.old
+        ++ lines_text (bounds_line trace.now.setup.bounds ∷ [] ++ timeline trace.now.entries order.now)) }
+{
+    put_bounds(text, &trace.setup.bounds)?;
+    put_timeline(text, trace.entries.as_slice(), order)?;
+    Ok(())
+}
+
+#[tactic(auto, unfolding(crate::specs::Lines::lines_text, crate::specs::Report::bounds_line))]
+fn put_bounds(text: &mut String, bounds: &Bounds) -> Result<(), NoMemory>
+    ensures { OnOk result (string_bytes text.new
+        ≡ string_bytes text.old ++ lines_text (bounds_line bounds.now ∷ [])) }
+{
+    let (b, n, q, r) = (bounds.b(), bounds.n(), bounds.q(), bounds.r());
+    write!(text, "bounds b {b} n {n}")?;
+    writeln!(text, " q {q} r {r}")?;
+    Ok(())
+}

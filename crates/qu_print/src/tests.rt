@@ -1,0 +1,130 @@
+use super::words::{put_answer, put_op};
+use super::*;
+use qu_base::{Bounds, ClientId, List, NoMemory, ObjectId};
+use qu_objects::{Act, Answer, Ask, Item, Method, OVER, Op, Outcome, Query, UNDER};
+use qu_trace::{Entry, Event, Point, Setup, Trace};
+use std::alloc::Global;
+use std::test::Fail;
+
+#[test]
+fn nothing_happens(rt: HostRuntime) -> Result<(), Fail> {
+    let trace = trace_of(rt.alloc(), 1, List::new(rt.alloc()))?;
+    let text = report_text(rt.alloc(), &trace, &[])?;
+    let expected = b"bounds b 1 n 6 q 5 r 3\nend calls 0 done 0 gaveup 0 open 0\n";
+    assert_eq!(rt; text.as_slice(), expected.as_slice());
+    Ok(())
+}
+
+#[test]
+fn one_operation_ends_and_one_stays_open(rt: HostRuntime) -> Result<(), Fail> {
+    let alloc = rt.alloc();
+    let mut entries = List::new(alloc);
+    entries.push(entry(alloc, Event::Invoke(ClientId(1), add(alloc, 5)?), None))?;
+    entries.push(entry(alloc, Event::Deliver(1), None))?;
+    let answer = Answer::Ok(one(alloc, Item::Number(5))?);
+    let ended = Some((ClientId(1), 1, Outcome::Done(answer)));
+    entries.push(entry(alloc, Event::Deliver(2), ended))?;
+    entries.push(entry(alloc, Event::Invoke(ClientId(2), read(alloc)?), None))?;
+    let trace = trace_of(alloc, 2, entries)?;
+    let order = one(alloc, point(alloc, 2, 1, 1)?)?;
+    let text = report_text(alloc, &trace, order.as_slice())?;
+    let expected = b"bounds b 1 n 6 q 5 r 3\n\
+        call 1.1 add 0 5\n\
+        point 1.1\n\
+        reply 1.1 5\n\
+        call 2.1 read 0\n\
+        open 2.1\n\
+        end calls 2 done 1 gaveup 0 open 1\n";
+    assert_eq!(rt; text.as_slice(), expected.as_slice());
+    Ok(())
+}
+
+#[test]
+fn one_operation_is_refused_and_one_gives_up(rt: HostRuntime) -> Result<(), Fail> {
+    let alloc = rt.alloc();
+    let mut entries = List::new(alloc);
+    let refused = Outcome::Done(Answer::Refused { at: 0, why: OVER });
+    let ended = Some((ClientId(1), 1, refused));
+    entries.push(entry(alloc, Event::Invoke(ClientId(1), add(alloc, 7)?), ended))?;
+    entries.push(entry(alloc, Event::Tick(ClientId(1)), None))?;
+    entries.push(entry(alloc, Event::Invoke(ClientId(1), add(alloc, 8)?), None))?;
+    let ended = Some((ClientId(1), 2, Outcome::GaveUp));
+    entries.push(entry(alloc, Event::Tick(ClientId(1)), ended))?;
+    let trace = trace_of(alloc, 1, entries)?;
+    let order = one(alloc, point(alloc, 1, 1, 1)?)?;
+    let text = report_text(alloc, &trace, order.as_slice())?;
+    let expected = b"bounds b 1 n 6 q 5 r 3\n\
+        call 1.1 add 0 7\n\
+        point 1.1\n\
+        reply 1.1 over at 0\n\
+        call 1.2 add 0 8\n\
+        gaveup 1.2\n\
+        end calls 2 done 1 gaveup 1 open 0\n";
+    assert_eq!(rt; text.as_slice(), expected.as_slice());
+    Ok(())
+}
+
+#[test]
+fn parts_and_items_are_joined(rt: HostRuntime) -> Result<(), Fail> {
+    let alloc = rt.alloc();
+    let mut items = one(alloc, Item::Number(18446744073709551615))?;
+    items.push(Item::Number(0))?;
+    let mut text = String::new(alloc);
+    put_answer(&mut text, &Answer::Ok(items))?;
+    text.push_str("\n")?;
+    put_answer(&mut text, &Answer::Refused { at: 1, why: UNDER })?;
+    text.push_str("\n")?;
+    let parts = one(alloc, (ObjectId(3), Method::Take(20)))?;
+    put_op(&mut text, &Op::Act(Act::new(parts)?))?;
+    assert_eq!(rt;
+        text.as_str(),
+        "18446744073709551615 + 0\nunder at 1\ntake 3 20"
+    );
+    Ok(())
+}
+
+fn trace_of(alloc: Global, clients: u16, entries: List<Entry>) -> Result<Trace, Fail> {
+    let bounds = Bounds::new(1)?;
+    let setup = Setup {
+        bounds,
+        seed: 0,
+        clients,
+        kinds: List::new(alloc),
+    };
+    Ok(Trace { setup, entries })
+}
+
+fn entry(alloc: Global, event: Event, ended: Option<(ClientId, u64, Outcome)>) -> Entry {
+    Entry {
+        event,
+        letters: List::new(alloc),
+        ended,
+    }
+}
+
+fn point(alloc: Global, event: u64, client: u16, number: u64) -> Result<Point, Fail> {
+    Ok(Point {
+        event,
+        client: ClientId(client),
+        number,
+        op: read(alloc)?,
+    })
+}
+
+/// The operation that adds to counter 0.
+fn add(alloc: Global, more: u64) -> Result<Op, Fail> {
+    let parts = one(alloc, (ObjectId(0), Method::Add(more)))?;
+    Ok(Op::Act(Act::new(parts)?))
+}
+
+/// The operation that reads counter 0.
+fn read(alloc: Global) -> Result<Op, Fail> {
+    let parts = one(alloc, (ObjectId(0), Ask::Read))?;
+    Ok(Op::Query(Query::new(parts)?))
+}
+
+fn one<T: Drop>(alloc: Global, item: T) -> Result<List<T>, NoMemory> {
+    let mut items = List::new(alloc);
+    items.push(item)?;
+    Ok(items)
+}

@@ -1,0 +1,11 @@
+pub mod Steps
+pub mod WorldGrowth
+pub mod Places
+pub mod Settling
+pub mod Beyond
+pub mod Marking
+pub mod Firsts
+pub mod Taking
+pub mod Sorted
+pub mod Distinct
+pub mod Printed

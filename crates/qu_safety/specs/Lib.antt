@@ -1,0 +1,4 @@
+pub mod Decided
+pub mod Order
+pub mod Tracker
+pub mod Points

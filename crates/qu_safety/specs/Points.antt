@@ -1,0 +1,76 @@
+-- The points of some operations of a trace, in their order.
+use Rattle.std.specs.Prelude.{◌≡◌, ℕ, Bool, ◌==◌, ◌&&◌, if◌then◌else◌, List, [], ◌∷◌, min, Option, None, Some, IsTrue, Contains, ◌⊎◌}
+use Rattle.std.specs.List.{list_any}
+use Rattle.qu_base.specs.declared.party.ClientId.{ClientId}
+use Rattle.qu_trace.specs.declared.record.OpRecord.{OpRecord}
+use Rattle.qu_trace.specs.declared.record.Point.{Point}
+use Rattle.qu_trace.specs.declared.trace.Entry.{Entry}
+use Rattle.qu_trace.specs.declared.trace.Trace.{Trace}
+use Rattle.qu_safety.specs.declared.tracked.Tracked.{Tracked}
+use Rattle.qu_safety.specs.Order.{answers, effect_of, is_earlier, are_in_order}
+
+-- ---- updates
+
+-- the candidate is one of this update
+abbrev pub is_of_update : ClientId → ℕ → Tracked → Bool
+is_of_update client number tracked =
+    (tracked.candidate.stamp.client).0 == client.0 && tracked.candidate.stamp.number == number
+
+-- the mark of the candidate, where it is one of this update
+abbrev pub mark_of : ClientId → ℕ → Tracked → Option ℕ
+mark_of client number tracked = if is_of_update client number tracked then tracked.decided else None
+
+-- the earlier of two events, where there are two
+abbrev pub earlier_of : Option ℕ → Option ℕ → Option ℕ
+earlier_of None second = second
+earlier_of (Some first) None = Some first
+earlier_of (Some first) (Some second) = Some (min first second)
+
+-- the first event after which a candidate of this update was decided
+unfoldable pub first_mark : ClientId → ℕ → List Tracked → Option ℕ
+first_mark client number [] = None
+first_mark client number (tracked ∷ later) =
+    earlier_of (mark_of client number tracked) (first_mark client number later)
+
+-- ---- queries
+
+-- an answer to this round is among the letters of the entry
+abbrev pub answers_in : ClientId → ℕ → ℕ → Entry → Bool
+answers_in client number round entry = list_any (answers client number round) entry.letters
+
+-- ---- the order
+
+-- the second is another operation
+abbrev pub AreApart : OpRecord → OpRecord → Type 0
+AreApart first second = (first.client).0 ≡ (second.client).0 → first.number ≡ second.number → ⊥
+
+-- the point of an operation at this event
+abbrev pub point_at : OpRecord → ℕ → Point
+point_at operation event =
+    record { event = event; client = operation.client; number = operation.number; op = operation.op }
+
+-- a point of one of these operations
+pub record IsPointOf (trace : Trace) (operations : List OpRecord) (point : Point) : Type 0 where
+  pub operation : OpRecord
+  pub of_list : Contains operations operation
+  pub client : operation.client ≡ point.client
+  pub number : operation.number ≡ point.number
+  pub op : operation.op ≡ point.op
+  pub effect : effect_of trace operation point.event operation.op
+
+pub record ArePointsOf (trace : Trace) (operations : List OpRecord) (points : List Point) : Type 0 where
+  pub in_order : IsTrue (are_in_order points)
+  pub sound : (point : Point) → Contains points point → IsPointOf trace operations point
+  pub complete : (point : Point) → IsPointOf trace operations point → Contains points point
+
+-- the points with another one in its place
+unfoldable pub with_point : Point → List Point → List Point
+with_point point [] = point ∷ []
+with_point point (first ∷ later) =
+    if is_earlier first point then first ∷ with_point point later else point ∷ first ∷ later
+
+-- the point of the operation is added, where it took effect
+abbrev pub AddsPoint : Trace → OpRecord → List Point → List Point → Type 0
+AddsPoint trace operation old new =
+    ((event : ℕ) × effect_of trace operation event operation.op × (new ≡ with_point (point_at operation event) old))
+    ⊎ (((event : ℕ) → ¬ (effect_of trace operation event operation.op)) × (new ≡ old))

@@ -1,0 +1,14 @@
+//! The points at which operations took effect, in one order.
+#![tactic(auto)]
+
+mod effects;
+mod news;
+mod order;
+mod replay;
+mod tracked;
+mod tracker;
+
+pub use order::order_of;
+
+#[cfg(test)]
+mod tests;

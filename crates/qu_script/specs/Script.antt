@@ -1,0 +1,72 @@
+-- What a script says: its setup, and the lines behind it, or the first line that cannot stand.
+use Rattle.std.specs.Prelude.{◌≡◌, ◌≤◌, ℕ, ◌+◌, nat_lt, List, [], ◌∷◌, length, Option, None, Some, Result, Ok, Err, if◌then◌else◌}
+use Rattle.qu_objects.specs.declared.kind.KindName.TheVariants.{Counter}
+use Rattle.qu_trace.specs.declared.trace.Setup.{Setup}
+use Rattle.qu_script.specs.declared.bad.Bad.{Bad}
+use Rattle.qu_script.specs.declared.bad.BadKind.TheVariants.{TooLong, UnknownLine}
+use Rattle.qu_script.specs.declared.limits.TheConstants.{LIMIT}
+use Rattle.qu_script.specs.declared.line.Line.{Line}
+use Rattle.qu_script.specs.declared.line.Script.{Script}
+use Rattle.qu_script.specs.Text.{lines_of, words_of}
+use Rattle.qu_script.specs.declared.bad.ScriptFail.{ScriptFail}
+use Rattle.qu_script.specs.declared.bad.ScriptFail.TheVariants as fails
+use Rattle.qu_script.specs.declared.setup.SetupLine.{SetupLine}
+use Rattle.qu_script.specs.declared.setup.SetupLine.TheVariants.{Bounds, Seed, Clients, Object}
+use Rattle.qu_script.specs.Grammar.{setup_number, line_of_words}
+
+abbrev pub then_good : {X Y : Type 0} → Result X Bad → (X → Result Y Bad) → Result Y Bad
+then_good (Ok x) f = f x
+then_good (Err bad) f = Err bad
+
+abbrev pub unknown_line : {X : Type 0} → ℕ → Result X Bad
+unknown_line number = Err (record { line = number; kind = UnknownLine })
+
+abbrev pub or_unknown : {X : Type 0} → ℕ → Option X → Result X Bad
+or_unknown number None = unknown_line number
+or_unknown number (Some x) = Ok x
+
+-- the first of these texts has this number and has to be of this form; the others are left
+unfoldable pub expect : SetupLine → ℕ → List (List ℕ) → Result (ℕ × List (List ℕ)) Bad
+expect line number [] = unknown_line number
+expect line number (text ∷ texts) = then_good (or_unknown number (setup_number line (words_of text))) (λ found. Ok (found, texts))
+
+-- the lines of these texts, of which the first has this number, where there are so many clients
+unfoldable pub lines_from : ℕ → ℕ → List (List ℕ) → Result (List (ℕ × Line)) Bad
+lines_from clients number [] = Ok []
+lines_from clients number (text ∷ texts) =
+    then_good (or_unknown number (line_of_words clients (words_of text))) (λ line.
+    then_good (lines_from clients (number + 1) texts) (λ lines. Ok ((number, line) ∷ lines)))
+
+abbrev pub setup_of : ℕ → ℕ → ℕ → Setup
+setup_of bounds seed clients = record { bounds = bounds; seed = seed; clients = clients; kinds = Counter ∷ [] }
+
+-- four setup lines in their order, and then event lines
+unfoldable pub script_from : List (List ℕ) → Result Script Bad
+script_from texts =
+    then_good (expect Bounds 1 texts) (λ bounds.
+    then_good (expect Seed 2 bounds.1) (λ seed.
+    then_good (expect Clients 3 seed.1) (λ clients.
+    then_good (expect Object 4 clients.1) (λ object.
+    then_good (lines_from clients.0 5 object.1) (λ lines.
+    Ok (record { setup = setup_of bounds.0 seed.0 clients.0; lines = lines }))))))
+
+-- a script of too many bytes is refused at once
+unfoldable pub script_of : List ℕ → Result Script Bad
+script_of bytes =
+    if nat_lt LIMIT (length bytes) then Err (record { line = 1; kind = TooLong }) else script_from (lines_of bytes)
+
+-- what a call answered, seen by `view`, is what was meant, unless memory ran out
+abbrev pub Fails : {Y : Type 0} → ScriptFail → Result Y Bad → Type 0
+Fails (fails.Bad bad) meant = meant ≡ Err bad
+Fails fails.NoMemory meant = Unit {0}
+
+abbrev pub Gives : {X Y : Type 0} → (X → Y) → Result X ScriptFail → Result Y Bad → Type 0
+Gives view (Ok x) meant = meant ≡ Ok (view x)
+Gives view (Err fail) meant = Fails fail meant
+
+-- the setup is within the limits
+pub record HasLimits (setup : Setup) : Type 0 where
+  pub some_faults : 1 ≤ setup.bounds
+  pub few_faults : setup.bounds ≤ 3
+  pub clients : setup.clients ≤ 64
+  pub kinds : length setup.kinds ≤ 64

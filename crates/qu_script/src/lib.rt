@@ -1,0 +1,21 @@
+//! Scripts: the setup and the events of a run as lines of text.
+#![tactic(auto)]
+
+mod bad;
+mod call;
+mod cut;
+mod limits;
+mod line;
+mod number;
+mod numbers;
+mod read;
+mod setup;
+
+pub use bad::{Bad, BadKind, ScriptFail};
+pub use limits::LIMIT;
+pub use line::{Line, Script};
+pub use read::read_script;
+pub use setup::SetupLine;
+
+#[cfg(test)]
+mod tests;

@@ -1,0 +1,119 @@
+ghost use Rattle.std.specs.Prelude.{◌≡◌, ◌<◌, ◌≤◌, ◌+◌, ◌^◌, length, IfOk, IfErr};
+ghost use Rattle.qu_script.specs.Grammar.{IsInRange};
+ghost use Rattle.qu_script.specs.Text.{lines_of};
+ghost use Rattle.qu_script.specs.Script.{Gives, expect, lines_from, script_from, script_of, setup_of, HasLimits};
+
+use super::call::read_event;
+use super::cut::{cut_line, cut_words};
+use super::setup::read_setup;
+use super::{Bad, BadKind, LIMIT, Line, Script, ScriptFail, SetupLine};
+use qu_base::{Bounds, List};
+use qu_objects::KindName;
+use qu_trace::Setup;
+use std::alloc::Global;
+
+/// What is wrong with a line of no known form.
+fn unknown_line(line: u64) -> ScriptFail
+    ensures { result ≡ ScriptFail.Bad (record { line = line; kind = BadKind.UnknownLine }) }
+{
+    ScriptFail::Bad(Bad {
+        line,
+        kind: BadKind::UnknownLine,
+    })
+}
+
+/// Reads the setup line with which a text has to begin, and gives the rest of the text.
+#[tactic(auto, using(crate::proofs::ScriptFacts::expect_facts))]
+fn expect_setup(
+    alloc: Global,
+    line: SetupLine,
+    number: u64,
+    text: &[u8],
+) -> Result<(u64, &[u8]), ScriptFail>
+    ensures found { Gives (λ found. (found.0, lines_of found.1.now)) result (expect line number (lines_of text.now)) }
+    ensures in_range { IfOk result (λ found. IsInRange line found.0) }
+    ensures shorter { IfOk result (λ found. length found.1.now ≤ length text.now) }
+{
+    if text.is_empty() {
+        return Err(unknown_line(number));
+    }
+    let (first, rest) = cut_line(text);
+    let words = cut_words(alloc, first)?;
+    match read_setup(line, words.as_slice()) {
+        Some(found) => Ok((found, rest)),
+        None => Err(unknown_line(number)),
+    }
+}
+
+/// Reads event lines, of which the first has this number.
+fn read_lines(
+    alloc: Global,
+    clients: u16,
+    first: u64,
+    text: &[u8],
+) -> Result<List<(u64, Line)>, ScriptFail>
+    requires { first + length text.now < 2 ^ 62 }
+    ensures { Gives (λ lines. lines) result (lines_from clients first (lines_of text.now)) }
+{
+    let mut lines = List::new(alloc);
+    let mut number = first;
+    let mut rest = text;
+    'lines: while !rest.is_empty() {
+        let (line, after) = cut_line(rest);
+        let words = cut_words(alloc, line)?;
+        let Some(line) = read_event(alloc, clients, words.as_slice())? else {
+            return Err(unknown_line(number));
+        };
+        lines.push((number, line))?;
+        number += 1;
+        rest = after;
+    }
+    Ok(lines)
+}
+
+/// Reads a script: four setup lines, and event lines behind them.
+///
+/// A text of more than 16 MiB is refused at line 1; else the first line of no known form is, and a
+/// setup line that is missing at the end counts as one.
+#[tactic(auto, unfolding(crate::specs::Script::script_of, crate::specs::Script::script_from))]
+pub fn read_script(alloc: Global, text: &[u8]) -> Result<Script, ScriptFail>
+    ensures value { Gives (λ script. script) result (script_of text.now) }
+    ensures limits { IfOk result (λ script. HasLimits script.setup) }
+{
+    if text.len() > LIMIT {
+        return Err(ScriptFail::Bad(Bad {
+            line: 1,
+            kind: BadKind::TooLong,
+        }));
+    }
+    let (faults, rest) = expect_setup(alloc, SetupLine::Bounds, 1, text)?;
+    let (seed, rest) = expect_setup(alloc, SetupLine::Seed, 2, rest)?;
+    let (clients, rest) = expect_setup(alloc, SetupLine::Clients, 3, rest)?;
+    let (_object, rest) = expect_setup(alloc, SetupLine::Object, 4, rest)?;
+    let clients = clients as u16;
+    let lines = read_lines(alloc, clients, 5, rest)?;
+    let setup = make_setup(alloc, faults as u8, seed, clients)?;
+    Ok(Script { setup, lines })
+}
+
+/// The setup of one counter.
+fn make_setup(alloc: Global, faults: u8, seed: u64, clients: u16) -> Result<Setup, ScriptFail>
+    requires faults { (1 ≤ faults) × (faults ≤ 3) }
+    requires clients { clients ≤ 64 }
+    ensures value { IfOk result (λ setup. setup ≡ setup_of faults seed clients) }
+    ensures limits { IfOk result HasLimits }
+    ensures no_memory { IfErr result (λ fail. fail ≡ ScriptFail.NoMemory) }
+{
+    let bounds = match Bounds::new(faults) {
+        Ok(bounds) => bounds,
+        Err(_) => unreachable!(),
+    };
+    let mut kinds = List::new(alloc);
+    kinds.push(KindName::Counter)?;
+    Ok(Setup {
+        bounds,
+        seed,
+        clients,
+        kinds,
+    })
+}
