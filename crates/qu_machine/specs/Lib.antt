@@ -1,3 +1,4 @@
-pub mod Parts
-pub mod Counter
 pub mod Machine
+pub mod Serial
+pub mod Faults
+pub mod PointTests

@@ -3,14 +3,19 @@
 //! It knows no replicas, clients or letters: an act or a query is run as one step on plain values.
 #![tactic(auto)]
 
-mod act;
-mod answer;
-mod counter;
+mod alike;
+mod fault;
+mod judgeable;
+mod judging;
 mod machine;
-mod query;
+mod record;
+mod standing;
 
-pub use act::{Act, BadParts, Method};
-pub use answer::{Answer, Item, OVER, UNDER};
-pub use counter::{Applied, apply, tell};
-pub use machine::{KindName, Machine};
-pub use query::{Ask, Op, Query};
+pub use fault::JudgeFault;
+pub use judgeable::is_judgeable;
+pub use judging::judge;
+pub use machine::Machine;
+pub use record::{OpRecord, Point};
+
+#[cfg(test)]
+mod tests;

@@ -1,27 +1,23 @@
-ghost use Rattle.std.specs.Prelude.{◌≡◌, ◌<◌, length, map, IfOk, OnOk, OnErr, All, ◌∷◌, []};
-ghost use Rattle.qu_machine.specs.Machine.{fresh_value, act_answer, act_values, query_answer};
+ghost use Rattle.std.specs.Prelude.{◌≡◌, ◌<◌, length, map, IfOk, OnOk, OnErr, All};
+ghost use Rattle.qu_objects.specs.Kind.{fresh_value};
+ghost use Rattle.qu_machine.specs.Machine.{act_answer, act_values, query_answer};
 
-use super::{Act, Answer, Applied, Item, Query, apply, tell};
-use qu_base::{List, NoMemory};
+use qu_base::NoMemory;
+use qu_objects::{Act, Answer, KindName, Query, Value, perform, tell_all};
 use std::alloc::Global;
 use std::marker::Model;
-
-/// The kind of an object.
-#[derive(Clone, Copy, Debug, PartialEq, Eq)]
-pub enum KindName {
-    Counter,
-}
 
 /// Plain values, on which operations are run whole and one after another.
 #[derive(Debug, Drop)]
 pub struct Machine {
-    values: Vec<u64>,
+    values: Vec<Value>,
 }
 
 impl Model for Machine {
-    ghost use Rattle.std.specs.Prelude.{List, ℕ};
+    ghost use Rattle.std.specs.Prelude.{List};
+    ghost use Rattle.qu_objects.specs.declared.kind.Value.{Value as ObjectValue};
 
-    ghost Value = { List ℕ };
+    ghost Value = { List ObjectValue };
 
     ghost view = { λ machine. machine.values.items };
 }
@@ -31,12 +27,7 @@ impl Machine {
     pub fn fresh(alloc: Global, kinds: &[KindName]) -> Result<Machine, NoMemory>
         ensures { IfOk result (λ machine. machine ≡ map fresh_value kinds.now) }
     {
-        let values = kinds
-            .iter()
-            .map(|kind| match kind {
-                KindName::Counter => 0,
-            })
-            .collect(alloc)?;
+        let values = kinds.iter().map(|kind| Value::fresh(*kind)).collect(alloc)?;
         Ok(Machine { values })
     }
 
@@ -48,16 +39,14 @@ impl Machine {
         ensures err { OnErr result (self.new ≡ self.old) }
     {
         match act.parts().as_slice() {
-            [(object, method)] => {
+            [(object, _)] => {
                 let index = usize::from(object.0);
-                match apply(self.values[index], method) {
-                    Applied::Changed(value, item) => {
-                        let answer = answer_of(alloc, item)?;
-                        self.values[index] = value;
-                        Ok(answer)
-                    }
-                    Applied::Refused(why) => Ok(Answer::Refused { at: 0, why }),
+                let performed = perform(alloc, &[self.values[index]], act)?;
+                match performed.values.as_slice() {
+                    [value] => self.values[index] = *value,
+                    _ => unreachable!(),
                 }
+                Ok(performed.answer)
             }
             _ => unreachable!(),
         }
@@ -69,17 +58,8 @@ impl Machine {
         ensures { IfOk result (λ answer. answer ≡ query_answer self.now query.now) }
     {
         match query.parts().as_slice() {
-            [(object, ask)] => answer_of(alloc, tell(self.values[usize::from(object.0)], ask)),
+            [(object, _)] => tell_all(alloc, &[self.values[usize::from(object.0)]], query),
             _ => unreachable!(),
         }
     }
-}
-
-/// The answer of an operation with one part.
-fn answer_of(alloc: Global, item: Item) -> Result<Answer, NoMemory>
-    ensures { IfOk result (λ answer. answer ≡ Answer.Ok (item ∷ [])) }
-{
-    let mut items = List::new(alloc);
-    items.push(item)?;
-    Ok(Answer::Ok(items))
 }

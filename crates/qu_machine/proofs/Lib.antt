@@ -1,0 +1,4 @@
+pub mod Equalities
+pub mod Firsts
+pub mod Running
+pub mod Verdict
