@@ -5,7 +5,7 @@ use Rattle.std.specs.List.{flat_map, range_with_len}
 use Rattle.std.specs.Fmt.{decimal}
 use Rattle.qu_objects.specs.declared.op.Outcome.{Outcome}
 use Rattle.qu_objects.specs.declared.op.Outcome.TheVariants.{Done, GaveUp}
-use Rattle.qu_trace.specs.declared.record.OpRecord.{OpRecord}
+use Rattle.qu_machine.specs.declared.record.OpRecord.{OpRecord}
 use Rattle.qu_print.specs.Words.{name_text}
 
 -- ---- how an operation ended

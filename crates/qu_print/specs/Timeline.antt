@@ -1,11 +1,11 @@
 -- The lines of the events of a run: at each of them the call, then the points, then the end.
-use Rattle.std.specs.Prelude.{ℕ, ◌+◌, ◌==◌, List, [], ◌∷◌, ◌++◌, length, map, filter, take, Option, None, Some, codes}
+use Rattle.std.specs.Prelude.{ℕ, Bool, true, false, ◌+◌, ◌==◌, List, [], ◌∷◌, ◌++◌, length, map, filter, take, Option, None, Some, codes}
 use Rattle.std.specs.List.{flat_map, enumerate_from}
 use Rattle.qu_base.specs.declared.party.ClientId.{ClientId}
 use Rattle.qu_objects.specs.declared.op.Op.{Op}
 use Rattle.qu_objects.specs.declared.op.Outcome.{Outcome}
 use Rattle.qu_objects.specs.declared.op.Outcome.TheVariants.{Done, GaveUp}
-use Rattle.qu_trace.specs.declared.record.Point.{Point}
+use Rattle.qu_machine.specs.declared.record.Point.{Point}
 use Rattle.qu_trace.specs.declared.event.Event.{Event}
 use Rattle.qu_trace.specs.declared.event.Event.TheVariants.{Invoke, Deliver, Tick}
 use Rattle.qu_trace.specs.declared.trace.Entry.{Entry}
@@ -21,8 +21,13 @@ call_lines earlier (Invoke client op) = call_line client (begun_by client earlie
 call_lines earlier (Deliver letter) = []
 call_lines earlier (Tick client) = []
 
+-- an update of a faulty client is told with its point
+abbrev pub faulty_text : Bool → Op → List ℕ
+faulty_text false op = []
+faulty_text true op = codes " faulty " ++ op_text op
+
 abbrev pub point_line : Point → List ℕ
-point_line point = codes "point " ++ name_text point.client point.number
+point_line point = codes "point " ++ name_text point.client point.number ++ faulty_text point.faulty point.op
 
 -- the points of an event, in their order
 abbrev pub point_lines : ℕ → List Point → List (List ℕ)

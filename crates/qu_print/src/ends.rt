@@ -3,8 +3,8 @@ ghost use Rattle.qu_print.specs.Lines.{lines_text};
 ghost use Rattle.qu_print.specs.Ends.{open_lines, open_lines_of, end_line, ended_done, ended_given_up, never_ended};
 
 use qu_base::NoMemory;
+use qu_machine::OpRecord;
 use qu_objects::Outcome;
-use qu_trace::OpRecord;
 
 /// Writes which operations of clients 1, 2, .. up to this one have no end, and how many operations
 /// ended.

@@ -6,7 +6,8 @@ ghost use Rattle.qu_print.specs.Report.{report_of, bounds_line};
 use super::ends::put_ends;
 use super::timeline::put_timeline;
 use qu_base::{Bounds, List, NoMemory};
-use qu_trace::{Point, Trace, operations};
+use qu_machine::Point;
+use qu_trace::{Trace, operations};
 use std::alloc::Global;
 
 /// The report of a run, of which `order` tells at which points its operations took effect.

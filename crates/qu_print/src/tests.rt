@@ -1,8 +1,9 @@
 use super::words::{put_answer, put_op};
 use super::*;
 use qu_base::{Bounds, ClientId, List, NoMemory, ObjectId};
+use qu_machine::Point;
 use qu_objects::{Act, Answer, Ask, Item, Method, OVER, Op, Outcome, Query, UNDER};
-use qu_trace::{Entry, Event, Point, Setup, Trace};
+use qu_trace::{Entry, Event, Setup, Trace};
 use std::alloc::Global;
 use std::test::Fail;
 
@@ -51,12 +52,14 @@ fn one_operation_is_refused_and_one_gives_up(rt: HostRuntime) -> Result<(), Fail
     let ended = Some((ClientId(1), 2, Outcome::GaveUp));
     entries.push(entry(alloc, Event::Tick(ClientId(1)), ended))?;
     let trace = trace_of(alloc, 1, entries)?;
-    let order = one(alloc, point(alloc, 1, 1, 1)?)?;
+    let mut order = one(alloc, point(alloc, 1, 1, 1)?)?;
+    order.push(faulty_point(alloc, 2, 3, 9)?)?;
     let text = report_text(alloc, &trace, order.as_slice())?;
     let expected = b"bounds b 1 n 6 q 5 r 3\n\
         call 1.1 add 0 7\n\
         point 1.1\n\
         reply 1.1 over at 0\n\
+        point 3.9 faulty add 0 2\n\
         call 1.2 add 0 8\n\
         gaveup 1.2\n\
         end calls 2 done 1 gaveup 1 open 0\n";
@@ -108,6 +111,18 @@ fn point(alloc: Global, event: u64, client: u16, number: u64) -> Result<Point, F
         client: ClientId(client),
         number,
         op: read(alloc)?,
+        faulty: false,
+    })
+}
+
+/// The point of a faulty client's update.
+fn faulty_point(alloc: Global, event: u64, client: u16, number: u64) -> Result<Point, Fail> {
+    Ok(Point {
+        event,
+        client: ClientId(client),
+        number,
+        op: add(alloc, 2)?,
+        faulty: true,
     })
 }
 

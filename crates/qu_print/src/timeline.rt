@@ -1,12 +1,12 @@
-ghost use Rattle.std.specs.Prelude.{◌≡◌, ◌<◌, ◌^◌, ◌++◌, OnOk, string_bytes};
-ghost use Rattle.qu_trace.specs.Operations.{invokes, begun_by};
+ghost use Rattle.std.specs.Prelude.{◌≡◌, [], ◌∷◌, ◌++◌, OnOk, string_bytes};
 ghost use Rattle.qu_print.specs.Lines.{lines_text};
-ghost use Rattle.qu_print.specs.Timeline.{timeline, event_lines, call_lines, point_lines, end_lines};
+ghost use Rattle.qu_print.specs.Timeline.{timeline, event_lines, call_lines, point_line, point_lines, end_lines};
 
 use super::words::{put_answer, put_op};
 use qu_base::{ClientId, NoMemory};
+use qu_machine::Point;
 use qu_objects::Outcome;
-use qu_trace::{Entry, Event, Point};
+use qu_trace::{Entry, Event, begun};
 
 /// Writes the lines of all events.
 #[tactic(auto, unfolding(crate::specs::Lines::lines_text, crate::specs::Timeline::timeline))]
@@ -51,27 +51,6 @@ fn put_call(text: &mut String, earlier: &[Entry], event: &Event) -> Result<(), N
     Ok(())
 }
 
-/// How many operations a client began.
-#[tactic(auto, unfolding(qu_trace::specs::Operations::begun_by))]
-fn begun(entries: &[Entry], client: ClientId) -> u64
-    ensures value { result ≡ begun_by client entries.now }
-    ensures small { result < 2 ^ 63 }
-{
-    entries
-        .iter()
-        .filter(|entry| is_invoked(&entry.event, client))
-        .count() as u64
-}
-
-fn is_invoked(event: &Event, client: ClientId) -> bool
-    ensures { result ≡ invokes client event.now }
-{
-    match event {
-        Event::Invoke(other, _) => client.0 == other.0,
-        Event::Deliver(_) | Event::Tick(_) => false,
-    }
-}
-
 #[tactic(auto, unfolding(crate::specs::Lines::lines_text))]
 fn put_points(text: &mut String, event: u64, order: &[Point]) -> Result<(), NoMemory>
     ensures { OnOk result (string_bytes text.new
@@ -79,10 +58,24 @@ fn put_points(text: &mut String, event: u64, order: &[Point]) -> Result<(), NoMe
 {
     for point in order {
         if point.event == event {
-            let (client, number) = (point.client.0, point.number);
-            writeln!(text, "point {client}.{number}")?;
+            put_point(text, point)?;
         }
     }
+    Ok(())
+}
+
+/// Writes the line of one point. That of a faulty client's update tells the update.
+fn put_point(text: &mut String, point: &Point) -> Result<(), NoMemory>
+    ensures { OnOk result (string_bytes text.new
+        ≡ string_bytes text.old ++ point_line point.now ++ 10 ∷ []) }
+{
+    let (client, number) = (point.client.0, point.number);
+    write!(text, "point {client}.{number}")?;
+    if point.faulty {
+        text.push_str(" faulty ")?;
+        put_op(text, &point.op)?;
+    }
+    text.push_str("\n")?;
     Ok(())
 }
 

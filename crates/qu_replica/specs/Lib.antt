@@ -1,1 +1,5 @@
+pub mod Versions
 pub mod State
+pub mod Rows
+pub mod Step
+pub mod Growth

@@ -1,13 +1,67 @@
--- What a replica holds, and when a version comes next at it.
-use Rattle.std.specs.Prelude.{◌≡◌, ℕ, ◌+◌}
+-- What a replica holds: for each of its objects a history, and versions.
+use Rattle.std.specs.Prelude.{ℕ, zero, suc, ◌+◌, List, [], ◌∷◌, ◌++◌, slice_get, Option, None, Some}
+use Rattle.qu_base.specs.declared.party.ObjectId.{ObjectId}
 use Rattle.qu_base.specs.declared.party.ReplicaId.{ReplicaId}
-use Rattle.qu_replica.specs.declared.replica.Version.{Version}
+use Rattle.qu_stamp.specs.declared.stamp.Stamp.{Stamp}
+use Rattle.qu_stamp.specs.declared.candidate.Candidate.{Candidate}
+use Rattle.qu_stamp.specs.Stamp.{opening_stamp}
+use Rattle.qu_stamp.specs.Candidate.{opening}
+use Rattle.qu_history.specs.History.{ObjectHistory, latest}
+use Rattle.qu_objects.specs.declared.kind.KindName.{KindName}
+use Rattle.qu_objects.specs.declared.answer.Answer.TheVariants as answer
+use Rattle.qu_objects.specs.Kind.{fresh_value}
+use Rattle.qu_replica.specs.declared.versions.Stored.{Stored}
+use Rattle.qu_replica.specs.declared.decision.Accepted.{Accepted}
 
-pub record State : Type 0 where
+pub record ReplicaState : Type 0 where
   pub me : ReplicaId
-  pub latest : Version
+  -- the number of replicas that may lie
+  pub bounds : ℕ
+  -- the histories of objects 0, 1, 2, ..
+  pub histories : List ObjectHistory
+  pub versions : List Stored
 
--- the latest version is the one that the next is conditioned on
-pub record Follows (latest : Version) (prior : ℕ) (next : Version) : Type 0 where
-  pub current : latest.time ≡ prior
-  pub by_one : next.time ≡ prior + 1
+-- the candidates of an object, none where the replica does not have it
+abbrev pub candidates_in : Option ObjectHistory → List Candidate
+candidates_in None = []
+candidates_in (Some history) = history.candidates
+
+abbrev pub own_candidates : ReplicaState → ObjectId → List Candidate
+own_candidates state object = candidates_in (slice_get state.histories object.0)
+
+-- the latest stamp that the replica accepted on an object
+abbrev pub own_latest : ReplicaState → ObjectId → Stamp
+own_latest state object = latest (own_candidates state object)
+
+-- the histories with a candidate at the end of that of the object with this number
+unfoldable pub with_candidate : ℕ → Candidate → List ObjectHistory → List ObjectHistory
+with_candidate number candidate [] = []
+with_candidate zero candidate (history ∷ later) = record history { candidates = history.candidates ++ candidate ∷ [] } ∷ later
+with_candidate (suc number) candidate (history ∷ later) = history ∷ with_candidate number candidate later
+
+-- a candidate is accepted with its version
+abbrev pub accept : ReplicaState → Accepted → ReplicaState
+accept state accepted = record state {
+  histories = with_candidate (accepted.object).0 accepted.candidate state.histories;
+  versions = state.versions ++ (record { object = accepted.object; stamp = accepted.candidate.stamp; state = accepted.state }) ∷ [];
+}
+
+unfoldable pub accept_all : ReplicaState → List Accepted → ReplicaState
+accept_all state [] = state
+accept_all state (accepted ∷ later) = accept_all (accept state accepted) later
+
+-- the objects from this number on, as they begin
+unfoldable pub opening_histories : ReplicaId → ℕ → List KindName → List ObjectHistory
+opening_histories me number [] = []
+opening_histories me number (kind ∷ kinds) =
+    record { object = record { 0 = number }; replica = me; candidates = opening ∷ [] } ∷ opening_histories me (number + 1) kinds
+
+unfoldable pub opening_versions : ℕ → List KindName → List Stored
+opening_versions number [] = []
+opening_versions number (kind ∷ kinds) =
+    record { object = record { 0 = number }; stamp = opening_stamp; state = record { value = fresh_value kind; answer = answer.Ok [] } } ∷ opening_versions (number + 1) kinds
+
+-- a replica that has accepted nothing but the opening candidates
+abbrev pub opening_state : ReplicaId → ℕ → List KindName → ReplicaState
+opening_state me bounds kinds =
+    record { me = me; bounds = bounds; histories = opening_histories me 0 kinds; versions = opening_versions 0 kinds }

@@ -1,6 +1,14 @@
-//! A replica: it holds a version of the object, and accepts the next one only upon its own latest.
+//! A replica: it answers requests from its histories and versions, and accepts candidates.
 #![tactic(auto)]
 
+mod asked;
+mod decision;
 mod replica;
+mod versions;
 
-pub use replica::{Replica, Version};
+pub use decision::{Accepted, Decision};
+pub use replica::Replica;
+pub use versions::Stored;
+
+#[cfg(test)]
+mod tests;

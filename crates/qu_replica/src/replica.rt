@@ -1,61 +1,121 @@
-ghost use Rattle.std.specs.Prelude.{◌≡◌, ◌+◌, ◌^◌, ◌<◌, ◌↔◌, IsTrue};
-ghost use Rattle.std.specs.Bool.{OnTrue, OnFalse};
-ghost use Rattle.qu_replica.specs.State.{Follows};
+ghost use Rattle.std.specs.Prelude.{◌≡◌, ◌≤◌, length, slice_get, IfOk, OnOk, OnErr};
+ghost use Rattle.std.specs.Option.{option_copied};
+ghost use Rattle.qu_replica.specs.State.{opening_state};
+ghost use Rattle.qu_replica.specs.Versions.{version_at};
+ghost use Rattle.qu_replica.specs.Step.{replica_step};
+ghost use Rattle.qu_replica.specs.Growth.{AreHistories, HasParts, Grows};
 
-use qu_base::ReplicaId;
+mod acts;
+mod decide;
+mod opening;
+mod queries;
+mod reply;
+mod rows;
+
+use crate::asked::Asked;
+use crate::versions::{self, Stored};
+use qu_base::{Bounds, List, NoMemory, ObjectId, ReplicaId};
+use qu_frames::{Frame, Letter};
+use qu_history::History;
+use qu_objects::{KindName, ObjState};
+use qu_stamp::Stamp;
+use std::alloc::Global;
 use std::marker::Model;
 
-/// A value of the object, and how many updates it took.
-#[derive(Clone, Copy, Debug, PartialEq, Eq)]
-pub struct Version {
-    pub time: u64,
-    pub value: u64,
-}
-
-/// One replica of a counter.
+/// One replica. It keeps a history of each object, and the versions that it accepted.
 #[derive(Debug, Drop)]
 pub struct Replica {
+    alloc: Global,
     me: ReplicaId,
-    latest: Version,
+    bounds: Bounds,
+    histories: Vec<History>,
+    versions: Vec<Stored>,
 }
 
 impl Model for Replica {
-    ghost use Rattle.qu_replica.specs.State.{State};
+    ghost use Rattle.std.specs.Prelude.{IsTrue};
+    ghost use Rattle.qu_replica.specs.State.{ReplicaState};
+    ghost use Rattle.qu_replica.specs.Growth.{are_own};
 
-    ghost Value = { State };
+    ghost Value = { ReplicaState };
 
-    ghost view = { λ replica. record { me = replica.me; latest = replica.latest } };
+    ghost view = { λ replica. record { me = replica.me; bounds = replica.bounds; histories = replica.histories.items; versions = replica.versions.items } };
+
+    ghost invariant = { λ replica. IsTrue (are_own replica.me 0 replica.histories.items) };
 }
 
 impl Replica {
-    /// A replica that has seen no update yet.
-    pub fn start(me: ReplicaId) -> Replica
-        ensures me { result.me ≡ me }
-        ensures time { result.latest.time ≡ 0 }
-        ensures value { result.latest.value ≡ 0 }
+    /// A replica that has accepted nothing but the opening candidates of its objects, which are
+    /// numbered as their kinds stand.
+    #[tactic(auto, using(crate::proofs::Own::are_own_opening))]
+    pub fn start(
+        alloc: Global,
+        me: ReplicaId,
+        bounds: Bounds,
+        kinds: &[KindName],
+    ) -> Result<Replica, NoMemory>
+        requires { length kinds.now ≤ 64 }
+        ensures { IfOk result (λ replica. replica ≡ opening_state me bounds kinds.now) }
     {
-        let latest = Version { time: 0, value: 0 };
-        Replica { me, latest }
+        Ok(Replica {
+            alloc,
+            me,
+            bounds,
+            histories: opening::histories(alloc, me, kinds)?,
+            versions: opening::versions(alloc, kinds)?,
+        })
     }
 
-    /// Its latest version.
-    pub fn latest(&self) -> Version
-        ensures { result ≡ self.now.latest }
+    /// How many replicas there are, and how many may lie.
+    pub fn bounds(&self) -> Bounds
+        ensures { result ≡ self.now.bounds }
     {
-        self.latest
+        self.bounds
     }
 
-    /// Accepts the version that comes next after the one of time `prior`, if that is its latest.
-    pub fn accept(&mut self, prior: u64, next: Version) -> bool
-        requires { prior < 2 ^ 62 }
-        ensures accepted { IsTrue result ↔ Follows self.old.latest prior next }
-        ensures stored { OnTrue result (self.new ≡ record self.old { latest = next }) }
-        ensures kept { OnFalse result (self.new ≡ self.old) }
+    /// Its history of an object, None exactly where it does not have the object.
+    pub fn history(&self, object: ObjectId) -> Option<&History>
+        ensures value { option_copied result ≡ slice_get self.now.histories object.0 }
+        ensures rising { AreHistories self.now }
     {
-        let follows = self.latest.time == prior && next.time == prior + 1;
-        if follows {
-            self.latest = next;
+        self.histories.as_slice().get(usize::from(object.0))
+    }
+
+    /// The version of an object under a stamp, None exactly where it did not accept such a candidate.
+    pub fn version(&self, object: ObjectId, stamp: &Stamp) -> Option<&ObjState>
+        ensures { option_copied result ≡ version_at object stamp.now self.now.versions }
+    {
+        versions::version_at(self.versions.as_slice(), object, stamp)
+    }
+
+    /// Handles a frame, and gives the letters that answer it: one to a request that it decides, none
+    /// to one whose version it lacks, and none to a reply. Without memory it stays as it is.
+    pub fn step(&mut self, frame: &Frame) -> Result<List<Letter>, NoMemory>
+        ensures state { OnOk result (self.new ≡ (replica_step self.old frame.now).0) }
+        ensures letters { IfOk result (λ letters. letters ≡ (replica_step self.old frame.now).1) }
+        ensures err { OnErr result (self.new ≡ self.old) }
+        ensures parts { HasParts frame.now }
+        ensures histories { AreHistories self.new }
+        ensures grows { Grows self.old self.new }
+    {
+        let no_letters = List::new(self.alloc);
+        match frame {
+            Frame::Request {
+                client,
+                number,
+                round,
+                sets,
+                body,
+            } => {
+                let asked = Asked {
+                    client: *client,
+                    number: *number,
+                    sets,
+                };
+                let decision = self.decide(&asked, body)?;
+                self.carry_out(&asked, *round, decision)
+            }
+            Frame::Reply { .. } => Ok(no_letters),
         }
-        follows
     }
 }

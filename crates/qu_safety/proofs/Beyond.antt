@@ -14,14 +14,15 @@ use Rattle.qu_stamp.specs.declared.candidate.Candidate.{Candidate}
 use Rattle.qu_stamp.specs.Candidate.{same}
 use Rattle.qu_history.specs.History.{ObjectHistory, holds}
 use Rattle.qu_objects.specs.declared.kind.KindName.{KindName}
-use Rattle.qu_replica_step.specs.State.{ReplicaState, candidates_in, own_candidates, opening_histories}
-use Rattle.qu_replica_step.specs.Growth.{Grows}
+use Rattle.qu_replica.specs.State.{ReplicaState, candidates_in, own_candidates, opening_histories}
+use Rattle.qu_replica.specs.Growth.{Grows}
 use Rattle.qu_trace.specs.declared.trace.Setup.{Setup}
 use Rattle.qu_world.specs.State.{WorldState, opening_replicas, opening_world}
 use Rattle.qu_safety.specs.declared.tracked.Tracked.{Tracked}
 use Rattle.qu_safety.specs.Decided.{accepts}
 use Rattle.qu_safety.specs.Tracker.{is_of, is_tracked, undecided, sizes_from, sizes_of, news_on, news_at, news_from, with_tracked, with_all, AreAccepted}
-use Rattle.qu_safety.proofs.WorldGrowth.{GrowsTo, AcceptsMore, HasMore}
+use Rattle.qu_world.specs.Growth.{GrowsTo}
+use Rattle.qu_safety.proofs.WorldGrowth.{AcceptsMore, HasMore}
 use Rattle.qu_safety.proofs.Settling.{is_of_equal}
 
 -- ---- tests

@@ -6,7 +6,7 @@ use Rattle.std.proofs.lemmas.List.Elements.{All-nil, All-cons, All-weaker}
 use Rattle.std.proofs.lemmas.List.Sums.{sum_by_push}
 use Rattle.qu_base.specs.declared.party.ClientId.{ClientId}
 use Rattle.qu_objects.specs.declared.op.Op.{Op}
-use Rattle.qu_trace.specs.declared.record.OpRecord.{OpRecord}
+use Rattle.qu_machine.specs.declared.record.OpRecord.{OpRecord}
 use Rattle.qu_trace.specs.declared.event.Event.{Event}
 use Rattle.qu_trace.specs.declared.event.Event.TheVariants.{Invoke, Deliver, Tick}
 use Rattle.qu_trace.specs.declared.trace.Entry.{Entry}

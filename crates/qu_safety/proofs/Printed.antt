@@ -5,8 +5,8 @@ use Rattle.std.specs.List.{All, AllPairs}
 use Rattle.std.proofs.lemmas.List.{take_more, take_all, length-take-le, get_or_default}
 use Rattle.std.proofs.lemmas.List.Elements.{All-contains, Contains-append_left, Contains-push, Contains-push_cases}
 use Rattle.qu_base.specs.declared.party.ClientId.{ClientId}
-use Rattle.qu_trace.specs.declared.record.OpRecord.{OpRecord}
-use Rattle.qu_trace.specs.declared.record.Point.{Point}
+use Rattle.qu_machine.specs.declared.record.OpRecord.{OpRecord}
+use Rattle.qu_machine.specs.declared.record.Point.{Point}
 use Rattle.qu_trace.specs.declared.trace.Trace.{Trace}
 use Rattle.qu_trace.specs.Operations.{operations_of}
 use Rattle.qu_safety.specs.Order.{effect_of, are_in_order, IsPrintedOrder}
@@ -34,6 +34,7 @@ point_later trace before operation point is = record {
   client = is.client;
   number = is.number;
   op = is.op;
+  correct = is.correct;
   effect = is.effect;
 }
 
@@ -45,13 +46,14 @@ points_skip trace before operation points are none = record {
   in_order = are.in_order;
   sound = λ point held. point_later trace before operation point (are.sound point held);
   complete = λ point is. elim (Contains-push_cases before operation is.operation is.of_list) [
-    | inl earlier ↦ are.complete point (record { operation = is.operation; of_list = earlier; client = is.client; number = is.number; op = is.op; effect = is.effect })
+    | inl earlier ↦ are.complete point (record { operation = is.operation; of_list = earlier; client = is.client; number = is.number; op = is.op; correct = is.correct; effect = is.effect })
     | inr same ↦ absurd (none point.event (effect_along trace is.operation operation point.event (sym same) is.effect))
   ];
 }
 
-same_point : (a b : Point) → a.event ≡ b.event → a.client ≡ b.client → a.number ≡ b.number → a.op ≡ b.op → a ≡ b
-same_point a b event client number op = λ i. record { event = event i; client = client i; number = number i; op = op i }
+same_point : (a b : Point) → a.event ≡ b.event → a.client ≡ b.client → a.number ≡ b.number → a.op ≡ b.op → a.faulty ≡ b.faulty → a ≡ b
+same_point a b event client number op faulty =
+    λ i. record { event = event i; client = client i; number = number i; op = op i; faulty = faulty i }
 
 -- the point of the operation is that at the event at which it took effect
 point_is : (trace : Trace) (before : List OpRecord) (operation : OpRecord) (event : ℕ) (point : Point) → effect_of trace operation event operation.op → (is : IsPointOf trace (before ++ operation ∷ []) point) → operation ≡ is.operation → point_at operation event ≡ point
@@ -61,6 +63,7 @@ point_is trace before operation event point effect is same =
     (ap (λ (it : OpRecord). it.client) same ∙ is.client)
     (ap (λ (it : OpRecord). it.number) same ∙ is.number)
     (ap (λ (it : OpRecord). it.op) same ∙ is.op)
+    is.correct
 
 points_add : (trace : Trace) (before : List OpRecord) (operation : OpRecord) (event : ℕ) (points : List Point) → ArePointsOf trace before points → All (λ first. AreApart first operation) before → effect_of trace operation event operation.op → ArePointsOf trace (before ++ operation ∷ []) (with_point (point_at operation event) points)
 points_add trace before operation event points are apart effect = record {
@@ -77,13 +80,14 @@ points_add trace before operation event points are apart effect = record {
       client = refl;
       number = refl;
       op = refl;
+      correct = refl;
       effect = effect;
     })
     | inr there ↦ point_later trace before operation point (are.sound point there)
   ];
   complete = λ point is. elim (Contains-push_cases before operation is.operation is.of_list) [
     | inl earlier ↦ with_point_keeps (point_at operation event) points point
-        (are.complete point (record { operation = is.operation; of_list = earlier; client = is.client; number = is.number; op = is.op; effect = is.effect }))
+        (are.complete point (record { operation = is.operation; of_list = earlier; client = is.client; number = is.number; op = is.op; correct = is.correct; effect = is.effect }))
     | inr same ↦ subst (λ (it : Point). Contains (with_point (point_at operation event) points) it) (point_is trace before operation event point effect is same)
         (with_point_contains (point_at operation event) points)
   ];
@@ -133,6 +137,7 @@ printed trace operations points is are = record {
         client = it.client;
         number = it.number;
         op = it.op;
+        correct = it.correct;
         effect = it.effect;
       };
   complete = λ point it. are.complete point (record {
@@ -141,6 +146,7 @@ printed trace operations points is are = record {
     client = it.client;
     number = it.number;
     op = it.op;
+    correct = it.correct;
     effect = it.effect;
   });
 }

@@ -6,7 +6,7 @@ use Rattle.std.specs.List.{All, position_or_len}
 use Rattle.std.proofs.lemmas.Bool.{false≢true, cases_Bool, and_parts, and_from}
 use Rattle.std.proofs.lemmas.Bool.Decides.{nat_tests}
 use Rattle.std.proofs.lemmas.List.Elements.{All-nil, All-cons}
-use Rattle.qu_trace.specs.declared.record.Point.{Point}
+use Rattle.qu_machine.specs.declared.record.Point.{Point}
 use Rattle.qu_safety.specs.Order.{is_earlier, are_in_order}
 use Rattle.qu_safety.specs.Points.{with_point}
 

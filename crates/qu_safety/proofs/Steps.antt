@@ -1,7 +1,7 @@
 -- One object or replica more, for the loops over them.
 use Rattle.std.proofs.Common.{◌≡◌, ℕ, zero, suc, ◌+◌, ◌<◌, List, [], ◌∷◌, ◌++◌, length, get_or, take, refl, ap, sym, ◌∙◌, arith, append_assoc, add-one, add-zero, zero-add}
 use Rattle.std.proofs.lemmas.List.{append-nil, take_more, length-take-le}
-use Rattle.qu_replica_step.specs.State.{ReplicaState, own_candidates}
+use Rattle.qu_replica.specs.State.{ReplicaState, own_candidates}
 use Rattle.qu_safety.specs.declared.tracked.Tracked.{Tracked}
 use Rattle.qu_safety.specs.Tracker.{sizes_from, news_on, news_at, news_from}
 

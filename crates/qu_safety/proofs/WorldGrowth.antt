@@ -1,97 +1,28 @@
 -- A world forgets nothing: what is accepted, established or decided stays so.
-use Rattle.std.proofs.Common.{◌≡◌, ℕ, zero, suc, ◌+◌, ◌<◌, ◌≤◌, Bool, true, false, cond, List, [], ◌∷◌, ◌++◌, length, take, get_or, Option, None, Some, refl, ap, ◌∙◌, arith, inl, inr}
-use Rattle.std.specs.Prelude.{slice_get, slice_set, count_by, nat_le}
+use Rattle.std.proofs.Common.{◌≡◌, ℕ, zero, suc, ◌+◌, ◌<◌, ◌≤◌, Bool, true, false, cond, List, [], ◌∷◌, ◌++◌, length, take, get_or, refl, ap, ◌∙◌, arith, inl, inr}
+use Rattle.std.specs.Prelude.{count_by, nat_le}
 use Rattle.std.specs.List.{list_any, AllZip}
 use Rattle.std.proofs.lemmas.Bool.{false≢true, cases_Bool, or_cases, or_left, or_right, le-leb, leb-true}
 use Rattle.std.proofs.lemmas.List.{map-append, take_more, take_all, take-map, take-take}
 use Rattle.std.proofs.lemmas.List.Folds.{list_any-append}
 use Rattle.std.proofs.lemmas.List.Sums.{sum_by-cons}
-use Rattle.std.proofs.lemmas.Option.{same_Some}
-use Rattle.qu_base.specs.declared.party.ClientId.{ClientId}
 use Rattle.qu_base.specs.declared.party.ObjectId.{ObjectId}
-use Rattle.qu_base.specs.declared.party.Party.{Party}
-use Rattle.qu_base.specs.declared.party.Party.TheVariants as party
-use Rattle.qu_base.specs.declared.party.ReplicaId.{ReplicaId}
 use Rattle.qu_base.specs.Thresholds.{quorum}
 use Rattle.qu_stamp.specs.declared.candidate.Candidate.{Candidate}
 use Rattle.qu_history.specs.History.{holds}
-use Rattle.qu_frames.specs.declared.frame.Frame.{Frame}
-use Rattle.qu_frames.specs.declared.frame.Letter.{Letter}
-use Rattle.qu_replica_step.specs.State.{ReplicaState, own_candidates}
-use Rattle.qu_replica_step.specs.Growth.{Grows}
-use Rattle.qu_replica_step.specs.Step.{replica_step}
-use Rattle.qu_replica_step.proofs.Growth.{grows-self, grows-chain, step-grows}
-use Rattle.qu_client.specs.declared.state.ClientState.{ClientState}
-use Rattle.qu_client.specs.declared.state.Stepped.{Stepped}
-use Rattle.qu_client.specs.Step.{client_invoke, client_step, client_tick}
+use Rattle.qu_replica.specs.State.{ReplicaState, own_candidates}
+use Rattle.qu_replica.specs.Growth.{Grows}
 use Rattle.qu_trace.specs.declared.event.Event.{Event}
-use Rattle.qu_trace.specs.declared.event.Event.TheVariants.{Invoke, Deliver, Tick}
 use Rattle.qu_trace.specs.declared.trace.Entry.{Entry}
 use Rattle.qu_trace.specs.declared.trace.Setup.{Setup}
 use Rattle.qu_trace.specs.declared.trace.Trace.{Trace}
-use Rattle.qu_world.specs.State.{WorldState, numbered, letter_of, opening_world}
-use Rattle.qu_world.specs.Step.{world_step, at_replica, at_client, received, delivered}
+use Rattle.qu_world.specs.State.{WorldState, opening_world}
+use Rattle.qu_world.specs.Step.{world_step}
+use Rattle.qu_world.specs.Growth.{GrowsTo}
 use Rattle.qu_world.specs.Run.{run_from, run, events_of}
+use Rattle.qu_world.proofs.WorldGrowth.{grows_to-self, run_from-grows}
 use Rattle.qu_safety.specs.Decided.{accepts, is_accepted, is_established, IsDecided}
 use Rattle.qu_safety.specs.Order.{world_after}
-
--- each replica of the new world has at least what it had in the old one
-pub record GrowsTo (old new : WorldState) : Type 0 where
-  pub setup : new.setup ≡ old.setup
-  pub replicas : AllZip Grows old.replicas new.replicas
-
--- ---- a step, and a run
-
-each-self : (replicas : List ReplicaState) → AllZip Grows replicas replicas
-each-self [] = tt
-each-self (replica ∷ later) = (grows-self replica, each-self later)
-
-each-chain : (first second third : List ReplicaState) → AllZip Grows first second → AllZip Grows second third → AllZip Grows first third
-each-chain [] [] third one two = two
-each-chain [] (y ∷ ys) third one two = absurd one
-each-chain (x ∷ xs) [] third one two = absurd one
-each-chain (x ∷ xs) (y ∷ ys) [] one two = absurd two
-each-chain (x ∷ xs) (y ∷ ys) (z ∷ zs) one two = (grows-chain x y z one.0 two.0, each-chain xs ys zs one.1 two.1)
-
-each-set : (replicas : List ReplicaState) (place : ℕ) (old new : ReplicaState) → slice_get replicas place ≡ Some old → Grows old new → AllZip Grows replicas (slice_set replicas place new)
-each-set [] place old new found grows = tt
-each-set (replica ∷ later) zero old new found grows =
-    let same : replica ≡ old = same_Some replica old found in
-    (rw (same) grows, each-self later)
-each-set (replica ∷ later) (suc place) old new found grows = (grows-self replica, each-set later place old new found grows)
-
-pub grows_to-self : (world : WorldState) → GrowsTo world world
-grows_to-self world = record { setup = refl; replicas = each-self world.replicas }
-
-pub grows_to-chain : (first second third : WorldState) → GrowsTo first second → GrowsTo second third → GrowsTo first third
-grows_to-chain first second third one two = record {
-  setup = two.setup ∙ one.setup;
-  replicas = each-chain first.replicas second.replicas third.replicas one.replicas two.replicas;
-}
-
-at_client-grows : (world : WorldState) (event : Event) (me : ClientId) (move : ClientState → Stepped) (found : Option ClientState) → GrowsTo world (at_client world event me move found)
-at_client-grows world event me move None = record { setup = refl; replicas = each-self world.replicas }
-at_client-grows world event me move (Some state) = record { setup = refl; replicas = each-self world.replicas }
-
-at_replica-grows : (world : WorldState) (event : Event) (me : ReplicaId) (frame : Frame) (found : Option ReplicaState) → slice_get world.replicas me.0 ≡ found → GrowsTo world (at_replica world event me frame found)
-at_replica-grows world event me frame None is = record { setup = refl; replicas = each-self world.replicas }
-at_replica-grows world event me frame (Some state) is = record {
-  setup = refl;
-  replicas = each-set world.replicas me.0 state (replica_step state frame).0 is (step-grows state frame);
-}
-
-received-grows : (world : WorldState) (event : Event) (to : Party) (frame : Frame) → GrowsTo world (received world event to frame)
-received-grows world event (party.Replica me) frame = at_replica-grows world event me frame (slice_get world.replicas me.0) refl
-received-grows world event (party.Client me) frame = at_client-grows world event me (λ (state : ClientState). client_step state frame) (numbered world.clients me.0)
-
-delivered-grows : (world : WorldState) (event : Event) (letter : Option Letter) → GrowsTo world (delivered world event letter)
-delivered-grows world event None = record { setup = refl; replicas = each-self world.replicas }
-delivered-grows world event (Some letter) = received-grows world event letter.to letter.frame
-
-pub world_step-grows : (world : WorldState) (event : Event) → GrowsTo world (world_step world event)
-world_step-grows world (Invoke client op) = at_client-grows world (Invoke client op) client (λ (state : ClientState). client_invoke state op) (numbered world.clients client.0)
-world_step-grows world (Deliver number) = delivered-grows world (Deliver number) (letter_of world number)
-world_step-grows world (Tick client) = at_client-grows world (Tick client) client client_tick (numbered world.clients client.0)
 
 run_from-push : (world : WorldState) (events : List Event) (event : Event) → run_from world (events ++ event ∷ []) ≡ world_step (run_from world events) event
 unfolding run_from
@@ -111,13 +42,6 @@ world_after-none trace = refl
 
 world_after-past : (trace : Trace) (count : ℕ) → length trace.entries ≤ count → world_after trace count ≡ run trace.setup (events_of trace.entries)
 world_after-past trace count past = ap (λ (entries : List Entry). run trace.setup (events_of entries)) (take_all count trace.entries past)
-
-run_from-grows : (world : WorldState) (events : List Event) → GrowsTo world (run_from world events)
-unfolding run_from
-run_from-grows world [] = grows_to-self world
-run_from-grows world (event ∷ later) =
-    grows_to-chain world (world_step world event) (run_from (world_step world event) later)
-    (world_step-grows world event) (run_from-grows (world_step world event) later)
 
 take-grows : (world : WorldState) (count : ℕ) (events : List Event) → GrowsTo (run_from world (take count events)) (run_from world events)
 unfolding run_from

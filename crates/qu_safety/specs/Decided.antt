@@ -7,7 +7,7 @@ use Rattle.qu_base.specs.declared.party.ObjectId.{ObjectId}
 use Rattle.qu_base.specs.Thresholds.{quorum}
 use Rattle.qu_stamp.specs.declared.candidate.Candidate.{Candidate}
 use Rattle.qu_history.specs.History.{holds}
-use Rattle.qu_replica_step.specs.State.{ReplicaState, own_candidates}
+use Rattle.qu_replica.specs.State.{ReplicaState, own_candidates}
 use Rattle.qu_world.specs.State.{WorldState}
 
 -- a replica accepted the candidate: the opening one from the start, another when it was added

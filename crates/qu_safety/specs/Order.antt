@@ -8,8 +8,8 @@ use Rattle.qu_objects.specs.declared.op.Outcome.{Outcome}
 use Rattle.qu_objects.specs.declared.op.Outcome.TheVariants as outcome
 use Rattle.qu_frames.specs.declared.frame.Frame.TheVariants as frame
 use Rattle.qu_frames.specs.declared.frame.Letter.{Letter}
-use Rattle.qu_trace.specs.declared.record.OpRecord.{OpRecord}
-use Rattle.qu_trace.specs.declared.record.Point.{Point}
+use Rattle.qu_machine.specs.declared.record.OpRecord.{OpRecord}
+use Rattle.qu_machine.specs.declared.record.Point.{Point}
 use Rattle.qu_trace.specs.declared.event.Event.TheVariants.{Invoke, Deliver, Tick}
 use Rattle.qu_trace.specs.declared.trace.Entry.{Entry}
 use Rattle.qu_trace.specs.declared.trace.Trace.{Trace}
@@ -97,6 +97,7 @@ pub record IsPoint (trace : Trace) (point : Point) : Type 0 where
   pub client : operation.client ≡ point.client
   pub number : operation.number ≡ point.number
   pub op : operation.op ≡ point.op
+  pub correct : false ≡ point.faulty
   pub effect : effect_of trace operation point.event operation.op
 
 -- by event; points of one event go by client, then number

@@ -1,9 +1,9 @@
 -- The points of some operations of a trace, in their order.
-use Rattle.std.specs.Prelude.{◌≡◌, ℕ, Bool, ◌==◌, ◌&&◌, if◌then◌else◌, List, [], ◌∷◌, min, Option, None, Some, IsTrue, Contains, ◌⊎◌}
+use Rattle.std.specs.Prelude.{◌≡◌, ℕ, Bool, false, ◌==◌, ◌&&◌, if◌then◌else◌, List, [], ◌∷◌, min, Option, None, Some, IsTrue, Contains, ◌⊎◌}
 use Rattle.std.specs.List.{list_any}
 use Rattle.qu_base.specs.declared.party.ClientId.{ClientId}
-use Rattle.qu_trace.specs.declared.record.OpRecord.{OpRecord}
-use Rattle.qu_trace.specs.declared.record.Point.{Point}
+use Rattle.qu_machine.specs.declared.record.OpRecord.{OpRecord}
+use Rattle.qu_machine.specs.declared.record.Point.{Point}
 use Rattle.qu_trace.specs.declared.trace.Entry.{Entry}
 use Rattle.qu_trace.specs.declared.trace.Trace.{Trace}
 use Rattle.qu_safety.specs.declared.tracked.Tracked.{Tracked}
@@ -47,7 +47,7 @@ AreApart first second = (first.client).0 ≡ (second.client).0 → first.number 
 -- the point of an operation at this event
 abbrev pub point_at : OpRecord → ℕ → Point
 point_at operation event =
-    record { event = event; client = operation.client; number = operation.number; op = operation.op }
+    record { event = event; client = operation.client; number = operation.number; op = operation.op; faulty = false }
 
 -- a point of one of these operations
 pub record IsPointOf (trace : Trace) (operations : List OpRecord) (point : Point) : Type 0 where
@@ -56,6 +56,7 @@ pub record IsPointOf (trace : Trace) (operations : List OpRecord) (point : Point
   pub client : operation.client ≡ point.client
   pub number : operation.number ≡ point.number
   pub op : operation.op ≡ point.op
+  pub correct : false ≡ point.faulty
   pub effect : effect_of trace operation point.event operation.op
 
 pub record ArePointsOf (trace : Trace) (operations : List OpRecord) (points : List Point) : Type 0 where

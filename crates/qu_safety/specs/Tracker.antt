@@ -6,7 +6,7 @@ use Rattle.qu_base.specs.declared.party.ObjectId.{ObjectId}
 use Rattle.qu_stamp.specs.declared.candidate.Candidate.{Candidate}
 use Rattle.qu_stamp.specs.Stamp.{same_stamp}
 use Rattle.qu_stamp.specs.Candidate.{same}
-use Rattle.qu_replica_step.specs.State.{ReplicaState, own_candidates}
+use Rattle.qu_replica.specs.State.{ReplicaState, own_candidates}
 use Rattle.qu_trace.specs.declared.trace.Trace.{Trace}
 use Rattle.qu_world.specs.State.{WorldState}
 use Rattle.qu_safety.specs.declared.tracked.Tracked.{Tracked}

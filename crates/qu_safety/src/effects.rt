@@ -9,8 +9,9 @@ use super::tracked::Tracked;
 use super::tracker::Tracker;
 use qu_base::ClientId;
 use qu_frames::{Frame, Letter};
+use qu_machine::OpRecord;
 use qu_objects::{Op, Outcome};
-use qu_trace::{Entry, Event, OpRecord, Trace};
+use qu_trace::{Entry, Event, Trace};
 use qu_world::letter_at;
 
 /// The first event after which a candidate of this update was decided.

@@ -1,10 +1,10 @@
 ghost use Rattle.std.specs.Prelude.{◌≡◌, [], ◌++◌, drop, slice_index_or, IfOk, OnOk};
-ghost use Rattle.qu_replica_step.specs.State.{own_candidates};
+ghost use Rattle.qu_replica.specs.State.{own_candidates};
 ghost use Rattle.qu_safety.specs.Tracker.{sizes_from, sizes_of, news_on, news_at, news_from};
 
 use super::tracked::Tracked;
 use qu_base::{List, NoMemory, ObjectId};
-use qu_replica_step::Replica;
+use qu_replica::Replica;
 use qu_stamp::Candidate;
 use std::alloc::Global;
 

@@ -9,7 +9,8 @@ use super::effects::effect;
 use super::replay::replay;
 use super::tracker::Tracker;
 use qu_base::{List, NoMemory};
-use qu_trace::{OpRecord, Point, Trace, operations};
+use qu_machine::{OpRecord, Point};
+use qu_trace::{Trace, operations};
 use std::alloc::Global;
 
 /// The points of a run: where each update and each completed query took effect.
@@ -60,6 +61,7 @@ fn add_point(
             client: operation.client,
             number: operation.number,
             op: operation.op.copy(alloc)?,
+            faulty: false,
         };
         insert(points, point)?;
     }

@@ -7,7 +7,7 @@ ghost use Rattle.qu_safety.specs.Tracker.{is_of, is_tracked, with_tracked, with_
 use super::news::own_candidates;
 use super::tracked::Tracked;
 use qu_base::{Bounds, List, NoMemory, ObjectId};
-use qu_replica_step::Replica;
+use qu_replica::Replica;
 use qu_stamp::Candidate;
 use qu_world::World;
 use std::alloc::Global;

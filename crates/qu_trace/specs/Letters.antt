@@ -1,5 +1,5 @@
 -- The letters that a run sent, in the order of their numbers.
-use Rattle.std.specs.Prelude.{ℕ, ◌-◌, List, slice_get, Option}
+use Rattle.std.specs.Prelude.{List}
 use Rattle.std.specs.List.{flat_map}
 use Rattle.qu_frames.specs.declared.frame.Letter.{Letter}
 use Rattle.qu_trace.specs.declared.trace.Entry.{Entry}

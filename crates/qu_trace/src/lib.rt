@@ -4,10 +4,8 @@
 
 mod event;
 mod operation;
-mod record;
 mod trace;
 
 pub use event::Event;
-pub use operation::operations;
-pub use record::{OpRecord, Point};
+pub use operation::{begun, operations};
 pub use trace::{Entry, Setup, Trace};

@@ -2,8 +2,9 @@ ghost use Rattle.std.specs.Prelude.{◌≡◌, ◌<◌, ◌≤◌, ◌+◌, ◌^
 ghost use Rattle.std.specs.Option.{option_copied};
 ghost use Rattle.qu_trace.specs.Operations.{operations_of, invokes, begun_by, outcome_in, end_from, record_of};
 
-use super::{Entry, Event, OpRecord, Trace};
+use super::{Entry, Event, Trace};
 use qu_base::{ClientId, List, NoMemory};
+use qu_machine::OpRecord;
 use qu_objects::{Op, Outcome};
 use std::alloc::Global;
 
@@ -45,9 +46,9 @@ fn operation_at(
     })
 }
 
-/// How many operations a client began.
+/// How many operations a client began at these events.
 #[tactic(auto, unfolding(crate::specs::Operations::begun_by))]
-fn begun(entries: &[Entry], client: ClientId) -> u64
+pub fn begun(entries: &[Entry], client: ClientId) -> u64
     ensures value { result ≡ begun_by client entries.now }
     ensures most { result ≤ length entries.now }
     ensures small { result < 2 ^ 63 }

@@ -3,3 +3,4 @@ pub mod Making
 pub mod Moving
 pub mod OpeningLaws
 pub mod RunLaws
+pub mod WorldGrowth

@@ -1,10 +1,10 @@
 -- What a party's move makes of the world.
-use Rattle.std.proofs.Common.{◌≡◌, ℕ, List, [], ◌∷◌, ◌++◌, Option, None, Some, refl, sym, ap, subst, ◌∙◌}
-use Rattle.std.specs.Prelude.{slice_get, slice_set, MatchOption}
+use Rattle.std.proofs.Common.{◌≡◌, List, Option, None, Some, refl}
+use Rattle.std.specs.Prelude.{slice_get, MatchOption}
 use Rattle.qu_base.specs.declared.party.ClientId.{ClientId}
 use Rattle.qu_base.specs.declared.party.ReplicaId.{ReplicaId}
 use Rattle.qu_frames.specs.declared.frame.Frame.{Frame}
-use Rattle.qu_replica_step.specs.State.{ReplicaState}
+use Rattle.qu_replica.specs.State.{ReplicaState}
 use Rattle.qu_client.specs.declared.state.ClientState.{ClientState}
 use Rattle.qu_client.specs.declared.state.Stepped.{Stepped}
 use Rattle.qu_trace.specs.declared.event.Event.{Event}
@@ -12,7 +12,7 @@ use Rattle.qu_trace.specs.declared.trace.Entry.{Entry}
 use Rattle.qu_trace.specs.declared.trace.Setup.{Setup}
 use Rattle.qu_world.specs.declared.parties.Made.{Made}
 use Rattle.qu_world.specs.State.{world_of, numbered}
-use Rattle.qu_world.specs.Step.{at_replica, at_client, unchanged}
+use Rattle.qu_world.specs.Step.{at_replica, at_client}
 use Rattle.qu_world.specs.Parties.{made_world, MakesNothing, TakesFrame, Moves, ReplicaMoves, ClientMoves}
 
 replica_case : (found : Option ReplicaState) (setup : Setup) (old new : List ReplicaState) (clients : List ClientState) (entries : List Entry) (event : Event) (me : ReplicaId) (frame : Frame) (made : Made)

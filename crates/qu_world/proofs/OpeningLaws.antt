@@ -1,7 +1,7 @@
 -- One more party is started.
 use Rattle.std.proofs.Common.{◌≡◌, ℕ, suc, ◌+◌, ◌-◌, ◌<◌, ◌≤◌, List, [], ◌∷◌, ◌++◌, refl, sym, ap, ◌∙◌, append_assoc, append-nil, arith}
 use Rattle.qu_objects.specs.declared.kind.KindName.{KindName}
-use Rattle.qu_replica_step.specs.State as replica
+use Rattle.qu_replica.specs.State as replica
 use Rattle.qu_client.specs.State as client
 use Rattle.qu_client.specs.declared.state.ClientState.{ClientState}
 use Rattle.qu_world.specs.State.{opening_replicas, opening_clients}

@@ -1,17 +1,16 @@
 -- A run with one event more, and what holds of every world.
-use Rattle.std.proofs.Common.{◌≡◌, ℕ, zero, suc, ◌+◌, ◌-◌, ◌^◌, ◌<◌, ◌≤◌, Bool, true, false, cond, List, [], ◌∷◌, ◌++◌, length, map, Option, None, Some, refl, sym, ap, subst, ◌∙◌, arith, add-zero, zero-add, add_assoc}
+use Rattle.std.proofs.Common.{◌≡◌, ℕ, zero, suc, ◌+◌, ◌<◌, ◌≤◌, Bool, true, false, cond, List, [], ◌∷◌, ◌++◌, length, Option, None, Some, refl, sym, ap, subst, ◌∙◌, arith}
 use Rattle.std.specs.Prelude.{slice_get, slice_set, nat_le, is_some, IfSome, IsSomeAnd}
 use Rattle.std.specs.List.{AllByRecursion}
-use Rattle.std.proofs.lemmas.List.{map-append, length-append, length-map}
-use Rattle.std.proofs.lemmas.Bool.{leb-true, leb-false}
+use Rattle.std.proofs.lemmas.List.{map-append, length-map}
+use Rattle.std.proofs.lemmas.Bool.{leb-false}
 use Rattle.qu_base.specs.declared.party.ClientId.{ClientId}
 use Rattle.qu_base.specs.declared.party.ReplicaId.{ReplicaId}
 use Rattle.qu_base.specs.declared.party.Party.{Party}
 use Rattle.qu_base.specs.declared.party.Party.TheVariants as party
-use Rattle.qu_objects.specs.declared.op.Op.{Op}
 use Rattle.qu_frames.specs.declared.frame.Frame.{Frame}
 use Rattle.qu_frames.specs.declared.frame.Letter.{Letter}
-use Rattle.qu_replica_step.specs.State.{ReplicaState}
+use Rattle.qu_replica.specs.State.{ReplicaState}
 use Rattle.qu_client.specs.declared.state.ClientState.{ClientState}
 use Rattle.qu_client.specs.declared.state.Stepped.{Stepped}
 use Rattle.qu_client.specs.Step.{client_invoke, client_step, client_tick}
@@ -22,13 +21,12 @@ use Rattle.qu_trace.specs.declared.event.Event.TheVariants.{Invoke, Deliver, Tic
 use Rattle.qu_trace.specs.declared.trace.Entry.{Entry}
 use Rattle.qu_trace.specs.declared.trace.Setup.{Setup}
 use Rattle.qu_client.specs.declared.work.Work.{Work}
-use Rattle.qu_world.specs.declared.fail.WorldFail.{WorldFail}
 use Rattle.qu_world.specs.declared.fail.WorldFail.TheVariants as fails
 use Rattle.qu_world.specs.declared.fail.TheConstants.{EVENT_LIMIT}
 use Rattle.qu_world.specs.State.{WorldState, opening_world, opening_clients, numbered, with_numbered, letter_of}
 use Rattle.qu_world.specs.Step.{world_step, at_client, at_replica, received, delivered}
 use Rattle.qu_world.specs.Refusals.{refusal_of, refused_at_limit, refused_invocation}
-use Rattle.qu_world.specs.Parties.{MayBegin, CanBegin, IsIdle}
+use Rattle.qu_world.specs.Parties.{MayBegin, CanBegin}
 use Rattle.qu_world.specs.Run.{run_from, run, MayHappen, events_of, IsSetup, IsWorld}
 
 -- ---- one event more
@@ -46,11 +44,11 @@ happened_more world (first ∷ later) event happened may = (happened.0, happened
 -- ---- what a step records
 
 -- the event was recorded, and the setup stays
-record Records (old new : WorldState) (event : Event) : Type 0 where
-  setup : new.setup ≡ old.setup
-  entry : Entry
-  of_event : entry.event ≡ event
-  entries : new.entries ≡ old.entries ++ entry ∷ []
+pub record Records (old new : WorldState) (event : Event) : Type 0 where
+  pub setup : new.setup ≡ old.setup
+  pub entry : Entry
+  pub of_event : entry.event ≡ event
+  pub entries : new.entries ≡ old.entries ++ entry ∷ []
 
 at_replica_records : (world : WorldState) (event : Event) (me : ReplicaId) (frame : Frame) (found : Option ReplicaState) → Records world (at_replica world event me frame found) event
 at_replica_records world event me frame None = record { setup = refl; entry = _; of_event = refl; entries = refl }
@@ -68,7 +66,7 @@ delivered_records : (world : WorldState) (event : Event) (letter : Option Letter
 delivered_records world event None = record { setup = refl; entry = _; of_event = refl; entries = refl }
 delivered_records world event (Some letter) = received_records world event letter.to letter.frame
 
-step_records : (world : WorldState) (event : Event) → Records world (world_step world event) event
+pub step_records : (world : WorldState) (event : Event) → Records world (world_step world event) event
 step_records world (Invoke client op) = at_client_records world (Invoke client op) client (λ state. client_invoke state op) (numbered world.clients client.0)
 step_records world (Deliver number) = delivered_records world (Deliver number) (letter_of world number)
 step_records world (Tick client) = at_client_records world (Tick client) client client_tick (numbered world.clients client.0)

@@ -3,8 +3,8 @@ use Rattle.std.specs.Prelude.{◌≡◌, ◌<◌, ◌-◌, ◌^◌, IfSome, IsSo
 use Rattle.qu_base.specs.declared.party.ClientId.{ClientId}
 use Rattle.qu_base.specs.declared.party.ReplicaId.{ReplicaId}
 use Rattle.qu_frames.specs.declared.frame.Frame.{Frame}
-use Rattle.qu_replica_step.specs.State.{ReplicaState}
-use Rattle.qu_replica_step.specs.Step.{replica_step}
+use Rattle.qu_replica.specs.State.{ReplicaState}
+use Rattle.qu_replica.specs.Step.{replica_step}
 use Rattle.qu_client.specs.declared.state.ClientState.{ClientState}
 use Rattle.qu_client.specs.declared.state.Stepped.{Stepped}
 use Rattle.qu_trace.specs.declared.event.Event.{Event}

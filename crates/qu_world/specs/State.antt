@@ -1,10 +1,13 @@
 -- A world: the state of each replica and client, and the record of what happened so far.
-use Rattle.std.specs.Prelude.{ℕ, zero, suc, ◌+◌, List, [], ◌∷◌, slice_get, slice_set, Option, None, Some}
-use Rattle.qu_base.specs.declared.party.ClientId.{ClientId}
+use Rattle.std.specs.Prelude.{ℕ, zero, suc, ◌+◌, List, [], ◌∷◌, slice_get, slice_set, Option, None}
+use Rattle.std.specs.Option.{option_and_then}
+use Rattle.qu_base.specs.declared.party.ObjectId.{ObjectId}
+use Rattle.qu_base.specs.declared.party.ReplicaId.{ReplicaId}
 use Rattle.qu_base.specs.Thresholds.{replicas}
+use Rattle.qu_history.specs.History.{ObjectHistory}
 use Rattle.qu_objects.specs.declared.kind.KindName.{KindName}
 use Rattle.qu_frames.specs.declared.frame.Letter.{Letter}
-use Rattle.qu_replica_step.specs.State as replica
+use Rattle.qu_replica.specs.State as replica
 use Rattle.qu_client.specs.State as client
 use Rattle.qu_client.specs.declared.state.ClientState.{ClientState}
 use Rattle.qu_trace.specs.declared.trace.Setup.{Setup}
@@ -57,3 +60,7 @@ with_numbered items (suc number) item = slice_set items number item
 -- the letter with this number
 abbrev pub letter_of : WorldState → ℕ → Option Letter
 letter_of world number = numbered (letters_of world.entries) number
+
+-- the history of an object at a replica
+abbrev pub history_at : WorldState → ReplicaId → ObjectId → Option ObjectHistory
+history_at world me object = option_and_then (λ replica. slice_get replica.histories object.0) (slice_get world.replicas me.0)

@@ -7,15 +7,14 @@ use Rattle.qu_base.specs.declared.party.Party.TheVariants as party
 use Rattle.qu_objects.specs.declared.op.Outcome.{Outcome}
 use Rattle.qu_frames.specs.declared.frame.Frame.{Frame}
 use Rattle.qu_frames.specs.declared.frame.Letter.{Letter}
-use Rattle.qu_replica_step.specs.State.{ReplicaState}
-use Rattle.qu_replica_step.specs.Step.{replica_step}
+use Rattle.qu_replica.specs.State.{ReplicaState}
+use Rattle.qu_replica.specs.Step.{replica_step}
 use Rattle.qu_client.specs.declared.work.Work.{Work}
 use Rattle.qu_client.specs.declared.state.ClientState.{ClientState}
 use Rattle.qu_client.specs.declared.state.Stepped.{Stepped}
 use Rattle.qu_client.specs.Step.{client_invoke, client_step, client_tick}
 use Rattle.qu_trace.specs.declared.event.Event.{Event}
 use Rattle.qu_trace.specs.declared.event.Event.TheVariants.{Invoke, Deliver, Tick}
-use Rattle.qu_trace.specs.declared.trace.Entry.{Entry}
 use Rattle.qu_world.specs.State.{WorldState, numbered, with_numbered, letter_of}
 
 -- the record of an event that made this

@@ -5,7 +5,7 @@ ghost use Rattle.qu_world.specs.State.{opening_replicas, opening_clients};
 use qu_base::{Bounds, ClientId, NoMemory, ReplicaId};
 use qu_client::Client;
 use qu_objects::KindName;
-use qu_replica_step::Replica;
+use qu_replica::Replica;
 use std::alloc::Global;
 
 /// The replicas of a run, as they begin.

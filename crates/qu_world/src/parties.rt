@@ -9,7 +9,7 @@ use qu_base::{ClientId, List, NoMemory, ReplicaId};
 use qu_client::{Client, InvokeFail};
 use qu_frames::{Frame, Letter};
 use qu_objects::{Op, Outcome};
-use qu_replica_step::Replica;
+use qu_replica::Replica;
 use std::alloc::Global;
 
 /// What a party made: its letters, and the operation that ended.

@@ -5,7 +5,7 @@ use super::letters::letter_at;
 use super::parties::{Made, invoke_client, step_client, step_replica, tick_client};
 use qu_base::{List, NoMemory, Party};
 use qu_client::Client;
-use qu_replica_step::Replica;
+use qu_replica::Replica;
 use qu_trace::{Entry, Event, Trace};
 use std::alloc::Global;
 use std::mem;

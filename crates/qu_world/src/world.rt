@@ -1,10 +1,12 @@
-ghost use Rattle.std.specs.Prelude.{◌≡◌, ◌≢◌, Err, Some, None, slice_get, IfOk, OnOk, OnErr, IfErr};
+ghost use Rattle.std.specs.Prelude.{◌≡◌, ◌≢◌, Err, Some, None, slice_get, IfSome, IfOk, OnOk, OnErr, IfErr};
 ghost use Rattle.std.specs.Option.{option_copied};
 ghost use Rattle.qu_trace.specs.declared.trace.Setup.{Setup as SetupOf};
 ghost use Rattle.qu_world.specs.declared.fail.WorldFail.{WorldFail as Fail};
-ghost use Rattle.qu_world.specs.State.{opening_world, numbered};
+ghost use Rattle.qu_world.specs.State.{opening_world, numbered, history_at};
 ghost use Rattle.qu_world.specs.Step.{world_step};
 ghost use Rattle.qu_world.specs.Refusals.{refusal_of};
+ghost use Rattle.qu_replica.specs.Growth.{AreHistories};
+ghost use Rattle.qu_world.specs.Growth.{GrowsTo};
 ghost use Rattle.qu_world.specs.Run.{IsSetup, IsRun, IsWorld, trace_of};
 
 use super::WorldFail;
@@ -12,9 +14,10 @@ use super::opening::{start_clients, start_replicas};
 use super::parties::client_at;
 use super::recording::record_event;
 use super::refusals::{refuse_delivery, refuse_invocation, refuse_tick};
-use qu_base::{ClientId, List, NoMemory, ReplicaId};
+use qu_base::{ClientId, List, NoMemory, ObjectId, ReplicaId};
 use qu_client::Client;
-use qu_replica_step::Replica;
+use qu_history::History;
+use qu_replica::Replica;
 use qu_trace::{Event, Setup, Trace};
 use std::alloc::Global;
 use std::marker::Model;
@@ -30,6 +33,8 @@ pub struct World {
 
 impl Model for World {
     ghost use Rattle.qu_world.specs.State.{WorldState, world_of};
+    ghost use Rattle.qu_replica.specs.Growth.{AreHistories};
+    ghost use Rattle.qu_world.specs.Growth.{GrowsTo};
     ghost use Rattle.qu_world.specs.Run.{IsWorld};
 
     ghost Value = { WorldState };
@@ -58,13 +63,15 @@ impl World {
 
     /// Lets an event happen: one party steps, and the event is recorded with what it made.
     ///
-    /// Its refusals come in the order of `WorldFail`, before any change.
+    /// Its refusals come in the order of `WorldFail`, before any change. No replica forgets anything.
+    #[tactic(auto, using(crate::proofs::WorldGrowth::growth_laws))]
     pub fn apply(&mut self, event: Event) -> Result<(), WorldFail>
         ensures ok { OnOk result (self.new ≡ world_step self.old event) }
         ensures accepted { OnOk result (refusal_of self.old event ≡ None) }
         ensures refused { IfErr result (λ fail. fail ≢ WorldFail.NoMemory → refusal_of self.old event ≡ Some fail) }
         ensures told { (fail : Fail) → refusal_of self.old event ≡ Some fail → result ≡ Err fail }
         ensures err { OnErr result (self.new ≡ self.old) }
+        ensures grows { GrowsTo self.old self.new }
     {
         if let Some(fail) = self.refusal(&event) {
             return Err(fail);
@@ -120,6 +127,15 @@ impl World {
         ensures { option_copied result ≡ slice_get self.now.replicas me.0 }
     {
         self.replicas.as_slice().get(usize::from(me.0))
+    }
+
+    /// The history of an object at a replica as it is now: it rises from the opening candidate. None
+    /// exactly where the setup has no such replica or no such object.
+    pub fn history(&self, me: ReplicaId, object: ObjectId) -> Option<&History>
+        ensures value { option_copied result ≡ history_at self.now me object }
+        ensures rising { IfSome (slice_get self.now.replicas me.0) AreHistories }
+    {
+        self.replica(me)?.history(object)
     }
 
     /// The client with this number as it is now. None exactly where the setup has no such client.

@@ -1,6 +1,6 @@
 use Rattle.std.proofs.Common.{◌≡◌, ℕ, List, ◌∷◌, ◌++◌, take, drop, not, ap, sym, ◌∙◌}
 use Rattle.std.specs.List.{position_or_len}
-use Rattle.qu_trace.specs.declared.record.Point.{Point}
+use Rattle.qu_machine.specs.declared.record.Point.{Point}
 use Rattle.qu_safety.specs.Order.{is_earlier}
 use Rattle.qu_safety.proofs.Sorted.{with_point-place}
 use Rattle.qu_safety.proofs.order.insert.Goals as goal

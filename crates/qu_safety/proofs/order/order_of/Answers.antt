@@ -1,6 +1,6 @@
 use Rattle.std.proofs.Common.{List, sym, subst, ◌∙◌}
 use Rattle.std.specs.List.{AllPairs}
-use Rattle.qu_trace.specs.declared.record.OpRecord.{OpRecord}
+use Rattle.qu_machine.specs.declared.record.OpRecord.{OpRecord}
 use Rattle.qu_safety.specs.Order.{IsPrintedOrder}
 use Rattle.qu_safety.specs.Points.{AreApart}
 use Rattle.qu_safety.proofs.Distinct.{operations_apart}

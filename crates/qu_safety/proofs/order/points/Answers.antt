@@ -1,5 +1,5 @@
 use Rattle.std.proofs.Common.{List, [], sym, subst}
-use Rattle.qu_trace.specs.declared.record.Point.{Point}
+use Rattle.qu_machine.specs.declared.record.Point.{Point}
 use Rattle.qu_safety.specs.Points.{ArePointsOf}
 use Rattle.qu_safety.proofs.Printed.{points_none, points_next, points_all}
 use Rattle.qu_safety.proofs.order.points.Goals as goal

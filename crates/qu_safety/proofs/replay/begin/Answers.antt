@@ -1,6 +1,6 @@
 use Rattle.std.proofs.Common.{◌≡◌, List, [], ap, sym, subst, ◌∙◌}
 use Rattle.std.specs.List.{All}
-use Rattle.qu_replica_step.specs.State.{ReplicaState}
+use Rattle.qu_replica.specs.State.{ReplicaState}
 use Rattle.qu_safety.specs.declared.tracked.Tracked.{Tracked}
 use Rattle.qu_safety.specs.Tracker.{news_from, with_all, TellsOf, AreAccepted}
 use Rattle.qu_safety.proofs.Marking.{accepted_begun, tells_opening}

@@ -1,5 +1,5 @@
 use Rattle.std.proofs.Common.{◌≡◌, List, [], ap, sym, subst, ◌∙◌}
-use Rattle.qu_replica_step.specs.State.{ReplicaState}
+use Rattle.qu_replica.specs.State.{ReplicaState}
 use Rattle.qu_safety.specs.declared.tracked.Tracked.{Tracked}
 use Rattle.qu_safety.specs.Tracker.{news_from, sizes_of, with_all, AreAccepted}
 use Rattle.qu_safety.proofs.Marking.{FindsNews, accepted_found, still_found, tells_with_all}

@@ -1,5 +1,5 @@
 -- The letters of an entry stand before those of the later ones.
-use Rattle.std.proofs.Common.{◌≡◌, ◌+◌, ◌-◌, ◌<◌, ◌≤◌, ◌++◌, length, drop, ◌∙◌, sym, ap, arith}
+use Rattle.std.proofs.Common.{◌+◌, ◌-◌, ◌<◌, length, drop, ◌∙◌, sym, ap, arith}
 use Rattle.std.specs.Prelude.{slice_get}
 use Rattle.qu_trace.specs.Letters.{letters_of}
 use Rattle.qu_world.proofs.LetterLaws.{letters-at, slice_get-append_left, slice_get-append_right}

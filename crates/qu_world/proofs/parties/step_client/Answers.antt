@@ -1,5 +1,5 @@
 -- The client with this number took the frame.
-use Rattle.std.proofs.Common.{◌≡◌, ◌<◌, ◌∙◌, ap, arith}
+use Rattle.std.proofs.Common.{◌∙◌, ap, arith}
 use Rattle.std.specs.Prelude.{option_map}
 use Rattle.qu_client.specs.declared.work.Work.{Work}
 use Rattle.qu_client.specs.Step.{client_step}

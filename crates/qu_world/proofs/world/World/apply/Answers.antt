@@ -1,8 +1,10 @@
 -- An event that may happen makes a world of a world.
-use Rattle.std.proofs.Common.{◌≡◌, ◌∙◌, sym, ap, None}
+use Rattle.std.proofs.Common.{◌∙◌, sym, ap, subst}
 use Rattle.qu_world.specs.Refusals.{refusal_of}
-use Rattle.qu_world.specs.State.{world_of}
+use Rattle.qu_world.specs.State.{WorldState, world_of}
+use Rattle.qu_world.specs.Growth.{GrowsTo}
 use Rattle.qu_world.proofs.RunLaws.{may_begin, IsWorld-step}
+use Rattle.qu_world.proofs.WorldGrowth.{step_made-grows}
 use Rattle.qu_world.proofs.world.World.apply.Goals as goal
 
 pub record_event-requires : goal.record_event-requires
@@ -19,3 +21,12 @@ invariant_of-self-2 c =
     ∙ c.in_ok-record_event.ensures.ok c.self.inside.trace.setup)
     c.self.invariant
     (ap (λ world. refusal_of world c.args.event) c.self.view_is ∙ sym c.in_default.ensures)
+
+pub returns-clause-grows : goal.returns-clause-grows
+returns-clause-grows c =
+    let old = world_of c.self.inside.trace.setup c.self.inside.replicas.items c.self.inside.clients.items c.self.inside.trace.entries in
+    let new = world_of c.record_event.new.trace.setup c.record_event.new.replicas.items c.record_event.new.clients.items c.record_event.new.trace.entries in
+    subst (λ (it : WorldState). GrowsTo it new) c.self.view_is
+    (step_made-grows old new c.args.event
+    (ap (λ setup. world_of setup c.record_event.new.replicas.items c.record_event.new.clients.items c.record_event.new.trace.entries) c.in_ok-record_event.ensures.setup
+    ∙ c.in_ok-record_event.ensures.ok c.self.inside.trace.setup))

@@ -1,5 +1,4 @@
 -- The opening world is a world.
-use Rattle.std.proofs.Common.{◌≡◌}
 use Rattle.qu_world.proofs.RunLaws.{IsWorld-opening}
 use Rattle.qu_world.proofs.world.World.start.Goals as goal
 

@@ -1,0 +1,230 @@
+-- What a replica decides upon a request with one part, it may accept.
+use Rattle.std.proofs.Common.{◌≡◌, ℕ, ◌+◌, ◌<◌, ◌≤◌, Bool, true, false, cond, IsTrue, List, [], ◌∷◌, length, Option, None, Some, inl, inr, refl, sym, subst, ap, ◌∙◌, arith}
+use Rattle.std.specs.Prelude.{◌==◌, nat_le, find, option_map}
+use Rattle.std.proofs.lemmas.Bool.{false≢true, leb-false, cases_Bool, eqb-true}
+use Rattle.std.proofs.lemmas.Option.{none-some, same_Some}
+use Rattle.std.proofs.lemmas.Bool.Decides.{nat_tests}
+use Rattle.qu_base.specs.declared.party.ClientId.{ClientId}
+use Rattle.qu_base.specs.declared.party.ObjectId.{ObjectId}
+use Rattle.qu_stamp.specs.declared.stamp.Stamp.{Stamp}
+use Rattle.qu_stamp.specs.declared.stamp.TheConstants.{LAST_TIME}
+use Rattle.qu_stamp.specs.declared.candidate.Candidate.{Candidate}
+use Rattle.qu_stamp.specs.Stamp.{is_below}
+use Rattle.qu_history.specs.declared.sets.SetOf.{SetOf}
+use Rattle.qu_history.specs.declared.history.TheConstants.{HISTORY_LIMIT}
+use Rattle.qu_history.specs.History.{ObjectHistory, latest}
+use Rattle.qu_history.specs.Sets.{entries_of, latest_of, method_at, if_method, object_candidate, candidates_of, greatest}
+use Rattle.qu_objects.specs.declared.act.Method.{Method}
+use Rattle.qu_objects.specs.declared.query.Ask.{Ask}
+use Rattle.qu_objects.specs.declared.answer.Answer.{Answer}
+use Rattle.qu_objects.specs.declared.kind.Value.{Value}
+use Rattle.qu_objects.specs.declared.state.ObjState.{ObjState}
+use Rattle.qu_frames.specs.declared.frame.Body.{Body}
+use Rattle.qu_frames.specs.declared.frame.Body.TheVariants as body
+use Rattle.qu_frames.specs.declared.frame.Frame.{Frame}
+use Rattle.qu_frames.specs.declared.frame.Frame.TheVariants as frame
+use Rattle.qu_frames.specs.declared.verdict.Refusal.{Refusal}
+use Rattle.qu_frames.specs.declared.verdict.Refusal.TheVariants.{UnknownObject, NotCurrent, TimeSpent, HistoryFull}
+use Rattle.qu_frames.specs.declared.verdict.Verdict.TheVariants.{Done}
+use Rattle.qu_replica.specs.declared.decision.Decision.{Decision}
+use Rattle.qu_replica.specs.declared.decision.Decision.TheVariants.{Answers, Waits}
+use Rattle.qu_replica.specs.State.{ReplicaState, own_candidates, own_latest}
+use Rattle.qu_replica.specs.Rows.{Asked, refuse, base_of, shown_of, fresh_stamp, fresh_on, accepted_by, row_unknown, row_thin, row_retry, row_current, row_method, row_version, row_time, row_full, row_done, row_told, first_given, decide_act, decide_ask, decision_on}
+use Rattle.qu_replica.specs.Step.{carried_out, replica_step}
+use Rattle.qu_replica.specs.Growth.{AreHistories, MayAccept, MayAcceptAll, MayDecide, has_parts, HasParts}
+use Rattle.qu_replica.proofs.Own.{accept_all-histories}
+
+-- a row that may be carried out, so that what follows it is to be shown
+abbrev MayGive : ReplicaState → Option Decision → Type 0
+MayGive state row = (decision : Decision) → row ≡ Some decision → MayDecide state decision
+
+past : (state : ReplicaState) (row : Option Decision) (later : List (Option Decision)) → MayGive state row → (row ≡ None → MayDecide state (first_given later)) → MayDecide state (first_given (row ∷ later))
+unfolding first_given
+past state None later may next = next refl
+past state (Some decision) later may next = may decision refl
+
+-- a refusal accepts nothing
+refusing : {A : Type 0} (state : ReplicaState) (why : A → Refusal) (refused : Option A) → MayGive state (option_map (λ it. refuse (why it)) refused)
+refusing state why None decision given = absurd (none-some decision given)
+refusing state why (Some it) decision given = subst (MayDecide state) (same_Some (refuse (why it)) decision given) tt
+
+unknown : (state : ReplicaState) (asked : Asked) → MayGive state (row_unknown state asked)
+unfolding row_unknown
+unknown state asked = refusing state _ _
+
+thin : (state : ReplicaState) (asked : Asked) → MayGive state (row_thin state asked)
+unfolding row_thin
+thin state asked = refusing state _ _
+
+current : (state : ReplicaState) (asked : Asked) (objects : List ObjectId) → MayGive state (row_current state asked objects)
+unfolding row_current
+current state asked objects = refusing state _ _
+
+method : (state : ReplicaState) (asked : Asked) (objects : List ObjectId) → MayGive state (row_method state asked objects)
+unfolding row_method
+method state asked objects = refusing state _ _
+
+time : (state : ReplicaState) (asked : Asked) (objects : List ObjectId) → MayGive state (row_time state asked objects)
+unfolding row_time
+time state asked objects = refusing state _ _
+
+full : (state : ReplicaState) (asked : Asked) (objects : List ObjectId) → MayGive state (row_full state asked objects)
+unfolding row_full
+full state asked objects = refusing state _ _
+
+-- no entry, no candidate
+method_at_none : (bounds : ℕ) → method_at bounds [] ≡ None
+unfolding method_at if_method object_candidate candidates_of greatest
+method_at_none bounds = refl
+
+not_first : {A : Type 0} (test : Bool) (it : A) (later : Option A) → cond test (Some it) later ≡ None → (test ≡ false) × (later ≡ None)
+not_first test it later none =
+    elim test as (λ (t : Bool). cond t (Some it) later ≡ None → (t ≡ false) × (later ≡ None)) [
+      | true ↦ λ found. absurd (none-some it (sym found))
+      | false ↦ λ rest. (refl, rest)
+    ] none
+
+-- no object of the sets is unknown, so one that has entries is known
+known_by_entries : (number : ℕ) (sets : List SetOf) (object : ObjectId) → find (λ (set : SetOf). nat_le number (set.object).0) sets ≡ None → (entries_of object sets ≡ [] → ⊥) → object.0 < number
+unfolding entries_of
+known_by_entries number [] object none some = absurd (some refl)
+known_by_entries number (set ∷ sets) object none some =
+    let bad : Bool = nat_le number (set.object).0 in
+    let later : Option SetOf = find (λ (it : SetOf). nat_le number (it.object).0) sets in
+    let good : (bad ≡ false) × (later ≡ None) = not_first bad set later none in
+    let is_it : Bool = (set.object).0 == object.0 in
+    let rest : List ObjectHistory = entries_of object sets in
+    elim (cases_Bool is_it) [
+      | inl here ↦
+          let equal : (set.object).0 ≡ object.0 = eqb-true _ _ here in
+          rw (← equal) (leb-false _ _ good.0)
+      | inr there ↦
+          known_by_entries number sets object good.1
+          (λ (empty : rest ≡ []). some (ap (λ (test : Bool). cond test set.entries rest) there ∙ empty))
+    ]
+
+-- a fresh stamp is above all that the replica accepted
+fresh_later : (latest own : Stamp) (asked : Asked) → is_below latest own ≡ false → is_below own (record { time = latest.time + 1; client = asked.client; number = asked.number }) ≡ true
+fresh_later latest own asked current = grind (arith, nat_tests)
+
+answering : (state : ReplicaState) (test : Bool) (stamps : List (ObjectId × Stamp)) (kept : Option Answer) → MayGive state (cond test (option_map (λ (answer : Answer). Answers (Done stamps answer) []) kept) None)
+answering state false stamps kept decision given = absurd (none-some decision given)
+answering state true stamps None decision given = absurd (none-some decision given)
+answering state true stamps (Some answer) decision given = subst (MayDecide state) (same_Some (Answers (Done stamps answer) []) decision given) tt
+
+waiting : (state : ReplicaState) (test : Bool) → MayGive state (cond test (Some Waits) None)
+waiting state false decision given = absurd (none-some decision given)
+waiting state true decision given = subst (MayDecide state) (same_Some Waits decision given) tt
+
+retry : (state : ReplicaState) (asked : Asked) (objects : List ObjectId) → MayGive state (row_retry state asked objects)
+unfolding row_retry
+retry state asked objects = answering state _ _ _
+
+version : (state : ReplicaState) (asked : Asked) (objects : List ObjectId) → MayGive state (row_version state asked objects)
+unfolding row_version
+version state asked objects = waiting state _
+
+told : (state : ReplicaState) (asked : Asked) (parts : List (ObjectId × Ask)) (objects : List ObjectId) → MayGive state (row_told state asked parts objects)
+unfolding row_told
+told state asked parts objects decision given = subst (MayDecide state) (same_Some _ decision given) tt
+
+made_of : (asked : Asked) (object : ObjectId) (base : Option Candidate) (fresh : Candidate) → option_map (λ (it : Candidate). record { stamp = fresh_stamp asked object; prior = it.stamp }) base ≡ Some fresh → (base ≡ None → ⊥) × (fresh.stamp ≡ fresh_stamp asked object)
+made_of asked object None fresh made = absurd (none-some fresh made)
+made_of asked object (Some it) fresh made =
+    ((λ none. none-some it (sym none)), sym (ap (λ (candidate : Candidate). candidate.stamp) (same_Some _ _ made)))
+
+in_time_of : (latest fresh : Stamp) → fresh.time ≡ latest.time + 1 → latest.time < LAST_TIME → fresh.time ≤ LAST_TIME
+in_time_of latest fresh next spent = omega arith
+
+unmapped : {A B : Type 0} (f : A → B) (found : Option A) → option_map f found ≡ None → found ≡ None
+unmapped f None none = refl
+unmapped f (Some it) none = absurd (none-some (f it) (sym none))
+
+-- the fresh candidate of an object that no row refused
+may_accept_fresh : (state : ReplicaState) (asked : Asked) (object : ObjectId)
+    → find (λ (set : SetOf). nat_le (length state.histories) (set.object).0) asked.sets ≡ None
+    → is_below (latest_of (shown_of asked object)) (own_latest state object) ≡ false
+    → nat_le LAST_TIME (latest_of (shown_of asked object)).time ≡ false
+    → nat_le HISTORY_LIMIT (length (own_candidates state object)) ≡ false
+    → (fresh : Candidate) → fresh_on state asked object ≡ Some fresh → (version : ObjState)
+    → MayAccept state (record { object = object; candidate = fresh; state = version })
+may_accept_fresh state asked object known current in_time room fresh made version =
+    let parts : (base_of state asked object ≡ None → ⊥) × (fresh.stamp ≡ fresh_stamp asked object) = made_of asked object (base_of state asked object) fresh made in
+    record {
+      known = known_by_entries (length state.histories) asked.sets object known
+          (λ empty. parts.0 (ap (λ (entries : List ObjectHistory). method_at state.bounds entries) empty ∙ method_at_none state.bounds));
+      later = ap (λ (stamp : Stamp). is_below (own_latest state object) stamp) parts.1 ∙ fresh_later (latest_of (shown_of asked object)) (own_latest state object) asked current;
+      room = leb-false _ _ room;
+      in_time = in_time_of (latest_of (shown_of asked object)) fresh.stamp (ap (λ (stamp : Stamp). stamp.time) parts.1) (leb-false _ _ in_time);
+    }
+
+may_accept_made : (state : ReplicaState) (asked : Asked) (answer : Answer) (object : ObjectId) (values : List Value) (made : Option Candidate) → fresh_on state asked object ≡ made
+    → ((fresh : Candidate) → fresh_on state asked object ≡ Some fresh → (version : ObjState) → MayAccept state (record { object = object; candidate = fresh; state = version }))
+    → MayAcceptAll state (accepted_by state asked answer (object ∷ []) values)
+unfolding accepted_by
+may_accept_made state asked answer object [] made is_made may = tt
+may_accept_made state asked answer object (value ∷ values) None is_made may = rw (is_made, MayAcceptAll) tt
+may_accept_made state asked answer object (value ∷ values) (Some fresh) is_made may = rw (is_made, MayAcceptAll) (may fresh is_made (record { value = value; answer = answer }))
+
+no_first : (why : ObjectId → Refusal) (bad : Bool) (object : ObjectId) → option_map (λ (it : ObjectId). refuse (why it)) (cond bad (Some object) None) ≡ None → bad ≡ false
+no_first why true object none = absurd (none-some (refuse (why object)) (sym none))
+no_first why false object none = refl
+
+no_unknown : (state : ReplicaState) (asked : Asked) → row_unknown state asked ≡ None → find (λ (set : SetOf). nat_le (length state.histories) (set.object).0) asked.sets ≡ None
+unfolding row_unknown
+no_unknown state asked none = unmapped (λ (set : SetOf). refuse (UnknownObject set.object)) _ none
+
+done : (state : ReplicaState) (asked : Asked) (part : ObjectId × Method) (object : ObjectId)
+    → row_unknown state asked ≡ None → row_current state asked (object ∷ []) ≡ None → row_time state asked (object ∷ []) ≡ None → row_full state asked (object ∷ []) ≡ None
+    → MayGive state (row_done state asked (part ∷ []) (object ∷ []))
+unfolding row_current row_time row_full row_done
+done state asked part object unknown current time full decision given =
+    subst (MayDecide state) (same_Some _ decision given)
+    (may_accept_made state asked _ object _ _ refl
+    (may_accept_fresh state asked object (no_unknown state asked unknown) (no_first (λ it. NotCurrent it (own_latest state it)) _ object current) (no_first TimeSpent _ object time) (no_first HistoryFull _ object full)))
+
+nothing : (state : ReplicaState) → MayDecide state (first_given [])
+unfolding first_given
+nothing state = tt
+
+may_act : (state : ReplicaState) (asked : Asked) (part : ObjectId × Method) (object : ObjectId) → MayDecide state (decide_act state asked (part ∷ []) (object ∷ []))
+unfolding decide_act
+may_act state asked part object =
+    past state _ _ (unknown state asked) (λ known.
+    past state _ _ (thin state asked) (λ _.
+    past state _ _ (retry state asked (object ∷ [])) (λ _.
+    past state _ _ (current state asked (object ∷ [])) (λ is_current.
+    past state _ _ (method state asked (object ∷ [])) (λ _.
+    past state _ _ (version state asked (object ∷ [])) (λ _.
+    past state _ _ (time state asked (object ∷ [])) (λ in_time.
+    past state _ _ (full state asked (object ∷ [])) (λ room.
+    past state _ _ (done state asked part object known is_current in_time room) (λ _. nothing state)))))))))
+
+may_ask : (state : ReplicaState) (asked : Asked) (part : ObjectId × Ask) (object : ObjectId) → MayDecide state (decide_ask state asked (part ∷ []) (object ∷ []))
+unfolding decide_ask
+may_ask state asked part object =
+    past state _ _ (unknown state asked) (λ _.
+    past state _ _ (thin state asked) (λ _.
+    past state _ _ (current state asked (object ∷ [])) (λ _.
+    past state _ _ (method state asked (object ∷ [])) (λ _.
+    past state _ _ (version state asked (object ∷ [])) (λ _.
+    past state _ _ (told state asked (part ∷ []) (object ∷ [])) (λ _. nothing state))))))
+
+pub decision_on-may : (state : ReplicaState) (asked : Asked) (asks : Body) → IsTrue (has_parts asks) → MayDecide state (decision_on state asked asks)
+decision_on-may state asked (body.Act []) parts = absurd (false≢true parts)
+decision_on-may state asked (body.Act (part ∷ [])) parts = may_act state asked part part.0
+decision_on-may state asked (body.Act (first ∷ second ∷ later)) parts = absurd (false≢true parts)
+decision_on-may state asked (body.Ask []) parts = absurd (false≢true parts)
+decision_on-may state asked (body.Ask (part ∷ [])) parts = may_ask state asked part part.0
+decision_on-may state asked (body.Ask (first ∷ second ∷ later)) parts = absurd (false≢true parts)
+
+carried_out-histories : (state : ReplicaState) (client : ClientId) (number round : ℕ) (sets : List SetOf) (decision : Decision) → AreHistories state → MayDecide state decision → AreHistories (carried_out state client number round sets decision).0
+carried_out-histories state client number round sets (Answers verdict accepted) own may = accept_all-histories state accepted own may
+carried_out-histories state client number round sets Waits own may = own
+
+-- a step keeps the histories as they must be
+pub step-histories : (state : ReplicaState) (received : Frame) → HasParts received → AreHistories state → AreHistories (replica_step state received).0
+step-histories state (frame.Request client number round sets asks) parts own =
+    let asked : Asked = record { client = client; number = number; sets = sets } in
+    carried_out-histories state client number round sets (decision_on state asked asks) own (decision_on-may state asked asks parts)
+step-histories state (frame.Reply replica client number round verdict shown) parts own = own

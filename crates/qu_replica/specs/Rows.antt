@@ -1,0 +1,189 @@
+-- What a replica makes of a request, row by row (Query/Update: the replica's handling of a request).
+use Rattle.std.specs.Prelude.{ℕ, Bool, false, ◌+◌, nat_lt, nat_le, if◌then◌else◌, List, [], ◌∷◌, length, map, find, Option, None, Some, is_none, option_map, option_and_then}
+use Rattle.std.specs.List.{list_all, list_any, filter_map}
+use Rattle.qu_base.specs.declared.party.ClientId.{ClientId}
+use Rattle.qu_base.specs.declared.party.ObjectId.{ObjectId}
+use Rattle.qu_base.specs.Thresholds.{quorum}
+use Rattle.qu_stamp.specs.declared.stamp.Stamp.{Stamp}
+use Rattle.qu_stamp.specs.declared.stamp.TheConstants.{LAST_TIME}
+use Rattle.qu_stamp.specs.declared.candidate.Candidate.{Candidate}
+use Rattle.qu_stamp.specs.Stamp.{is_below}
+use Rattle.qu_history.specs.declared.history.TheConstants.{HISTORY_LIMIT}
+use Rattle.qu_history.specs.declared.sets.SetOf.{SetOf}
+use Rattle.qu_history.specs.History.{ObjectHistory, holds}
+use Rattle.qu_history.specs.Sets.{entries_of, latest_of, method_at}
+use Rattle.qu_objects.specs.declared.act.Method.{Method}
+use Rattle.qu_objects.specs.declared.query.Ask.{Ask}
+use Rattle.qu_objects.specs.declared.answer.Answer.{Answer}
+use Rattle.qu_objects.specs.declared.kind.Value.{Value}
+use Rattle.qu_objects.specs.declared.state.ObjState.{ObjState}
+use Rattle.qu_objects.specs.Perform.{performed_answer, performed_values, told_answer}
+use Rattle.qu_frames.specs.declared.frame.Body.{Body}
+use Rattle.qu_frames.specs.declared.frame.Body.TheVariants as body
+use Rattle.qu_frames.specs.declared.verdict.ClassCode.TheVariants.{Barrier}
+use Rattle.qu_frames.specs.declared.verdict.Refusal.{Refusal}
+use Rattle.qu_frames.specs.declared.verdict.Refusal.TheVariants as refusal
+use Rattle.qu_frames.specs.declared.verdict.Verdict.TheVariants as verdict
+use Rattle.qu_replica.specs.declared.decision.Accepted.{Accepted}
+use Rattle.qu_replica.specs.declared.decision.Decision.{Decision}
+use Rattle.qu_replica.specs.declared.decision.Decision.TheVariants.{Answers, Waits}
+use Rattle.qu_replica.specs.State.{ReplicaState, own_candidates, own_latest}
+use Rattle.qu_replica.specs.Versions.{version_at}
+
+-- a request, as a replica is handed it
+pub record Asked : Type 0 where
+  pub client : ClientId
+  pub number : ℕ
+  pub sets : List SetOf
+
+-- nothing is accepted
+abbrev pub refuse : Refusal → Decision
+refuse why = Answers (verdict.Refused why) []
+
+-- the entries that the sets show of an object
+abbrev pub shown_of : Asked → ObjectId → List ObjectHistory
+shown_of asked object = entries_of object asked.sets
+
+-- the candidate upon which an operation may rest
+abbrev pub base_of : ReplicaState → Asked → ObjectId → Option Candidate
+base_of state asked object = method_at state.bounds (shown_of asked object)
+
+-- the version upon which it rests
+abbrev pub base_version : ReplicaState → Asked → ObjectId → Option ObjState
+base_version state asked object =
+    option_and_then (λ base. version_at object base.stamp state.versions) (base_of state asked object)
+
+-- a fresh stamp has the time after the latest
+abbrev pub fresh_stamp : Asked → ObjectId → Stamp
+fresh_stamp asked object =
+    record { time = (latest_of (shown_of asked object)).time + 1; client = asked.client; number = asked.number }
+
+-- the candidate that the act makes on an object
+abbrev pub fresh_on : ReplicaState → Asked → ObjectId → Option Candidate
+fresh_on state asked object =
+    option_map (λ base. record { stamp = fresh_stamp asked object; prior = base.stamp }) (base_of state asked object)
+
+-- the objects, each with its stamp
+abbrev pub stamps_by : (ObjectId → Option Stamp) → List ObjectId → List (ObjectId × Stamp)
+stamps_by stamp objects = filter_map (λ object. option_map (λ (found : Stamp). (object, found)) (stamp object)) objects
+
+abbrev pub fresh_stamps : ReplicaState → Asked → List ObjectId → List (ObjectId × Stamp)
+fresh_stamps state asked objects = stamps_by (λ object. option_map (λ fresh. fresh.stamp) (fresh_on state asked object)) objects
+
+abbrev pub base_stamps : ReplicaState → Asked → List ObjectId → List (ObjectId × Stamp)
+base_stamps state asked objects = stamps_by (λ object. option_map (λ base. base.stamp) (base_of state asked object)) objects
+
+abbrev pub base_values : ReplicaState → Asked → List ObjectId → List Value
+base_values state asked objects = filter_map (λ object. option_map (λ version. version.value) (base_version state asked object)) objects
+
+-- the first object of which the fact holds is refused
+abbrev pub refuse_first : (ObjectId → Bool) → (ObjectId → Refusal) → List ObjectId → Option Decision
+refuse_first bad why objects = option_map (λ object. refuse (why object)) (find bad objects)
+
+-- an object of the sets is not the replica's
+unfoldable pub row_unknown : ReplicaState → Asked → Option Decision
+row_unknown state asked =
+    option_map (λ set. refuse (refusal.UnknownObject set.object)) (find (λ set. nat_le (length state.histories) (set.object).0) asked.sets)
+
+-- fewer entries than a quorum
+unfoldable pub row_thin : ReplicaState → Asked → Option Decision
+row_thin state asked =
+    option_map (λ set. refuse (refusal.Thin set.object)) (find (λ set. nat_lt (length set.entries) (quorum state.bounds)) asked.sets)
+
+-- the fresh candidate of an object is held already
+unfoldable pub is_held : ReplicaState → Asked → ObjectId → Bool
+is_held state asked object = elim (fresh_on state asked object) [ None ↦ false | Some fresh ↦ holds fresh (own_candidates state object) ]
+
+-- what the act answered when its candidates were accepted
+unfoldable pub kept_answer : ReplicaState → Asked → List ObjectId → Option Answer
+kept_answer state asked [] = None
+kept_answer state asked (object ∷ objects) = option_map (λ version. version.answer) (version_at object (fresh_stamp asked object) state.versions)
+
+-- a retry whose candidates are all held is told the kept answer
+unfoldable pub row_retry : ReplicaState → Asked → List ObjectId → Option Decision
+row_retry state asked objects =
+    if list_all (is_held state asked) objects
+    then option_map (λ kept. Answers (verdict.Done (fresh_stamps state asked objects) kept) []) (kept_answer state asked objects)
+    else None
+
+-- the replica has a later candidate than the sets show
+unfoldable pub row_current : ReplicaState → Asked → List ObjectId → Option Decision
+row_current state asked objects =
+    refuse_first (λ object. is_below (latest_of (shown_of asked object)) (own_latest state object)) (λ object. refusal.NotCurrent object (own_latest state object)) objects
+
+-- the object is of another class than METHOD
+unfoldable pub row_method : ReplicaState → Asked → List ObjectId → Option Decision
+row_method state asked objects =
+    refuse_first (λ object. is_none (base_of state asked object)) (λ object. refusal.NotMethod object Barrier) objects
+
+-- a version upon which the operation rests is missing
+unfoldable pub row_version : ReplicaState → Asked → List ObjectId → Option Decision
+row_version state asked objects =
+    if list_any (λ object. is_none (base_version state asked object)) objects then Some Waits else None
+
+-- the time of the object is spent
+unfoldable pub row_time : ReplicaState → Asked → List ObjectId → Option Decision
+row_time state asked objects =
+    refuse_first (λ object. nat_le LAST_TIME (latest_of (shown_of asked object)).time) (λ object. refusal.TimeSpent object) objects
+
+-- the history of the object is full
+unfoldable pub row_full : ReplicaState → Asked → List ObjectId → Option Decision
+row_full state asked objects =
+    refuse_first (λ object. nat_le HISTORY_LIMIT (length (own_candidates state object))) (λ object. refusal.HistoryFull object) objects
+
+-- each object's fresh candidate, with the value after the act and its answer as version
+unfoldable pub accepted_by : ReplicaState → Asked → Answer → List ObjectId → List Value → List Accepted
+accepted_by state asked answer [] values = []
+accepted_by state asked answer (object ∷ objects) [] = []
+accepted_by state asked answer (object ∷ objects) (value ∷ values) = elim (fresh_on state asked object) [
+  | None ↦ accepted_by state asked answer objects values
+  | Some fresh ↦ record { object = object; candidate = fresh; state = record { value = value; answer = answer } } ∷ accepted_by state asked answer objects values
+]
+
+-- the act is performed upon the versions, and all its candidates are accepted
+unfoldable pub row_done : ReplicaState → Asked → List (ObjectId × Method) → List ObjectId → Option Decision
+row_done state asked parts objects =
+    let values = base_values state asked objects in
+    let answer = performed_answer parts values in
+    Some (Answers (verdict.Done (fresh_stamps state asked objects) answer) (accepted_by state asked answer objects (performed_values parts values)))
+
+-- the query is answered from the versions
+unfoldable pub row_told : ReplicaState → Asked → List (ObjectId × Ask) → List ObjectId → Option Decision
+row_told state asked parts objects =
+    Some (Answers (verdict.Told (base_stamps state asked objects) (told_answer parts (base_values state asked objects))) [])
+
+-- the first row that fits
+unfoldable pub first_given : List (Option Decision) → Decision
+first_given [] = Waits
+first_given (None ∷ later) = first_given later
+first_given (Some decision ∷ later) = decision
+
+abbrev pub objects_of : {X : Type 0} → List (ObjectId × X) → List ObjectId
+objects_of parts = map (λ part. part.0) parts
+
+unfoldable pub decide_act : ReplicaState → Asked → List (ObjectId × Method) → List ObjectId → Decision
+decide_act state asked parts objects = first_given (
+    row_unknown state asked
+    ∷ row_thin state asked
+    ∷ row_retry state asked objects
+    ∷ row_current state asked objects
+    ∷ row_method state asked objects
+    ∷ row_version state asked objects
+    ∷ row_time state asked objects
+    ∷ row_full state asked objects
+    ∷ row_done state asked parts objects
+    ∷ [])
+
+unfoldable pub decide_ask : ReplicaState → Asked → List (ObjectId × Ask) → List ObjectId → Decision
+decide_ask state asked parts objects = first_given (
+    row_unknown state asked
+    ∷ row_thin state asked
+    ∷ row_current state asked objects
+    ∷ row_method state asked objects
+    ∷ row_version state asked objects
+    ∷ row_told state asked parts objects
+    ∷ [])
+
+abbrev pub decision_on : ReplicaState → Asked → Body → Decision
+decision_on state asked (body.Act parts) = decide_act state asked parts (objects_of parts)
+decision_on state asked (body.Ask parts) = decide_ask state asked parts (objects_of parts)

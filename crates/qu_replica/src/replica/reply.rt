@@ -1,0 +1,171 @@
+ghost use Rattle.std.specs.Prelude.{◌≡◌, [], ◌∷◌, length, slice_get, IfOk, OnOk, OnErr};
+ghost use Rattle.qu_replica.specs.State.{accept, accept_all};
+ghost use Rattle.qu_replica.specs.Step.{shown, reply, carried_out};
+ghost use Rattle.qu_replica.specs.Growth.{MayAccept, MayAcceptAll, MayDecide};
+
+use super::Replica;
+use crate::Stored;
+use crate::asked::Asked;
+use crate::decision::{Accepted, Decision};
+use qu_base::{List, NoMemory, ObjectId, Party};
+use qu_frames::{Frame, Letter, Verdict};
+use qu_history::{AddFail, History};
+
+impl Replica {
+    /// Carries a decision out, and gives its letter. Without memory the replica stays as it is.
+    pub(super) fn carry_out(
+        &mut self,
+        asked: &Asked,
+        round: u8,
+        decision: Decision,
+    ) -> Result<List<Letter>, NoMemory>
+        requires { MayDecide self.old decision }
+        ensures state { OnOk result (self.new ≡ (carried_out self.old asked.now.client asked.now.number round asked.now.sets decision).0) }
+        ensures letters { IfOk result (λ letters. letters ≡ (carried_out self.old asked.now.client asked.now.number round asked.now.sets decision).1) }
+        ensures err { OnErr result (self.new ≡ self.old) }
+    {
+        match decision {
+            Decision::Answers { verdict, accepted } => {
+                let letters = self.reply(asked, round, verdict, accepted.as_slice())?;
+                self.accept_all(accepted.as_slice())?;
+                Ok(letters)
+            }
+            Decision::Waits => Ok(List::new(self.alloc)),
+        }
+    }
+
+    /// Accepts at most one candidate with its version. Without memory the replica stays as it is.
+    #[tactic(auto, unfolding(crate::specs::State::accept_all))]
+    fn accept_all(&mut self, accepted: &[Accepted]) -> Result<(), NoMemory>
+        requires { MayAcceptAll self.old accepted.now }
+        ensures ok { OnOk result (self.new ≡ accept_all self.old accepted.now) }
+        ensures err { OnErr result (self.new ≡ self.old) }
+    {
+        match accepted {
+            [] => Ok(()),
+            [accepted] => self.accept(accepted),
+            _ => unreachable!(),
+        }
+    }
+
+    /// The letter that answers the request, with the histories as they stand once these candidates are accepted.
+    #[tactic(auto, using(crate::proofs::Accepting::answers))]
+    fn reply(
+        &self,
+        asked: &Asked,
+        round: u8,
+        verdict: Verdict,
+        accepted: &[Accepted],
+    ) -> Result<List<Letter>, NoMemory>
+        requires { MayAcceptAll self.now accepted.now }
+        ensures { IfOk result (λ letters. letters ≡ reply (accept_all self.now accepted.now) asked.now.client asked.now.number round asked.now.sets verdict ∷ []) }
+    {
+        let shown = self.shown(asked, accepted)?;
+        let mut letters = List::new(self.alloc);
+        letters.push(Letter {
+            from: Party::Replica(self.me),
+            to: Party::Client(asked.client),
+            frame: Frame::Reply {
+                replica: self.me,
+                client: asked.client,
+                number: asked.number,
+                round,
+                verdict,
+                shown,
+            },
+        })?;
+        Ok(letters)
+    }
+
+    /// The histories of the request's objects as they stand once these candidates are accepted.
+    #[tactic(auto, using(crate::proofs::Showing::shown_some, crate::proofs::Showing::shown_none, crate::proofs::Showing::shown_first))]
+    fn shown(&self, asked: &Asked, accepted: &[Accepted]) -> Result<List<History>, NoMemory>
+        requires { MayAcceptAll self.now accepted.now }
+        ensures { IfOk result (λ histories. histories ≡ shown (accept_all self.now accepted.now) asked.now.sets) }
+    {
+        let mut histories = List::new(self.alloc);
+        for set in asked.sets.objects().as_slice() {
+            if let Some(history) = self.history_after(set.object, accepted)? {
+                histories.push(history)?;
+            }
+        }
+        Ok(histories)
+    }
+
+    /// The history of an object as it stands once these candidates are accepted.
+    #[tactic(auto, unfolding(crate::specs::State::accept_all))]
+    fn history_after(
+        &self,
+        object: ObjectId,
+        accepted: &[Accepted],
+    ) -> Result<Option<History>, NoMemory>
+        requires { MayAcceptAll self.now accepted.now }
+        ensures { IfOk result (λ history. history ≡ slice_get (accept_all self.now accepted.now).histories object.0) }
+    {
+        match accepted {
+            [] => self.history_copy(object),
+            [accepted] => self.history_with(object, accepted),
+            _ => unreachable!(),
+        }
+    }
+
+    /// An equal history of an object.
+    fn history_copy(&self, object: ObjectId) -> Result<Option<History>, NoMemory>
+        ensures { IfOk result (λ history. history ≡ slice_get self.now.histories object.0) }
+    {
+        match self.history(object) {
+            Some(history) => Ok(Some(history.copy(self.alloc)?)),
+            None => Ok(None),
+        }
+    }
+
+    /// The history of an object as it stands once this candidate is accepted.
+    #[tactic(auto, using(crate::proofs::Accepting::other_history))]
+    fn history_with(
+        &self,
+        object: ObjectId,
+        accepted: &Accepted,
+    ) -> Result<Option<History>, NoMemory>
+        requires { MayAccept self.now accepted.now }
+        ensures { IfOk result (λ history. history ≡ slice_get (accept self.now accepted.now).histories object.0) }
+    {
+        if object == accepted.object {
+            Ok(Some(self.grown(accepted)?))
+        } else {
+            self.history_copy(object)
+        }
+    }
+
+    /// The history of the accepted candidate's object, with the candidate.
+    #[tactic(auto, using(crate::proofs::Accepting::read_history_after))]
+    fn grown(&self, accepted: &Accepted) -> Result<History, NoMemory>
+        requires { MayAccept self.now accepted.now }
+        ensures { IfOk result (λ history. slice_get (accept self.now accepted.now).histories accepted.now.object.0 ≡ Some history) }
+    {
+        let mut history = self.histories[usize::from(accepted.object.0)].copy(self.alloc)?;
+        match history.add(accepted.candidate) {
+            Ok(()) => Ok(history),
+            Err(AddFail::NoMemory) => Err(NoMemory),
+            Err(AddFail::NotLater(_) | AddFail::HistoryFull) => unreachable!(),
+        }
+    }
+
+    /// Accepts a candidate with its version. Without memory the replica stays as it is.
+    #[tactic(auto, using(crate::proofs::Accepting::puts))]
+    fn accept(&mut self, accepted: &Accepted) -> Result<(), NoMemory>
+        requires { MayAccept self.old accepted.now }
+        ensures ok { OnOk result (self.new ≡ accept self.old accepted.now) }
+        ensures err { OnErr result (self.new ≡ self.old) }
+    {
+        let stored = Stored {
+            object: accepted.object,
+            stamp: accepted.candidate.stamp,
+            state: accepted.state.copy(self.alloc)?,
+        };
+        let grown = self.grown(accepted)?;
+        self.versions.try_reserve(1)?;
+        self.versions.push_reserved(stored);
+        self.histories[usize::from(accepted.object.0)] = grown;
+        Ok(())
+    }
+}

@@ -1,0 +1,39 @@
+ghost use Rattle.std.specs.Prelude.{◌≡◌, find};
+ghost use Rattle.std.specs.Option.{option_copied};
+ghost use Rattle.qu_replica.specs.Versions.{is_stored, version_at};
+
+use qu_base::ObjectId;
+use qu_objects::ObjState;
+use qu_stamp::Stamp;
+
+/// A version of an object, under the stamp of its candidate.
+#[derive(Debug, Drop)]
+pub struct Stored {
+    pub object: ObjectId,
+    pub stamp: Stamp,
+    pub state: ObjState,
+}
+
+/// The version of an object under this stamp.
+#[tactic(auto, using(crate::proofs::Finding::finds))]
+pub(crate) fn version_at<'a>(
+    versions: &'a [Stored],
+    object: ObjectId,
+    stamp: &Stamp,
+) -> Option<&'a ObjState>
+    ensures { option_copied result ≡ version_at object stamp.now versions.now }
+{
+    match first_stored(versions, object, stamp) {
+        Some(held) => Some(&held.state),
+        None => None,
+    }
+}
+
+/// The first entry of an object under this stamp.
+fn first_stored<'a>(versions: &'a [Stored], object: ObjectId, stamp: &Stamp) -> Option<&'a Stored>
+    ensures { option_copied result ≡ find (is_stored object stamp.now) versions.now }
+{
+    versions
+        .iter()
+        .find(|held| held.object == object && held.stamp == *stamp)
+}

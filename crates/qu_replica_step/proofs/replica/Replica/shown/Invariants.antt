@@ -1,7 +1,0 @@
-use Rattle.std.proofs.Common.{◌≡◌, take}
-use Rattle.qu_replica_step.specs.State.{accept_all}
-use Rattle.qu_replica_step.specs.Step.{shown}
-use Rattle.qu_replica_step.proofs.replica.Replica.shown.Given as goal
-
-abbrev pub invariant-loop-set : goal.invariant-loop-set
-invariant-loop-set l = l.histories ≡ shown (accept_all l.self l.accepted) (take l.set-index l.set-items)

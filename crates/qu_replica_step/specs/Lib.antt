@@ -1,5 +1,0 @@
-pub mod Versions
-pub mod State
-pub mod Rows
-pub mod Step
-pub mod Growth
