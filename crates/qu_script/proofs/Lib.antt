@@ -2,3 +2,5 @@ pub mod TextFacts
 pub mod NumberFacts
 pub mod RangeFacts
 pub mod ScriptFacts
+pub mod WaitingFacts
+pub mod RunFacts

@@ -1,5 +1,5 @@
 -- The numbers of setup lines are in their ranges.
-use Rattle.std.proofs.Common.{◌≡◌, ℕ, ◌≤◌, Bool, true, false, cond, List, [], ◌∷◌, Option, None, Some, refl, subst, arith}
+use Rattle.std.proofs.Common.{◌≡◌, ℕ, ◌≤◌, Bool, true, false, cond, List, [], ◌∷◌, Option, None, Some, refl, arith}
 use Rattle.std.specs.Prelude.{nat_le, ◌&&◌}
 use Rattle.std.specs.Option.{option_and_then}
 use Rattle.std.specs.Str.{bytes_eq}
@@ -7,7 +7,7 @@ use Rattle.std.proofs.lemmas.Bool.{leb-true}
 use Rattle.qu_script.specs.declared.setup.SetupLine.{SetupLine}
 use Rattle.qu_script.specs.declared.setup.SetupLine.TheVariants.{Bounds, Seed, Clients, Object}
 use Rattle.qu_script.specs.Text.{number_of}
-use Rattle.qu_script.specs.Grammar.{number_in, only_number, number_line, setup_number, IsInRange}
+use Rattle.qu_script.specs.Grammar.{only_number, number_line, setup_number, IsInRange}
 
 tested : (least greatest number found : ℕ) (above below : Bool) → nat_le least number ≡ above → nat_le number greatest ≡ below
     → Some found ≡ cond (above && below) (Some number) None → (least ≤ found) × (found ≤ greatest)

@@ -1,12 +1,12 @@
 -- Facts on the lines of a script.
-use Rattle.std.proofs.Common.{◌≡◌, ℕ, ◌+◌, ◌<◌, ◌≤◌, length, List, [], ◌∷◌, ◌++◌, Option, None, Some, Result, Ok, Err, refl, sym, ap, ◌∙◌, append_assoc, append-nil, map}
+use Rattle.std.proofs.Common.{◌≡◌, ℕ, ◌+◌, length, List, [], ◌∷◌, ◌++◌, None, Some, Result, Ok, Err, refl, sym, ap, ◌∙◌, append_assoc, append-nil}
 use Rattle.qu_script.specs.declared.line.Line.{Line}
 use Rattle.qu_script.specs.declared.bad.Bad.{Bad}
-use Rattle.qu_script.specs.declared.bad.BadKind.TheVariants.{TooLong, UnknownLine}
+use Rattle.qu_script.specs.declared.bad.BadKind.TheVariants.{UnknownLine}
 use Rattle.qu_script.specs.declared.setup.SetupLine.{SetupLine}
 use Rattle.qu_script.specs.Text.{lines_of, words_of}
 use Rattle.qu_script.specs.Grammar.{setup_number, line_of_words}
-use Rattle.qu_script.specs.Script.{then_good, unknown_line, or_unknown, expect, lines_from}
+use Rattle.qu_script.specs.Script.{then_good, or_unknown, expect, lines_from}
 use Rattle.qu_script.proofs.TextFacts.{lines_of-nil}
 
 -- ---- setup lines

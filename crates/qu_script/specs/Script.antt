@@ -1,5 +1,5 @@
 -- What a script says: its setup, and the lines behind it, or the first line that cannot stand.
-use Rattle.std.specs.Prelude.{◌≡◌, ◌≤◌, ℕ, ◌+◌, nat_lt, List, [], ◌∷◌, length, Option, None, Some, Result, Ok, Err, if◌then◌else◌}
+use Rattle.std.specs.Prelude.{◌≡◌, ℕ, ◌+◌, nat_lt, List, [], ◌∷◌, length, Option, None, Some, Result, Ok, Err, if◌then◌else◌}
 use Rattle.qu_objects.specs.declared.kind.KindName.TheVariants.{Counter}
 use Rattle.qu_trace.specs.declared.trace.Setup.{Setup}
 use Rattle.qu_script.specs.declared.bad.Bad.{Bad}
@@ -63,10 +63,3 @@ Fails fails.NoMemory meant = Unit {0}
 abbrev pub Gives : {X Y : Type 0} → (X → Y) → Result X ScriptFail → Result Y Bad → Type 0
 Gives view (Ok x) meant = meant ≡ Ok (view x)
 Gives view (Err fail) meant = Fails fail meant
-
--- the setup is within the limits
-pub record HasLimits (setup : Setup) : Type 0 where
-  pub some_faults : 1 ≤ setup.bounds
-  pub few_faults : setup.bounds ≤ 3
-  pub clients : setup.clients ≤ 64
-  pub kinds : length setup.kinds ≤ 64

@@ -8,13 +8,17 @@ mod limits;
 mod line;
 mod number;
 mod numbers;
+mod player;
 mod read;
+mod run;
 mod setup;
+mod waiting;
 
 pub use bad::{Bad, BadKind, ScriptFail};
 pub use limits::LIMIT;
 pub use line::{Line, Script};
 pub use read::read_script;
+pub use run::run_script;
 pub use setup::SetupLine;
 
 #[cfg(test)]

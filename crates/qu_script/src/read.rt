@@ -1,7 +1,8 @@
 ghost use Rattle.std.specs.Prelude.{◌≡◌, ◌<◌, ◌≤◌, ◌+◌, ◌^◌, length, IfOk, IfErr};
 ghost use Rattle.qu_script.specs.Grammar.{IsInRange};
 ghost use Rattle.qu_script.specs.Text.{lines_of};
-ghost use Rattle.qu_script.specs.Script.{Gives, expect, lines_from, script_from, script_of, setup_of, HasLimits};
+ghost use Rattle.qu_script.specs.Script.{Gives, expect, lines_from, script_from, script_of, setup_of};
+ghost use Rattle.qu_world.specs.Run.{IsSetup};
 
 use super::call::read_event;
 use super::cut::{cut_line, cut_words};
@@ -78,7 +79,7 @@ fn read_lines(
 #[tactic(auto, unfolding(crate::specs::Script::script_of, crate::specs::Script::script_from))]
 pub fn read_script(alloc: Global, text: &[u8]) -> Result<Script, ScriptFail>
     ensures value { Gives (λ script. script) result (script_of text.now) }
-    ensures limits { IfOk result (λ script. HasLimits script.setup) }
+    ensures limits { IfOk result (λ script. IsSetup script.setup) }
 {
     if text.len() > LIMIT {
         return Err(ScriptFail::Bad(Bad {
@@ -101,7 +102,7 @@ fn make_setup(alloc: Global, faults: u8, seed: u64, clients: u16) -> Result<Setu
     requires faults { (1 ≤ faults) × (faults ≤ 3) }
     requires clients { clients ≤ 64 }
     ensures value { IfOk result (λ setup. setup ≡ setup_of faults seed clients) }
-    ensures limits { IfOk result HasLimits }
+    ensures limits { IfOk result IsSetup }
     ensures no_memory { IfErr result (λ fail. fail ≡ ScriptFail.NoMemory) }
 {
     let bounds = match Bounds::new(faults) {

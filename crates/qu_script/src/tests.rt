@@ -1,4 +1,5 @@
-use super::{Bad, BadKind, Line, ScriptFail, read_script};
+use super::{Bad, BadKind, Line, ScriptFail, read_script, run_script};
+use std::alloc::Global;
 use std::test::Fail;
 
 const SETUP: &str = "bounds 1\nseed 7\nclients 2\nobject 0 counter\n";
@@ -56,6 +57,52 @@ fn bad_lines_are_named(rt: HostRuntime) -> Result<(), Fail> {
             Some(wanted),
             "at line {line}"
         );
+    }
+    Ok(())
+}
+
+/// How many events the run of a script has.
+fn count_events(alloc: Global, text: &str) -> Result<usize, ScriptFail> {
+    let script = read_script(alloc, text.as_bytes())?;
+    let trace = run_script(alloc, &script)?;
+    Ok(trace.entries.len())
+}
+
+#[test]
+fn a_script_is_run(rt: HostRuntime) -> Result<(), Fail> {
+    for (lines, events) in [
+        ("", 0),
+        ("flow\n", 0),
+        ("call 1 add 0 5\n", 1),
+        // One letter to each of six replicas and back, twice.
+        ("call 1 add 0 5\nflow\n", 25),
+        ("call 1 add 0 5\nflow 3\n", 4),
+        ("call 1 add 0 5\ndeliver 2 2 1\nflow 4\n", 8),
+        (
+            "call 1 add 0 5\nflow\ndeliver 1\nflow 1\ncall 2 read 0\n",
+            28,
+        ),
+    ] {
+        let text = format!(in rt.alloc(); "{SETUP}{lines}")?;
+        assert_eq!(rt; count_events(rt.alloc(), text.as_str()), Ok(events));
+    }
+    Ok(())
+}
+
+#[test]
+fn lines_that_cannot_be_end_the_run(rt: HostRuntime) -> Result<(), Fail> {
+    for (lines, line, kind) in [
+        ("deliver 1\n", 5, BadKind::NoSuchLetter),
+        (
+            "call 1 add 0 5\nflow 3\ndeliver 6 99\n",
+            7,
+            BadKind::NoSuchLetter,
+        ),
+        ("call 1 add 0 5\ncall 1 read 0\n", 6, BadKind::Busy),
+    ] {
+        let text = format!(in rt.alloc(); "{SETUP}{lines}")?;
+        let wanted = ScriptFail::Bad(Bad { line, kind });
+        assert_eq!(rt; count_events(rt.alloc(), text.as_str()), Err(wanted));
     }
     Ok(())
 }

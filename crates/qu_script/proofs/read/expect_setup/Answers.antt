@@ -1,5 +1,5 @@
 -- A number that a setup line says is in its range.
-use Rattle.std.proofs.Common.{◌≡◌, ◌∙◌, sym}
+use Rattle.std.proofs.Common.{◌∙◌, sym}
 use Rattle.qu_script.proofs.RangeFacts.{setup_in_range}
 use Rattle.qu_script.proofs.read.expect_setup.Goals as goal
 

@@ -1,0 +1,136 @@
+ghost use Rattle.std.specs.Prelude.{◌≡◌, IfOk};
+ghost use Rattle.qu_world.specs.State.{opening_world};
+ghost use Rattle.qu_world.specs.Run.{IsRun, IsSetup, trace_of};
+ghost use Rattle.qu_script.specs.Events.{event_made, deliveries_made, flow_made, line_made, lines_made, lowest_waiting, MakesWorld};
+ghost use Rattle.qu_script.specs.Playing.{told_of};
+
+use super::waiting::find_waiting;
+use super::{Bad, BadKind, Line, ScriptFail};
+use qu_base::NoMemory;
+use qu_trace::{Event, Setup, Trace};
+use qu_world::{EVENT_LIMIT, World, WorldFail};
+use std::alloc::Global;
+use std::marker::Model;
+
+/// The run of a script under way.
+#[derive(Drop)]
+pub struct Player {
+    world: World,
+    /// Every letter below this one was delivered.
+    next: u64,
+}
+
+impl Model for Player {
+    ghost use Rattle.qu_world.specs.State.{WorldState};
+    ghost use Rattle.qu_script.specs.Playing.{MayBeginAt};
+
+    ghost Value = { WorldState };
+
+    ghost view = { λ player. player.world };
+
+    ghost invariant = { λ player. MayBeginAt player.world.entries player.next };
+}
+
+impl Player {
+    /// A run in which nothing happened yet.
+    pub fn start(alloc: Global, setup: Setup) -> Result<Player, NoMemory>
+        requires { IsSetup setup }
+        ensures { IfOk result (λ player. player ≡ opening_world setup) }
+    {
+        let world = World::start(alloc, setup)?;
+        Ok(Player { world, next: 1 })
+    }
+
+    /// The record of all events.
+    pub fn into_trace(self) -> Trace
+        ensures value { result ≡ trace_of self }
+        ensures run { IsRun result }
+    {
+        self.world.into_trace()
+    }
+
+    /// Makes the events of some lines, up to the first line that cannot be.
+    pub fn play(&mut self, alloc: Global, lines: &[(u64, Line)]) -> Result<(), ScriptFail>
+        ensures { MakesWorld result self.new (lines_made self.old lines.now) }
+    {
+        for (number, line) in lines {
+            self.make_line(alloc, *number, line)?;
+        }
+        Ok(())
+    }
+
+    /// Makes the events of the line with this number.
+    fn make_line(&mut self, alloc: Global, number: u64, line: &Line) -> Result<(), ScriptFail>
+        ensures { MakesWorld result self.new (line_made number self.old line.now) }
+    {
+        match line {
+            Line::Call(client, op) => {
+                let op = op.copy(alloc)?;
+                self.make_event(number, Event::Invoke(*client, op))
+            }
+            Line::Deliver(letters) => self.deliver_all(number, letters.as_slice()),
+            Line::Flow(Some(count)) => self.flow(number, *count),
+            // One event more than a run may have ends each flow.
+            Line::Flow(None) => self.flow(number, EVENT_LIMIT as u64 + 1),
+        }
+    }
+
+    /// Delivers these letters, in this order.
+    fn deliver_all(&mut self, number: u64, letters: &[u64]) -> Result<(), ScriptFail>
+        ensures { MakesWorld result self.new (deliveries_made number self.old letters.now) }
+    {
+        for letter in letters {
+            self.make_event(number, Event::Deliver(*letter))?;
+        }
+        Ok(())
+    }
+
+    /// Delivers the lowest letter that waits, again and again: so many times at most.
+    fn flow(&mut self, number: u64, count: u64) -> Result<(), ScriptFail>
+        ensures { MakesWorld result self.new (flow_made number count self.old) }
+    {
+        for index in 0..count {
+            let Some(letter) = self.waiting()? else {
+                return Ok(());
+            };
+            self.make_event(number, Event::Deliver(letter))?;
+        }
+        Ok(())
+    }
+
+    /// The lowest letter that no event has delivered.
+    fn waiting(&mut self) -> Result<Option<u64>, NoMemory>
+        ensures found { IfOk result (λ found. found ≡ lowest_waiting self.old.entries) }
+        ensures same { self.new ≡ self.old }
+    {
+        let entries = self.world.trace().entries.as_slice();
+        let (next, found) = find_waiting(entries, self.next)?;
+        self.next = next;
+        Ok(found)
+    }
+
+    /// Makes one event of the line with this number.
+    fn make_event(&mut self, number: u64, event: Event) -> Result<(), ScriptFail>
+        ensures { MakesWorld result self.new (event_made number self.old event) }
+    {
+        match self.world.apply(event) {
+            Ok(()) => Ok(()),
+            Err(fail) => Err(fail_of(number, fail)),
+        }
+    }
+}
+
+/// What is wrong with the line whose event does not happen for this.
+fn fail_of(line: u64, fail: WorldFail) -> ScriptFail
+    ensures { result ≡ told_of line fail }
+{
+    let kind = match fail {
+        WorldFail::NoSuchLetter(_) => BadKind::NoSuchLetter,
+        // A script that was read calls no client that is not of its setup.
+        WorldFail::NoSuchActor(_) => BadKind::UnknownLine,
+        WorldFail::Busy => BadKind::Busy,
+        WorldFail::TooManyEvents => BadKind::TooManyEvents,
+        WorldFail::NoMemory => return ScriptFail::NoMemory,
+    };
+    ScriptFail::Bad(Bad { line, kind })
+}
