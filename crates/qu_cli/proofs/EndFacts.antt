@@ -1,17 +1,19 @@
--- Laws by cases on the command: what was taken is refused or made into a text as what was held is.
-use Rattle.std.proofs.Common.{◌≡◌, ℕ, ◌<◌, ◌≤◌, List, ◌++◌, length, length-append, append-nil, Option, None, Some, Err, refl, sym, ap, ◌∙◌, arith, inl, inr, subst, ◌⊎◌}
+-- Laws by cases on the command: what was taken is refused or reported as what was held is.
+use Rattle.std.proofs.Common.{◌≡◌, ℕ, ◌<◌, ◌≤◌, List, ◌++◌, length, length-append, append-nil, Option, None, Some, refl, sym, ap, ◌∙◌, arith, inl, inr, subst, ◌⊎◌}
 use Rattle.std.specs.Io.KnownBytes.{Consumes, IsAtEnd}
 use Rattle.std.proofs.lemmas.Bool.{cases_lt}
 use Rattle.qu_io.specs.Known.{Known}
-use Rattle.qu_cli.specs.declared.bad.Bad.{Bad}
+use Rattle.qu_trace.specs.declared.trace.Trace.{Trace}
+use Rattle.qu_script.specs.declared.bad.Bad.{Bad}
+use Rattle.qu_script.specs.declared.limits.TheConstants.{LIMIT}
 use Rattle.qu_cli.specs.declared.command.Command.{Command}
 use Rattle.qu_cli.specs.declared.command.Command.TheVariants.{Sim}
-use Rattle.qu_cli.specs.declared.limits.TheConstants.{LIMIT}
+use Rattle.qu_cli.specs.declared.answer.Answer.TheVariants.{Report}
 use Rattle.qu_cli.specs.Bad.{bad_text}
 use Rattle.qu_cli.proofs.ScriptFacts.{sim_too_long}
 use Rattle.qu_cli.specs.Transfer.{TakesScript, Writes, WritesOrFails}
-use Rattle.qu_cli.specs.Ends.{Makes, Refuses, IsRefused, IsComplete}
-use Rattle.qu_cli.specs.Answer.{AnswersText, AnswersRefusal}
+use Rattle.qu_cli.specs.Ends.{Makes, Accepts, Refuses, IsRefused, IsComplete}
+use Rattle.qu_cli.specs.Answer.{Answers}
 
 -- what was taken is all that was held, or both are too long
 data IsTaken (script held : List ℕ) : Type 0 where
@@ -25,76 +27,87 @@ by_end script held (Some rest) taken to_end (inl more) = long more (let total = 
 by_end script held (Some rest) taken to_end (inr few) = all (sym (taken ∙ ap (λ l. script ++ l) (to_end few) ∙ append-nil script))
 
 is_taken : (source source' : Known) (script held : List ℕ) → TakesScript source source' script → source.bytes ≡ Some held → IsTaken script held
-is_taken source source' script held takes holds = by_end script held source'.bytes (rw holds at takes.taken) (λ few. rw holds at (takes.to_end few)) (cases_lt LIMIT (length script))
+is_taken source source' script held takes holds = by_end script held source'.bytes (rw holds at takes.taken) takes.to_end (cases_lt LIMIT (length script))
 
 -- ---- the laws
 
-pub makes_few : (command : Command) (script text : List ℕ) → Makes command script text → length script ≤ LIMIT
-makes_few Sim script text makes = by (cases_lt LIMIT (length script))
+pub makes_few : (command : Command) (script : List ℕ) (trace : Option Trace) (text : List ℕ) → Makes command script trace text → length script ≤ LIMIT
+makes_few Sim script None text makes = absurd makes
+makes_few Sim script (Some trace) text makes = by (cases_lt LIMIT (length script))
   where
     by : (LIMIT < length script) ⊎ (length script ≤ LIMIT) → length script ≤ LIMIT
-    by (inl more) = absurd (let refused = sim_too_long script more in cc)
+    by (inl more) = absurd (let refused = sim_too_long script more in let runs = makes.runs in cc)
     by (inr few) = few
 
-pub not_both : (command : Command) (script text : List ℕ) (bad : Bad) → Makes command script text → Refuses command script bad → ⊥
-not_both Sim script text bad makes refuses = cc
+makes_accepts : (command : Command) (script : List ℕ) (trace : Option Trace) (text : List ℕ) → Makes command script trace text → Accepts command script
+makes_accepts Sim script None text makes = absurd makes
+makes_accepts Sim script (Some trace) text makes = rw makes.runs refl
 
-pub one_text : (command : Command) (script text other : List ℕ) → Makes command script text → Makes command script other → text ≡ other
-one_text Sim script text other makes again = cc
+not_both : (command : Command) (script : List ℕ) (bad : Bad) → Accepts command script → Refuses command script bad → ⊥
+not_both Sim script bad accepts refuses = let accepted = rw refuses at accepts in absurd (cc)
 
-pub one_bad : (command : Command) (script : List ℕ) (bad other : Bad) → Refuses command script bad → Refuses command script other → bad ≡ other
+one_bad : (command : Command) (script : List ℕ) (bad other : Bad) → Refuses command script bad → Refuses command script other → bad ≡ other
 one_bad Sim script bad other refuses again = cc
 
+-- what is held is refused as what was taken is
 refuses_by : (command : Command) (script held : List ℕ) (bad : Bad) → IsTaken script held → Refuses command held bad → Refuses command script bad
 refuses_by Sim script held bad (all same) refuses = rw same refuses
 refuses_by Sim script held bad (long more most) refuses = let first = sim_too_long script more in let second = sim_too_long held most in cc
 
-pub refuses_taken : (command : Command) (source source' : Known) (script held : List ℕ) (bad : Bad) → TakesScript source source' script → source.bytes ≡ Some held
-    → Refuses command held bad → Refuses command script bad
-refuses_taken command source source' script held bad takes holds refuses = refuses_by command script held bad (is_taken source source' script held takes holds) refuses
+-- a good script that is held was taken
+accepts_by : (command : Command) (script held : List ℕ) → IsTaken script held → Accepts command held → Accepts command script
+accepts_by Sim script held (all same) accepts = rw same accepts
+accepts_by Sim script held (long more most) accepts = absurd (not_both Sim held _ accepts (sim_too_long held most))
 
-makes_by : (command : Command) (script held text : List ℕ) → IsTaken script held → Makes command held text → Makes command script text
-makes_by Sim script held text (all same) makes = rw same makes
-makes_by Sim script held text (long more most) makes = let second = sim_too_long held most in absurd (cc)
+-- what is made of what was taken is made of what was held
+makes_by : (command : Command) (script held : List ℕ) (trace : Option Trace) (text : List ℕ) → IsTaken script held → Makes command script trace text → Makes command held trace text
+makes_by command script held trace text (all same) makes = subst (λ (it : List ℕ). Makes command it trace text) same makes
+makes_by command script held trace text (long more most) makes = let few = makes_few command script trace text makes in absurd (omega arith)
 
-pub makes_taken : (command : Command) (source source' : Known) (script held text : List ℕ) → TakesScript source source' script → source.bytes ≡ Some held
-    → Makes command held text → Makes command script text
-makes_taken command source source' script held text takes holds makes = makes_by command script held text (is_taken source source' script held takes holds) makes
-
-pub ruleset end_laws = (makes_few, not_both, one_text, one_bad, refuses_taken, makes_taken)
+pub ruleset end_laws = (makes_few)
 
 -- ---- which end comes
 
 one_command : (asked : Option Command) (command other : Command) → asked ≡ Some command → asked ≡ Some other → command ≡ other
 one_command asked command other asks again = cc
 
--- a text is no answer to a script that is refused
-pub text_refused : (asked : Option Command) (source source' sink sink' : Known) (status : ℕ) (command : Command) (text : List ℕ) → asked ≡ Some command
-    → AnswersText command source source' text → IsRefused asked source source' sink sink' status
-text_refused asked source source' sink sink' status command text asks answers other held bad again holds refuses quiet =
+-- a report is no answer to a script that is refused
+pub report_refused : (asked : Option Command) (source source' sink sink' : Known) (status : ℕ) (command : Command) (trace : Trace) (text : List ℕ) → asked ≡ Some command
+    → Answers command source source' (Report trace text) → IsRefused asked source source' sink sink' status
+report_refused asked source source' sink sink' status command trace text asks answers other held bad again holds refuses quiet =
     let same = one_command asked other command again asks in
-    absurd (not_both command answers.script text bad answers.makes (refuses_taken command source source' answers.script held bad answers.takes holds (subst (λ c. Refuses c held bad) same refuses)))
+    let taken = is_taken source source' answers.script held answers.takes holds in
+    absurd (not_both command answers.script bad (makes_accepts command answers.script (Some trace) text answers.answer_is)
+    (refuses_by command answers.script held bad taken (subst (λ c. Refuses c held bad) same refuses)))
 
 -- a line that tells why is no answer to a good script
-pub refusal_complete : (asked : Option Command) (source source' sink sink' : Known) (status : ℕ) (command : Command) (line : List ℕ) → asked ≡ Some command
-    → AnswersRefusal command source source' line → IsComplete asked source source' sink sink' status
-refusal_complete asked source source' sink sink' status command line asks answers other held text again holds makes quiet calm =
+pub refusal_complete : (asked : Option Command) (source source' sink sink' : Known) (trace : Option Trace) (status : ℕ) (command : Command) (script : List ℕ) (bad : Bad) → asked ≡ Some command
+    → TakesScript source source' script → Refuses command script bad → IsComplete asked source source' sink sink' trace status
+refusal_complete asked source source' sink sink' trace status command script bad asks takes refuses other held again holds accepts quiet calm =
     let same = one_command asked other command again asks in
-    absurd (not_both command answers.script text answers.bad (makes_taken command source source' answers.script held text answers.takes holds (subst (λ c. Makes c held text) same makes)) answers.refuses)
+    let taken = is_taken source source' script held takes holds in
+    absurd (not_both command script bad (accepts_by command script held taken (subst (λ c. Accepts c held) same accepts)) refuses)
 
-pub text_complete : (asked : Option Command) (source source' sink sink' : Known) (status : ℕ) (command : Command) (text : List ℕ) → asked ≡ Some command
-    → AnswersText command source source' text → status ≡ 0 → Writes sink sink' text → IsComplete asked source source' sink sink' status
-text_complete asked source source' sink sink' status command text asks answers is writes other held told again holds makes quiet calm =
+pub report_complete : (asked : Option Command) (source source' sink sink' : Known) (told : Option Trace) (status : ℕ) (command : Command) (trace : Trace) (text : List ℕ) → asked ≡ Some command
+    → Answers command source source' (Report trace text) → told ≡ Some trace → status ≡ 0 → Writes sink sink' text → IsComplete asked source source' sink sink' told status
+report_complete asked source source' sink sink' told status command trace text asks answers tells is writes other held again holds accepts quiet calm =
     let same = one_command asked other command again asks in
-    let equal : told ≡ text = one_text command answers.script told text
-    (makes_taken command source source' answers.script held told answers.takes holds (subst (λ c. Makes c held told) same makes)) answers.makes in
-    inl (is, rw equal writes)
+    let taken = is_taken source source' answers.script held answers.takes holds in
+    let makes : Makes command held (Some trace) text = makes_by command answers.script held (Some trace) text taken answers.answer_is in
+    inl (
+      is,
+      record {
+        text = text;
+        makes = subst (λ c. Makes c held told text) (sym same) (subst (λ (it : Option Trace). Makes command held it text) (sym tells) makes);
+        writes = writes;
+      },
+    )
 
-pub refusal_refused : (asked : Option Command) (source source' sink sink' : Known) (status : ℕ) (command : Command) (line : List ℕ) → asked ≡ Some command
-    → AnswersRefusal command source source' line → status ≡ 3 → WritesOrFails sink sink' line → IsRefused asked source source' sink sink' status
-refusal_refused asked source source' sink sink' status command line asks answers is writes other held bad again holds refuses quiet =
+pub refusal_refused : (asked : Option Command) (source source' sink sink' : Known) (status : ℕ) (command : Command) (script line : List ℕ) (bad : Bad) → asked ≡ Some command
+    → TakesScript source source' script → Refuses command script bad → line ≡ bad_text bad → status ≡ 3 → WritesOrFails sink sink' line → IsRefused asked source source' sink sink' status
+refusal_refused asked source source' sink sink' status command script line bad asks takes refused tells is writes other held why again holds refuses quiet =
     let same = one_command asked other command again asks in
-    let equal : bad ≡ answers.bad = one_bad command answers.script bad answers.bad
-    (refuses_taken command source source' answers.script held bad answers.takes holds (subst (λ c. Refuses c held bad) same refuses)) answers.refuses in
-    let tells : line ≡ bad_text bad = answers.tells ∙ ap bad_text (sym equal) in
-    inl (is, rw (← tells) writes)
+    let taken = is_taken source source' script held takes holds in
+    let equal : why ≡ bad = one_bad command script why bad (refuses_by command script held why taken (subst (λ c. Refuses c held why) same refuses)) refused in
+    let told : line ≡ bad_text why = tells ∙ ap bad_text (sym equal) in
+    inl (is, rw (← told) writes)

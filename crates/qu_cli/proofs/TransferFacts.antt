@@ -1,5 +1,5 @@
 -- Facts on what is taken from a source and put into a sink, one call after another.
-use Rattle.std.proofs.Common.{◌≡◌, ℕ, ◌+◌, ◌-◌, List, [], ◌++◌, length, take, drop, length-drop, Option, None, Some, OnSome, arith, sym, ap, ◌∙◌, refl}
+use Rattle.std.proofs.Common.{◌≡◌, ℕ, ◌+◌, ◌-◌, List, [], ◌++◌, length, take, drop, length-drop, Option, None, Some, arith, ap, ◌∙◌, refl}
 use Rattle.std.proofs.lemmas.List.{take_all}
 use Rattle.std.proofs.Math.Seq.{take-add}
 use Rattle.std.proofs.KnownBytes.{Appends-trans, Consumes-trans}
@@ -14,8 +14,8 @@ front_more a b c i n text first second =
 
 -- a read that gives no byte leaves a source at its end
 pub script_end : (a b c : Option (List ℕ)) (script piece : List ℕ) (n : ℕ) → Consumes a b script → n ≡ 0 → (n ≡ 0 → IsAtEnd c) → Consumes b c (take n piece)
-    → Consumes a c script × OnSome a (IsAtEnd c)
-script_end None b c script piece n first none ends second = (tt, tt)
+    → Consumes a c script × IsAtEnd c
+script_end None b c script piece n first none ends second = (tt, ends none)
 script_end (Some held) None c script piece n first none ends second = absurd first
 script_end (Some held) (Some left) None script piece n first none ends second = absurd second
 script_end (Some held) (Some left) (Some rest) script piece n first none ends second =

@@ -1,20 +1,38 @@
 -- How a run of the program ends. What is known of the source and of the sink stands as `source` and
 -- `sink` before the call, and as `source'` and `sink'` behind it.
-use Rattle.std.specs.Prelude.{◌≡◌, ℕ, List, Option, Some, Ok, Err, OnSome, ◌⊎◌}
+use Rattle.std.specs.Prelude.{◌≡◌, ℕ, List, Option, None, Some, Ok, Err, IsOk, IsSome, ◌⊎◌, ◌↔◌}
 use Rattle.std.specs.Io.KnownBytes.{IsAtEnd}
 use Rattle.qu_io.specs.Known.{Known, Rose}
-use Rattle.qu_cli.specs.declared.bad.Bad.{Bad}
+use Rattle.qu_machine.specs.declared.record.Point.{Point}
+use Rattle.qu_trace.specs.declared.trace.Trace.{Trace}
+use Rattle.qu_world.specs.Run.{IsRun}
+use Rattle.qu_safety.specs.Order.{IsPrintedOrder}
+use Rattle.qu_print.specs.Report.{report_of}
+use Rattle.qu_script.specs.declared.bad.Bad.{Bad}
+use Rattle.qu_script.specs.Events.{sim_of}
 use Rattle.qu_cli.specs.declared.command.Command.{Command}
 use Rattle.qu_cli.specs.declared.command.Command.TheVariants.{Sim}
 use Rattle.qu_cli.specs.Bad.{bad_text}
-use Rattle.qu_cli.specs.Script.{sim_of}
 use Rattle.qu_cli.specs.Transfer.{TakesScript, Writes, WritesShort, WritesOrFails}
 
 -- ---- what a command makes of a script
 
--- the command makes this text of it
-abbrev pub Makes : Command → List ℕ → List ℕ → Type 0
-Makes Sim script text = sim_of script ≡ Ok text
+-- the trace is that of the script's run, and the text is the report of it with its printed order
+pub record Reports (script : List ℕ) (trace : Trace) (text : List ℕ) : Type 0 where
+  pub order : List Point
+  pub runs : sim_of script ≡ Ok trace
+  pub is_run : IsRun trace
+  pub ordered : IsPrintedOrder trace order
+  pub tells : text ≡ report_of trace order
+
+-- the command makes this trace and this text of it
+abbrev pub Makes : Command → List ℕ → Option Trace → List ℕ → Type 0
+Makes Sim script None text = ⊥
+Makes Sim script (Some trace) text = Reports script trace text
+
+-- the command can make something of it
+abbrev pub Accepts : Command → List ℕ → Type 0
+Accepts Sim script = IsOk (sim_of script)
 
 -- the command refuses it, for this
 abbrev pub Refuses : Command → List ℕ → Bad → Type 0
@@ -33,25 +51,30 @@ pub record EndsBad (asked : Option Command) (source source' sink sink' : Known) 
   pub tells : WritesOrFails sink sink' (bad_text bad)
 
 -- the text of the script that was taken stays short, by a fault of the sink
-pub record EndsShort (asked : Option Command) (source source' sink sink' : Known) : Type 0 where
+pub record EndsShort (asked : Option Command) (source source' sink sink' : Known) (trace : Option Trace) : Type 0 where
   pub command : Command
   pub script : List ℕ
   pub text : List ℕ
   pub asks : asked ≡ Some command
   pub takes : TakesScript source source' script
-  pub makes : Makes command script text
+  pub to_end : IsAtEnd source'.bytes
+  pub makes : Makes command script trace text
   pub short : WritesShort sink sink' text
 
 -- the source is at its end, and the whole text of what it had is written
-pub record EndsDone (asked : Option Command) (source source' sink sink' : Known) : Type 0 where
+pub record EndsDone (asked : Option Command) (source source' sink sink' : Known) (trace : Option Trace) : Type 0 where
   pub command : Command
   pub script : List ℕ
   pub text : List ℕ
   pub asks : asked ≡ Some command
   pub takes : TakesScript source source' script
-  pub to_end : OnSome source.bytes (IsAtEnd source'.bytes)
-  pub makes : Makes command script text
+  pub to_end : IsAtEnd source'.bytes
+  pub makes : Makes command script trace text
   pub writes : Writes sink sink' text
+
+-- there is a trace exactly where a text was made, whether or not it was written whole
+abbrev pub IsTraced : Option Trace → ℕ → Type 0
+IsTraced trace status = IsSome trace ↔ ((status ≡ 0) ⊎ (status ≡ 5))
 
 -- ---- which end comes
 
@@ -62,9 +85,15 @@ IsRefused asked source source' sink sink' status =
     → Refuses command script bad → (Rose source source' → ⊥)
     → ((status ≡ 3) × WritesOrFails sink sink' (bad_text bad)) ⊎ (status ≡ 6)
 
+-- the text that the command makes of the script is written whole
+pub record WritesMade (command : Command) (script : List ℕ) (sink sink' : Known) (trace : Option Trace) : Type 0 where
+  pub text : List ℕ
+  pub makes : Makes command script trace text
+  pub writes : Writes sink sink' text
+
 -- a source that holds a good script, and no fault of source or sink: the whole text is written
-abbrev pub IsComplete : Option Command → Known → Known → Known → Known → ℕ → Type 0
-IsComplete asked source source' sink sink' status =
-    (command : Command) (script text : List ℕ) → asked ≡ Some command → source.bytes ≡ Some script
-    → Makes command script text → (Rose source source' → ⊥) → (Rose sink sink' → ⊥)
-    → ((status ≡ 0) × Writes sink sink' text) ⊎ (status ≡ 6)
+abbrev pub IsComplete : Option Command → Known → Known → Known → Known → Option Trace → ℕ → Type 0
+IsComplete asked source source' sink sink' trace status =
+    (command : Command) (script : List ℕ) → asked ≡ Some command → source.bytes ≡ Some script
+    → Accepts command script → (Rose source source' → ⊥) → (Rose sink sink' → ⊥)
+    → ((status ≡ 0) × WritesMade command script sink sink' trace) ⊎ (status ≡ 6)

@@ -1,10 +1,3 @@
-pub mod Text
-pub mod Grammar
-pub mod Script
-pub mod Reading
-pub mod Told
-pub mod Level
-pub mod Cluster
 pub mod Bad
 pub mod Command
 pub mod Transfer

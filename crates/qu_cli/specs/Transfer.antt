@@ -1,13 +1,13 @@
 -- How much a call takes from a source, and how much it leaves in a sink.
-use Rattle.std.specs.Prelude.{ℕ, ◌+◌, ◌<◌, ◌≤◌, List, length, take, ◌⊎◌, OnSome}
+use Rattle.std.specs.Prelude.{ℕ, ◌+◌, ◌<◌, ◌≤◌, List, length, take, ◌⊎◌}
 use Rattle.std.specs.Io.KnownBytes.{Consumes, Appends, IsAtEnd}
 use Rattle.qu_io.specs.Known.{Known, Rose}
-use Rattle.qu_cli.specs.declared.limits.TheConstants.{LIMIT}
+use Rattle.qu_script.specs.declared.limits.TheConstants.{LIMIT}
 
 -- a script was taken: all that the source had, or one byte more than a script may have
 pub record TakesScript (before now : Known) (script : List ℕ) : Type 0 where
   pub taken : Consumes before.bytes now.bytes script
-  pub to_end : length script ≤ LIMIT → OnSome before.bytes (IsAtEnd now.bytes)
+  pub to_end : length script ≤ LIMIT → IsAtEnd now.bytes
   pub few : length script ≤ LIMIT + 1
 
 -- no more was taken than a script may have, and one byte

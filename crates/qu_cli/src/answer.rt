@@ -3,19 +3,19 @@ ghost use Rattle.qu_io.specs.Known.{Rose};
 ghost use Rattle.qu_cli.specs.Transfer.{TakesFew};
 ghost use Rattle.qu_cli.specs.Answer.{Answers};
 
-use super::bad::refusal;
-use super::reading::{NoScript, read_script};
-use super::script::simulate;
-use super::{Command, NoText};
-use qu_base::NoMemory;
+use super::Command;
+use super::reading::{NoScript, take_script};
+use super::simulation::simulate;
+use qu_base::{List, NoMemory};
 use qu_io::Source;
+use qu_trace::Trace;
 use std::alloc::Global;
 
 /// What a command answers to its input.
 #[derive(Drop)]
 pub enum Answer {
-    /// The whole text of a good script.
-    Text(String),
+    /// The run of a good script, and the whole report of it.
+    Report(Trace, List<u8>),
     /// The line that tells why the script is refused.
     Refusal(String),
 }
@@ -63,12 +63,8 @@ pub fn answer_for<S: Source>(
 {
     match command {
         Command::Sim => {
-            let script = read_script(alloc, input)?;
-            match simulate(alloc, script.as_slice()) {
-                Ok(text) => Ok(Answer::Text(text)),
-                Err(NoText::Refused(bad)) => Ok(Answer::Refusal(refusal(alloc, bad)?)),
-                Err(NoText::NoMemory) => Err(NoAnswer::NoMemory),
-            }
+            let script = take_script(alloc, input)?;
+            Ok(simulate(alloc, script.as_slice())?)
         }
     }
 }

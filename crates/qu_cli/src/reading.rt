@@ -2,9 +2,10 @@ ghost use Rattle.std.specs.Prelude.{◌≡◌, IfOk, Err};
 ghost use Rattle.qu_io.specs.Known.{Rose};
 ghost use Rattle.qu_cli.specs.Transfer.{TakesScript, TakesFew};
 
-use super::limits::{LIMIT, PIECE};
+use super::limits::PIECE;
 use qu_base::{List, NoMemory};
 use qu_io::{Failed, Source};
+use qu_script::LIMIT;
 use std::alloc::{AllocError, Global};
 
 /// Why a script could not be read.
@@ -36,7 +37,7 @@ impl From<AllocError> for NoScript {
 }
 
 /// Reads a source to its end, or to one byte past the most that a script may have.
-pub fn read_script<S: Source>(alloc: Global, input: &mut S) -> Result<List<u8>, NoScript>
+pub fn take_script<S: Source>(alloc: Global, input: &mut S) -> Result<List<u8>, NoScript>
     ensures script { IfOk result (TakesScript (S.known input.old) (S.known input.new)) }
     ensures few { TakesFew (S.known input.old) (S.known input.new) }
     ensures fault { result ≡ Err NoScript.Fault → Rose (S.known input.old) (S.known input.new) }

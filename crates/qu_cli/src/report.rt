@@ -1,5 +1,7 @@
-ghost use Rattle.std.specs.Prelude.{◌≡◌};
+ghost use Rattle.std.specs.Prelude.{◌≡◌, None, Some};
 ghost use Rattle.qu_cli.specs.Report.{status_of};
+
+use qu_trace::Trace;
 
 /// How a run of the program ended.
 #[derive(Clone, Copy, Debug, PartialEq, Eq)]
@@ -35,18 +37,34 @@ impl Outcome {
 }
 
 /// What a run of the program leaves beside its output.
-#[derive(Clone, Copy, Debug, PartialEq, Eq)]
+#[derive(Debug, Drop)]
 pub struct Report {
     /// The exit status.
     pub status: u8,
+    /// The run that was reported, where one was.
+    pub trace: Option<Trace>,
+}
+
+impl Report {
+    /// The report of a run that ended so.
+    pub fn with_trace(outcome: Outcome, trace: Trace) -> Report
+        ensures status { result.status ≡ status_of outcome }
+        ensures trace { result.trace ≡ Some trace }
+    {
+        Report {
+            status: outcome.status(),
+            trace: Some(trace),
+        }
+    }
 }
 
 impl From<Outcome> for Report {
-    ghost from_gives = { λ outcome report. report.status ≡ status_of outcome };
+    ghost from_gives = { λ outcome report. (report.status ≡ status_of outcome) × (report.trace ≡ None) };
 
     fn from(outcome: Outcome) -> Report {
         Report {
             status: outcome.status(),
+            trace: None,
         }
     }
 }

@@ -2,7 +2,7 @@ ghost use Rattle.std.specs.Prelude.{◌≡◌, ◌≢◌, ◌≤◌, ◌↔◌, 
 ghost use Rattle.qu_io.specs.Known.{Rose};
 ghost use Rattle.qu_cli.specs.Command.{command_of, usage_text};
 ghost use Rattle.qu_cli.specs.Transfer.{TakesFew, WritesOrFails};
-ghost use Rattle.qu_cli.specs.Ends.{EndsBad, EndsShort, EndsDone, IsRefused, IsComplete};
+ghost use Rattle.qu_cli.specs.Ends.{EndsBad, EndsShort, EndsDone, IsTraced, IsRefused, IsComplete};
 
 use super::answer::{Answer, NoAnswer, answer_for};
 use super::command::{USAGE, read_command};
@@ -33,24 +33,25 @@ pub fn qu<S: Source, K: Sink>(
     ensures read_fault { result.status ≡ 4 →
         Rose (S.known input.old) (S.known input.new) × (output.new ≡ output.old) }
     ensures write_fault { result.status ≡ 5 → EndsShort (command_of (map string_bytes words.now))
-        (S.known input.old) (S.known input.new) (K.known output.old) (K.known output.new) }
+        (S.known input.old) (S.known input.new) (K.known output.old) (K.known output.new) result.trace }
     ensures no_memory { result.status ≡ 6 → output.new ≡ output.old }
     ensures done { result.status ≡ 0 → EndsDone (command_of (map string_bytes words.now))
-        (S.known input.old) (S.known input.new) (K.known output.old) (K.known output.new) }
+        (S.known input.old) (S.known input.new) (K.known output.old) (K.known output.new) result.trace }
+    ensures traced { IsTraced result.trace result.status }
 
     ensures refused { IsRefused (command_of (map string_bytes words.now)) (S.known input.old)
         (S.known input.new) (K.known output.old) (K.known output.new) result.status }
     ensures complete { IsComplete (command_of (map string_bytes words.now)) (S.known input.old)
-        (S.known input.new) (K.known output.old) (K.known output.new) result.status }
+        (S.known input.new) (K.known output.old) (K.known output.new) result.trace result.status }
 {
     let Some(command) = read_command(words) else {
         tell_text(output, USAGE);
         return Report::from(Outcome::BadWords);
     };
     match answer_for(alloc, command, input) {
-        Ok(Answer::Text(text)) => match write_text(output, text.as_bytes()) {
-            Ok(()) => Report::from(Outcome::Done),
-            Err(_) => Report::from(Outcome::WriteFault),
+        Ok(Answer::Report(trace, text)) => match write_text(output, text.as_slice()) {
+            Ok(()) => Report::with_trace(Outcome::Done, trace),
+            Err(_) => Report::with_trace(Outcome::WriteFault, trace),
         },
         Ok(Answer::Refusal(line)) => {
             tell_text(output, line.as_bytes());

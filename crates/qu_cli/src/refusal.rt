@@ -1,0 +1,29 @@
+ghost use Rattle.std.specs.Prelude.{◌≡◌, IfOk, string_bytes};
+ghost use Rattle.qu_cli.specs.Bad.{kind_text, bad_text};
+
+use qu_base::NoMemory;
+use qu_script::{Bad, BadKind};
+use std::alloc::Global;
+
+/// The words for what is wrong with a script.
+fn kind_words(kind: BadKind) -> &'static str
+    ensures { result.now ≡ kind_text kind }
+{
+    match kind {
+        BadKind::TooLong => "too long",
+        BadKind::UnknownLine => "unknown line",
+        BadKind::NoSuchLetter => "no such letter",
+        BadKind::Busy => "busy",
+        BadKind::TooManyEvents => "too many events",
+    }
+}
+
+/// The line that tells why a script is refused.
+#[tactic(auto, unfolding(crate::specs::Bad::bad_text))]
+pub fn refusal_line(alloc: Global, bad: Bad) -> Result<String, NoMemory>
+    ensures { IfOk result (λ text. string_bytes text ≡ bad_text bad) }
+{
+    let line = bad.line;
+    let kind = kind_words(bad.kind);
+    Ok(format!(in alloc; "line {line}: {kind}\n")?)
+}
