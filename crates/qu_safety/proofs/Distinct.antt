@@ -12,6 +12,7 @@ use Rattle.qu_trace.specs.declared.event.Event.TheVariants.{Invoke, Deliver, Tic
 use Rattle.qu_trace.specs.declared.trace.Entry.{Entry}
 use Rattle.qu_trace.specs.Operations.{invokes, begun_by, record_of, begins_at, operations_from, operations_of}
 use Rattle.qu_safety.specs.Points.{AreApart}
+use Rattle.qu_safety.proofs.Small.{same_clients}
 
 -- an operation that began after these entries has a later number than all operations of its client there
 abbrev IsLater : List Entry → OpRecord → Type 0
@@ -28,9 +29,6 @@ begun_grows : (client : ClientId) (earlier : List Entry) (entry : Entry) → beg
 begun_grows client earlier entry =
     let more : begun_by client (earlier ++ entry ∷ []) ≡ begun_by client earlier + begins client entry.event = begun_more client earlier entry in
     omega arith
-
-same_clients : (first second : ClientId) → first.0 ≡ second.0 → first ≡ second
-same_clients first second same = ap (λ (it : ℕ). (let client : ClientId = record { 0 = it } in client)) same
 
 -- the operation that begins here is before those that begin later
 apart_by_later : (client : ClientId) (op : Op) (at : ℕ) (earlier later : List Entry) (entry : Entry) → entry.event ≡ Invoke client op → (second : OpRecord) → IsLater (earlier ++ entry ∷ []) second → AreApart (record_of client op at earlier later) second

@@ -13,6 +13,7 @@ use Rattle.qu_safety.specs.Order.{effect_of, are_in_order, IsPrintedOrder}
 use Rattle.qu_safety.specs.Points.{AreApart, point_at, IsPointOf, ArePointsOf, AddsPoint, with_point}
 use Rattle.qu_safety.proofs.Taking.{effect_once}
 use Rattle.qu_safety.proofs.Sorted.{is_earlier-other, contains_with_point, with_point_contains, with_point_keeps, in_order-with_point, one_order}
+use Rattle.qu_safety.proofs.Small.{same_point}
 
 pub points_none : (trace : Trace) → ArePointsOf trace [] []
 unfolding are_in_order
@@ -50,10 +51,6 @@ points_skip trace before operation points are none = record {
     | inr same ↦ absurd (none point.event (effect_along trace is.operation operation point.event (sym same) is.effect))
   ];
 }
-
-same_point : (a b : Point) → a.event ≡ b.event → a.client ≡ b.client → a.number ≡ b.number → a.op ≡ b.op → a.faulty ≡ b.faulty → a ≡ b
-same_point a b event client number op faulty =
-    λ i. record { event = event i; client = client i; number = number i; op = op i; faulty = faulty i }
 
 -- the point of the operation is that at the event at which it took effect
 point_is : (trace : Trace) (before : List OpRecord) (operation : OpRecord) (event : ℕ) (point : Point) → effect_of trace operation event operation.op → (is : IsPointOf trace (before ++ operation ∷ []) point) → operation ≡ is.operation → point_at operation event ≡ point

@@ -4,7 +4,6 @@ use Rattle.std.specs.Prelude.{count_by, position, is_some, is_none, ◌==◌}
 use Rattle.std.specs.List.{list_any, AllZip, All, Any}
 use Rattle.std.specs.Option.{OnSome}
 use Rattle.std.proofs.lemmas.Bool.{false≢true, or_cases, or_left, or_right, and_parts, and_from, eq-eqb}
-use Rattle.std.proofs.lemmas.Bool.Decides.{nat_tests}
 use Rattle.std.proofs.lemmas.List.{get_or_default}
 use Rattle.std.proofs.lemmas.List.Elements.{All-head, All-tail, AllZip-get_or, length_all_zip}
 use Rattle.std.proofs.lemmas.List.Folds.{Any-from_list_any, list_any_at}
@@ -22,11 +21,9 @@ use Rattle.qu_safety.specs.Decided.{is_accepted, is_established, IsDecided}
 use Rattle.qu_safety.specs.Tracker.{is_of, is_tracked, is_child, is_next, SettlesTo, IsSettled, IsSound, AreAccepted}
 use Rattle.qu_safety.proofs.WorldGrowth.{accepted_by_decided}
 use Rattle.qu_safety.proofs.Places.{position_none}
+use Rattle.qu_safety.proofs.Small.{same_object}
 
 -- ---- pairs
-
-pub same_object : (first second : ObjectId) → (first.0 == second.0) ≡ true → first ≡ second
-same_object first second alike = grind (arith, nat_tests)
 
 pub is_of-self : (tracked : Tracked) → is_of tracked.object tracked.candidate tracked ≡ true
 is_of-self tracked = and_from _ _ (eq-eqb (tracked.object).0 (tracked.object).0 refl) (same-self tracked.candidate)

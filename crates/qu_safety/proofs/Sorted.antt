@@ -12,10 +12,10 @@ use Rattle.qu_safety.specs.Points.{with_point}
 
 -- ---- the order of two points
 
-is_earlier-self : (a : Point) → is_earlier a a ≡ false
+pub is_earlier-self : (a : Point) → is_earlier a a ≡ false
 is_earlier-self a = grind (arith, nat_tests)
 
-is_earlier-chain : (a b c : Point) → is_earlier a b ≡ true → is_earlier b c ≡ true → is_earlier a c ≡ true
+pub is_earlier-chain : (a b c : Point) → is_earlier a b ≡ true → is_earlier b c ≡ true → is_earlier a c ≡ true
 is_earlier-chain a b c ab bc = grind (arith, nat_tests)
 
 is_earlier-not_back : (a b : Point) → is_earlier a b ≡ true → is_earlier b a ≡ false
@@ -97,11 +97,11 @@ with_point_keeps point (first ∷ later) other held =
       | inr after ↦ rw after (contains_later point (first ∷ later) other held)
     ]
 
-in_order_parts : (first second : Point) (later : List Point) → are_in_order (first ∷ second ∷ later) ≡ true → (is_earlier first second ≡ true) × (are_in_order (second ∷ later) ≡ true)
+pub in_order_parts : (first second : Point) (later : List Point) → are_in_order (first ∷ second ∷ later) ≡ true → (is_earlier first second ≡ true) × (are_in_order (second ∷ later) ≡ true)
 unfolding are_in_order
 in_order_parts first second later order = and_parts _ _ order
 
-in_order_tail : (first : Point) (later : List Point) → are_in_order (first ∷ later) ≡ true → are_in_order later ≡ true
+pub in_order_tail : (first : Point) (later : List Point) → are_in_order (first ∷ later) ≡ true → are_in_order later ≡ true
 unfolding are_in_order
 in_order_tail first [] order = refl
 in_order_tail first (second ∷ later) order = (in_order_parts first second later order).1

@@ -93,7 +93,7 @@ any-more object candidate (old ∷ olds) (new ∷ news) more some =
 abbrev counted : ObjectId → Candidate → ReplicaState → ℕ
 counted object candidate replica = cond (accepts object candidate replica) 1 0
 
-counted-more : (first second : Bool) → (first ≡ true → second ≡ true) → cond first 1 0 ≤ cond second 1 0
+pub counted-more : (first second : Bool) → (first ≡ true → second ≡ true) → cond first 1 0 ≤ cond second 1 0
 counted-more true true follows = omega arith
 counted-more true false follows = absurd (false≢true (follows refl))
 counted-more false true follows = omega arith

@@ -1,4 +1,12 @@
 pub mod Decided
 pub mod Order
-pub mod Tracker
 pub mod Points
+pub mod Tracker
+pub mod Views
+pub mod Grounds
+pub mod Chained
+pub mod Invocations
+pub mod Values
+pub mod Completions
+pub mod Replies
+pub mod Origins

@@ -4,6 +4,7 @@
 mod effects;
 mod news;
 mod order;
+mod parts;
 mod replay;
 mod tracked;
 mod tracker;

@@ -1,11 +1,15 @@
 ghost use Rattle.std.specs.Prelude.{◌≡◌, ◌≤◌, not, length, position, AllPairs, IfOk, OnOk};
 ghost use Rattle.std.specs.List.{position_or_len};
+ghost use Rattle.qu_machine.specs.Serial.{IsSerial};
+ghost use Rattle.qu_trace.specs.Operations.{operations_of};
 ghost use Rattle.qu_world.specs.Run.{IsRun};
+ghost use Rattle.qu_safety.specs.Chained.{IsChained};
 ghost use Rattle.qu_safety.specs.Order.{is_earlier, IsPrintedOrder};
 ghost use Rattle.qu_safety.specs.Points.{AreApart, AddsPoint, ArePointsOf, with_point};
 ghost use Rattle.qu_safety.specs.Tracker.{Tracks};
 
 use super::effects::effect;
+use super::parts::have_parts;
 use super::replay::replay;
 use super::tracker::Tracker;
 use qu_base::{List, NoMemory};
@@ -15,11 +19,15 @@ use std::alloc::Global;
 
 /// The points of a run: where each update and each completed query took effect.
 ///
-/// They stand by event; those of one event by client, then number.
+/// They stand by event, and they are a serial order of the operations: one machine that runs whole
+/// operations in this order gives each completed one its answer, between its call and its reply.
 pub fn order_of(alloc: Global, trace: &Trace) -> Result<List<Point>, NoMemory>
     requires { IsRun trace.now }
-    ensures { IfOk result (λ order. IsPrintedOrder trace.now order) }
+    ensures printed { IfOk result (λ order. IsPrintedOrder trace.now order) }
+    ensures serial { IfOk result (λ order. IsSerial trace.now.setup.kinds (operations_of trace.now.entries) order) }
+    ensures chained { OnOk result (IsChained trace.now) }
 {
+    have_parts(trace.entries.as_slice());
     let tracker = replay(alloc, trace)?;
     let operations = operations(alloc, trace)?;
     let points = points(alloc, trace, &tracker, operations.as_slice())?;

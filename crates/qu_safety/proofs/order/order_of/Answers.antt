@@ -1,17 +1,28 @@
+-- The points of all operations are the printed order, and this is a serial order.
 use Rattle.std.proofs.Common.{List, sym, subst, ◌∙◌}
 use Rattle.std.specs.List.{AllPairs}
 use Rattle.qu_machine.specs.declared.record.OpRecord.{OpRecord}
 use Rattle.qu_safety.specs.Order.{IsPrintedOrder}
 use Rattle.qu_safety.specs.Points.{AreApart}
+use Rattle.qu_safety.specs.Views.{HaveParts}
+use Rattle.qu_safety.proofs.Chained.{is_chained}
 use Rattle.qu_safety.proofs.Distinct.{operations_apart}
 use Rattle.qu_safety.proofs.Printed.{printed}
+use Rattle.qu_safety.proofs.SerialOrder.{serial}
 use Rattle.qu_safety.proofs.order.order_of.Goals as goal
 
 pub points-requires-clause-apart : goal.points-requires-clause-apart
 points-requires-clause-apart c =
-    subst (λ (operations : List OpRecord). AllPairs AreApart operations) (sym (c.as_slice.ensures ∙ c.in_ok-operations.ensures)) (operations_apart c.args.trace.now.entries)
+    subst (λ (operations : List OpRecord). AllPairs AreApart operations) (sym (c.as_slice-2.ensures ∙ c.in_ok-operations.ensures)) (operations_apart c.args.trace.now.entries)
 
-pub returns : goal.returns
-returns c =
+pub returns-clause-printed : goal.returns-clause-printed
+returns-clause-printed c =
     subst (IsPrintedOrder c.args.trace.now) (sym c.from.ensures)
-    (printed c.args.trace.now c.as_slice.result.now c.in_ok-points.points.items (c.as_slice.ensures ∙ c.in_ok-operations.ensures) c.in_ok-points.ensures)
+    (printed c.args.trace.now c.as_slice-2.result.now c.in_ok-points.points.items (c.as_slice-2.ensures ∙ c.in_ok-operations.ensures) c.in_ok-points.ensures)
+
+pub returns-clause-serial : goal.returns-clause-serial
+returns-clause-serial c =
+    serial c.args.trace.now c.requires (subst HaveParts c.as_slice.ensures c.have_parts.ensures) c.from.result (returns-clause-printed c)
+
+pub returns-clause-chained : goal.returns-clause-chained
+returns-clause-chained c = is_chained c.args.trace.now c.requires (subst HaveParts c.as_slice.ensures c.have_parts.ensures)

@@ -1,0 +1,223 @@
+-- An act that completed has its one candidate established before the event of its reply, and its answer
+-- is that of the candidate's version.
+use Rattle.std.proofs.Common.{◌≡◌, ◌≢◌, ℕ, ◌+◌, ◌-◌, ◌<◌, ◌≤◌, Bool, true, List, [], ◌∷◌, length, Some, refl, sym, ap, subst, ◌∙◌, arith, inl, inr, All, AllPairs}
+use Rattle.std.specs.Prelude.{Contains}
+use Rattle.std.proofs.lemmas.Bool.{false≢true, or_cases, eqb-true}
+use Rattle.std.proofs.lemmas.List.Elements.{All-head, All-tail, All-weaker}
+use Rattle.std.proofs.lemmas.Option.{slice_get_within}
+use Rattle.qu_base.specs.declared.party.ClientId.{ClientId}
+use Rattle.qu_base.specs.declared.party.ObjectId.{ObjectId}
+use Rattle.qu_base.specs.Thresholds.{replicas, quorum}
+use Rattle.qu_stamp.specs.declared.stamp.Stamp.{Stamp}
+use Rattle.qu_stamp.specs.declared.candidate.Candidate.{Candidate}
+use Rattle.qu_chain.specs.Chain.{acceptors, IsEstablished}
+use Rattle.qu_chain.specs.Count.{count, test_at}
+use Rattle.qu_chain.proofs.Ancestors.{accepted-later}
+use Rattle.qu_chain.proofs.Counting.{count-more, test_at-here}
+use Rattle.qu_objects.specs.declared.act.Method.{Method}
+use Rattle.qu_objects.specs.declared.answer.Answer.{Answer}
+use Rattle.qu_objects.specs.declared.op.Op.{Op}
+use Rattle.qu_objects.specs.declared.op.Op.TheVariants as op
+use Rattle.qu_objects.specs.declared.op.Outcome.TheVariants as outcome
+use Rattle.qu_objects.specs.declared.state.ObjState.{ObjState}
+use Rattle.qu_frames.specs.declared.frame.Body.TheVariants as body
+use Rattle.qu_frames.specs.declared.frame.Frame.TheVariants as frame
+use Rattle.qu_frames.specs.declared.verdict.Verdict.{Verdict}
+use Rattle.qu_frames.specs.declared.verdict.Verdict.TheVariants as verdict
+use Rattle.qu_frames.specs.Body.{body_of}
+use Rattle.qu_frames.specs.Verdict.{same_verdict}
+use Rattle.qu_client.specs.Step.{fitting}
+use Rattle.qu_machine.specs.declared.record.OpRecord.{OpRecord}
+use Rattle.qu_trace.specs.declared.trace.Trace.{Trace}
+use Rattle.qu_trace.specs.Operations.{operations_of}
+use Rattle.qu_world.specs.Run.{IsRun}
+use Rattle.qu_safety.specs.Chained.{last_world}
+use Rattle.qu_safety.specs.Completions.{RepliedAt, Replied, IsCompleted}
+use Rattle.qu_safety.specs.Decided.{accepts, is_accepted}
+use Rattle.qu_safety.specs.Invocations.{IsRequestOf}
+use Rattle.qu_safety.specs.Order.{world_after}
+use Rattle.qu_safety.specs.Replies.{TellsDone, IsReplyTo}
+use Rattle.qu_safety.specs.Values.{HasVersion}
+use Rattle.qu_safety.specs.Views.{HaveParts}
+use Rattle.qu_safety.proofs.Chained.{somewhere_accepted}
+use Rattle.qu_safety.proofs.ChainLaws.{setting, laws}
+use Rattle.qu_safety.proofs.Endings.{EndsAt, operation_ends}
+use Rattle.qu_safety.proofs.Invocations.{request_of}
+use Rattle.qu_safety.proofs.KnownRuns.{known, completion}
+use Rattle.qu_safety.proofs.Members.{is_among, members_count}
+use Rattle.qu_safety.proofs.Numbered.{operation_numbered, numbered_late}
+use Rattle.qu_safety.proofs.OneCandidate.{one_candidate}
+use Rattle.qu_safety.proofs.Recorded.{recorded_op}
+use Rattle.qu_safety.proofs.RepliesInRuns.{IsActOn, act_of_done, done_in_run}
+use Rattle.qu_safety.proofs.Replying.{reply_sent}
+use Rattle.qu_safety.proofs.StoredValues.{version_is}
+use Rattle.qu_safety.proofs.Verdicts.{IsDone, fits_act, same_done}
+use Rattle.qu_safety.proofs.WorldGrowth.{has_more, world_after-grows, is_accepted-more}
+use Rattle.qu_safety.proofs.Small.{some_member, some_quorum}
+
+-- what a completed act rests on: its candidate, established in the world before the event of the reply
+pub record CompletedAct (trace : Trace) (operation : OpRecord) (reply : ℕ) (answer : Answer) : Type 0 where
+  pub object : ObjectId
+  pub method : Method
+  pub is_act : operation.op ≡ op.Act ((object, method) ∷ [])
+  pub candidate : Candidate
+  pub of_client : candidate.stamp.client ≡ operation.client
+  pub of_number : candidate.stamp.number ≡ operation.number
+  pub version : ObjState
+  pub has : HasVersion trace object candidate version
+  pub answer_is : answer ≡ version.answer
+  pub established : IsEstablished (setting trace) (reply - 1) object candidate
+  pub within : reply ≤ length trace.entries
+  pub begins : 1 ≤ reply
+
+-- ---- counts
+
+-- what holds of all members holds of each number among them
+among_all : (P : ℕ → Type 0) (members : List ℕ) → All P members → (index : ℕ) → is_among members index ≡ true → P index
+among_all P [] all index among = absurd (false≢true among)
+among_all P (member ∷ members) all index among =
+    elim (or_cases _ (is_among members index) among) [
+      | inl here ↦ subst P (eqb-true member index here) (All-head P member members all)
+      | inr later ↦ among_all P members (All-tail P member members all) index later
+    ]
+
+-- ---- members
+
+act_by_body : (what : Op) (parts : List (ObjectId × Method)) → body_of what ≡ body.Act parts → what ≡ op.Act parts
+act_by_body (op.Act others) parts same = cc
+act_by_body (op.Query others) parts same = absurd cc
+
+-- the replica has a candidate of the operation after so many events, and its version has the answer
+record HasCandidate (trace : Trace) (operation : OpRecord) (answer : Answer) (time replica : ℕ) : Type 0 where
+  object : ObjectId
+  method : Method
+  is_act : operation.op ≡ op.Act ((object, method) ∷ [])
+  candidate : Candidate
+  of_client : candidate.stamp.client ≡ operation.client
+  of_number : candidate.stamp.number ≡ operation.number
+  accepted : test_at (accepts object candidate) (world_after trace time).replicas replica ≡ true
+  version : ObjState
+  has : HasVersion trace object candidate version
+  answer_is : answer ≡ version.answer
+
+module _ (trace : Trace) (is_run : IsRun trace) (have : HaveParts trace.entries) (operation : OpRecord) (among : Contains (operations_of trace.entries) operation) (answer : Answer) where
+  abbrev Has : ℕ → ℕ → Type 0
+  Has time replica = HasCandidate trace operation answer time replica
+
+  -- a replica that told Done has the candidate
+  has_by_reply : (at : ℕ) → at < length trace.entries → (replica round : ℕ) (stamps : List (ObjectId × Stamp)) → IsReplyTo trace at replica operation.client operation.number round (verdict.Done stamps answer) → Has (at + 1) replica
+  has_by_reply at below replica round stamps reply =
+      let asks : IsActOn reply.body = act_of_done trace is_run have at below replica operation.client operation.number round stamps answer reply in
+      let done : TellsDone reply.new operation.client operation.number asks.object stamps answer =
+      done_in_run trace is_run have at below replica operation.client operation.number round stamps answer reply in
+      let request : IsRequestOf trace at operation.client operation.number reply.body =
+      request_of trace is_run at (omega arith) reply.asked reply.letter reply.is_letter operation.client operation.number round reply.sets reply.body reply.is_request in
+      let same : request.operation ≡ operation =
+      recorded_op trace request.operation operation request.of_trace among (ap (λ (it : ClientId). it.0) request.of_client) request.of_number in
+      record {
+        object = asks.object;
+        method = asks.method;
+        is_act = act_by_body operation.op ((asks.object, asks.method) ∷ []) (ap (λ (it : OpRecord). body_of it.op) (sym same) ∙ sym request.asks ∙ asks.is_act);
+        candidate = done.candidate;
+        of_client = done.of_client;
+        of_number = done.of_number;
+        accepted = test_at-here (accepts asks.object done.candidate) (world_after trace (at + 1)).replicas replica reply.new reply.is_new ∙ done.held;
+        version = done.version;
+        has = version_is trace (known trace is_run have) is_run have (at + 1) (omega arith) replica reply.new reply.is_new asks.object done.candidate done.held done.version done.of_candidate;
+        answer_is = done.answer_is;
+      }
+
+  has_later : (early late : ℕ) → early ≤ late → (replica : ℕ) → Has early replica → Has late replica
+  unfolding setting
+  has_later early late order replica held = record {
+    object = held.object;
+    method = held.method;
+    is_act = held.is_act;
+    candidate = held.candidate;
+    of_client = held.of_client;
+    of_number = held.of_number;
+    accepted = accepted-later (setting trace) (laws trace is_run have) early late order held.object replica held.candidate held.accepted;
+    version = held.version;
+    has = held.has;
+    answer_is = held.answer_is;
+  }
+
+  has_by_verdict : (before round : ℕ) (given : Verdict) → IsDone given answer → (replica : ℕ) → Replied trace before operation.client operation.number round given replica → Has before replica
+  has_by_verdict before round given done replica replied =
+      let at : ℕ = replied.at in
+      let earlier : at < before = replied.earlier in
+      let sent : RepliedAt trace at operation.client operation.number round given replica = replied.replied in
+      let below : at < length trace.entries = slice_get_within trace.entries at sent.entry sent.is_entry in
+      let told : IsDone sent.told answer = same_done sent.told done.stamps answer (ap (same_verdict sent.told) (sym done.is) ∙ sent.same) in
+      let reply : IsReplyTo trace at replica operation.client operation.number round (verdict.Done told.stamps answer) =
+      reply_sent trace is_run have at below sent.entry sent.is_entry sent.letter sent.sent (record { 0 = replica }) operation.client operation.number round (verdict.Done told.stamps answer) sent.shown
+      (sent.is_reply ∙ ap (λ (it : Verdict). frame.Reply (record { 0 = replica }) operation.client operation.number round it sent.shown) told.is) in
+      has_later (at + 1) before (omega arith) replica (has_by_reply at below replica round told.stamps reply)
+
+  -- ---- they all have one
+
+  accepted_last : (time : ℕ) → time ≤ length trace.entries → (replica : ℕ) (held : Has time replica) → is_accepted (last_world trace) held.object held.candidate ≡ true
+  accepted_last time within replica held =
+      is_accepted-more (world_after trace time) (last_world trace) (has_more (world_after trace time) (last_world trace) (world_after-grows trace time (length trace.entries) within))
+      held.object held.candidate (somewhere_accepted held.object held.candidate (world_after trace time).replicas replica held.accepted)
+
+  late : (time : ℕ) → time ≤ length trace.entries → (replica : ℕ) (held : Has time replica) → 1 ≤ (held.candidate.stamp).time
+  late time within replica held =
+      let from : 1 ≤ operation.number = operation_numbered trace.entries operation among in
+      let number : (held.candidate.stamp).number ≡ operation.number = held.of_number in
+      numbered_late trace is_run have held.object held.candidate (accepted_last time within replica held) (omega arith)
+
+  has_first : (time : ℕ) → time ≤ length trace.entries → (first : ℕ) (held : Has time first) → (replica : ℕ) → Has time replica → test_at (accepts held.object held.candidate) (world_after trace time).replicas replica ≡ true
+  has_first time within first held replica other =
+      let same : (held.object ≡ other.object) × (held.candidate ≡ other.candidate) =
+      one_candidate trace is_run have held.object other.object held.candidate other.candidate (accepted_last time within first held) (accepted_last time within replica other)
+      (held.of_client ∙ sym other.of_client) (held.of_number ∙ sym other.of_number) (late time within first held) (late time within replica other) in
+      ap (λ (it : ObjectId). test_at (accepts it held.candidate) (world_after trace time).replicas replica) same.0 ∙
+      ap (λ (it : Candidate). test_at (accepts other.object it) (world_after trace time).replicas replica) same.1 ∙
+      other.accepted
+
+  established_by : (time : ℕ) → time ≤ length trace.entries → (members : List ℕ) → AllPairs (λ (a b : ℕ). a ≢ b) members → All (λ (member : ℕ). member < replicas trace.setup.bounds) members → quorum trace.setup.bounds ≤ length members → All (Has time) members
+      → (first : ℕ) (held : Has time first) → IsEstablished (setting trace) time held.object held.candidate
+  unfolding setting
+  established_by time within members different below enough all first held =
+      let accepted : ℕ → Bool = test_at (accepts held.object held.candidate) (world_after trace time).replicas in
+      let among_them : length members ≤ count (replicas trace.setup.bounds) (is_among members) = members_count (replicas trace.setup.bounds) members different below in
+      let more : count (replicas trace.setup.bounds) (is_among members) ≤ count (replicas trace.setup.bounds) accepted =
+      count-more (replicas trace.setup.bounds) (is_among members) accepted
+      (λ index low member. has_first time within first held index (among_all (Has time) members all index member)) in
+      let counted : count (replicas trace.setup.bounds) accepted ≡ acceptors (setting trace) time held.object held.candidate = refl in
+      omega (arith, enough, among_them, more, counted)
+
+  -- a completed act by the members that replied to it
+  by_members : (reply : ℕ) → reply ≤ length trace.entries → 1 ≤ reply → (members : List ℕ) → AllPairs (λ (a b : ℕ). a ≢ b) members → All (λ (member : ℕ). member < replicas trace.setup.bounds) members → quorum trace.setup.bounds ≤ length members → All (Has (reply - 1)) members → CompletedAct trace operation reply answer
+  by_members reply within begins members different below enough all =
+      let some : 1 ≤ quorum trace.setup.bounds = some_quorum trace.setup.bounds in
+      let one : (member : ℕ) × Has (reply - 1) member = some_member (Has (reply - 1)) members (omega (arith, some, enough)) all in
+      let held : Has (reply - 1) one.0 = one.1 in
+      record {
+        object = held.object;
+        method = held.method;
+        is_act = held.is_act;
+        candidate = held.candidate;
+        of_client = held.of_client;
+        of_number = held.of_number;
+        version = held.version;
+        has = held.has;
+        answer_is = held.answer_is;
+        established = established_by (reply - 1) (omega arith) members different below enough all one.0 held;
+        within = within;
+        begins = begins;
+      }
+
+-- of every completed act
+pub completed_act : (trace : Trace) → IsRun trace → HaveParts trace.entries → (operation : OpRecord) → Contains (operations_of trace.entries) operation → (reply : ℕ) (answer : Answer) → operation.reply ≡ Some (reply, outcome.Done answer)
+    → (act : List (ObjectId × Method)) → operation.op ≡ op.Act act → CompletedAct trace operation reply answer
+completed_act trace is_run have operation among reply answer replied act is_act =
+    let done : IsCompleted trace operation reply answer = completion trace is_run operation among reply answer replied in
+    let given : IsDone done.verdict answer = fits_act act done.verdict answer (ap (λ (it : Op). fitting it done.verdict) (sym is_act) ∙ done.fits) in
+    let ends : EndsAt trace.entries 1 operation.client operation.number reply (outcome.Done answer) = operation_ends trace.entries operation among reply (outcome.Done answer) replied in
+    let at : reply ≡ 1 + ends.index = ends.is_at in
+    let below : ends.index < length trace.entries = slice_get_within trace.entries ends.index ends.entry ends.is_entry in
+    by_members trace is_run have operation among answer reply (omega arith) (omega arith) done.members done.different done.within done.enough
+    (All-weaker (Replied trace (reply - 1) operation.client operation.number done.round done.verdict) (HasCandidate trace operation answer (reply - 1))
+    (has_by_verdict trace is_run have operation among answer (reply - 1) done.round done.verdict given) done.members done.replied)

@@ -1,0 +1,152 @@
+-- What an event of a world adds to a replica, and why: nothing, or what a letter to it makes it accept.
+use Rattle.std.proofs.Common.{◌≡◌, ◌⊎◌, ℕ, zero, suc, List, [], ◌∷◌, Option, None, Some, inl, inr, refl, sym, subst, ap, ◌∙◌}
+use Rattle.std.specs.Prelude.{slice_get, slice_set}
+use Rattle.std.specs.List.{AllZip}
+use Rattle.std.proofs.lemmas.Bool.{cases_eq}
+use Rattle.std.proofs.lemmas.Option.{none-some, same_Some}
+use Rattle.qu_base.specs.declared.party.ClientId.{ClientId}
+use Rattle.qu_base.specs.declared.party.ObjectId.{ObjectId}
+use Rattle.qu_base.specs.declared.party.Party.{Party}
+use Rattle.qu_base.specs.declared.party.Party.TheVariants as party
+use Rattle.qu_base.specs.declared.party.ReplicaId.{ReplicaId}
+use Rattle.qu_frames.specs.declared.frame.Frame.{Frame}
+use Rattle.qu_frames.specs.declared.frame.Letter.{Letter}
+use Rattle.qu_replica.specs.State.{ReplicaState, own_candidates}
+use Rattle.qu_replica.specs.Growth.{HasParts, Grows}
+use Rattle.qu_replica.specs.Step.{replica_step}
+use Rattle.qu_client.specs.declared.state.ClientState.{ClientState}
+use Rattle.qu_client.specs.declared.state.Stepped.{Stepped}
+use Rattle.qu_client.specs.Step.{client_invoke, client_step, client_tick}
+use Rattle.qu_trace.specs.declared.event.Event.{Event}
+use Rattle.qu_trace.specs.declared.event.Event.TheVariants.{Invoke, Deliver, Tick}
+use Rattle.qu_world.specs.State.{WorldState, numbered, letter_of}
+use Rattle.qu_world.specs.Step.{world_step, at_replica, at_client, received, delivered}
+use Rattle.qu_world.proofs.WorldGrowth.{world_step-grows}
+use Rattle.qu_safety.specs.Grounds.{AcceptsAlone, IsMoved, IsDelivered}
+use Rattle.qu_safety.proofs.Acceptance.{step_moves, accepts_on}
+use Rattle.qu_safety.proofs.Each.{set_here, set_other}
+
+-- ---- a replica before an event
+
+pub record WasBefore (olds : List ReplicaState) (place : ℕ) (new : ReplicaState) : Type 0 where
+  pub old : ReplicaState
+  pub is_old : slice_get olds place ≡ Some old
+  pub grows : Grows old new
+
+pub grown_from : (olds news : List ReplicaState) (place : ℕ) (new : ReplicaState) → AllZip Grows olds news → slice_get news place ≡ Some new → WasBefore olds place new
+grown_from [] [] place new each is_new = absurd (none-some new is_new)
+grown_from [] (here ∷ news) place new each is_new = absurd each
+grown_from (old ∷ olds) [] place new each is_new = absurd each
+grown_from (old ∷ olds) (here ∷ news) zero new each is_new = record { old = old; is_old = refl; grows = subst (Grows old) (same_Some here new is_new) each.0 }
+grown_from (old ∷ olds) (here ∷ news) (suc place) new each is_new =
+    let later : WasBefore olds place new = grown_from olds news place new each.1 is_new in
+    record { old = later.old; is_old = later.is_old; grows = later.grows }
+
+-- each replica after an event stood at the same place before it
+pub was_before : (world : WorldState) (event : Event) (place : ℕ) (new : ReplicaState) → slice_get (world_step world event).replicas place ≡ Some new → WasBefore world.replicas place new
+was_before world event place new is_new =
+    grown_from world.replicas (world_step world event).replicas place new (world_step-grows world event).replicas is_new
+
+-- ---- a replica whose place nothing was put at
+
+stays : (olds news : List ReplicaState) (place : ℕ) (old new : ReplicaState) → slice_get news place ≡ slice_get olds place → slice_get olds place ≡ Some old → slice_get news place ≡ Some new → new ≡ old
+stays olds news place old new same is_old is_new = same_Some new old (sym is_new ∙ same ∙ is_old)
+
+-- no move of a client changes a replica
+client_leaves : (world : WorldState) (event : Event) (me : ClientId) (move : ClientState → Stepped) (found : Option ClientState) → (at_client world event me move found).replicas ≡ world.replicas
+client_leaves world event me move None = refl
+client_leaves world event me move (Some state) = refl
+
+client_stays : (world : WorldState) (event : Event) (me : ClientId) (move : ClientState → Stepped) (found : Option ClientState) (place : ℕ) (old new : ReplicaState)
+    → slice_get world.replicas place ≡ Some old → slice_get (at_client world event me move found).replicas place ≡ Some new → new ≡ old
+client_stays world event me move found place old new is_old is_new =
+    stays world.replicas (at_client world event me move found).replicas place old new
+    (ap (λ (replicas : List ReplicaState). slice_get replicas place) (client_leaves world event me move found)) is_old is_new
+
+-- ---- a letter to a replica
+
+-- the replica at this place is the one that takes the frame, and accepts one candidate
+record IsTaken (me : ReplicaId) (frame : Frame) (place : ℕ) (old new : ReplicaState) : Type 0 where
+  here : me.0 ≡ place
+  accepts : AcceptsAlone old new frame
+
+replica_takes : (world : WorldState) (event : Event) (me : ReplicaId) (frame : Frame) (found : Option ReplicaState) (place : ℕ) (old new : ReplicaState)
+    → slice_get world.replicas me.0 ≡ found → HasParts frame
+    → slice_get world.replicas place ≡ Some old → slice_get (at_replica world event me frame found).replicas place ≡ Some new
+    → (new ≡ old) ⊎ IsTaken me frame place old new
+replica_takes world event me frame None place old new is_found parts is_old is_new = inl (stays world.replicas world.replicas place old new refl is_old is_new)
+replica_takes world event me frame (Some state) place old new is_found parts is_old is_new =
+    let moved : ReplicaState = (replica_step state frame).0 in
+    elim (cases_eq place me.0) [
+      | inl here ↦
+          let is_state : state ≡ old = same_Some state old (sym is_found ∙ ap (slice_get world.replicas) (sym here) ∙ is_old) in
+          let is_moved : moved ≡ new =
+          same_Some moved new (sym (set_here world.replicas me.0 state moved is_found) ∙ ap (slice_get (slice_set world.replicas me.0 moved)) (sym here) ∙ is_new) in
+          let is_step : (replica_step old frame).0 ≡ new = ap (λ (it : ReplicaState). (replica_step it frame).0) (sym is_state) ∙ is_moved in
+          elim (step_moves old frame parts) [
+            | inl same ↦ inl (sym is_step ∙ same)
+            | inr alone ↦ inr (record { here = sym here; accepts = subst (λ (it : ReplicaState). AcceptsAlone old it frame) is_step alone })
+          ]
+      | inr apart ↦ inl (stays world.replicas (slice_set world.replicas me.0 moved) place old new (set_other world.replicas me.0 place moved apart) is_old is_new)
+    ]
+
+letter_taken : (world : WorldState) (number : ℕ) (letter : Letter) (to : Party) (place : ℕ) (old new : ReplicaState)
+    → letter_of world number ≡ Some letter → letter.to ≡ to → HasParts letter.frame
+    → slice_get world.replicas place ≡ Some old → slice_get (received world (Deliver number) to letter.frame).replicas place ≡ Some new
+    → (new ≡ old) ⊎ IsMoved world (Deliver number) place old new
+letter_taken world number letter (party.Client me) place old new is_letter is_to parts is_old is_new =
+    inl (client_stays world (Deliver number) me (λ (state : ClientState). client_step state letter.frame) (numbered world.clients me.0) place old new is_old is_new)
+letter_taken world number letter (party.Replica me) place old new is_letter is_to parts is_old is_new =
+    let replica : ℕ → Party = λ it. party.Replica (record { 0 = it }) in
+    elim (replica_takes world (Deliver number) me letter.frame (slice_get world.replicas me.0) place old new refl parts is_old is_new) [
+      | inl same ↦ inl same
+      | inr taken ↦ inr (record {
+        number = number;
+        is_deliver = refl;
+        letter = letter;
+        is_letter = is_letter;
+        to = is_to ∙ ap replica taken.here;
+        accepts = taken.accepts;
+      })
+    ]
+
+letter_delivered : (world : WorldState) (number : ℕ) (found : Option Letter) (place : ℕ) (old new : ReplicaState)
+    → letter_of world number ≡ found → ((letter : Letter) → found ≡ Some letter → HasParts letter.frame)
+    → slice_get world.replicas place ≡ Some old → slice_get (delivered world (Deliver number) found).replicas place ≡ Some new
+    → (new ≡ old) ⊎ IsMoved world (Deliver number) place old new
+letter_delivered world number None place old new is_found parts is_old is_new = inl (stays world.replicas world.replicas place old new refl is_old is_new)
+letter_delivered world number (Some letter) place old new is_found parts is_old is_new =
+    letter_taken world number letter letter.to place old new is_found refl (parts letter refl) is_old is_new
+
+-- an event leaves a replica as it is, or delivers to it what adds one candidate
+pub event_moves : (world : WorldState) (event : Event) (place : ℕ) (old new : ReplicaState)
+    → slice_get world.replicas place ≡ Some old → slice_get (world_step world event).replicas place ≡ Some new
+    → ((number : ℕ) (letter : Letter) → letter_of world number ≡ Some letter → HasParts letter.frame)
+    → (new ≡ old) ⊎ IsMoved world event place old new
+event_moves world (Invoke client op) place old new is_old is_new parts =
+    inl (client_stays world (Invoke client op) client (λ (state : ClientState). client_invoke state op) (numbered world.clients client.0) place old new is_old is_new)
+event_moves world (Deliver number) place old new is_old is_new parts =
+    letter_delivered world number (letter_of world number) place old new refl (parts number) is_old is_new
+event_moves world (Tick client) place old new is_old is_new parts =
+    inl (client_stays world (Tick client) client client_tick (numbered world.clients client.0) place old new is_old is_new)
+
+-- the same of one object
+pub event_accepts : (world : WorldState) (event : Event) (place : ℕ) (old new : ReplicaState)
+    → slice_get world.replicas place ≡ Some old → slice_get (world_step world event).replicas place ≡ Some new
+    → ((number : ℕ) (letter : Letter) → letter_of world number ≡ Some letter → HasParts letter.frame)
+    → (object : ObjectId) → (own_candidates new object ≡ own_candidates old object) ⊎ IsDelivered world event place old new object
+event_accepts world event place old new is_old is_new parts object =
+    elim (event_moves world event place old new is_old is_new parts) [
+      | inl same ↦ inl (ap (λ (it : ReplicaState). own_candidates it object) same)
+      | inr moved ↦ elim (accepts_on old new (moved.letter).frame moved.accepts object) [
+        | inl same ↦ inl same
+        | inr one ↦ inr (record {
+          number = moved.number;
+          is_deliver = moved.is_deliver;
+          letter = moved.letter;
+          is_letter = moved.is_letter;
+          to = moved.to;
+          accepts = one;
+        })
+      ]
+    ]

@@ -1,0 +1,49 @@
+-- What the theorems on completed operations ask of a run holds of every run.
+use Rattle.std.proofs.Common.{◌≡◌, ℕ, Some, ap}
+use Rattle.std.specs.Prelude.{Contains}
+use Rattle.qu_base.specs.declared.party.ClientId.{ClientId}
+use Rattle.qu_objects.specs.declared.answer.Answer.{Answer}
+use Rattle.qu_objects.specs.declared.op.Outcome.TheVariants as outcome
+use Rattle.qu_frames.specs.Body.{body_of}
+use Rattle.qu_machine.specs.declared.record.OpRecord.{OpRecord}
+use Rattle.qu_trace.specs.declared.trace.Trace.{Trace}
+use Rattle.qu_trace.specs.Operations.{operations_of}
+use Rattle.qu_world.specs.Run.{IsRun}
+use Rattle.qu_safety.specs.Completions.{IsCompleted}
+use Rattle.qu_safety.specs.Invocations.{IsRequestOf}
+use Rattle.qu_safety.specs.Views.{HaveParts}
+use Rattle.qu_safety.proofs.Chained.{one_prior}
+use Rattle.qu_safety.proofs.Completions.{WorkIsRecorded, IsOneRecord, completed}
+use Rattle.qu_safety.proofs.Invocations.{request_of, work_of, op_of}
+use Rattle.qu_safety.proofs.Recorded.{recorded_op}
+use Rattle.qu_safety.proofs.Values.{Known}
+
+-- what the versions of a run rest on
+pub known : (trace : Trace) → IsRun trace → HaveParts trace.entries → Known trace
+known trace is_run have = record {
+  one_prior = one_prior trace is_run have;
+  request_of = request_of trace is_run;
+  recorded_op = recorded_op trace;
+}
+
+-- what a client has under way is an operation of the trace
+work_recorded : (trace : Trace) → IsRun trace → WorkIsRecorded trace
+work_recorded trace is_run count within client state found work working =
+    let request : IsRequestOf trace count client work.number (body_of work.op) = work_of trace is_run count within client state found work working in
+    record {
+      operation = request.operation;
+      of_trace = request.of_trace;
+      of_client = request.of_client;
+      of_number = request.of_number;
+      of_op = op_of trace count client work.number work.op request;
+    }
+
+-- a client and a number belong to one operation
+one_record : (trace : Trace) → IsOneRecord trace
+one_record trace first second one two clients numbers =
+    recorded_op trace first second one two (ap (λ (it : ClientId). it.0) clients) numbers
+
+-- an operation that completed was answered by a quorum
+pub completion : (trace : Trace) → IsRun trace → (operation : OpRecord) → Contains (operations_of trace.entries) operation → (event : ℕ) (answer : Answer) → operation.reply ≡ Some (event, outcome.Done answer) → IsCompleted trace operation event answer
+completion trace is_run operation among event answer replied =
+    completed trace is_run (work_recorded trace is_run) (one_record trace) operation among event answer replied

@@ -1,0 +1,56 @@
+-- What the replicas of a run begin with: the opening candidates, and the bounds of the setup, which they keep.
+use Rattle.std.proofs.Common.{◌≡◌, ℕ, zero, suc, ◌+◌, true, List, [], ◌∷◌, Some, sym, ap, ◌∙◌, arith, inl, inr}
+use Rattle.std.specs.Prelude.{slice_get}
+use Rattle.std.proofs.lemmas.Bool.{false≢true, or_cases}
+use Rattle.std.proofs.lemmas.Option.{none-some, same_Some}
+use Rattle.qu_base.specs.declared.party.ObjectId.{ObjectId}
+use Rattle.qu_base.specs.declared.party.ReplicaId.{ReplicaId}
+use Rattle.qu_base.specs.Thresholds.{replicas}
+use Rattle.qu_stamp.specs.declared.candidate.Candidate.{Candidate}
+use Rattle.qu_stamp.specs.Candidate.{opening, same}
+use Rattle.qu_stamp.proofs.Order.{equal_by_same}
+use Rattle.qu_history.specs.History.{holds}
+use Rattle.qu_objects.specs.declared.kind.KindName.{KindName}
+use Rattle.qu_replica.specs.State.{ReplicaState, candidates_in, own_candidates, opening_histories, opening_state}
+use Rattle.qu_trace.specs.declared.trace.Trace.{Trace}
+use Rattle.qu_world.specs.State.{WorldState, opening_replicas}
+use Rattle.qu_safety.specs.Order.{world_after}
+use Rattle.qu_safety.proofs.WorldGrowth.{world_after-none, world_after-grows}
+use Rattle.qu_safety.proofs.Happenings.{WasBefore, grown_from}
+
+pub opening_replica : (number count bounds : ℕ) (kinds : List KindName) (place : ℕ) (state : ReplicaState) → slice_get (opening_replicas number count bounds kinds) place ≡ Some state → (me : ReplicaId) × (state ≡ opening_state me bounds kinds)
+unfolding opening_replicas
+opening_replica number zero bounds kinds place state found = absurd (none-some state found)
+opening_replica number (suc count) bounds kinds zero state found = (record { 0 = number }, sym (same_Some _ state found))
+opening_replica number (suc count) bounds kinds (suc place) state found = opening_replica (number + 1) count bounds kinds place state found
+
+-- what is held at the beginning
+opening_held : (me : ReplicaId) (first : ℕ) (kinds : List KindName) (place : ℕ) (candidate : Candidate) → holds candidate (candidates_in (slice_get (opening_histories me first kinds) place)) ≡ true → candidate ≡ opening
+unfolding opening_histories
+opening_held me first [] place candidate held = absurd (false≢true held)
+opening_held me first (kind ∷ kinds) zero candidate held =
+    elim (or_cases (same opening candidate) _ held) [
+      | inl here ↦ sym (equal_by_same opening candidate here)
+      | inr none ↦ absurd (false≢true none)
+    ]
+opening_held me first (kind ∷ kinds) (suc place) candidate held = opening_held me (first + 1) kinds place candidate held
+
+pub opening_holds : (trace : Trace) (place : ℕ) (state : ReplicaState) → slice_get (world_after trace 0).replicas place ≡ Some state → (object : ObjectId) (candidate : Candidate) → holds candidate (own_candidates state object) ≡ true → candidate ≡ opening
+opening_holds trace place state is_state object candidate held =
+    let found : slice_get (opening_replicas 0 (replicas trace.setup.bounds) trace.setup.bounds trace.setup.kinds) place ≡ Some state =
+    ap (λ (world : WorldState). slice_get world.replicas place) (sym (world_after-none trace)) ∙ is_state in
+    let is : (me : ReplicaId) × (state ≡ opening_state me trace.setup.bounds trace.setup.kinds) = opening_replica 0 (replicas trace.setup.bounds) trace.setup.bounds trace.setup.kinds place state found in
+    opening_held is.0 0 trace.setup.kinds object.0 candidate
+    (ap (λ (it : ReplicaState). holds candidate (own_candidates it object)) (sym is.1) ∙ held)
+
+-- ---- the bounds of the replicas
+
+-- the bounds of each replica of a run are those of its setup
+pub bounds_are : (trace : Trace) (count place : ℕ) (state : ReplicaState) → slice_get (world_after trace count).replicas place ≡ Some state → state.bounds ≡ trace.setup.bounds
+bounds_are trace count place state is_state =
+    let before : WasBefore (world_after trace 0).replicas place state =
+    grown_from (world_after trace 0).replicas (world_after trace count).replicas place state (world_after-grows trace 0 count (omega arith)).replicas is_state in
+    let found : slice_get (opening_replicas 0 (replicas trace.setup.bounds) trace.setup.bounds trace.setup.kinds) place ≡ Some before.old =
+    ap (λ (world : WorldState). slice_get world.replicas place) (sym (world_after-none trace)) ∙ before.is_old in
+    let is : (me : ReplicaId) × (before.old ≡ opening_state me trace.setup.bounds trace.setup.kinds) = opening_replica 0 (replicas trace.setup.bounds) trace.setup.bounds trace.setup.kinds place before.old found in
+    (before.grows).bounds ∙ ap (λ (it : ReplicaState). it.bounds) is.1

@@ -1,0 +1,297 @@
+-- The event of a point delivers a request of the point's operation.
+use Rattle.std.proofs.Common.{◌≡◌, ℕ, zero, suc, ◌<◌, ◌≤◌, true, List, [], ◌∷◌, length, get_or, Option, None, Some, refl, sym, ap, subst, ◌∙◌, arith}
+use Rattle.std.specs.Prelude.{◌==◌, ◌&&◌, slice_get, Contains}
+use Rattle.std.proofs.lemmas.Bool.{false≢true, and_parts, eqb-true}
+use Rattle.std.proofs.lemmas.Option.{same_Some, slice_get_within, get_or_from_slice_get}
+use Rattle.qu_base.specs.declared.party.ClientId.{ClientId}
+use Rattle.qu_base.specs.declared.party.ReplicaId.{ReplicaId}
+use Rattle.qu_base.specs.declared.party.ObjectId.{ObjectId}
+use Rattle.qu_stamp.specs.declared.stamp.Stamp.{Stamp}
+use Rattle.qu_stamp.specs.declared.candidate.Candidate.{Candidate}
+use Rattle.qu_stamp.specs.Candidate.{opening}
+use Rattle.qu_history.specs.declared.sets.SetOf.{SetOf}
+use Rattle.qu_history.specs.History.{ObjectHistory}
+use Rattle.qu_objects.specs.declared.op.Op.{Op}
+use Rattle.qu_objects.specs.declared.op.Op.TheVariants as op
+use Rattle.qu_objects.specs.declared.op.Outcome.{Outcome}
+use Rattle.qu_objects.specs.declared.op.Outcome.TheVariants as outcome
+use Rattle.qu_chain.proofs.Counting.{Found, found_at}
+use Rattle.qu_frames.specs.declared.frame.Body.{Body}
+use Rattle.qu_frames.specs.declared.frame.Body.TheVariants as body
+use Rattle.qu_frames.specs.declared.frame.Frame.{Frame}
+use Rattle.qu_frames.specs.declared.frame.Frame.TheVariants as frame
+use Rattle.qu_frames.specs.declared.frame.Letter.{Letter}
+use Rattle.qu_frames.specs.declared.verdict.Verdict.{Verdict}
+use Rattle.qu_frames.specs.Body.{body_of}
+use Rattle.qu_machine.specs.declared.record.OpRecord.{OpRecord}
+use Rattle.qu_machine.specs.declared.record.Point.{Point}
+use Rattle.qu_machine.proofs.Equalities.{Passes, passes_from_any}
+use Rattle.qu_trace.specs.declared.event.Event.TheVariants.{Deliver}
+use Rattle.qu_trace.specs.declared.trace.Entry.{Entry}
+use Rattle.qu_trace.specs.declared.trace.Trace.{Trace}
+use Rattle.qu_trace.specs.Operations.{operations_of}
+use Rattle.qu_world.specs.State.{letter_of}
+use Rattle.qu_world.specs.Run.{IsRun}
+use Rattle.qu_safety.specs.Decided.{accepts, IsDecided, TookEffect}
+use Rattle.qu_safety.specs.Grounds.{AcceptsOne, IsDelivered}
+use Rattle.qu_safety.specs.Invocations.{IsRequestOf}
+use Rattle.qu_safety.specs.Order.{world_after, DecidesAt, AnswersFirst, answers, sends_answer, completed_effect, query_effect, effect_of, IsPoint}
+use Rattle.qu_safety.specs.Replies.{IsReplyTo}
+use Rattle.qu_safety.specs.Views.{HaveParts}
+use Rattle.qu_safety.proofs.Accepting.{some_entry, opening_alone, Acceptance}
+use Rattle.qu_safety.proofs.Chained.{AcceptedAt, accepted_somewhere}
+use Rattle.qu_safety.proofs.ChainLaws.{accepted_of}
+use Rattle.qu_safety.proofs.Established.{Established, is_established_by, established_by_decided, Establishes, establishes}
+use Rattle.qu_safety.proofs.Invocations.{request_of}
+use Rattle.qu_safety.proofs.Recorded.{recorded_op}
+use Rattle.qu_safety.proofs.Replying.{reply_sent}
+use Rattle.qu_safety.proofs.Taking.{effect_once}
+use Rattle.qu_safety.proofs.WorldGrowth.{accepted_by_decided}
+use Rattle.qu_safety.proofs.Small.{same_clients, same_deliver, same_point}
+use Rattle.qu_safety.proofs.Numbered.{operation_numbered}
+
+-- ---- numbers
+
+-- the numbers of operations begin with 1
+pub number_from_one : (trace : Trace) (operation : OpRecord) → Contains (operations_of trace.entries) operation → 1 ≤ operation.number
+number_from_one trace operation held = operation_numbered trace.entries operation held
+
+-- ---- answers
+
+-- the letter is a reply to this round
+pub record IsReplyIn (client : ClientId) (number round : ℕ) (letter : Letter) : Type 0 where
+  pub replica : ReplicaId
+  pub verdict : Verdict
+  pub shown : List ObjectHistory
+  pub is_reply : letter.frame ≡ frame.Reply replica client number round verdict shown
+
+reply_is : (letter : Letter) (replica : ReplicaId) (other client : ClientId) (replied number turn round : ℕ) (verdict : Verdict) (shown : List ObjectHistory)
+    → letter.frame ≡ frame.Reply replica other replied turn verdict shown → other ≡ client → replied ≡ number → turn ≡ round → IsReplyIn client number round letter
+reply_is letter replica other client replied number turn round verdict shown is same_client same_number same_round =
+    record { replica = replica; verdict = verdict; shown = shown; is_reply = is ∙ (λ i. frame.Reply replica (same_client i) (same_number i) (same_round i) verdict shown) }
+
+pub reply_in : (client : ClientId) (number round : ℕ) (letter : Letter) (sent : Frame) → letter.frame ≡ sent → answers client number round (record { from = letter.from; to = letter.to; frame = sent }) ≡ true → IsReplyIn client number round letter
+reply_in client number round letter (frame.Request other asked turn sets asks) is answer = absurd (false≢true answer)
+reply_in client number round letter (frame.Reply replica other replied turn verdict shown) is answer =
+    let parts : ((other.0 == client.0) ≡ true) × ((replied == number && turn == round) ≡ true) = and_parts _ _ answer in
+    let more : ((replied == number) ≡ true) × ((turn == round) ≡ true) = and_parts _ _ parts.1 in
+    reply_is letter replica other client replied number turn round verdict shown is (same_clients other client (eqb-true _ _ parts.0)) (eqb-true _ _ more.0) (eqb-true _ _ more.1)
+
+-- ---- what an event delivers
+
+-- the event of the entry with this index delivers a request of this client and number
+record IsAskedAt (trace : Trace) (time : ℕ) (client : ClientId) (number : ℕ) : Type 0 where
+  within : time < length trace.entries
+  asked : ℕ
+  is_deliver : (get_or trace.entries time some_entry).event ≡ Deliver asked
+  letter : Letter
+  is_letter : letter_of (world_after trace time) asked ≡ Some letter
+  round : ℕ
+  sets : List SetOf
+  asks : Body
+  is_request : letter.frame ≡ frame.Request client number round sets asks
+
+-- the event with this number does
+abbrev IsAskedBy : Trace → ℕ → ClientId → ℕ → Type 0
+IsAskedBy trace event client number = (time : ℕ) × (event ≡ suc time) × IsAskedAt trace time client number
+
+module _ (trace : Trace) (is_run : IsRun trace) (have : HaveParts trace.entries) where
+  -- before the first event no operation has taken effect: what is accepted then has number 0
+  not_at_first : (client : ClientId) (number : ℕ) → 1 ≤ number → TookEffect (world_after trace 0) client number → ⊥
+  not_at_first client number some took =
+      let held : AcceptedAt took.object took.candidate (world_after trace 0).replicas =
+      accepted_somewhere took.object took.candidate (world_after trace 0).replicas (accepted_by_decided (world_after trace 0) took.object took.candidate took.is_decided) in
+      let found : Found (accepts took.object took.candidate) (world_after trace 0).replicas held.place = found_at (accepts took.object took.candidate) (world_after trace 0).replicas held.place held.accepted in
+      let first : took.candidate ≡ opening = opening_alone trace held.place found.item took.object took.candidate found.is_at found.passed in
+      let none : number ≡ 0 = sym took.of_number ∙ ap (λ (it : Candidate). it.stamp.number) first in
+      absurd (omega arith)
+
+  -- what a replica accepts is asked for
+  asked_by_acceptance : (time : ℕ) (object : ObjectId) (place : ℕ) (candidate : Candidate) (client : ClientId) (number : ℕ) → time < length trace.entries → Acceptance trace time object place candidate → candidate.stamp.client ≡ client → candidate.stamp.number ≡ number
+      → IsAskedAt trace time client number
+  asked_by_acceptance time object place candidate client number within accepted of_client of_number =
+      let delivered : IsDelivered (world_after trace time) accepted.event place accepted.old accepted.new object = accepted.delivered in
+      let one : AcceptsOne accepted.old accepted.new (delivered.letter).frame object = delivered.accepts in
+      let same_client : one.client ≡ client = ap (λ (it : Stamp). it.client) (sym (one.grounds).stamp) ∙ ap (λ (it : Candidate). it.stamp.client) accepted.candidate_is ∙ of_client in
+      let same_number : one.number ≡ number = ap (λ (it : Stamp). it.number) (sym (one.grounds).stamp) ∙ ap (λ (it : Candidate). it.stamp.number) accepted.candidate_is ∙ of_number in
+      record {
+        within = within;
+        asked = delivered.number;
+        is_deliver = sym accepted.event_is ∙ delivered.is_deliver;
+        letter = delivered.letter;
+        is_letter = delivered.is_letter;
+        round = one.round;
+        sets = one.sets;
+        asks = body.Act ((object, one.method) ∷ []);
+        is_request = one.is_request ∙ (λ i. frame.Request (same_client i) (same_number i) one.round one.sets (body.Act ((object, one.method) ∷ [])));
+      }
+
+  -- an update takes effect where a candidate of it is established
+  decides_asked : (client : ClientId) (number event : ℕ) → 1 ≤ number → DecidesAt trace client number event → IsAskedBy trace event client number
+  decides_asked client number zero some decides = absurd (not_at_first client number some decides.by_then)
+  decides_asked client number (suc time) some decides =
+      let happened : suc time ≤ length trace.entries = decides.happened in
+      let took : TookEffect (world_after trace (suc time)) client number = decides.by_then in
+      let after : Established trace is_run have (suc time) took.object took.candidate = established_by_decided trace is_run have (suc time) happened took.object took.candidate took.is_decided in
+      let new : Establishes trace is_run have time took.object took.candidate =
+      establishes trace is_run have time (omega arith) took.object took.candidate after
+      (λ before. decides.not_before time (omega arith) (record {
+        object = took.object;
+        candidate = took.candidate;
+        is_decided = IsDecided.by_acceptors took.candidate (is_established_by trace is_run have time took.object took.candidate before);
+        of_client = took.of_client;
+        of_number = took.of_number;
+      })) in (
+        time,
+        refl,
+        asked_by_acceptance time took.object new.place took.candidate client number (omega arith)
+            (accepted_of trace is_run have time took.object new.place took.candidate new.new) took.of_client took.of_number,
+      )
+
+  -- a reply is sent where its request is delivered
+  asked_by_reply : (time : ℕ) (replica : ℕ) (client : ClientId) (number round : ℕ) (verdict : Verdict) → IsReplyTo trace time replica client number round verdict → IsAskedAt trace time client number
+  asked_by_reply time replica client number round verdict reply = record {
+    within = slice_get_within trace.entries time reply.entry reply.is_entry;
+    asked = reply.asked;
+    is_deliver = ap (λ (it : Entry). it.event) (get_or_from_slice_get trace.entries time reply.entry some_entry reply.is_entry) ∙ reply.is_deliver;
+    letter = reply.letter;
+    is_letter = reply.is_letter;
+    round = round;
+    sets = reply.sets;
+    asks = reply.body;
+    is_request = reply.is_request;
+  }
+
+  sends_asked : (client : ClientId) (number round time : ℕ) (found : Option Entry) → slice_get trace.entries time ≡ found → sends_answer client number round found ≡ true → IsAskedAt trace time client number
+  sends_asked client number round time None is sends = absurd (false≢true sends)
+  sends_asked client number round time (Some entry) is sends =
+      let one : Passes (answers client number round) entry.letters = passes_from_any (answers client number round) entry.letters sends in
+      let it : IsReplyIn client number round one.found = reply_in client number round one.found (one.found).frame refl one.passes in
+      asked_by_reply time (it.replica).0 client number round it.verdict
+      (reply_sent trace is_run have time (slice_get_within trace.entries time entry is) entry is one.found one.of_list it.replica client number round it.verdict it.shown it.is_reply)
+
+  answers_asked : (client : ClientId) (number reply event : ℕ) → AnswersFirst trace client number reply event → IsAskedBy trace event client number
+  answers_asked client number reply zero first = absurd (false≢true first.by_then)
+  answers_asked client number reply (suc time) first = (time, refl, sends_asked client number first.round time (slice_get trace.entries time) refl first.by_then)
+
+  completed_asked : (operation : OpRecord) (event reply : ℕ) (ended : Outcome) → completed_effect trace operation event reply ended → IsAskedBy trace event operation.client operation.number
+  completed_asked operation event reply (outcome.Done answer) effect = answers_asked operation.client operation.number reply event effect
+  completed_asked operation event reply outcome.GaveUp effect = absurd effect
+
+  query_asked : (operation : OpRecord) (event : ℕ) (reply : Option (ℕ × Outcome)) → query_effect trace operation event reply → IsAskedBy trace event operation.client operation.number
+  query_asked operation event None effect = absurd effect
+  query_asked operation event (Some reply) effect = completed_asked operation event reply.0 reply.1 effect
+
+  effect_asked : (operation : OpRecord) (event : ℕ) (what : Op) → 1 ≤ operation.number → effect_of trace operation event what → IsAskedBy trace event operation.client operation.number
+  effect_asked operation event (op.Act act) some effect = decides_asked operation.client operation.number event some effect
+  effect_asked operation event (op.Query query) some effect = query_asked operation event operation.reply effect
+
+-- ---- points
+
+-- the event of the entry with this index delivers a request of the point's operation
+pub record PointRequest (trace : Trace) (time : ℕ) (point : Point) : Type 0 where
+  pub within : time < length trace.entries
+  pub asked : ℕ
+  pub is_deliver : (get_or trace.entries time some_entry).event ≡ Deliver asked
+  pub letter : Letter
+  pub is_letter : letter_of (world_after trace time) asked ≡ Some letter
+  pub round : ℕ
+  pub sets : List SetOf
+  pub is_request : letter.frame ≡ frame.Request point.client point.number round sets (body_of point.op)
+
+-- what asks for an operation of the trace asks for what it does, and after it began
+record AsksFor (operation : OpRecord) (time : ℕ) (asks : Body) : Type 0 where
+  same : asks ≡ body_of operation.op
+  begun : operation.invoked ≤ time
+
+asks_for : (trace : Trace) → IsRun trace → (time : ℕ) (operation : OpRecord) → Contains (operations_of trace.entries) operation → (asked : IsAskedAt trace time operation.client operation.number) → AsksFor operation time asked.asks
+asks_for trace is_run time operation of_trace asked =
+    let within : time < length trace.entries = asked.within in
+    let request : IsRequestOf trace time operation.client operation.number asked.asks =
+    request_of trace is_run time (omega arith) asked.asked asked.letter asked.is_letter operation.client operation.number asked.round asked.sets asked.asks asked.is_request in
+    let same : request.operation ≡ operation =
+    recorded_op trace request.operation operation request.of_trace of_trace (ap (λ (it : ClientId). it.0) request.of_client) request.of_number in
+    record {
+      same = request.asks ∙ ap (λ (it : OpRecord). body_of it.op) same;
+      begun = subst (λ (it : OpRecord). it.invoked ≤ time) same request.begun;
+    }
+
+module _ (trace : Trace) (is_run : IsRun trace) (have : HaveParts trace.entries) where
+  asked_of_point : (point : Point) → (is : IsPoint trace point) → IsAskedBy trace point.event is.operation.client is.operation.number
+  asked_of_point point is = effect_asked trace is_run have is.operation point.event is.operation.op (number_from_one trace is.operation is.of_trace) is.effect
+
+  pub point_request : (point : Point) → IsPoint trace point → (time : ℕ) × (point.event ≡ suc time) × PointRequest trace time point
+  point_request point is =
+      let by : IsAskedBy trace point.event is.operation.client is.operation.number = asked_of_point point is in
+      let asked : IsAskedAt trace by.0 is.operation.client is.operation.number = by.2 in
+      let same : asked.asks ≡ body_of point.op = (asks_for trace is_run by.0 is.operation is.of_trace asked).same ∙ ap body_of is.op in (
+        by.0,
+        by.1,
+        record {
+          within = asked.within;
+          asked = asked.asked;
+          is_deliver = asked.is_deliver;
+          letter = asked.letter;
+          is_letter = asked.is_letter;
+          round = asked.round;
+          sets = asked.sets;
+          is_request = asked.is_request ∙ (λ i. frame.Request (is.client i) (is.number i) asked.round asked.sets (same i));
+        },
+      )
+
+  -- the operation of a point began before
+  pub begun_before : (point : Point) → (is : IsPoint trace point) → is.operation.invoked < point.event
+  begun_before point is =
+      let by : IsAskedBy trace point.event is.operation.client is.operation.number = asked_of_point point is in
+      let event : point.event ≡ suc by.0 = by.1 in
+      let begun : is.operation.invoked ≤ by.0 = (asks_for trace is_run by.0 is.operation is.of_trace by.2).begun in
+      omega arith
+
+  -- a point is at an event of the trace
+  pub point_bounds : (point : Point) → IsPoint trace point → (1 ≤ point.event) × (point.event ≤ length trace.entries)
+  point_bounds point is =
+      let by : (time : ℕ) × (point.event ≡ suc time) × PointRequest trace time point = point_request point is in
+      let event : point.event ≡ suc by.0 = by.1 in
+      let within : by.0 < length trace.entries = (by.2).within in
+      (omega arith, omega arith)
+
+-- ---- which points differ
+
+-- an operation has one point
+pub one_point : (trace : Trace) (first second : Point) → IsPoint trace first → IsPoint trace second → first.client ≡ second.client → first.number ≡ second.number → first ≡ second
+one_point trace first second one two same_client same_number =
+    let same : one.operation ≡ two.operation =
+    recorded_op trace one.operation two.operation one.of_trace two.of_trace
+    (ap (λ (it : ClientId). it.0) (one.client ∙ same_client ∙ sym two.client)) (one.number ∙ same_number ∙ sym two.number) in
+    let effect : effect_of trace two.operation first.event two.operation.op =
+    subst (λ (it : OpRecord). effect_of trace it first.event it.op) same one.effect in
+    same_point first second
+    (effect_once trace two.operation first.event second.event two.operation.op effect two.effect)
+    same_client same_number
+    (sym one.op ∙ ap (λ (it : OpRecord). it.op) same ∙ two.op)
+    (sym one.correct ∙ two.correct)
+
+same_request : (first second : ClientId) (asked number turn round : ℕ) (sets shown : List SetOf) (asks told : Body) → frame.Request first asked turn sets asks ≡ frame.Request second number round shown told → (first ≡ second) × (asked ≡ number)
+same_request first second asked number turn round sets shown asks told same = (cc, cc)
+
+module _ (trace : Trace) (is_run : IsRun trace) (have : HaveParts trace.entries) where
+  -- one event delivers one letter
+  apart_at : (time : ℕ) (first second : Point) → PointRequest trace time first → PointRequest trace time second → (first.client ≡ second.client) × (first.number ≡ second.number)
+  apart_at time first second one two =
+      let asked : one.asked ≡ two.asked = same_deliver one.asked two.asked (sym one.is_deliver ∙ two.is_deliver) in
+      let letter : one.letter ≡ two.letter =
+      same_Some one.letter two.letter (sym one.is_letter ∙ ap (λ (it : ℕ). letter_of (world_after trace time) it) asked ∙ two.is_letter) in
+      same_request first.client second.client first.number second.number one.round two.round one.sets two.sets (body_of first.op) (body_of second.op)
+      (sym one.is_request ∙ ap (λ (it : Letter). it.frame) letter ∙ two.is_request)
+
+  -- points differ in their events
+  pub points_apart : (first second : Point) → IsPoint trace first → IsPoint trace second → first.event ≡ second.event → first ≡ second
+  points_apart first second one two same =
+      let before : (time : ℕ) × (first.event ≡ suc time) × PointRequest trace time first = point_request trace is_run have first one in
+      let after : (time : ℕ) × (second.event ≡ suc time) × PointRequest trace time second = point_request trace is_run have second two in
+      let first_at : first.event ≡ suc before.0 = before.1 in
+      let second_at : second.event ≡ suc after.0 = after.1 in
+      let time : before.0 ≡ after.0 = omega arith in
+      let fields : (first.client ≡ second.client) × (first.number ≡ second.number) =
+      apart_at after.0 first second (subst (λ (it : ℕ). PointRequest trace it first) time before.2) after.2 in
+      one_point trace first second one two fields.0 fields.1

@@ -1,0 +1,122 @@
+-- What the replies of a run say is true of the replicas that sent them.
+use Rattle.std.proofs.Common.{◌≡◌, ℕ, ◌<◌, List, [], ◌∷◌, length, IsTrue, refl, sym, subst, ap, ◌∙◌, arith}
+use Rattle.std.proofs.lemmas.Bool.{false≢true}
+use Rattle.qu_base.specs.declared.party.ClientId.{ClientId}
+use Rattle.qu_base.specs.declared.party.ObjectId.{ObjectId}
+use Rattle.qu_stamp.specs.declared.stamp.Stamp.{Stamp}
+use Rattle.qu_history.specs.declared.sets.SetOf.{SetOf}
+use Rattle.qu_objects.specs.declared.act.Method.{Method}
+use Rattle.qu_objects.specs.declared.answer.Answer.{Answer}
+use Rattle.qu_objects.specs.declared.query.Ask.{Ask}
+use Rattle.qu_frames.specs.declared.frame.Body.{Body}
+use Rattle.qu_frames.specs.declared.frame.Body.TheVariants as body
+use Rattle.qu_frames.specs.declared.frame.Frame.{Frame}
+use Rattle.qu_frames.specs.declared.frame.Frame.TheVariants as frame
+use Rattle.qu_frames.specs.declared.verdict.Verdict.{Verdict}
+use Rattle.qu_frames.specs.declared.verdict.Verdict.TheVariants as verdict
+use Rattle.qu_replica.specs.declared.decision.Accepted.{Accepted}
+use Rattle.qu_replica.specs.declared.decision.Decision.{Decision}
+use Rattle.qu_replica.specs.declared.decision.Decision.TheVariants.{Answers}
+use Rattle.qu_replica.specs.State.{ReplicaState, accept_all}
+use Rattle.qu_replica.specs.Growth.{has_parts, HasParts}
+use Rattle.qu_replica.specs.Rows.{Asked, decision_on}
+use Rattle.qu_replica.specs.Step.{carried_out, replica_step}
+use Rattle.qu_trace.specs.declared.trace.Trace.{Trace}
+use Rattle.qu_world.specs.Run.{IsRun}
+use Rattle.qu_safety.specs.Replies.{TellsDone, TellsQuery, IsReplyTo}
+use Rattle.qu_safety.specs.Views.{HaveParts}
+use Rattle.qu_safety.proofs.HeldInRuns.{held_versions}
+use Rattle.qu_safety.proofs.HeldVersions.{AreOfHeld}
+use Rattle.qu_safety.proofs.TrueReplies.{done_is_true, act_is_not_told, told_is_true, told_accepts_nothing, query_is_not_done}
+use Rattle.qu_safety.proofs.Views.{sent_has_parts}
+
+-- ---- bodies
+
+-- the body of a request to which Done is told
+pub record IsActOn (body_is : Body) : Type 0 where
+  pub object : ObjectId
+  pub method : Method
+  pub is_act : body_is ≡ body.Act ((object, method) ∷ [])
+
+-- the body of a request to which an answer is told
+pub record IsAskOf (body_is : Body) : Type 0 where
+  pub object : ObjectId
+  pub ask : Ask
+  pub is_ask : body_is ≡ body.Ask ((object, ask) ∷ [])
+
+done_to_act : (state : ReplicaState) (client : ClientId) (number : ℕ) (sets : List SetOf) (asks : Body) (accepted : List Accepted) (stamps : List (ObjectId × Stamp)) (answer : Answer) → IsTrue (has_parts asks)
+    → decision_on state (record { client = client; number = number; sets = sets }) asks ≡ Answers (verdict.Done stamps answer) accepted → IsActOn asks
+done_to_act state client number sets (body.Act []) accepted stamps answer parts decided = absurd (false≢true parts)
+done_to_act state client number sets (body.Act ((object, method) ∷ [])) accepted stamps answer parts decided = record { object = object; method = method; is_act = refl }
+done_to_act state client number sets (body.Act (first ∷ second ∷ later)) accepted stamps answer parts decided = absurd (false≢true parts)
+done_to_act state client number sets (body.Ask []) accepted stamps answer parts decided = absurd (false≢true parts)
+done_to_act state client number sets (body.Ask ((object, ask) ∷ [])) accepted stamps answer parts decided =
+    absurd (query_is_not_done state client number sets object ask accepted stamps answer decided)
+done_to_act state client number sets (body.Ask (first ∷ second ∷ later)) accepted stamps answer parts decided = absurd (false≢true parts)
+
+told_to_ask : (state : ReplicaState) (client : ClientId) (number : ℕ) (sets : List SetOf) (asks : Body) (accepted : List Accepted) (stamps : List (ObjectId × Stamp)) (answer : Answer) → AreOfHeld state → IsTrue (has_parts asks)
+    → decision_on state (record { client = client; number = number; sets = sets }) asks ≡ Answers (verdict.Told stamps answer) accepted → IsAskOf asks
+told_to_ask state client number sets (body.Act []) accepted stamps answer are parts decided = absurd (false≢true parts)
+told_to_ask state client number sets (body.Act ((object, method) ∷ [])) accepted stamps answer are parts decided =
+    absurd (act_is_not_told state client number sets object method accepted stamps answer are decided)
+told_to_ask state client number sets (body.Act (first ∷ second ∷ later)) accepted stamps answer are parts decided = absurd (false≢true parts)
+told_to_ask state client number sets (body.Ask []) accepted stamps answer are parts decided = absurd (false≢true parts)
+told_to_ask state client number sets (body.Ask ((object, ask) ∷ [])) accepted stamps answer are parts decided = record { object = object; ask = ask; is_ask = refl }
+told_to_ask state client number sets (body.Ask (first ∷ second ∷ later)) accepted stamps answer are parts decided = absurd (false≢true parts)
+
+-- ---- replies
+
+-- what the replica becomes, where its decision is known
+after_decision : (old new : ReplicaState) (taken : Frame) (client : ClientId) (number round : ℕ) (sets : List SetOf) (asks : Body) (given : Verdict) (accepted : List Accepted)
+    → new ≡ (replica_step old taken).0 → taken ≡ frame.Request client number round sets asks
+    → decision_on old (record { client = client; number = number; sets = sets }) asks ≡ Answers given accepted → new ≡ accept_all old accepted
+after_decision old new taken client number round sets asks given accepted step is decided =
+    step ∙ ap (λ (it : Frame). (replica_step old it).0) is ∙ ap (λ (it : Decision). (carried_out old client number round sets it).0) decided
+
+module _ (trace : Trace) (is_run : IsRun trace) (have : HaveParts trace.entries) (at : ℕ) (below : at < length trace.entries) (replica : ℕ) (client : ClientId) (number round : ℕ) where
+  body_has_parts : (given : Verdict) (reply : IsReplyTo trace at replica client number round given) → IsTrue (has_parts reply.body)
+  body_has_parts given reply =
+      let parts : HasParts (reply.letter).frame = sent_has_parts trace is_run have at (omega arith) reply.asked reply.letter reply.is_letter in
+      subst HasParts reply.is_request parts
+
+  old_of_held : (given : Verdict) (reply : IsReplyTo trace at replica client number round given) → AreOfHeld reply.old
+  old_of_held given reply = held_versions trace is_run have at (omega arith) replica reply.old reply.is_old
+
+  module _ (stamps : List (ObjectId × Stamp)) (answer : Answer) where
+    -- Done is told to an act, and the replica has its candidate afterwards
+    pub act_of_done : (reply : IsReplyTo trace at replica client number round (verdict.Done stamps answer)) → IsActOn reply.body
+    act_of_done reply =
+        done_to_act reply.old client number reply.sets reply.body reply.accepted stamps answer (body_has_parts (verdict.Done stamps answer) reply) reply.decided
+
+    pub done_in_run : (reply : IsReplyTo trace at replica client number round (verdict.Done stamps answer)) → TellsDone reply.new client number (act_of_done reply).object stamps answer
+    done_in_run reply =
+        let act : IsActOn reply.body = act_of_done reply in
+        let asked : Asked = record { client = client; number = number; sets = reply.sets } in
+        let is_new : reply.new ≡ accept_all reply.old reply.accepted =
+        after_decision reply.old reply.new (reply.letter).frame client number round reply.sets reply.body (verdict.Done stamps answer) reply.accepted reply.step reply.is_request reply.decided in
+        subst (λ (it : ReplicaState). TellsDone it client number act.object stamps answer) (sym is_new)
+        (done_is_true reply.old client number reply.sets act.object act.method reply.accepted stamps answer (old_of_held (verdict.Done stamps answer) reply)
+        (ap (decision_on reply.old asked) (sym act.is_act) ∙ reply.decided))
+
+    -- an answer is told to a query, from what the replica has, and the replica stays as it is
+    pub ask_of_told : (reply : IsReplyTo trace at replica client number round (verdict.Told stamps answer)) → IsAskOf reply.body
+    ask_of_told reply =
+        told_to_ask reply.old client number reply.sets reply.body reply.accepted stamps answer (old_of_held (verdict.Told stamps answer) reply) (body_has_parts (verdict.Told stamps answer) reply) reply.decided
+
+    pub told_in_run : (reply : IsReplyTo trace at replica client number round (verdict.Told stamps answer)) → TellsQuery reply.old reply.sets (ask_of_told reply).object (ask_of_told reply).ask stamps answer
+    told_in_run reply =
+        let query : IsAskOf reply.body = ask_of_told reply in
+        let asked : Asked = record { client = client; number = number; sets = reply.sets } in
+        told_is_true reply.old client number reply.sets query.object query.ask reply.accepted stamps answer
+        (ap (decision_on reply.old asked) (sym query.is_ask) ∙ reply.decided)
+
+    pub told_leaves : (reply : IsReplyTo trace at replica client number round (verdict.Told stamps answer)) → reply.new ≡ reply.old
+    unfolding accept_all
+    told_leaves reply =
+        let query : IsAskOf reply.body = ask_of_told reply in
+        let asked : Asked = record { client = client; number = number; sets = reply.sets } in
+        let none : reply.accepted ≡ [] =
+        told_accepts_nothing reply.old client number reply.sets query.object query.ask reply.accepted stamps answer
+        (ap (decision_on reply.old asked) (sym query.is_ask) ∙ reply.decided) in
+        after_decision reply.old reply.new (reply.letter).frame client number round reply.sets reply.body (verdict.Told stamps answer) reply.accepted reply.step reply.is_request reply.decided ∙
+        ap (accept_all reply.old) none

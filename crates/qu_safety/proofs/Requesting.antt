@@ -1,0 +1,194 @@
+-- What a client asks for, step by step: its requests are those of the operation under way.
+use Rattle.std.proofs.Common.{◌≡◌, ℕ, zero, suc, ◌+◌, ◌≤◌, eqb, true, List, [], Option, None, Some, sym, ap, subst, ◌∙◌, arith}
+use Rattle.std.specs.List.{All}
+use Rattle.std.proofs.lemmas.Bool.{cond_both, and_parts}
+use Rattle.std.proofs.lemmas.List.Elements.{All-nil, All-cons}
+use Rattle.qu_base.specs.declared.party.ClientId.{ClientId}
+use Rattle.qu_base.specs.declared.party.ReplicaId.{ReplicaId}
+use Rattle.qu_base.specs.Thresholds.{replicas}
+use Rattle.qu_history.specs.declared.sets.SetOf.{SetOf}
+use Rattle.qu_objects.specs.declared.op.Op.{Op}
+use Rattle.qu_frames.specs.declared.frame.Body.{Body}
+use Rattle.qu_frames.specs.declared.frame.Frame.{Frame}
+use Rattle.qu_frames.specs.declared.frame.Frame.TheVariants as frame
+use Rattle.qu_frames.specs.declared.frame.Letter.{Letter}
+use Rattle.qu_frames.specs.declared.verdict.Verdict.{Verdict}
+use Rattle.qu_frames.specs.Body.{body_of}
+use Rattle.qu_replica.specs.declared.decision.Decision.{Decision}
+use Rattle.qu_replica.specs.declared.decision.Decision.TheVariants.{Answers, Waits}
+use Rattle.qu_replica.specs.State.{ReplicaState}
+use Rattle.qu_replica.specs.Rows.{decision_on}
+use Rattle.qu_replica.specs.Step.{carried_out, replica_step}
+use Rattle.qu_client.specs.declared.state.Stepped.{Stepped}
+use Rattle.qu_client.specs.declared.work.Work.{Work}
+use Rattle.qu_client.specs.declared.state.ClientState.{ClientState}
+use Rattle.qu_client.specs.State.{keep_all}
+use Rattle.qu_client.specs.Rounds.{requests_from}
+use Rattle.qu_client.specs.Step.{client_step, client_invoke, counted_in, counts, is_asking, next_number}
+use Rattle.qu_client.specs.Sound.{IsSoundWork, IsSound, last_number}
+use Rattle.qu_client.proofs.Cases.{counted_cases, invoke_cases}
+use Rattle.qu_client.proofs.Laws.{client_step-me, client_invoke-me, IsSound-step, IsSound-invoke}
+use Rattle.qu_trace.specs.declared.trace.Trace.{Trace}
+use Rattle.qu_safety.specs.Invocations.{IsRequestOf}
+use Rattle.qu_safety.proofs.OnceSent.{sound_work}
+
+-- ---- letters
+
+-- what began before so many events began before more
+pub request_later : (trace : Trace) (count more : ℕ) (client : ClientId) (number : ℕ) (asked : Body) → count ≤ more → IsRequestOf trace count client number asked → IsRequestOf trace more client number asked
+request_later trace count more client number asked order is = record {
+  operation = is.operation;
+  of_trace = is.of_trace;
+  of_client = is.of_client;
+  of_number = is.of_number;
+  asks = is.asks;
+  begun = omega (arith, is.begun);
+}
+
+-- a request is one of an operation
+abbrev pub IsOfOperation : Trace → ℕ → Frame → Type 0
+IsOfOperation trace count (frame.Request client number round sets body) = IsRequestOf trace count client number body
+IsOfOperation trace count (frame.Reply replica client number round verdict shown) = Unit {0}
+
+pub record IsAsked (trace : Trace) (count : ℕ) (letter : Letter) : Type 0 where
+  pub asked : IsOfOperation trace count letter.frame
+
+of_operation_later : (trace : Trace) (count more : ℕ) (sent : Frame) → count ≤ more → IsOfOperation trace count sent → IsOfOperation trace more sent
+of_operation_later trace count more (frame.Request client number round sets body) order is = request_later trace count more client number body order is
+of_operation_later trace count more (frame.Reply replica client number round verdict shown) order is = tt
+
+pub asked_later : (trace : Trace) (count more : ℕ) (letter : Letter) → count ≤ more → IsAsked trace count letter → IsAsked trace more letter
+asked_later trace count more letter order is = record { asked = of_operation_later trace count more letter.frame order is.asked }
+
+requests_asked : (trace : Trace) (count replica many : ℕ) (me : ClientId) (work : Work) (sets : List SetOf) → IsRequestOf trace count me work.number (body_of work.op) → All (IsAsked trace count) (requests_from replica many me work sets)
+unfolding requests_from
+requests_asked trace count replica zero me work sets is = All-nil (IsAsked trace count)
+requests_asked trace count replica (suc many) me work sets is =
+    All-cons (IsAsked trace count) _ _ (record { asked = is }) (requests_asked trace count (replica + 1) many me work sets is)
+
+carried_asked : (trace : Trace) (count : ℕ) (state : ReplicaState) (client : ClientId) (number round : ℕ) (sets : List SetOf) (decision : Decision) → All (IsAsked trace count) (carried_out state client number round sets decision).1
+carried_asked trace count state client number round sets (Answers verdict accepted) =
+    All-cons (IsAsked trace count) _ [] (record { asked = tt }) (All-nil (IsAsked trace count))
+carried_asked trace count state client number round sets Waits = All-nil (IsAsked trace count)
+
+-- a replica sends no request
+pub replica_asked : (trace : Trace) (count : ℕ) (state : ReplicaState) (sent : Frame) → All (IsAsked trace count) (replica_step state sent).1
+replica_asked trace count state (frame.Request client number round sets body) =
+    carried_asked trace count state client number round sets (decision_on state (record { client = client; number = number; sets = sets }) body)
+replica_asked trace count state (frame.Reply replica client number round verdict shown) = All-nil (IsAsked trace count)
+
+-- ---- clients
+
+-- the operation under way is the last one that the client began
+pub record IsUnderWay (trace : Trace) (count begun : ℕ) (me : ClientId) (work : Work) : Type 0 where
+  pub latest : work.number ≡ begun
+  pub request : IsRequestOf trace count me work.number (body_of work.op)
+
+-- a client without work asked last for the last operation that it began
+abbrev pub IsAtWork : Trace → ℕ → ℕ → ClientId → Option (ℕ × ℕ) → Option Work → Type 0
+IsAtWork trace count begun me last None = last_number last ≡ begun
+IsAtWork trace count begun me last (Some work) = IsUnderWay trace count begun me work
+
+-- the client with this number, which began so many operations
+pub record IsClientAt (trace : Trace) (count begun number : ℕ) (state : ClientState) : Type 0 where
+  pub named : (state.me).0 ≡ number
+  pub sound : IsSound state
+  pub at_work : IsAtWork trace count begun state.me state.last_request state.work
+
+at_work_later : (trace : Trace) (count more begun : ℕ) (me : ClientId) (last : Option (ℕ × ℕ)) (work : Option Work) → count ≤ more → IsAtWork trace count begun me last work → IsAtWork trace more begun me last work
+at_work_later trace count more begun me last None order is = is
+at_work_later trace count more begun me last (Some work) order is =
+    record { latest = is.latest; request = request_later trace count more me work.number (body_of work.op) order is.request }
+
+pub client_later : (trace : Trace) (count more begun number : ℕ) (state : ClientState) → count ≤ more → IsClientAt trace count begun number state → IsClientAt trace more begun number state
+client_later trace count more begun number state order is = record {
+  named = is.named;
+  sound = is.sound;
+  at_work = at_work_later trace count more begun state.me state.last_request state.work order is.at_work;
+}
+
+-- what a step of a client leaves and sends
+pub record IsStepAt (trace : Trace) (count begun : ℕ) (me : ClientId) (stepped : Stepped) : Type 0 where
+  pub at_work : IsAtWork trace count begun me stepped.state.last_request stepped.state.work
+  pub letters : All (IsAsked trace count) stepped.letters
+
+under_way : (trace : Trace) (count begun : ℕ) (me : ClientId) (last : Option (ℕ × ℕ)) (held : Option Work) (work : Work) → held ≡ Some work → IsAtWork trace count begun me last held → IsUnderWay trace count begun me work
+under_way trace count begun me last held work is at =
+    let P : Option Work → Type 0 = λ found. IsAtWork trace count begun me last found in subst P is at
+
+module _ (trace : Trace) (count begun : ℕ) (state : ClientState) (sound : IsSound state) (at : IsAtWork trace count begun state.me state.last_request state.work) where
+  none_asked : All (IsAsked trace count) []
+  none_asked = All-nil (IsAsked trace count)
+
+  working : (work : Work) → state.work ≡ Some work → IsUnderWay trace count begun state.me work
+  working work is = under_way trace count begun state.me state.last_request state.work work is at
+
+  -- an operation ends only while verdicts are counted: the last request was one of its requests
+  ended : (work : Work) (replica : ReplicaId) (number round : ℕ) → state.work ≡ Some work → counts work replica number round ≡ true → last_number state.last_request ≡ begun
+  ended work replica number round is counting =
+      let held : IsSoundWork state.last_request work = sound_work state work sound is in
+      let last : state.last_request ≡ Some (work.number, work.round) = held.asked (and_parts (is_asking work.phase) _ counting).0 in
+      ap last_number last ∙ (working work is).latest
+
+  counted_step : (replica : ReplicaId) (number round : ℕ) (verdict : Verdict) → IsStepAt trace count begun state.me (counted_in state state.work replica number round verdict)
+  counted_step replica number round verdict =
+      counted_cases state replica number round verdict (IsStepAt trace count begun state.me)
+      (record { at_work = at; letters = none_asked })
+      (λ work is counting. record { at_work = record { latest = (working work is).latest; request = (working work is).request }; letters = none_asked })
+      (λ work answer is counting fits enough. record { at_work = ended work replica number round is counting; letters = none_asked })
+      (λ work is counting spent. record { at_work = ended work replica number round is counting; letters = none_asked })
+      (λ work acted is counting below. record {
+        at_work = record { latest = (working work is).latest; request = (working work is).request };
+        letters = requests_asked trace count 0 (replicas state.bounds) state.me _ _ (working work is).request;
+      })
+      (λ work is counting below. record { at_work = record { latest = (working work is).latest; request = (working work is).request }; letters = none_asked })
+
+step_at : (trace : Trace) (count begun : ℕ) (state : ClientState) (sent : Frame) → IsSound state → IsAtWork trace count begun state.me state.last_request state.work → IsStepAt trace count begun state.me (client_step state sent)
+step_at trace count begun state (frame.Request client number round sets body) sound at = record { at_work = at; letters = All-nil (IsAsked trace count) }
+step_at trace count begun state (frame.Reply replica client number round verdict shown) sound at =
+    cond_both (eqb client.0 (state.me).0) _ _ (IsStepAt trace count begun state.me)
+    (λ _. counted_step trace count begun (record state { kept = keep_all number round shown state.kept }) sound at replica number round verdict)
+    (λ _. record { at_work = at; letters = All-nil (IsAsked trace count) })
+
+named_at_work : (trace : Trace) (count begun : ℕ) (old new : ClientId) (last : Option (ℕ × ℕ)) (work : Option Work) → new ≡ old → IsAtWork trace count begun old last work → IsAtWork trace count begun new last work
+named_at_work trace count begun old new last work same at = rw same at
+
+-- a client that takes a frame goes on with its operation
+pub client_steps : (trace : Trace) (count begun number : ℕ) (state : ClientState) (sent : Frame) → IsClientAt trace count begun number state → IsClientAt trace count begun number (client_step state sent).state
+client_steps trace count begun number state sent is = record {
+  named = ap (λ (me : ClientId). me.0) (client_step-me state sent) ∙ is.named;
+  sound = IsSound-step state sent is.sound;
+  at_work = named_at_work trace count begun state.me _ (client_step state sent).state.last_request _ (client_step-me state sent) (step_at trace count begun state sent is.sound is.at_work).at_work;
+}
+
+pub client_step-asked : (trace : Trace) (count begun number : ℕ) (state : ClientState) (sent : Frame) → IsClientAt trace count begun number state → All (IsAsked trace count) (client_step state sent).letters
+client_step-asked trace count begun number state sent is = (step_at trace count begun state sent is.sound is.at_work).letters
+
+next_is : (last : Option (ℕ × ℕ)) (begun : ℕ) → last_number last ≡ begun → next_number last ≡ begun + 1
+next_is None begun is = omega arith
+next_is (Some last) begun is = omega arith
+
+-- a client without work begins its next operation, which the trace shows by then
+module _ (trace : Trace) (count begun : ℕ) (state : ClientState) (op : Op) (last : last_number state.last_request ≡ begun) (shown : IsRequestOf trace count state.me (begun + 1) (body_of op)) where
+  next_request : IsRequestOf trace count state.me (next_number state.last_request) (body_of op)
+  next_request =
+      subst (λ (number : ℕ). IsRequestOf trace count state.me number (body_of op)) (sym (next_is state.last_request begun last)) shown
+
+  invoke_at : IsStepAt trace count (begun + 1) state.me (client_invoke state op)
+  invoke_at =
+      invoke_cases state op (IsStepAt trace count (begun + 1) state.me)
+      (λ acted. record {
+        at_work = record { latest = next_is state.last_request begun last; request = next_request };
+        letters = requests_asked trace count 0 (replicas state.bounds) state.me _ _ next_request;
+      })
+      (record { at_work = record { latest = next_is state.last_request begun last; request = next_request }; letters = All-nil (IsAsked trace count) })
+
+  pub client_begins : (number : ℕ) → (state.me).0 ≡ number → IsClientAt trace count (begun + 1) number (client_invoke state op).state
+  client_begins number named = record {
+    named = ap (λ (me : ClientId). me.0) (client_invoke-me state op) ∙ named;
+    sound = IsSound-invoke state op;
+    at_work = named_at_work trace count (begun + 1) state.me _ (client_invoke state op).state.last_request _ (client_invoke-me state op) invoke_at.at_work;
+  }
+
+  pub client_begins-asked : All (IsAsked trace count) (client_invoke state op).letters
+  client_begins-asked = invoke_at.letters

@@ -1,0 +1,19 @@
+-- Requests belong to operations that began before.
+use Rattle.std.specs.Prelude.{◌≡◌, ℕ, ◌≤◌, Contains}
+use Rattle.qu_base.specs.declared.party.ClientId.{ClientId}
+use Rattle.qu_frames.specs.declared.frame.Body.{Body}
+use Rattle.qu_frames.specs.Body.{body_of}
+use Rattle.qu_machine.specs.declared.record.OpRecord.{OpRecord}
+use Rattle.qu_trace.specs.declared.trace.Trace.{Trace}
+use Rattle.qu_trace.specs.Operations.{operations_of}
+
+-- the operation of which a request is one; it began before
+pub record IsRequestOf (trace : Trace) (count : ℕ) (client : ClientId) (number : ℕ) (asked : Body) : Type 0 where
+  pub operation : OpRecord
+  pub of_trace : Contains (operations_of trace.entries) operation
+  pub of_client : operation.client ≡ client
+  pub of_number : operation.number ≡ number
+  -- act or query, as the operation is
+  pub asks : asked ≡ body_of operation.op
+  -- after so many events, of which the invocation is one
+  pub begun : operation.invoked ≤ count
