@@ -12,7 +12,7 @@ use Rattle.qu_cli.specs.declared.answer.Answer.TheVariants.{Report}
 use Rattle.qu_cli.specs.Bad.{bad_text}
 use Rattle.qu_cli.proofs.ScriptFacts.{sim_too_long}
 use Rattle.qu_cli.specs.Transfer.{TakesScript, Writes, WritesOrFails}
-use Rattle.qu_cli.specs.Ends.{Makes, Accepts, Refuses, IsRefused, IsComplete}
+use Rattle.qu_cli.specs.Ends.{Makes, HasOneHistory, Accepts, Refuses, IsRefused, IsComplete}
 use Rattle.qu_cli.specs.Answer.{Answers}
 
 -- what was taken is all that was held, or both are too long
@@ -43,6 +43,10 @@ makes_accepts : (command : Command) (script : List ℕ) (trace : Option Trace) (
 makes_accepts Sim script None text makes = absurd makes
 makes_accepts Sim script (Some trace) text makes = rw makes.runs refl
 
+-- what is made has one history
+pub makes_history : (command : Command) (script : List ℕ) (trace : Trace) (text : List ℕ) → Makes command script (Some trace) text → HasOneHistory trace
+makes_history Sim script trace text makes = record { order = makes.order; is_run = makes.is_run; printed = makes.ordered; serial = makes.serial }
+
 not_both : (command : Command) (script : List ℕ) (bad : Bad) → Accepts command script → Refuses command script bad → ⊥
 not_both Sim script bad accepts refuses = let accepted = rw refuses at accepts in absurd (cc)
 
@@ -64,7 +68,7 @@ makes_by : (command : Command) (script held : List ℕ) (trace : Option Trace) (
 makes_by command script held trace text (all same) makes = subst (λ (it : List ℕ). Makes command it trace text) same makes
 makes_by command script held trace text (long more most) makes = let few = makes_few command script trace text makes in absurd (omega arith)
 
-pub ruleset end_laws = (makes_few)
+pub ruleset end_laws = (makes_few, makes_history)
 
 -- ---- which end comes
 

@@ -1,8 +1,8 @@
-ghost use Rattle.std.specs.Prelude.{◌≡◌, ◌≢◌, ◌≤◌, ◌↔◌, None, map, string_bytes};
+ghost use Rattle.std.specs.Prelude.{◌≡◌, ◌≢◌, ◌≤◌, ◌↔◌, None, IfSome, map, string_bytes};
 ghost use Rattle.qu_io.specs.Known.{Rose};
 ghost use Rattle.qu_cli.specs.Command.{command_of, usage_text};
 ghost use Rattle.qu_cli.specs.Transfer.{TakesFew, WritesOrFails};
-ghost use Rattle.qu_cli.specs.Ends.{EndsBad, EndsShort, EndsDone, IsTraced, IsRefused, IsComplete};
+ghost use Rattle.qu_cli.specs.Ends.{EndsBad, EndsShort, EndsDone, HasOneHistory, IsTraced, IsRefused, IsComplete};
 
 use super::answer::{Answer, NoAnswer, answer_for};
 use super::command::{USAGE, read_command};
@@ -14,7 +14,8 @@ use std::alloc::Global;
 /// Runs the program: what the words ask for, over the input, with all that it tells in the output.
 ///
 /// The status is 0 where all went well, 2 for wrong words, 3 for a script that is refused, 4 for a
-/// fault of the input, 5 for one of the output, and 6 for want of memory.
+/// fault of the input, 5 for one of the output, and 6 for want of memory. At 0 and 5 the report has the
+/// trace of the run, whose operations have one history.
 #[tactic(auto, using(crate::proofs::EndFacts::end_laws), unfolding(crate::specs::Command::usage_text))]
 pub fn qu<S: Source, K: Sink>(
     alloc: Global,
@@ -38,6 +39,7 @@ pub fn qu<S: Source, K: Sink>(
     ensures done { result.status ≡ 0 → EndsDone (command_of (map string_bytes words.now))
         (S.known input.old) (S.known input.new) (K.known output.old) (K.known output.new) result.trace }
     ensures traced { IsTraced result.trace result.status }
+    ensures headline { IfSome result.trace HasOneHistory }
 
     ensures refused { IsRefused (command_of (map string_bytes words.now)) (S.known input.old)
         (S.known input.new) (K.known output.old) (K.known output.new) result.status }
