@@ -1,7 +1,7 @@
 -- An act that completed has its one candidate established before the event of its reply, and its answer
 -- is that of the candidate's version.
 use Rattle.std.proofs.Common.{◌≡◌, ◌≢◌, ℕ, ◌+◌, ◌-◌, ◌<◌, ◌≤◌, Bool, true, List, [], ◌∷◌, length, Some, refl, sym, ap, subst, ◌∙◌, arith, inl, inr, All, AllPairs}
-use Rattle.std.specs.Prelude.{Contains}
+use Rattle.std.specs.Prelude.{Contains, count_by}
 use Rattle.std.proofs.lemmas.Bool.{false≢true, or_cases, eqb-true}
 use Rattle.std.proofs.lemmas.List.Elements.{All-head, All-tail, All-weaker}
 use Rattle.std.proofs.lemmas.Option.{slice_get_within}
@@ -40,7 +40,7 @@ use Rattle.qu_safety.specs.Replies.{TellsDone, IsReplyTo}
 use Rattle.qu_safety.specs.Values.{HasVersion}
 use Rattle.qu_safety.specs.Views.{HaveParts}
 use Rattle.qu_safety.proofs.Chained.{somewhere_accepted}
-use Rattle.qu_safety.proofs.ChainLaws.{setting, laws}
+use Rattle.qu_safety.proofs.ChainLaws.{setting, acceptors_are, laws}
 use Rattle.qu_safety.proofs.Endings.{EndsAt, operation_ends}
 use Rattle.qu_safety.proofs.Invocations.{request_of}
 use Rattle.qu_safety.proofs.KnownRuns.{known, completion}
@@ -66,6 +66,7 @@ pub record CompletedAct (trace : Trace) (operation : OpRecord) (reply : ℕ) (an
   pub version : ObjState
   pub has : HasVersion trace object candidate version
   pub answer_is : answer ≡ version.answer
+  pub by_quorum : quorum trace.setup.bounds ≤ count_by (accepts object candidate) (world_after trace (reply - 1)).replicas
   pub established : IsEstablished (setting trace) (reply - 1) object candidate
   pub within : reply ≤ length trace.entries
   pub begins : 1 ≤ reply
@@ -176,10 +177,10 @@ module _ (trace : Trace) (is_run : IsRun trace) (have : HaveParts trace.entries)
       ap (λ (it : Candidate). test_at (accepts other.object it) (world_after trace time).replicas replica) same.1 ∙
       other.accepted
 
-  established_by : (time : ℕ) → time ≤ length trace.entries → (members : List ℕ) → AllPairs (λ (a b : ℕ). a ≢ b) members → All (λ (member : ℕ). member < replicas trace.setup.bounds) members → quorum trace.setup.bounds ≤ length members → All (Has time) members
-      → (first : ℕ) (held : Has time first) → IsEstablished (setting trace) time held.object held.candidate
+  quorum_by : (time : ℕ) → time ≤ length trace.entries → (members : List ℕ) → AllPairs (λ (a b : ℕ). a ≢ b) members → All (λ (member : ℕ). member < replicas trace.setup.bounds) members → quorum trace.setup.bounds ≤ length members → All (Has time) members
+      → (first : ℕ) (held : Has time first) → quorum trace.setup.bounds ≤ acceptors (setting trace) time held.object held.candidate
   unfolding setting
-  established_by time within members different below enough all first held =
+  quorum_by time within members different below enough all first held =
       let accepted : ℕ → Bool = test_at (accepts held.object held.candidate) (world_after trace time).replicas in
       let among_them : length members ≤ count (replicas trace.setup.bounds) (is_among members) = members_count (replicas trace.setup.bounds) members different below in
       let more : count (replicas trace.setup.bounds) (is_among members) ≤ count (replicas trace.setup.bounds) accepted =
@@ -188,12 +189,18 @@ module _ (trace : Trace) (is_run : IsRun trace) (have : HaveParts trace.entries)
       let counted : count (replicas trace.setup.bounds) accepted ≡ acceptors (setting trace) time held.object held.candidate = refl in
       omega (arith, enough, among_them, more, counted)
 
+  established_of_quorum : (time : ℕ) (object : ObjectId) (candidate : Candidate) → quorum trace.setup.bounds ≤ acceptors (setting trace) time object candidate → IsEstablished (setting trace) time object candidate
+  unfolding setting
+  established_of_quorum time object candidate enough = omega (arith, enough)
+
   -- a completed act by the members that replied to it
   by_members : (reply : ℕ) → reply ≤ length trace.entries → 1 ≤ reply → (members : List ℕ) → AllPairs (λ (a b : ℕ). a ≢ b) members → All (λ (member : ℕ). member < replicas trace.setup.bounds) members → quorum trace.setup.bounds ≤ length members → All (Has (reply - 1)) members → CompletedAct trace operation reply answer
   by_members reply within begins members different below enough all =
       let some : 1 ≤ quorum trace.setup.bounds = some_quorum trace.setup.bounds in
       let one : (member : ℕ) × Has (reply - 1) member = some_member (Has (reply - 1)) members (omega (arith, some, enough)) all in
       let held : Has (reply - 1) one.0 = one.1 in
+      let accepted : quorum trace.setup.bounds ≤ acceptors (setting trace) (reply - 1) held.object held.candidate = quorum_by (reply - 1) (omega arith) members different below enough all one.0 held in
+      let counted : acceptors (setting trace) (reply - 1) held.object held.candidate ≡ count_by (accepts held.object held.candidate) (world_after trace (reply - 1)).replicas = acceptors_are trace (reply - 1) held.object held.candidate in
       record {
         object = held.object;
         method = held.method;
@@ -204,7 +211,8 @@ module _ (trace : Trace) (is_run : IsRun trace) (have : HaveParts trace.entries)
         version = held.version;
         has = held.has;
         answer_is = held.answer_is;
-        established = established_by (reply - 1) (omega arith) members different below enough all one.0 held;
+        by_quorum = omega (arith, accepted, counted);
+        established = established_of_quorum (reply - 1) held.object held.candidate accepted;
         within = within;
         begins = begins;
       }

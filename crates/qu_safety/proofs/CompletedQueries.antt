@@ -46,7 +46,7 @@ use Rattle.qu_trace.specs.Operations.{operations_of}
 use Rattle.qu_world.specs.State.{letter_of}
 use Rattle.qu_world.specs.Run.{IsRun}
 use Rattle.qu_safety.specs.Chained.{last_world}
-use Rattle.qu_safety.specs.Completions.{Replied, IsCompleted}
+use Rattle.qu_safety.specs.Completions.{Replied, RepliedAt, IsCompleted}
 use Rattle.qu_safety.specs.Decided.{accepts, is_accepted}
 use Rattle.qu_safety.specs.Invocations.{IsRequestOf}
 use Rattle.qu_safety.specs.Order.{world_after, answers, sends_answer, answers_at, AnswersFirst, query_effect, effect_of, IsPoint}
@@ -160,28 +160,29 @@ answered_after trace client number round (suc time) passed = (time, refl)
 -- ---- the replicas that told the answer
 
 -- the verdict that fits a query tells its answer
-record IsTold (given : Verdict) (answer : Answer) : Type 0 where
-  stamps : List (ObjectId × Stamp)
-  is_told : given ≡ verdict.Told stamps answer
+pub record IsTold (given : Verdict) (answer : Answer) : Type 0 where
+  pub stamps : List (ObjectId × Stamp)
+  pub is_told : given ≡ verdict.Told stamps answer
 
-told_by_fit : (query : List (ObjectId × Ask)) (given : Verdict) (answer : Answer) → fitting (op.Query query) given ≡ Some answer → IsTold given answer
+pub told_by_fit : (query : List (ObjectId × Ask)) (given : Verdict) (answer : Answer) → fitting (op.Query query) given ≡ Some answer → IsTold given answer
 told_by_fit query (verdict.Done stamps other) answer fits = absurd (none-some answer fits)
 told_by_fit query (verdict.Told stamps other) answer fits = record { stamps = stamps; is_told = ap (verdict.Told stamps) (same_Some other answer fits) }
 told_by_fit query (verdict.Refused refusal) answer fits = absurd (none-some answer fits)
 
 -- the replica told this answer, before an event, from a base and with nothing above it
-record Tells (trace : Trace) (client : ClientId) (number round before : ℕ) (stamps : List (ObjectId × Stamp)) (answer : Answer) (replica : ℕ) : Type 0 where
-  at : ℕ
-  earlier : at < before
-  below : at < length trace.entries
-  answered : answers_at trace client number round (suc at) ≡ true
-  reply : IsReplyTo trace at replica client number round (verdict.Told stamps answer)
-  object : ObjectId
-  ask : Ask
-  is_ask : reply.body ≡ body.Ask ((object, ask) ∷ [])
-  tells : TellsQuery reply.old reply.sets object ask stamps answer
+pub record Tells (trace : Trace) (client : ClientId) (number round before : ℕ) (stamps : List (ObjectId × Stamp)) (answer : Answer) (replica : ℕ) : Type 0 where
+  pub at : ℕ
+  pub earlier : at < before
+  pub below : at < length trace.entries
+  pub said : RepliedAt trace at client number round (verdict.Told stamps answer) replica
+  pub answered : answers_at trace client number round (suc at) ≡ true
+  pub reply : IsReplyTo trace at replica client number round (verdict.Told stamps answer)
+  pub object : ObjectId
+  pub ask : Ask
+  pub is_ask : reply.body ≡ body.Ask ((object, ask) ∷ [])
+  pub tells : TellsQuery reply.old reply.sets object ask stamps answer
 
-tells_by_reply : (trace : Trace) → IsRun trace → HaveParts trace.entries → (client : ClientId) (number round before : ℕ) (given : Verdict) (answer : Answer) (told : IsTold given answer) (replica : ℕ) → Replied trace before client number round given replica → Tells trace client number round before told.stamps answer replica
+pub tells_by_reply : (trace : Trace) → IsRun trace → HaveParts trace.entries → (client : ClientId) (number round before : ℕ) (given : Verdict) (answer : Answer) (told : IsTold given answer) (replica : ℕ) → Replied trace before client number round given replica → Tells trace client number round before told.stamps answer replica
 tells_by_reply trace is_run have client number round before given answer told replica replied =
     let at : ℕ = replied.at in
     let it = replied.replied in
@@ -199,6 +200,7 @@ tells_by_reply trace is_run have client number round before given answer told re
       at = at;
       earlier = replied.earlier;
       below = below;
+      said = subst (λ (other : Verdict). RepliedAt trace at client number round other replica) told.is_told it;
       answered =
           ap (sends_answer client number round) it.is_entry ∙
           list_any-from_Any (answers client number round) (it.entry).letters
@@ -219,7 +221,7 @@ stamp_in default (first ∷ later) = first
 abbrev stamped : ObjectId → Stamp → List (ObjectId × Stamp)
 stamped object stamp = (object, stamp) ∷ []
 
-same_stamped : (a b : ObjectId) (s t : Stamp) → stamped a s ≡ stamped b t → (a ≡ b) × (s ≡ t)
+pub same_stamped : (a b : ObjectId) (s t : Stamp) → stamped a s ≡ stamped b t → (a ≡ b) × (s ≡ t)
 same_stamped a b s t same =
     (ap (λ (it : List (ObjectId × Stamp)). (stamp_in (a, s) it).0) same, ap (λ (it : List (ObjectId × Stamp)). (stamp_in (a, s) it).1) same)
 

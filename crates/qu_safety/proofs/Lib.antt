@@ -65,3 +65,5 @@ pub mod CompletedActs
 pub mod ActPoints
 pub mod SerialOrder
 pub mod PartsLaws
+pub mod InTurn
+pub mod ByQuorums

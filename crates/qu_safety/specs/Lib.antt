@@ -10,3 +10,5 @@ pub mod Values
 pub mod Completions
 pub mod Replies
 pub mod Origins
+pub mod Turns
+pub mod Quorums

@@ -5,6 +5,8 @@ ghost use Rattle.qu_trace.specs.Operations.{operations_of};
 ghost use Rattle.qu_world.specs.Run.{IsRun};
 ghost use Rattle.qu_safety.specs.Chained.{IsChained};
 ghost use Rattle.qu_safety.specs.Order.{is_earlier, IsPrintedOrder};
+ghost use Rattle.qu_safety.specs.Quorums.{CompletesByQuorums};
+ghost use Rattle.qu_safety.specs.Turns.{DecidesInTurn};
 ghost use Rattle.qu_safety.specs.Points.{AreApart, AddsPoint, ArePointsOf, with_point};
 ghost use Rattle.qu_safety.specs.Tracker.{Tracks};
 
@@ -26,6 +28,8 @@ pub fn order_of(alloc: Global, trace: &Trace) -> Result<List<Point>, NoMemory>
     ensures printed { IfOk result (λ order. IsPrintedOrder trace.now order) }
     ensures serial { IfOk result (λ order. IsSerial trace.now.setup.kinds (operations_of trace.now.entries) order) }
     ensures chained { OnOk result (IsChained trace.now) }
+    ensures in_turn { OnOk result (DecidesInTurn trace.now) }
+    ensures by_quorums { OnOk result (CompletesByQuorums trace.now) }
 {
     have_parts(trace.entries.as_slice());
     let tracker = replay(alloc, trace)?;

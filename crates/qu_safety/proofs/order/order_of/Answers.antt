@@ -5,8 +5,10 @@ use Rattle.qu_machine.specs.declared.record.OpRecord.{OpRecord}
 use Rattle.qu_safety.specs.Order.{IsPrintedOrder}
 use Rattle.qu_safety.specs.Points.{AreApart}
 use Rattle.qu_safety.specs.Views.{HaveParts}
+use Rattle.qu_safety.proofs.ByQuorums.{completes_by_quorums}
 use Rattle.qu_safety.proofs.Chained.{is_chained}
 use Rattle.qu_safety.proofs.Distinct.{operations_apart}
+use Rattle.qu_safety.proofs.InTurn.{decides_in_turn}
 use Rattle.qu_safety.proofs.Printed.{printed}
 use Rattle.qu_safety.proofs.SerialOrder.{serial}
 use Rattle.qu_safety.proofs.order.order_of.Goals as goal
@@ -26,3 +28,9 @@ returns-clause-serial c =
 
 pub returns-clause-chained : goal.returns-clause-chained
 returns-clause-chained c = is_chained c.args.trace.now c.requires (subst HaveParts c.as_slice.ensures c.have_parts.ensures)
+
+pub returns-clause-in_turn : goal.returns-clause-in_turn
+returns-clause-in_turn c = decides_in_turn c.args.trace.now c.requires (subst HaveParts c.as_slice.ensures c.have_parts.ensures)
+
+pub returns-clause-by_quorums : goal.returns-clause-by_quorums
+returns-clause-by_quorums c = completes_by_quorums c.args.trace.now c.requires (subst HaveParts c.as_slice.ensures c.have_parts.ensures)
