@@ -1,2 +1,4 @@
 pub mod Thresholds
 pub mod Front
+pub mod Format
+pub mod Reading

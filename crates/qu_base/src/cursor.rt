@@ -1,7 +1,10 @@
 ghost use Rattle.std.specs.Prelude.{◌≡◌, ◌<◌, ◌↔◌, ◌∷◌, [], length, IsNone, IfNone, IfSome};
-ghost use Rattle.std.specs.Int.{w16, w64, to_be_bytes};
+ghost use Rattle.std.specs.Int.{w8, w16, w64, to_be_bytes};
 ghost use Rattle.qu_base.specs.Front.{Takes};
+ghost use Rattle.qu_base.specs.Format.{number, bytes, flag, digest_form, object_form, replica_form, AreBytes};
+ghost use Rattle.qu_base.specs.Reading.{Reads};
 
+use super::{BadText, Digest, ObjectId, ReplicaId, Why};
 use std::marker::Model;
 
 /// A place in a text that is being read. A number is big-endian.
@@ -91,4 +94,124 @@ impl<'a> Cursor<'a> {
             piece[0], piece[1], piece[2], piece[3], piece[4], piece[5], piece[6], piece[7],
         ]))
     }
+
+    /// What is left are bytes.
+    pub fn are_bytes(&self)
+        ensures { AreBytes self.now.rest }
+    {
+        hold_bytes(self.rest);
+    }
+
+    /// A refusal of the field that begins here.
+    pub fn refusal(&self, why: Why) -> BadText
+        ensures { result ≡ record { place = self.now.place; why = why } }
+    {
+        BadText {
+            place: self.place as u64,
+            why,
+        }
+    }
+
+    /// The same place, from which to read ahead.
+    pub fn ahead(&self) -> Cursor<'a>
+        ensures { result ≡ self.now }
+    {
+        Cursor {
+            place: self.place,
+            rest: self.rest,
+        }
+    }
+
+    /// The next byte, from `least` to `most`.
+    #[tactic(auto, unfolding(crate::specs::Format::number_at))]
+    pub fn u8_within(&mut self, least: u8, most: u8) -> Result<u8, BadText>
+        ensures { Reads (number w8 least most) result self.old self.new }
+    {
+        let start = self.ahead();
+        let Some(value) = self.u8() else {
+            return Err(start.refusal(Why::Short));
+        };
+        if value < least || value > most {
+            return Err(start.refusal(Why::Range));
+        }
+        Ok(value)
+    }
+
+    /// The next number of two bytes, from `least` to `most`.
+    #[tactic(auto, unfolding(crate::specs::Format::number_at))]
+    pub fn u16_within(&mut self, least: u16, most: u16) -> Result<u16, BadText>
+        ensures { Reads (number w16 least most) result self.old self.new }
+    {
+        let start = self.ahead();
+        let Some(value) = self.u16() else {
+            return Err(start.refusal(Why::Short));
+        };
+        if value < least || value > most {
+            return Err(start.refusal(Why::Range));
+        }
+        Ok(value)
+    }
+
+    /// The next number of eight bytes, from `least` to `most`.
+    #[tactic(auto, unfolding(crate::specs::Format::number_at))]
+    pub fn u64_within(&mut self, least: u64, most: u64) -> Result<u64, BadText>
+        ensures { Reads (number w64 least most) result self.old self.new }
+    {
+        let start = self.ahead();
+        let Some(value) = self.u64() else {
+            return Err(start.refusal(Why::Short));
+        };
+        if value < least || value > most {
+            return Err(start.refusal(Why::Range));
+        }
+        Ok(value)
+    }
+
+    /// The next byte, 0 or 1, as a flag; 1 only where it may be.
+    pub fn flag(&mut self, may: bool) -> Result<bool, BadText>
+        ensures { Reads (flag may) result self.old self.new }
+    {
+        let code = self.u8_within(0, u8::from(may))?;
+        Ok(code == 1)
+    }
+
+    /// The next object, by its number.
+    pub fn object(&mut self) -> Result<ObjectId, BadText>
+        ensures { Reads object_form result self.old self.new }
+    {
+        Ok(ObjectId(self.u16_within(0, 63)?))
+    }
+
+    /// The next replica, by its number.
+    pub fn replica(&mut self) -> Result<ReplicaId, BadText>
+        ensures { Reads replica_form result self.old self.new }
+    {
+        Ok(ReplicaId(self.u8_within(0, 15)?))
+    }
+
+    /// The next 32 bytes.
+    #[tactic(auto, using(crate::proofs::Formats::bytes_read, crate::proofs::Formats::bytes_short))]
+    pub fn array(&mut self) -> Result<[u8; 32], BadText>
+        ensures { Reads (bytes 32) result self.old self.new }
+    {
+        let start = self.ahead();
+        let Some(piece) = self.take(32) else {
+            return Err(start.refusal(Why::Short));
+        };
+        let mut content = [0; 32];
+        content.copy_from_slice(piece);
+        Ok(content)
+    }
+
+    /// The next 32 bytes, as a digest.
+    pub fn digest(&mut self) -> Result<Digest, BadText>
+        ensures { Reads digest_form result self.old self.new }
+    {
+        Ok(Digest(self.array()?))
+    }
 }
+
+/// What a slice of bytes holds are bytes.
+fn hold_bytes(text: &[u8])
+    ensures { AreBytes text.now }
+{}

@@ -72,6 +72,15 @@ impl<T> List<T> {
 }
 
 impl<T: Drop> List<T> {
+    /// The list of one item.
+    pub fn one(alloc: Global, item: T) -> Result<List<T>, NoMemory>
+        ensures { IfOk result (λ list. list ≡ item ∷ []) }
+    {
+        let mut list = List::new(alloc);
+        list.push(item)?;
+        Ok(list)
+    }
+
     /// Puts an item at the end. Without memory the list stays as it is.
     pub fn push(&mut self, item: T) -> Result<(), NoMemory>
         ensures ok { OnOk result (self.new ≡ self.old ++ item ∷ []) }

@@ -1,4 +1,5 @@
-ghost use Rattle.std.specs.Prelude.{◌≡◌, [], ◌++◌, OnOk, OnErr};
+ghost use Rattle.std.specs.Prelude.{◌≡◌, [], ◌++◌, length, take, OnOk, OnErr};
+ghost use Rattle.std.specs.Int.{w8, w16, w64, to_be_bytes, from_bool};
 
 use super::{List, NoMemory};
 use std::alloc::Global;
@@ -35,6 +36,52 @@ impl Outbytes {
     {
         self.bytes.extend_from_slice(piece)?;
         Ok(())
+    }
+
+    /// Appends a byte. Without memory the text stays as it is.
+    pub fn u8(&mut self, value: u8) -> Result<(), NoMemory>
+        ensures ok { OnOk result (self.new ≡ self.old ++ to_be_bytes w8 value) }
+        ensures err { OnErr result (self.new ≡ self.old) }
+    {
+        self.put(&value.to_be_bytes())
+    }
+
+    /// Appends a flag as a byte, 0 or 1. Without memory the text stays as it is.
+    pub fn flag(&mut self, value: bool) -> Result<(), NoMemory>
+        ensures ok { OnOk result (self.new ≡ self.old ++ to_be_bytes w8 (from_bool value)) }
+        ensures err { OnErr result (self.new ≡ self.old) }
+    {
+        self.u8(u8::from(value))
+    }
+
+    /// Appends a number of two bytes. Without memory the text stays as it is.
+    pub fn u16(&mut self, value: u16) -> Result<(), NoMemory>
+        ensures ok { OnOk result (self.new ≡ self.old ++ to_be_bytes w16 value) }
+        ensures err { OnErr result (self.new ≡ self.old) }
+    {
+        self.put(&value.to_be_bytes())
+    }
+
+    /// Appends a number of eight bytes. Without memory the text stays as it is.
+    pub fn u64(&mut self, value: u64) -> Result<(), NoMemory>
+        ensures ok { OnOk result (self.new ≡ self.old ++ to_be_bytes w64 value) }
+        ensures err { OnErr result (self.new ≡ self.old) }
+    {
+        self.put(&value.to_be_bytes())
+    }
+
+    /// How many bytes were written.
+    pub fn len(&self) -> usize
+        ensures { result ≡ length self.now }
+    {
+        self.bytes.len()
+    }
+
+    /// Goes back to the first bytes of the text.
+    pub fn rewind(&mut self, length: usize)
+        ensures { self.new ≡ take length self.old }
+    {
+        self.bytes.truncate(length);
     }
 
     /// The text as it was written.

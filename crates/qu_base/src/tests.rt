@@ -39,3 +39,32 @@ fn a_text_is_written_in_pieces(rt: HostRuntime) -> Result<(), Fail> {
     assert_eq!(rt; copy.get(5).copied(), Some(b'1'));
     Ok(())
 }
+
+#[test]
+fn a_field_is_refused_where_it_begins(rt: HostRuntime) {
+    let refused = |place, why| BadText { place, why };
+    let mut text = Cursor::new(&[9, 0, 64, 2]);
+    assert_eq!(rt; text.u8_within(1, 8), Err(refused(0, Why::Range)));
+    assert_eq!(rt; text.object(), Err(refused(1, Why::Range)));
+    assert_eq!(rt; text.flag(true), Err(refused(3, Why::Range)));
+    assert_eq!(rt; text.digest(), Err(refused(4, Why::Short)));
+    let mut text = Cursor::new(&[0, 63, 15, 1, 1]);
+    assert_eq!(rt; text.object(), Ok(ObjectId(63)));
+    assert_eq!(rt; text.replica(), Ok(ReplicaId(15)));
+    assert_eq!(rt; text.flag(true), Ok(true));
+    assert_eq!(rt; text.flag(false), Err(refused(4, Why::Range)));
+    assert_eq!(rt; text.u64_within(0, 1), Err(refused(5, Why::Short)));
+}
+
+#[test]
+fn numbers_are_written_big_endian(rt: HostRuntime) -> Result<(), Fail> {
+    let mut out = Outbytes::new(rt.alloc());
+    out.u8(7).ok().ok_or("no memory")?;
+    out.flag(true).ok().ok_or("no memory")?;
+    out.u16(258).ok().ok_or("no memory")?;
+    out.u64(513).ok().ok_or("no memory")?;
+    assert_eq!(rt; out.len(), 12);
+    out.rewind(4);
+    assert_eq!(rt; out.done().as_slice(), [7, 1, 1, 2].as_slice());
+    Ok(())
+}
