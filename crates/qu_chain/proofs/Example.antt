@@ -3,21 +3,20 @@
 use Rattle.std.proofs.Common.{◌≡◌, ℕ, suc, ◌-◌, ◌<◌, ◌≤◌, Bool, true, false, ◌&&◌, refl, sym, ap, ◌∙◌, arith, inl, inr}
 use Rattle.std.specs.Prelude.{nat_le, nat_lt}
 use Rattle.std.proofs.lemmas.Bool.{false≢true, and_parts, and_from, leb-true, le-leb, cases_lt}
-use Rattle.std.proofs.lemmas.Bool.Decides.{nat_tests}
 use Rattle.qu_base.specs.declared.party.ObjectId.{ObjectId}
 use Rattle.qu_base.specs.Thresholds.{replicas, quorum, repair}
 use Rattle.qu_stamp.specs.declared.stamp.Stamp.{Stamp}
 use Rattle.qu_stamp.specs.declared.candidate.Candidate.{Candidate}
-use Rattle.qu_stamp.specs.Stamp.{is_below}
+use Rattle.qu_stamp.specs.Stamp.{opening_stamp, is_below}
 use Rattle.qu_stamp.specs.Candidate.{same}
-use Rattle.qu_stamp.proofs.Order.{same-self, equal_by_same}
+use Rattle.qu_stamp.proofs.Order.{is_below-self, is_below-not_back, is_below_by_time, same-self, equal_by_same}
 use Rattle.qu_chain.specs.Count.{count}
 use Rattle.qu_chain.specs.Chain.{Setting, Sizes, Laws, acceptors, IsEstablished, IsAttested, IsAncestor, IsLinked}
 use Rattle.qu_chain.proofs.Counting.{count-more}
 use Rattle.qu_chain.proofs.Chain.{established_chain}
 
 abbrev stamp_at : ℕ → Stamp
-stamp_at time = record { time = time; client = record { 0 = 0 }; number = 0 }
+stamp_at time = record opening_stamp { time = time }
 
 -- the candidate of this time, which rests on that of the time before; that of 0 is the opening one
 abbrev link : ℕ → Candidate
@@ -42,10 +41,16 @@ tower last = record {
 }
 
 stamps_rise : (first second : ℕ) → first < second → is_below (stamp_at first) (stamp_at second) ≡ true
-stamps_rise first second order = grind (arith, nat_tests)
+stamps_rise first second order = is_below_by_time (stamp_at first) (stamp_at second) order
 
 stamps_stay : (first second : ℕ) → second ≤ first → is_below (stamp_at first) (stamp_at second) ≡ false
-stamps_stay first second order = grind (arith, nat_tests)
+stamps_stay first second order =
+    elim (cases_lt second first) [
+      | inl less ↦ is_below-not_back (stamp_at second) (stamp_at first) (stamps_rise second first less)
+      | inr not_less ↦
+          let equal : first ≡ second = omega arith in
+          ap (λ time. is_below (stamp_at time) (stamp_at second)) equal ∙ is_below-self (stamp_at second)
+    ]
 
 -- what is accepted by a time
 record IsLinkBy (time : ℕ) (candidate : Candidate) : Type 0 where

@@ -1,5 +1,5 @@
 -- When two verdicts are identical.
-use Rattle.std.specs.Prelude.{ℕ, Bool, true, false, ◌==◌, ◌&&◌, List, [], ◌∷◌}
+use Rattle.std.specs.Prelude.{Bool, false, ◌==◌, ◌&&◌, List}
 use Rattle.std.specs.Cmp.Lexicographic.{pointwise}
 use Rattle.qu_base.specs.declared.party.ObjectId.{ObjectId}
 use Rattle.qu_stamp.specs.declared.stamp.Stamp.{Stamp}
@@ -8,7 +8,6 @@ use Rattle.qu_objects.specs.declared.answer.Item.{Item}
 use Rattle.qu_objects.specs.declared.answer.Item.TheVariants.{Number}
 use Rattle.qu_objects.specs.declared.answer.Answer.{Answer}
 use Rattle.qu_objects.specs.declared.answer.Answer.TheVariants as answer
-use Rattle.qu_frames.specs.declared.verdict.ClassCode.{ClassCode}
 use Rattle.qu_frames.specs.declared.verdict.ClassCode.TheVariants.{Barrier}
 use Rattle.qu_frames.specs.declared.verdict.Refusal.{Refusal}
 use Rattle.qu_frames.specs.declared.verdict.Refusal.TheVariants.{HistoryFull, Thin, NotCurrent, NotMethod, TimeSpent, UnknownObject}

@@ -48,6 +48,7 @@ impl Verdict {
     ghost use Rattle.qu_frames.specs.Verdict.{same_verdict};
 
     /// Whether it is the same verdict, with the same stamps and the same answer.
+    #[tactic(auto, unfolding(qu_stamp::specs::Stamp::same_stamp))]
     pub fn is_same(&self, other: &Verdict) -> bool
         ensures { result ≡ same_verdict self.now other.now }
     {

@@ -3,3 +3,4 @@ pub mod Stamps
 pub mod Greatest
 pub mod Method
 pub mod SetLaws
+pub mod Forms

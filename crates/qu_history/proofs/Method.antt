@@ -1,15 +1,14 @@
 -- Since stamps rise in each entry, the candidates with the latest stamp are last ones of their
 -- entries, and these decide whether an object is of class METHOD.
-use Rattle.std.proofs.Common.{◌≡◌, ◌+◌, ◌<◌, ◌≤◌, ℕ, zero, suc, List, [], ◌∷◌, ◌++◌, true, false, ◌&&◌, ◌||◌, cond, leb, Some, None, IsTrue, refl, sym, ap, subst, ◌∙◌, inl, inr, map, take, length, get_or, append-nil, arith}
+use Rattle.std.proofs.Common.{◌≡◌, ◌+◌, ◌<◌, ◌≤◌, ℕ, Bool, Option, zero, suc, List, [], ◌∷◌, ◌++◌, true, false, not, ◌&&◌, ◌||◌, cond, leb, Some, None, IsTrue, refl, sym, ap, subst, ◌∙◌, inl, inr, map, take, length, get_or, append-nil, arith}
 use Rattle.std.proofs.lemmas.Bool.{false≢true, cases_Bool, and_parts, and_from, and_left, le-leb, lt-leb}
-use Rattle.std.proofs.lemmas.Bool.Decides.{nat_tests}
 use Rattle.std.specs.List.{filter, flat_map, fold, All}
 use Rattle.std.proofs.lemmas.List.{take_more, take_all}
 use Rattle.std.proofs.lemmas.List.Concat.{flat_map-append}
 use Rattle.std.proofs.lemmas.List.Elements.{All-head, All-tail}
 use Rattle.std.proofs.lemmas.List.Sums.{count_by-le-length}
 use Rattle.std.proofs.lemmas.List.Folds.{list_any-append}
-use Rattle.qu_stamp.proofs.Order.{is_below-not_chain, is_below-other, equal_by_same_stamp, is_before_by_stamp, is_before-not_back, same-self, equal_by_same}
+use Rattle.qu_stamp.proofs.Order.{is_below-self, is_below-not_chain, is_below-other, equal_by_same_stamp, is_before_by_stamp, is_before-not_back, same-self, equal_by_same}
 use Rattle.qu_stamp.specs.declared.stamp.Stamp.{Stamp}
 use Rattle.qu_stamp.specs.declared.candidate.Candidate.{Candidate}
 use Rattle.qu_stamp.specs.Stamp.{opening_stamp, is_below, same_stamp}
@@ -119,7 +118,7 @@ holds_tops stamp candidate (entry ∷ later) top up_to =
     (holds_tops stamp candidate later top (All-tail (IsEntryUpTo stamp) entry later up_to))
 
 not_below_alike : (a b : Stamp) → same_stamp a b ≡ true → is_below a b ≡ false
-not_below_alike a b alike = grind (arith, nat_tests)
+not_below_alike a b alike = ap (is_below a) (sym (equal_by_same_stamp a b alike)) ∙ is_below-self a
 
 alike_by_order : (a b : Stamp) → is_below a b ≡ false → is_below b a ≡ false → same_stamp a b ≡ true
 alike_by_order a b ab ba =
@@ -129,9 +128,12 @@ alike_by_order a b ab ba =
     ]
 
 module _ (entries : List ObjectHistory) (least : ℕ) (up_to : All (IsEntryUpTo (latest_of entries)) entries) where
-  -- the candidates of so great an order
+  -- whether a candidate without barrier is of so great an order
+  abbrev is_repairable : Candidate → Bool
+  is_repairable candidate = not candidate.stamp.barrier && leb least (order_of candidate entries)
+
   abbrev repairable : List Candidate
-  repairable = filter (λ candidate. leb least (order_of candidate entries)) (candidates_of entries)
+  repairable = filter is_repairable (candidates_of entries)
 
   -- those of them with the latest stamp, as the ends of the entries
   abbrev tops : List Candidate
@@ -146,26 +148,26 @@ module _ (entries : List ObjectHistory) (least : ℕ) (up_to : All (IsEntryUpTo 
   top_parts candidate holding =
       let passing : (holds candidate (map (λ (entry : ObjectHistory). last entry.candidates) entries) ≡ true) × (is_last_of entries (latest_of entries) least candidate ≡ true) =
       holds-filter (is_last_of entries (latest_of entries) least) candidate (map (λ (entry : ObjectHistory). last entry.candidates) entries) holding in
-      let parts : (same_stamp candidate.stamp (latest_of entries) ≡ true) × (leb least (times_last candidate entries) ≡ true) = and_parts _ _ passing.1 in (
+      let parts : (same_stamp candidate.stamp (latest_of entries) ≡ true) × (not candidate.stamp.barrier && leb least (times_last candidate entries) ≡ true) = and_parts _ _ passing.1 in (
         parts.0,
-        holds_in_filter (λ other. leb least (order_of other entries)) candidate (candidates_of entries)
+        holds_in_filter is_repairable candidate (candidates_of entries)
             (holds_tops (latest_of entries) candidate entries (not_below_alike candidate.stamp (latest_of entries) parts.0) up_to ∙ passing.0)
-            (ap (leb least) (order_at_top candidate parts.0) ∙ parts.1),
+            (ap (λ order. not candidate.stamp.barrier && leb least order) (order_at_top candidate parts.0) ∙ parts.1),
       )
 
   top_from : (candidate : Candidate) → same_stamp candidate.stamp (latest_of entries) ≡ true → holds candidate repairable ≡ true → holds candidate tops ≡ true
   top_from candidate top holding =
-      let passing : (holds candidate (candidates_of entries) ≡ true) × (leb least (order_of candidate entries) ≡ true) =
-      holds-filter (λ other. leb least (order_of other entries)) candidate (candidates_of entries) holding in
+      let passing : (holds candidate (candidates_of entries) ≡ true) × (is_repairable candidate ≡ true) =
+      holds-filter is_repairable candidate (candidates_of entries) holding in
       holds_in_filter (is_last_of entries (latest_of entries) least) candidate (map (λ (entry : ObjectHistory). last entry.candidates) entries)
       (sym (holds_tops (latest_of entries) candidate entries (not_below_alike candidate.stamp (latest_of entries) top) up_to) ∙ passing.0)
-      (and_from _ _ top (ap (leb least) (sym (order_at_top candidate top)) ∙ passing.1))
+      (and_from _ _ top (ap (λ order. not candidate.stamp.barrier && leb least order) (sym (order_at_top candidate top)) ∙ passing.1))
 
   not_above_latest : (candidate : Candidate) → holds candidate repairable ≡ true → is_below (latest_of entries) candidate.stamp ≡ false
   unfolding latest_of
   not_above_latest candidate holding =
       not_below_latest (candidates_of entries) candidate
-      (holds-filter (λ other. leb least (order_of other entries)) candidate (candidates_of entries) holding).0
+      (holds-filter is_repairable candidate (candidates_of entries) holding).0
 
   -- the greatest at the top is the greatest of all
   greatest_at_top : (best : Candidate) → IsGreatest best tops → IsGreatest best repairable
@@ -239,3 +241,30 @@ pub method_at_full : (bounds : ℕ) (entries : List ObjectHistory) (stamp : Stam
 method_at_full bounds entries stamp least candidate is_latest up_to is_repair found full =
     method_at_some bounds entries stamp least candidate is_latest up_to is_repair found ∙
     ap (λ test. cond test (Some candidate) None) (le-leb (quorum bounds) (times_last candidate entries) full)
+
+-- what is of class METHOD has no barrier
+if_method_found : (bounds : ℕ) (entries : List ObjectHistory) (found : Option Candidate) (candidate : Candidate) → if_method bounds entries found ≡ Some candidate → found ≡ Some candidate
+unfolding if_method
+if_method_found bounds entries None candidate given = given
+if_method_found bounds entries (Some other) candidate given =
+    elim (cases_Bool (same_stamp other.stamp (latest_of entries) && leb (quorum bounds) (order_of other entries))) [
+      | inl passes ↦ sym (ap (λ test. cond test (Some other) None) passes) ∙ given
+      | inr fails ↦ absurd (let no : None ≡ Some candidate = sym (ap (λ test. cond test (Some other) None) fails) ∙ given in cc)
+    ]
+
+plain_test : (barrier rest : Bool) → not barrier && rest ≡ true → barrier ≡ false
+plain_test false rest passes = refl
+plain_test true rest passes = absurd (false≢true passes)
+
+pub method_at_plain : (bounds : ℕ) (entries : List ObjectHistory) (candidate : Candidate) → method_at bounds entries ≡ Some candidate → candidate.stamp.barrier ≡ false
+unfolding method_at object_candidate
+method_at_plain bounds entries candidate given =
+    let test : Candidate → Bool = λ (other : Candidate). not other.stamp.barrier && leb (repair bounds) (order_of other entries) in
+    let is_found : greatest (filter test (candidates_of entries)) ≡ Some candidate = if_method_found bounds entries (greatest (filter test (candidates_of entries))) candidate given in
+    elim (greatest_cases (filter test (candidates_of entries))) [
+      | inl none ↦ absurd (let no : Some candidate ≡ None = sym is_found ∙ none.0 in cc)
+      | inr found ↦
+          let equal : found.0 ≡ candidate = (let both : Some found.0 ≡ Some candidate = sym found.1 ∙ is_found in cc) in
+          ap (λ (other : Candidate). other.stamp.barrier) (sym equal)
+          ∙ plain_test (found.0).stamp.barrier (leb (repair bounds) (order_of found.0 entries)) (holds-filter test found.0 (candidates_of entries) (found.2).held).1
+    ]

@@ -1,11 +1,13 @@
 -- In a history the last stamp is the greatest, and a candidate with a stamp above it may follow.
-use Rattle.std.proofs.Common.{◌≡◌, ◌<◌, ◌-◌, List, [], ◌∷◌, ◌++◌, length, get_or, true, false, ◌||◌, cond, IsTrue, refl, sym, ap, ◌∙◌, arith, sub-one}
+use Rattle.std.proofs.Common.{◌≡◌, ◌<◌, ◌≤◌, ◌-◌, List, [], ◌∷◌, ◌++◌, length, get_or, true, false, ◌||◌, cond, IsTrue, refl, sym, ap, ◌∙◌, arith, sub-one}
 use Rattle.std.proofs.lemmas.Bool.{false≢true, and_parts, and_from, or_left, or_right}
+use Rattle.std.proofs.lemmas.List.{length_push}
 use Rattle.std.proofs.lemmas.List.Folds.{list_any-append}
-use Rattle.qu_stamp.proofs.Order.{same-self, equal_by_same}
+use Rattle.qu_stamp.proofs.Order.{is_below-self, same-self, equal_by_same}
 use Rattle.qu_stamp.specs.declared.candidate.Candidate.{Candidate}
 use Rattle.qu_stamp.specs.Stamp.{opening_stamp, is_below}
 use Rattle.qu_stamp.specs.Candidate.{opening, same}
+use Rattle.qu_history.specs.declared.history.TheConstants.{HISTORY_LIMIT}
 use Rattle.qu_history.specs.History.{rises_from, is_history, greatest_stamp, latest, holds, last_from, last}
 
 -- of rising stamps the last is the greatest
@@ -53,7 +55,7 @@ length_above_zero (first ∷ later) history = omega arith
 
 pub is_history_opening : IsTrue (is_history (opening ∷ []))
 unfolding is_history rises_from
-is_history_opening = refl
+is_history_opening = and_from _ _ (same-self opening) refl
 
 -- the last candidate of a history has its greatest stamp
 pub latest_is_last : (candidates : List Candidate) → IsTrue (is_history candidates) → latest candidates ≡ (last candidates).stamp
@@ -62,6 +64,7 @@ latest_is_last [] history = absurd (false≢true history)
 latest_is_last (first ∷ later) history =
     let parts : (first ≡ opening) × (rises_from first.stamp later ≡ true) = history_parts first later history in
     ap (λ (start : Candidate). greatest_stamp opening_stamp (start ∷ later)) parts.0 ∙
+    ap (λ above. greatest_stamp (cond above opening_stamp opening_stamp) later) (is_below-self opening_stamp) ∙
     ap (λ (start : Candidate). greatest_stamp start.stamp later) (sym parts.0) ∙
     greatest_stamp-rising first later parts.1
 
@@ -91,3 +94,9 @@ holds_pushed candidate candidates =
 
 pub holds_still : (held candidate : Candidate) (candidates : List Candidate) → holds held candidates ≡ true → holds held (candidates ++ candidate ∷ []) ≡ true
 holds_still held candidate candidates before = holds_push held candidate candidates ∙ or_left _ _ before
+
+-- a history with a candidate more, which has room
+pub history_push : (candidates pushed : List Candidate) (candidate : Candidate) → pushed ≡ candidates ++ candidate ∷ [] → IsTrue (is_history candidates)
+    → is_below (latest candidates) candidate.stamp ≡ true → length candidates < HISTORY_LIMIT → IsTrue (is_history pushed) × (length pushed ≤ HISTORY_LIMIT)
+history_push candidates pushed candidate is history above room =
+    (rw is (is_history_push candidates candidate history above), omega (arith, ap length is, length_push candidates candidate))

@@ -1,7 +1,9 @@
 -- How tests and look-ups go along the objects of some sets, and along the entries of an object.
-use Rattle.std.proofs.Common.{◌≡◌, ◌+◌, ◌<◌, ◌≤◌, ℕ, List, [], ◌∷◌, true, false, ◌&&◌, cond, eqb, leb, ltb, IsTrue, sym, ap, subst, inl, inr, ◌∙◌, drop, length, get_or, arith}
+use Rattle.std.proofs.Common.{◌≡◌, ◌+◌, ◌<◌, ◌≤◌, ℕ, List, [], ◌∷◌, true, false, ◌&&◌, cond, eqb, leb, ltb, IsTrue, sym, ap, subst, inl, inr, ◌∙◌, drop, length, get_or, All, arith}
 use Rattle.std.proofs.lemmas.Bool.{cases_Bool, and_parts, and_from, and_left, and_right, leb-true, ltb-true, lt-ltb, le-ltb, le-leb, lt-leb}
 use Rattle.std.proofs.lemmas.List.{drop_more, drop_all}
+use Rattle.std.specs.List.{AllByRecursion}
+use Rattle.std.proofs.lemmas.List.Elements.{All-from_recursion}
 use Rattle.qu_base.specs.declared.party.ObjectId.{ObjectId}
 use Rattle.qu_history.specs.declared.sets.SetOf.{SetOf}
 use Rattle.qu_history.specs.History.{ObjectHistory}
@@ -89,6 +91,26 @@ length_entries_of object least (set ∷ later) passes =
 pub few_entries : (object : ObjectId) (sets : List SetOf) → IsTrue (are_sets sets) → length (entries_of object sets) ≤ 16
 unfolding are_sets
 few_entries object sets passes = length_entries_of object 0 sets (and_parts _ _ passes).1
+
+pub few_sets : (sets : List SetOf) → IsTrue (are_sets sets) → length sets ≤ 8
+unfolding are_sets
+few_sets sets passes =
+    let parts = and_parts (ltb 0 (length sets) && leb (length sets) 8) (are_sets_from 0 sets) passes in
+    leb-true (length sets) 8 (and_parts (ltb 0 (length sets)) (leb (length sets) 8) parts.0).1
+
+few_from : (least : ℕ) (sets : List SetOf) → are_sets_from least sets ≡ true → AllByRecursion (λ set. length set.entries ≤ 16) sets
+unfolding are_sets_from
+few_from least [] passes = tt
+few_from least (set ∷ later) passes =
+    let parts : (is_set least set ≡ true) × (are_sets_from ((set.object).0 + 1) later ≡ true) = and_parts _ _ passes in
+    let entries : are_entries set.object 0 set.entries ≡ true = (and_parts (leb least (set.object).0 && ltb (set.object).0 64) (are_entries set.object 0 set.entries) parts.0).1 in
+    let own : length set.entries + 0 ≤ 16 = length_entries set.object 0 set.entries (omega arith) entries in
+    (omega arith, few_from ((set.object).0 + 1) later parts.1)
+
+-- each object of the sets has at most 16 entries
+pub few_entries_each : (sets : List SetOf) → IsTrue (are_sets sets) → All (λ set. length set.entries ≤ 16) sets
+unfolding are_sets
+few_entries_each sets passes = All-from_recursion (λ set. length set.entries ≤ 16) sets (few_from 0 sets (and_parts _ _ passes).1)
 
 module _ (object : ObjectId) (sets : List SetOf) (index : ℕ) (so_far : entries_of object sets ≡ entries_of object (drop index sets)) where
   -- a look-up that has seen all objects

@@ -1,11 +1,10 @@
 -- The greatest stamp of some candidates is above none of the others, and joins over their lists.
-use Rattle.std.proofs.Common.{◌≡◌, List, [], ◌∷◌, ◌++◌, true, false, cond, IsTrue, refl, sym, ap, ◌∙◌, inl, inr, arith}
+use Rattle.std.proofs.Common.{◌≡◌, List, [], ◌∷◌, ◌++◌, true, false, cond, IsTrue, refl, sym, ap, ◌∙◌, inl, inr}
 use Rattle.std.proofs.lemmas.Bool.{false≢true, cases_Bool, or_cases, or_left, or_right, and_parts}
-use Rattle.std.proofs.lemmas.Bool.Decides.{nat_tests}
-use Rattle.qu_stamp.proofs.Order.{is_below-self, is_below-chain, is_below-not_chain, is_below-opening, equal_by_same, same-self}
+use Rattle.qu_stamp.proofs.Order.{is_below-self, is_below-chain, is_below-not_back, is_below-other, is_below-not_chain, is_below-opening, equal_by_same_stamp, equal_by_same, same-self}
 use Rattle.qu_stamp.specs.declared.stamp.Stamp.{Stamp}
 use Rattle.qu_stamp.specs.declared.candidate.Candidate.{Candidate}
-use Rattle.qu_stamp.specs.Stamp.{opening_stamp, is_below}
+use Rattle.qu_stamp.specs.Stamp.{opening_stamp, is_below, same_stamp}
 use Rattle.qu_stamp.specs.Candidate.{same}
 use Rattle.qu_history.specs.History.{rises_from, is_history, greater_stamp, greatest_stamp, latest, holds, last_from, last}
 use Rattle.qu_history.proofs.Rising.{history_parts, latest_is_last}
@@ -34,14 +33,33 @@ greater_stamp_assoc a b c =
       ]
     ]
 
+equal_by_order : (a b : Stamp) → is_below a b ≡ false → is_below b a ≡ false → a ≡ b
+equal_by_order a b ab ba =
+    elim (cases_Bool (same_stamp a b)) [
+      | inl alike ↦ equal_by_same_stamp a b alike
+      | inr unlike ↦ absurd (false≢true (sym ba ∙ is_below-other a b ab unlike))
+    ]
+
 opening_greater : (a : Stamp) → greater_stamp opening_stamp a ≡ a
-opening_greater a = grind (arith, nat_tests)
+opening_greater a =
+    elim (cases_Bool (is_below opening_stamp a)) [
+      | inl below ↦ greater_second opening_stamp a below
+      | inr not_below ↦ greater_first opening_stamp a not_below ∙ equal_by_order opening_stamp a not_below (is_below-opening a)
+    ]
 
 pub not_below_greater_left : (a b : Stamp) → is_below (greater_stamp a b) a ≡ false
-not_below_greater_left a b = grind (arith, nat_tests)
+not_below_greater_left a b =
+    elim (cases_Bool (is_below a b)) [
+      | inl below ↦ ap (λ stamp. is_below stamp a) (greater_second a b below) ∙ is_below-not_back a b below
+      | inr not_below ↦ ap (λ stamp. is_below stamp a) (greater_first a b not_below) ∙ is_below-self a
+    ]
 
 pub not_below_greater_right : (a b : Stamp) → is_below (greater_stamp a b) b ≡ false
-not_below_greater_right a b = grind (arith, nat_tests)
+not_below_greater_right a b =
+    elim (cases_Bool (is_below a b)) [
+      | inl below ↦ ap (λ stamp. is_below stamp b) (greater_second a b below) ∙ is_below-self b
+      | inr not_below ↦ ap (λ stamp. is_below stamp b) (greater_first a b not_below) ∙ not_below
+    ]
 
 -- what a list adds is its own greatest stamp
 greatest_stamp_from : (stamp : Stamp) (candidates : List Candidate) → greatest_stamp stamp candidates ≡ greater_stamp stamp (latest candidates)

@@ -1,5 +1,5 @@
 -- What the last candidates of the entries of an object tell.
-use Rattle.std.specs.Prelude.{ℕ, Bool, ◌≡◌, false, ◌&&◌, nat_le, List, map, filter, count_by, Option, None, Some, IsTrue}
+use Rattle.std.specs.Prelude.{ℕ, Bool, ◌≡◌, false, not, ◌&&◌, nat_le, List, map, filter, count_by, Option, None, Some, IsTrue}
 use Rattle.qu_stamp.specs.declared.stamp.Stamp.{Stamp}
 use Rattle.qu_stamp.specs.declared.candidate.Candidate.{Candidate}
 use Rattle.qu_stamp.specs.Stamp.{is_below, same_stamp}
@@ -16,12 +16,12 @@ pub record IsEntryUpTo (stamp : Stamp) (entry : ObjectHistory) : Type 0 where
 unfoldable pub times_last : Candidate → List ObjectHistory → ℕ
 times_last candidate entries = count_by (λ entry. same (last entry.candidates) candidate) entries
 
--- whether the candidate has this stamp, and so many of the entries end with it
+-- whether the candidate has this stamp and no barrier, and so many of the entries end with it
 abbrev pub is_last_of : List ObjectHistory → Stamp → ℕ → Candidate → Bool
 is_last_of entries stamp least candidate =
-    same_stamp candidate.stamp stamp && nat_le least (times_last candidate entries)
+    same_stamp candidate.stamp stamp && (not candidate.stamp.barrier && nat_le least (times_last candidate entries))
 
--- the greatest candidate with this stamp with which so many of the entries end
+-- the greatest candidate with this stamp, without barrier, with which so many of the entries end
 unfoldable pub greatest_last : List ObjectHistory → Stamp → ℕ → Option Candidate
 greatest_last entries stamp least =
     greatest (filter (is_last_of entries stamp least) (map (λ entry. last entry.candidates) entries))

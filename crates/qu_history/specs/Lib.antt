@@ -1,3 +1,5 @@
 pub mod History
 pub mod Sets
 pub mod Lasts
+pub mod Forms
+pub mod Text

@@ -1,6 +1,6 @@
 -- The sets of a request: for each of its objects the histories that some replicas showed of it,
 -- and what they say together.
-use Rattle.std.specs.Prelude.{ℕ, Bool, true, ◌+◌, ◌==◌, ◌&&◌, nat_lt, nat_le, if◌then◌else◌, List, [], ◌∷◌, length, filter, count_by, Option, None, Some}
+use Rattle.std.specs.Prelude.{ℕ, Bool, true, not, ◌+◌, ◌==◌, ◌&&◌, nat_lt, nat_le, if◌then◌else◌, List, [], ◌∷◌, length, filter, count_by, Option, None, Some}
 use Rattle.std.specs.List.{flat_map}
 use Rattle.qu_base.specs.declared.party.ObjectId.{ObjectId}
 use Rattle.qu_base.specs.Thresholds.{quorum, repair}
@@ -64,10 +64,10 @@ unfoldable pub greatest : List Candidate → Option Candidate
 greatest [] = None
 greatest (candidate ∷ later) = Some (greatest_from candidate later)
 
--- the greatest candidate of an order that may be repaired
+-- the greatest candidate without barrier of an order that may be repaired
 unfoldable pub object_candidate : ℕ → List ObjectHistory → Option Candidate
 object_candidate bounds entries =
-    greatest (filter (λ candidate. nat_le (repair bounds) (order_of candidate entries)) (candidates_of entries))
+    greatest (filter (λ candidate. not candidate.stamp.barrier && nat_le (repair bounds) (order_of candidate entries)) (candidates_of entries))
 
 -- the candidate, where it has the latest stamp and a quorum holds it
 unfoldable pub if_method : ℕ → List ObjectHistory → Option Candidate → Option Candidate

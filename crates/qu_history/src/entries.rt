@@ -34,7 +34,8 @@ pub fn latest_of(entries: &[History]) -> Stamp
     latest
 }
 
-/// The candidate of class METHOD of the object of these entries.
+/// The candidate of class METHOD of the object of these entries; none where the latest stamp is a
+/// barrier's.
 ///
 /// Since stamps rise in each entry, only last candidates have the latest stamp.
 #[tactic(auto, using(crate::proofs::Method::method_at_none, crate::proofs::Method::method_at_short, crate::proofs::Method::method_at_full))]
@@ -50,7 +51,7 @@ pub fn method_at(entries: &[History], bounds: &Bounds) -> Option<Candidate>
 }
 
 /// How many of the entries end with the candidate.
-#[tactic(auto, unfolding(crate::specs::Lasts::times_last))]
+#[tactic(auto, unfolding(crate::specs::Lasts::times_last, qu_stamp::specs::Stamp::same_stamp))]
 fn times_last(entries: &[History], candidate: &Candidate) -> usize
     ensures { result ≡ times_last candidate.now entries.now }
 {
@@ -60,14 +61,17 @@ fn times_last(entries: &[History], candidate: &Candidate) -> usize
         .count()
 }
 
-/// Whether the candidate has this stamp, and at least so many of the entries end with it.
+/// Whether the candidate has this stamp and no barrier, and at least so many of the entries end with
+/// it.
+#[tactic(auto, unfolding(qu_stamp::specs::Stamp::same_stamp))]
 fn is_last_of(entries: &[History], stamp: Stamp, least: usize, candidate: &Candidate) -> bool
     ensures { result ≡ is_last_of entries.now stamp least candidate.now }
 {
-    candidate.stamp == stamp && times_last(entries, candidate) >= least
+    candidate.stamp == stamp && !candidate.stamp.barrier && times_last(entries, candidate) >= least
 }
 
-/// The greatest candidate with this stamp with which at least so many of the entries end.
+/// The greatest candidate with this stamp, without barrier, with which at least so many of the
+/// entries end.
 #[tactic(auto, unfolding(crate::specs::Lasts::greatest_last), using(crate::proofs::Greatest::greatest_none, crate::proofs::Greatest::greatest_more))]
 fn greatest_last(entries: &[History], stamp: Stamp, least: usize) -> Option<Candidate>
     ensures { result ≡ greatest_last entries.now stamp least }

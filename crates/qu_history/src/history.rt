@@ -2,9 +2,13 @@ ghost use Rattle.std.specs.Prelude.{◌≡◌, ◌<◌, ◌≤◌, ◌↔◌, le
 ghost use Rattle.qu_stamp.specs.declared.stamp.Stamp.{Stamp};
 ghost use Rattle.qu_stamp.specs.Candidate.{opening};
 ghost use Rattle.qu_stamp.specs.Stamp.{is_below};
+ghost use Rattle.qu_base.specs.Front.{Extends};
+ghost use Rattle.qu_base.specs.Reading.{Gives, IsGiven};
 ghost use Rattle.qu_history.specs.History.{is_history, latest, holds, last};
+ghost use Rattle.qu_history.specs.Forms.{history_form};
 
-use qu_base::{List, NoMemory, ObjectId, ReplicaId};
+use super::reading::candidates_at;
+use qu_base::{Cursor, List, NoMemory, ObjectId, Outbytes, ReadFail, ReplicaId};
 use qu_stamp::{Candidate, Stamp};
 use std::alloc::Global;
 use std::marker::Model;
@@ -41,14 +45,15 @@ pub struct History {
 }
 
 impl Model for History {
-    ghost use Rattle.std.specs.Prelude.{IsTrue};
+    ghost use Rattle.std.specs.Prelude.{IsTrue, length, ◌≤◌};
+    ghost use Rattle.qu_history.specs.declared.history.TheConstants.{HISTORY_LIMIT};
     ghost use Rattle.qu_history.specs.History.{ObjectHistory, is_history};
 
     ghost Value = { ObjectHistory };
 
     ghost view = { λ history. record { object = history.object; replica = history.replica; candidates = history.candidates } };
 
-    ghost invariant = { λ history. IsTrue (is_history history.candidates) };
+    ghost invariant = { λ history. IsTrue (is_history history.candidates) × (length history.candidates ≤ HISTORY_LIMIT) };
 }
 
 impl History {
@@ -109,6 +114,7 @@ impl History {
     }
 
     /// Whether the candidate stands in it.
+    #[tactic(auto, unfolding(qu_stamp::specs::Stamp::same_stamp))]
     pub fn holds(&self, candidate: &Candidate) -> bool
         ensures { result ≡ holds candidate.now self.now.candidates }
     {
@@ -117,7 +123,8 @@ impl History {
 
     /// How many candidates it holds, the opening candidate among them.
     pub fn len(&self) -> usize
-        ensures { result ≡ length self.now.candidates }
+        ensures value { result ≡ length self.now.candidates }
+        ensures most { result ≤ HISTORY_LIMIT }
     {
         self.candidates.len()
     }
@@ -154,5 +161,45 @@ impl History {
             replica: self.replica,
             candidates,
         })
+    }
+
+    /// The history at the front of a text. After a refusal, and without memory, the text is as before.
+    #[tactic(auto, using(crate::proofs::Forms::history_read))]
+    pub fn read(alloc: Global, text: &mut Cursor) -> Result<History, ReadFail>
+        ensures read { IsGiven history_form result text.old text.new }
+        ensures kept { OnErr result (text.new ≡ text.old) }
+    {
+        text.are_bytes();
+        let mut ahead = text.ahead();
+        let history = History::at(alloc, &mut ahead)?;
+        *text = ahead;
+        Ok(history)
+    }
+
+    #[tactic(auto, unfolding(crate::specs::Forms::history_form))]
+    fn at(alloc: Global, text: &mut Cursor) -> Result<History, ReadFail>
+        ensures { Gives history_form result text.old text.new }
+    {
+        let object = text.object()?;
+        let replica = text.replica()?;
+        let candidates = candidates_at(alloc, text)?;
+        Ok(History {
+            object,
+            replica,
+            candidates,
+        })
+    }
+
+    /// Appends the one spelling of the history. Without memory the text stays as it is.
+    pub fn write(&self, out: &mut Outbytes) -> Result<(), NoMemory>
+        ensures ok { OnOk result (out.new ≡ out.old ++ history_form.spell self.now) }
+        ensures err { OnErr result (out.new ≡ out.old) }
+    {
+        let length = out.len();
+        let written = self.append(out);
+        if written.is_err() {
+            out.rewind(length);
+        }
+        written
     }
 }

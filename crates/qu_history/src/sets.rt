@@ -10,6 +10,9 @@ use std::marker::Model;
 /// The most objects in one set of histories.
 pub const OBJECTS_LIMIT: usize = 8;
 
+/// The most objects that the sets of a request have in a text so far; operations have one part yet.
+pub const SETS_YET: u8 = 1;
+
 /// Objects are counted from 0 to below this.
 pub const OBJECT_IDS: u16 = 64;
 
@@ -124,7 +127,7 @@ impl Sets {
         Some(entries::latest_of(entries))
     }
 
-    /// The candidate of class METHOD of the object: an operation may rest upon it.
+    /// The candidate of class METHOD of the object: an operation may rest upon it. It is no barrier.
     pub fn method_at(&self, object: ObjectId, bounds: &Bounds) -> Option<Candidate>
         ensures { result ≡ method_at bounds.now (entries_of object self.now) }
     {

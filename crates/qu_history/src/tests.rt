@@ -1,5 +1,7 @@
+mod bytes;
+
 use super::*;
-use qu_base::{Bounds, ClientId, List, ObjectId, ReplicaId};
+use qu_base::{Bounds, ClientId, Digest, List, ObjectId, ReplicaId};
 use qu_stamp::{Candidate, Stamp};
 use std::alloc::Global;
 use std::test::Fail;
@@ -9,8 +11,10 @@ const OBJECT: ObjectId = ObjectId(5);
 fn stamp_at(time: u64, client: u16) -> Stamp {
     Stamp {
         time,
+        barrier: false,
         client: ClientId(client),
-        number: 1,
+        act: Some(Digest([1; 32])),
+        set: Digest([2; 32]),
     }
 }
 
@@ -22,18 +26,31 @@ fn update_by(client: u16) -> Candidate {
     }
 }
 
-/// Puts so many histories at the end of the entries, each with the update where there is one.
+/// A barrier of client 1 above the update of client 1.
+fn barrier() -> Candidate {
+    Candidate {
+        stamp: Stamp {
+            barrier: true,
+            act: None,
+            ..stamp_at(2, 1)
+        },
+        prior: stamp_at(1, 1),
+    }
+}
+
+/// Puts so many histories at the end of the entries, each with these candidates above the opening
+/// one.
 fn put(
     alloc: Global,
     entries: &mut List<History>,
     count: u8,
-    update: Option<Candidate>,
+    candidates: &[Candidate],
 ) -> Result<(), Fail> {
     for _ in 0..count {
         let replica = u8::try_from(entries.len()).ok().ok_or("replicas")?;
         let mut history = History::opening(alloc, OBJECT, ReplicaId(replica))?;
-        if let Some(candidate) = update {
-            history.add(candidate)?;
+        for candidate in candidates {
+            history.add(*candidate)?;
         }
         entries.push(history)?;
     }
@@ -44,9 +61,22 @@ fn put(
 /// and with the opening candidate.
 fn sets_of(alloc: Global, first: u8, second: u8, opening: u8) -> Result<Sets, Fail> {
     let mut entries = List::new(alloc);
-    put(alloc, &mut entries, first, Some(update_by(1)))?;
-    put(alloc, &mut entries, second, Some(update_by(2)))?;
-    put(alloc, &mut entries, opening, None)?;
+    put(alloc, &mut entries, first, &[update_by(1)])?;
+    put(alloc, &mut entries, second, &[update_by(2)])?;
+    put(alloc, &mut entries, opening, &[])?;
+    one_object(alloc, entries)
+}
+
+/// One object with so many histories that end with the update of client 1, and with the barrier above
+/// it.
+fn sets_with_barrier(alloc: Global, plain: u8, barred: u8) -> Result<Sets, Fail> {
+    let mut entries = List::new(alloc);
+    put(alloc, &mut entries, plain, &[update_by(1)])?;
+    put(alloc, &mut entries, barred, &[update_by(1), barrier()])?;
+    one_object(alloc, entries)
+}
+
+fn one_object(alloc: Global, entries: List<History>) -> Result<Sets, Fail> {
     let mut objects = List::new(alloc);
     objects.push(SetOf {
         object: OBJECT,
@@ -77,6 +107,27 @@ fn method_wants_a_quorum_at_the_latest_stamp(rt: HostRuntime) -> Result<(), Fail
         );
         assert_eq!(rt; sets.count(OBJECT, &update_by(1)), first);
         assert_eq!(rt; sets.count(OBJECT, &update_by(2)), second);
+    }
+    Ok(())
+}
+
+#[test]
+fn no_barrier_is_of_class_method(rt: HostRuntime) -> Result<(), Fail> {
+    let bounds = Bounds::new(1).ok().ok_or("bounds")?;
+    let cases = [
+        (6, 0, Some(update_by(1))),
+        (5, 1, None),
+        (1, 5, None),
+        (0, 6, None),
+    ];
+    for (plain, barred, expected) in cases {
+        let sets = sets_with_barrier(rt.alloc(), plain, barred)?;
+        assert_eq!(rt;
+            sets.method_at(OBJECT, &bounds),
+            expected,
+            "{plain} {barred}"
+        );
+        assert_eq!(rt; sets.count(OBJECT, &barrier()), barred);
     }
     Ok(())
 }

@@ -1,6 +1,6 @@
 -- The kinds of objects: what an update makes of a value, and what a question tells of it.
 -- A counter is a number below 2^64, first 0. An update answers the new value, a read the value.
-use Rattle.std.specs.Prelude.{ℕ, ◌+◌, ◌-◌, ◌^◌, nat_lt, if◌then◌else◌}
+use Rattle.std.specs.Prelude.{◌+◌, ◌-◌, ◌^◌, nat_lt, if◌then◌else◌}
 use Rattle.qu_objects.specs.declared.act.Method.{Method}
 use Rattle.qu_objects.specs.declared.act.Method.TheVariants.{Add, Take}
 use Rattle.qu_objects.specs.declared.query.Ask.{Ask}

@@ -1,3 +1,5 @@
 pub mod Parts
 pub mod Kind
 pub mod Perform
+pub mod Forms
+pub mod Text

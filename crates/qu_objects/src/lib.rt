@@ -1,18 +1,38 @@
-//! What is done to objects and asked of them, and what that answers.
+//! What is done to objects and asked of them, what that answers, and the bytes of all this.
 #![tactic(auto)]
 
 mod act;
 mod answer;
+mod digesting;
+mod formats;
 mod kind;
+mod limits;
 mod op;
 mod performing;
 mod query;
+mod reading;
+mod reading_answer;
+mod reading_parts;
 mod state;
+mod writing;
+mod writing_answer;
+mod writing_parts;
 
 pub use act::{Act, BadParts, Method};
 pub use answer::{Answer, Item, OVER, UNDER};
+pub use digesting::act_digest;
+pub use formats::formats_are_exact;
 pub use kind::{Applied, KindName, Value};
+pub use limits::MOST_PARTS;
 pub use op::{Op, Outcome};
 pub use performing::{Performed, perform, tell_all};
 pub use query::{Ask, Query};
+pub use reading_answer::read_answer;
+pub use reading_parts::{read_act, read_query};
 pub use state::ObjState;
+pub use writing::{write_ask, write_method};
+pub use writing_answer::write_answer;
+pub use writing_parts::{write_act, write_query};
+
+#[cfg(test)]
+mod tests;

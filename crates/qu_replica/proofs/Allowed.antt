@@ -1,15 +1,15 @@
 -- What a replica decides upon a request with one part, it may accept.
 use Rattle.std.proofs.Common.{◌≡◌, ℕ, ◌+◌, ◌<◌, ◌≤◌, Bool, true, false, cond, IsTrue, List, [], ◌∷◌, length, Option, None, Some, inl, inr, refl, sym, subst, ap, ◌∙◌, arith}
 use Rattle.std.specs.Prelude.{◌==◌, nat_le, find, option_map}
-use Rattle.std.proofs.lemmas.Bool.{false≢true, leb-false, cases_Bool, eqb-true}
+use Rattle.std.proofs.lemmas.Bool.{false≢true, leb-false, cases_Bool, cases_lt, eqb-true}
 use Rattle.std.proofs.lemmas.Option.{none-some, same_Some}
-use Rattle.std.proofs.lemmas.Bool.Decides.{nat_tests}
 use Rattle.qu_base.specs.declared.party.ClientId.{ClientId}
 use Rattle.qu_base.specs.declared.party.ObjectId.{ObjectId}
 use Rattle.qu_stamp.specs.declared.stamp.Stamp.{Stamp}
 use Rattle.qu_stamp.specs.declared.stamp.TheConstants.{LAST_TIME}
 use Rattle.qu_stamp.specs.declared.candidate.Candidate.{Candidate}
 use Rattle.qu_stamp.specs.Stamp.{is_below}
+use Rattle.qu_stamp.proofs.Order.{is_below_by_time}
 use Rattle.qu_history.specs.declared.sets.SetOf.{SetOf}
 use Rattle.qu_history.specs.declared.history.TheConstants.{HISTORY_LIMIT}
 use Rattle.qu_history.specs.History.{ObjectHistory, latest}
@@ -29,7 +29,7 @@ use Rattle.qu_frames.specs.declared.verdict.Verdict.TheVariants.{Done}
 use Rattle.qu_replica.specs.declared.decision.Decision.{Decision}
 use Rattle.qu_replica.specs.declared.decision.Decision.TheVariants.{Answers, Waits}
 use Rattle.qu_replica.specs.State.{ReplicaState, own_candidates, own_latest}
-use Rattle.qu_replica.specs.Rows.{Asked, refuse, base_of, shown_of, fresh_stamp, fresh_on, accepted_by, row_unknown, row_thin, row_retry, row_current, row_method, row_version, row_time, row_full, row_done, row_told, first_given, decide_act, decide_ask, decision_on}
+use Rattle.qu_replica.specs.Rows.{Asked, asked_of, refuse, base_of, shown_of, fresh_stamp, fresh_on, accepted_by, row_unknown, row_thin, row_retry, row_current, row_method, row_version, row_time, row_full, row_done, row_told, first_given, decide_act, decide_ask, decision_on}
 use Rattle.qu_replica.specs.Step.{carried_out, replica_step}
 use Rattle.qu_replica.specs.Growth.{AreHistories, MayAccept, MayAcceptAll, MayDecide, has_parts, HasParts}
 use Rattle.qu_replica.proofs.Own.{accept_all-histories}
@@ -103,9 +103,13 @@ known_by_entries number (set ∷ sets) object none some =
           (λ (empty : rest ≡ []). some (ap (λ (test : Bool). cond test set.entries rest) there ∙ empty))
     ]
 
--- a fresh stamp is above all that the replica accepted
-fresh_later : (latest own : Stamp) (asked : Asked) → is_below latest own ≡ false → is_below own (record { time = latest.time + 1; client = asked.client; number = asked.number }) ≡ true
-fresh_later latest own asked current = grind (arith, nat_tests)
+-- a stamp with the time after the latest is above all that the replica accepted
+fresh_later : (latest own fresh : Stamp) → fresh.time ≡ latest.time + 1 → is_below latest own ≡ false → is_below own fresh ≡ true
+fresh_later latest own fresh next current =
+    elim (cases_lt latest.time own.time) [
+      | inl above ↦ absurd (false≢true (sym current ∙ is_below_by_time latest own above))
+      | inr within ↦ is_below_by_time own fresh (omega arith)
+    ]
 
 answering : (state : ReplicaState) (test : Bool) (stamps : List (ObjectId × Stamp)) (kept : Option Answer) → MayGive state (cond test (option_map (λ (answer : Answer). Answers (Done stamps answer) []) kept) None)
 answering state false stamps kept decision given = absurd (none-some decision given)
@@ -150,12 +154,13 @@ may_accept_fresh : (state : ReplicaState) (asked : Asked) (object : ObjectId)
     → MayAccept state (record { object = object; candidate = fresh; state = version })
 may_accept_fresh state asked object known current in_time room fresh made version =
     let parts : (base_of state asked object ≡ None → ⊥) × (fresh.stamp ≡ fresh_stamp asked object) = made_of asked object (base_of state asked object) fresh made in
+    let next : fresh.stamp.time ≡ (latest_of (shown_of asked object)).time + 1 = ap (λ (stamp : Stamp). stamp.time) parts.1 in
     record {
       known = known_by_entries (length state.histories) asked.sets object known
           (λ empty. parts.0 (ap (λ (entries : List ObjectHistory). method_at state.bounds entries) empty ∙ method_at_none state.bounds));
-      later = ap (λ (stamp : Stamp). is_below (own_latest state object) stamp) parts.1 ∙ fresh_later (latest_of (shown_of asked object)) (own_latest state object) asked current;
+      later = fresh_later (latest_of (shown_of asked object)) (own_latest state object) fresh.stamp next current;
       room = leb-false _ _ room;
-      in_time = in_time_of (latest_of (shown_of asked object)) fresh.stamp (ap (λ (stamp : Stamp). stamp.time) parts.1) (leb-false _ _ in_time);
+      in_time = in_time_of (latest_of (shown_of asked object)) fresh.stamp next (leb-false _ _ in_time);
     }
 
 may_accept_made : (state : ReplicaState) (asked : Asked) (answer : Answer) (object : ObjectId) (values : List Value) (made : Option Candidate) → fresh_on state asked object ≡ made
@@ -225,6 +230,6 @@ carried_out-histories state client number round sets Waits own may = own
 -- a step keeps the histories as they must be
 pub step-histories : (state : ReplicaState) (received : Frame) → HasParts received → AreHistories state → AreHistories (replica_step state received).0
 step-histories state (frame.Request client number round sets asks) parts own =
-    let asked : Asked = record { client = client; number = number; sets = sets } in
+    let asked : Asked = asked_of client number sets asks in
     carried_out-histories state client number round sets (decision_on state asked asks) own (decision_on-may state asked asks parts)
 step-histories state (frame.Reply replica client number round verdict shown) parts own = own

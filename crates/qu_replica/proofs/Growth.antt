@@ -18,7 +18,7 @@ use Rattle.qu_replica.specs.declared.decision.Accepted.{Accepted}
 use Rattle.qu_replica.specs.declared.decision.Decision.{Decision}
 use Rattle.qu_replica.specs.declared.decision.Decision.TheVariants.{Answers, Waits}
 use Rattle.qu_replica.specs.State.{ReplicaState, candidates_in, own_candidates, with_candidate, accept, accept_all}
-use Rattle.qu_replica.specs.Rows.{decision_on}
+use Rattle.qu_replica.specs.Rows.{asked_of, decision_on}
 use Rattle.qu_replica.specs.Step.{carried_out, replica_step}
 use Rattle.qu_replica.specs.Versions.{version_at}
 use Rattle.qu_replica.specs.Growth.{Grows}
@@ -87,7 +87,7 @@ carried_out-grows state client number round sets Waits = grows-self state
 -- a step forgets nothing
 pub step-grows : (state : ReplicaState) (frame : Frame) → Grows state (replica_step state frame).0
 step-grows state (frame.Request client number round sets body) =
-    carried_out-grows state client number round sets (decision_on state (record { client = client; number = number; sets = sets }) body)
+    carried_out-grows state client number round sets (decision_on state (asked_of client number sets body) body)
 step-grows state (frame.Reply replica client number round verdict shown) = grows-self state
 
 -- a version stays

@@ -1,13 +1,11 @@
 -- A candidate with a time after the last is not held.
-use Rattle.std.proofs.Common.{◌≡◌, ◌+◌, ◌<◌, ◌≤◌, Bool, true, false, List, Option, None, Some, refl, sym, ◌∙◌, arith, inl, inr}
+use Rattle.std.proofs.Common.{◌≡◌, ◌+◌, ◌≤◌, Bool, true, false, List, Option, None, Some, refl, sym, ◌∙◌, arith, inl, inr}
 use Rattle.std.specs.Prelude.{slice_get, option_map}
 use Rattle.std.proofs.lemmas.Bool.{cases_Bool, cases_lt, false≢true}
-use Rattle.std.proofs.lemmas.Bool.Decides.{nat_tests}
 use Rattle.qu_base.specs.declared.party.ObjectId.{ObjectId}
-use Rattle.qu_stamp.specs.declared.stamp.Stamp.{Stamp}
 use Rattle.qu_stamp.specs.declared.stamp.TheConstants.{LAST_TIME}
 use Rattle.qu_stamp.specs.declared.candidate.Candidate.{Candidate}
-use Rattle.qu_stamp.specs.Stamp.{is_below}
+use Rattle.qu_stamp.proofs.Order.{is_below_by_time}
 use Rattle.qu_history.specs.History.{ObjectHistory, latest, holds}
 use Rattle.qu_history.specs.Sets.{latest_of}
 use Rattle.qu_history.proofs.Stamps.{not_below_latest}
@@ -16,14 +14,11 @@ use Rattle.qu_replica.specs.Rows.{Asked, base_of, shown_of, fresh_stamp, is_held
 use Rattle.qu_replica.specs.Growth.{AreHistories}
 use Rattle.qu_replica.proofs.Own.{own_history}
 
-later_time : (a b : Stamp) → a.time < b.time → is_below a b ≡ true
-later_time a b before = grind (arith, nat_tests)
-
 -- what a history of the replica holds has a time up to the last
 held_in_time : (candidates : List Candidate) (held : Candidate) → (latest candidates).time ≤ LAST_TIME → holds held candidates ≡ true → held.stamp.time ≤ LAST_TIME
 held_in_time candidates held in_time is_held =
     elim (cases_lt (latest candidates).time held.stamp.time) [
-      | inl above ↦ absurd (false≢true (sym (not_below_latest candidates held is_held) ∙ later_time (latest candidates) held.stamp above))
+      | inl above ↦ absurd (false≢true (sym (not_below_latest candidates held is_held) ∙ is_below_by_time (latest candidates) held.stamp above))
       | inr within ↦ omega arith
     ]
 

@@ -1,5 +1,5 @@
 -- The histories of a replica are its own, and they stay so when it accepts a candidate.
-use Rattle.std.proofs.Common.{◌≡◌, ℕ, zero, suc, ◌+◌, ◌≤◌, true, ◌&&◌, IsTrue, List, [], ◌∷◌, ◌++◌, Some, refl, sym, ap, ◌∙◌, arith, add-zero, zero-add}
+use Rattle.std.proofs.Common.{◌≡◌, ℕ, zero, suc, ◌+◌, ◌≤◌, Bool, true, ◌&&◌, cond, IsTrue, List, [], ◌∷◌, ◌++◌, Some, refl, sym, ap, ◌∙◌, arith, add-zero, zero-add}
 use Rattle.std.specs.Prelude.{◌==◌, nat_le, slice_get}
 use Rattle.std.proofs.lemmas.Bool.{and_parts, and_from, le-leb, leb-true, eqb-true, eq-eqb}
 use Rattle.std.proofs.lemmas.Option.{none-some, same_Some}
@@ -7,8 +7,9 @@ use Rattle.qu_base.specs.declared.party.ReplicaId.{ReplicaId}
 use Rattle.qu_stamp.specs.declared.stamp.Stamp.{Stamp}
 use Rattle.qu_stamp.specs.declared.stamp.TheConstants.{LAST_TIME}
 use Rattle.qu_stamp.specs.declared.candidate.Candidate.{Candidate}
-use Rattle.qu_stamp.specs.Stamp.{is_below}
+use Rattle.qu_stamp.specs.Stamp.{opening_stamp, is_below}
 use Rattle.qu_stamp.specs.Candidate.{opening}
+use Rattle.qu_stamp.proofs.Order.{is_below-self}
 use Rattle.qu_history.specs.History.{ObjectHistory, is_history, latest, greatest_stamp}
 use Rattle.qu_history.proofs.Rising.{is_history_opening, is_history_push, latest_push}
 use Rattle.qu_objects.specs.declared.kind.KindName.{KindName}
@@ -85,7 +86,8 @@ own_history state place history own found =
 is_own-opening : (me : ReplicaId) (number : ℕ) → is_own me number (record { object = record { 0 = number }; replica = me; candidates = opening ∷ [] }) ≡ true
 unfolding is_own greatest_stamp
 is_own-opening me number =
-    and_from _ _ (and_from _ _ (and_from _ _ (eq-eqb number number refl) (eq-eqb me.0 me.0 refl)) is_history_opening) refl
+    and_from _ _ (and_from _ _ (and_from _ _ (eq-eqb number number refl) (eq-eqb me.0 me.0 refl)) is_history_opening)
+    (ap (λ (above : Bool). nat_le (cond above opening_stamp opening_stamp).time LAST_TIME) (is_below-self opening_stamp))
 
 pub are_own_opening : (me : ReplicaId) (first : ℕ) (kinds : List KindName) → are_own me first (opening_histories me first kinds) ≡ true
 unfolding are_own opening_histories

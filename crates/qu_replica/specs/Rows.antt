@@ -2,6 +2,7 @@
 use Rattle.std.specs.Prelude.{ℕ, Bool, false, ◌+◌, nat_lt, nat_le, if◌then◌else◌, List, [], ◌∷◌, length, map, find, Option, None, Some, is_none, option_map, option_and_then}
 use Rattle.std.specs.List.{list_all, list_any, filter_map}
 use Rattle.qu_base.specs.declared.party.ClientId.{ClientId}
+use Rattle.qu_base.specs.declared.party.Digest.{Digest}
 use Rattle.qu_base.specs.declared.party.ObjectId.{ObjectId}
 use Rattle.qu_base.specs.Thresholds.{quorum}
 use Rattle.qu_stamp.specs.declared.stamp.Stamp.{Stamp}
@@ -12,12 +13,14 @@ use Rattle.qu_history.specs.declared.history.TheConstants.{HISTORY_LIMIT}
 use Rattle.qu_history.specs.declared.sets.SetOf.{SetOf}
 use Rattle.qu_history.specs.History.{ObjectHistory, holds}
 use Rattle.qu_history.specs.Sets.{entries_of, latest_of, method_at}
+use Rattle.qu_history.specs.Text.{sets_digest}
 use Rattle.qu_objects.specs.declared.act.Method.{Method}
 use Rattle.qu_objects.specs.declared.query.Ask.{Ask}
 use Rattle.qu_objects.specs.declared.answer.Answer.{Answer}
 use Rattle.qu_objects.specs.declared.kind.Value.{Value}
 use Rattle.qu_objects.specs.declared.state.ObjState.{ObjState}
 use Rattle.qu_objects.specs.Perform.{performed_answer, performed_values, told_answer}
+use Rattle.qu_objects.specs.Text.{act_digest}
 use Rattle.qu_frames.specs.declared.frame.Body.{Body}
 use Rattle.qu_frames.specs.declared.frame.Body.TheVariants as body
 use Rattle.qu_frames.specs.declared.verdict.ClassCode.TheVariants.{Barrier}
@@ -35,6 +38,19 @@ pub record Asked : Type 0 where
   pub client : ClientId
   pub number : ℕ
   pub sets : List SetOf
+  -- the digest of the act that is asked for, none of a query
+  pub act : Option Digest
+  -- the digest of the sets
+  pub set : Digest
+
+abbrev pub act_asked : ClientId → ℕ → Body → Option Digest
+act_asked client number (body.Act parts) = Some (act_digest client number parts)
+act_asked client number (body.Ask parts) = None
+
+-- the request with its digests
+abbrev pub asked_of : ClientId → ℕ → List SetOf → Body → Asked
+asked_of client number sets body =
+    record { client = client; number = number; sets = sets; act = act_asked client number body; set = sets_digest sets }
 
 -- nothing is accepted
 abbrev pub refuse : Refusal → Decision
@@ -53,10 +69,10 @@ abbrev pub base_version : ReplicaState → Asked → ObjectId → Option ObjStat
 base_version state asked object =
     option_and_then (λ base. version_at object base.stamp state.versions) (base_of state asked object)
 
--- a fresh stamp has the time after the latest
+-- a fresh stamp has the time after the latest, and the digests of the act and of the sets
 abbrev pub fresh_stamp : Asked → ObjectId → Stamp
 fresh_stamp asked object =
-    record { time = (latest_of (shown_of asked object)).time + 1; client = asked.client; number = asked.number }
+    record { time = (latest_of (shown_of asked object)).time + 1; barrier = false; client = asked.client; act = asked.act; set = asked.set }
 
 -- the candidate that the act makes on an object
 abbrev pub fresh_on : ReplicaState → Asked → ObjectId → Option Candidate

@@ -12,7 +12,7 @@ use Rattle.qu_frames.specs.declared.verdict.Verdict.{Verdict}
 use Rattle.qu_replica.specs.declared.decision.Decision.{Decision}
 use Rattle.qu_replica.specs.declared.decision.Decision.TheVariants.{Answers, Waits}
 use Rattle.qu_replica.specs.State.{ReplicaState, accept_all}
-use Rattle.qu_replica.specs.Rows.{decision_on}
+use Rattle.qu_replica.specs.Rows.{asked_of, decision_on}
 
 -- the histories of those objects of the sets that the replica has, as they stand
 unfoldable pub shown : ReplicaState → List SetOf → List ObjectHistory
@@ -33,5 +33,5 @@ carried_out state client number round sets Waits = (state, [])
 -- a frame that is no request is ignored
 abbrev pub replica_step : ReplicaState → Frame → ReplicaState × List Letter
 replica_step state (frame.Request client number round sets body) =
-    carried_out state client number round sets (decision_on state (record { client = client; number = number; sets = sets }) body)
+    carried_out state client number round sets (decision_on state (asked_of client number sets body) body)
 replica_step state (frame.Reply replica client number round verdict shown) = (state, [])

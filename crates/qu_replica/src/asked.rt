@@ -1,18 +1,26 @@
-ghost use Rattle.std.specs.Prelude.{◌≡◌};
+ghost use Rattle.std.specs.Prelude.{◌≡◌, IfOk, IsTrue};
 ghost use Rattle.qu_history.specs.Sets.{latest_of};
-ghost use Rattle.qu_replica.specs.Rows.{shown_of};
+ghost use Rattle.qu_replica.specs.Rows.{shown_of, act_asked, asked_of};
+ghost use Rattle.qu_replica.specs.Growth.{has_parts};
 
-use qu_base::{ClientId, ObjectId};
+use qu_base::{ClientId, Digest, NoMemory, ObjectId};
+use qu_frames::Body;
 use qu_history::Sets;
+use qu_objects::act_digest;
 use qu_stamp::Stamp;
+use std::alloc::Global;
 use std::marker::Model;
 
-/// A request, as a replica is handed it.
+/// A request, as a replica is handed it, with the digests that a stamp carries.
 #[derive(Drop)]
 pub(crate) struct Asked<'a> {
     pub(crate) client: ClientId,
     pub(crate) number: u64,
     pub(crate) sets: &'a Sets,
+    /// The digest of the act that is asked for, none of a query.
+    pub(crate) act: Option<Digest>,
+    /// The digest of the sets.
+    pub(crate) set: Digest,
 }
 
 impl<'a> Model for Asked<'a> {
@@ -20,10 +28,31 @@ impl<'a> Model for Asked<'a> {
 
     ghost Value = { Request };
 
-    ghost view = { λ asked. record { client = asked.client; number = asked.number; sets = asked.sets.now } };
+    ghost view = { λ asked. record { client = asked.client; number = asked.number; sets = asked.sets.now; act = asked.act; set = asked.set } };
 }
 
 impl<'a> Asked<'a> {
+    /// The request with its digests, for whose texts it takes memory.
+    pub(crate) fn new(
+        alloc: Global,
+        client: ClientId,
+        number: u64,
+        sets: &'a Sets,
+        body: &Body,
+    ) -> Result<Asked<'a>, NoMemory>
+        ensures value { IfOk result (λ asked. asked ≡ asked_of client number sets.now body.now) }
+        ensures parts { IsTrue (has_parts body.now) }
+    {
+        has_parts(body);
+        Ok(Asked {
+            client,
+            number,
+            sets,
+            act: act_asked(alloc, client, number, body)?,
+            set: sets.digest_of(alloc)?,
+        })
+    }
+
     /// The latest stamp that the sets show of an object, the opening stamp where they show none.
     #[tactic(auto, using(qu_history::proofs::Method::latest_of_none))]
     pub(crate) fn latest(&self, object: ObjectId) -> Stamp
@@ -32,6 +61,36 @@ impl<'a> Asked<'a> {
         match self.sets.latest(object) {
             Some(latest) => latest,
             None => Stamp::opening(),
+        }
+    }
+}
+
+/// The digest of the act that is asked for, none of a query.
+fn act_asked(
+    alloc: Global,
+    client: ClientId,
+    number: u64,
+    body: &Body,
+) -> Result<Option<Digest>, NoMemory>
+    ensures { IfOk result (λ act. act ≡ act_asked client number body.now) }
+{
+    match body {
+        Body::Act(act) => Ok(Some(act_digest(alloc, client, number, act)?)),
+        Body::Ask(_) => Ok(None),
+    }
+}
+
+/// A request has parts. The types of acts and queries keep this; here it is told, and nothing is
+/// computed.
+fn has_parts(body: &Body)
+    ensures { IsTrue (has_parts body.now) }
+{
+    match body {
+        Body::Act(act) => {
+            act.parts();
+        }
+        Body::Ask(query) => {
+            query.parts();
         }
     }
 }

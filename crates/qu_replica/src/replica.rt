@@ -107,11 +107,7 @@ impl Replica {
                 sets,
                 body,
             } => {
-                let asked = Asked {
-                    client: *client,
-                    number: *number,
-                    sets,
-                };
+                let asked = Asked::new(self.alloc, *client, *number, sets, body)?;
                 let decision = self.decide(&asked, body)?;
                 self.carry_out(&asked, *round, decision)
             }

@@ -2,19 +2,15 @@ use super::*;
 use qu_base::{Bounds, ClientId, List, NoMemory, ObjectId, ReplicaId};
 use qu_frames::{Body, ClassCode, Frame, Refusal, Verdict};
 use qu_history::{History, SetOf, Sets};
-use qu_objects::{Act, Answer, Ask, Item, KindName, Method, Query, Value};
+use qu_objects::{Act, Answer, Ask, Item, KindName, Method, Query, Value, act_digest};
 use qu_stamp::{Candidate, Stamp};
 use std::alloc::Global;
 use std::test::Fail;
 
 const COUNTER: ObjectId = ObjectId(0);
 
-/// The stamp of an update upon the opening candidate.
-const FIRST: Stamp = Stamp {
-    time: 1,
-    client: ClientId(1),
-    number: 7,
-};
+/// The number of each request.
+const NUMBER: u64 = 7;
 
 /// Replica 0 of 6, with one counter.
 fn replica(alloc: Global) -> Result<Replica, Fail> {
@@ -22,14 +18,25 @@ fn replica(alloc: Global) -> Result<Replica, Fail> {
     Ok(Replica::start(alloc, ReplicaId(0), bounds, &[KindName::Counter])?)
 }
 
+/// The sets of one object: so many replicas hold the opening candidate alone.
+fn sets(alloc: Global, object: ObjectId, replicas: u8) -> Result<Sets, Fail> {
+    updated_sets(alloc, object, Stamp::opening(), 0, replicas)
+}
+
 /// The sets of one object: of so many replicas the first ones hold the update, and all the opening candidate.
-fn sets(alloc: Global, object: ObjectId, updated: u8, replicas: u8) -> Result<Sets, Fail> {
+fn updated_sets(
+    alloc: Global,
+    object: ObjectId,
+    update: Stamp,
+    updated: u8,
+    replicas: u8,
+) -> Result<Sets, Fail> {
     let mut entries = List::new(alloc);
     for replica in 0..replicas {
         let mut entry = History::opening(alloc, object, ReplicaId(replica))?;
         if replica < updated {
             entry.add(Candidate {
-                stamp: FIRST,
+                stamp: update,
                 prior: Stamp::opening(),
             })?;
         }
@@ -40,16 +47,33 @@ fn sets(alloc: Global, object: ObjectId, updated: u8, replicas: u8) -> Result<Se
     Ok(Sets::new(objects).ok_or("the sets are refused")?)
 }
 
-fn add_five(alloc: Global) -> Result<Body, Fail> {
+fn five_more(alloc: Global) -> Result<Act, Fail> {
     let mut parts = List::new(alloc);
     parts.push((COUNTER, Method::Add(5)))?;
-    Ok(Body::Act(Act::new(parts)?))
+    Ok(Act::new(parts)?)
+}
+
+fn add_five(alloc: Global) -> Result<Body, Fail> {
+    Ok(Body::Act(five_more(alloc)?))
 }
 
 fn read(alloc: Global) -> Result<Body, Fail> {
     let mut parts = List::new(alloc);
     parts.push((COUNTER, Ask::Read))?;
     Ok(Body::Ask(Query::new(parts)?))
+}
+
+/// The stamp of client 1's update upon the opening candidate that five replicas show.
+fn first(alloc: Global) -> Result<Stamp, Fail> {
+    let act = act_digest(alloc, ClientId(1), NUMBER, &five_more(alloc)?)?;
+    let set = sets(alloc, COUNTER, 5)?.digest_of(alloc)?;
+    Ok(Stamp {
+        time: 1,
+        barrier: false,
+        client: ClientId(1),
+        act: Some(act),
+        set,
+    })
 }
 
 /// The verdict of the one reply, and how many candidates each shown history has.
@@ -62,7 +86,7 @@ fn told(
 ) -> Result<(Verdict, List<usize>), Fail> {
     let letters = replica.step(&Frame::Request {
         client,
-        number: 7,
+        number: NUMBER,
         round: 0,
         sets,
         body,
@@ -82,9 +106,9 @@ fn told(
     }
 }
 
-fn stamped(alloc: Global) -> Result<List<(ObjectId, Stamp)>, NoMemory> {
+fn stamped(alloc: Global, stamp: Stamp) -> Result<List<(ObjectId, Stamp)>, NoMemory> {
     let mut stamps = List::new(alloc);
-    stamps.push((COUNTER, FIRST))?;
+    stamps.push((COUNTER, stamp))?;
     Ok(stamps)
 }
 
@@ -101,7 +125,7 @@ fn thin_sets_are_refused(rt: HostRuntime) -> Result<(), Fail> {
         rt.alloc(),
         &mut replica,
         ClientId(1),
-        sets(rt.alloc(), COUNTER, 0, 4)?,
+        sets(rt.alloc(), COUNTER, 4)?,
         add_five(rt.alloc())?,
     )?;
     assert_eq!(rt; verdict, Verdict::Refused(Refusal::Thin(COUNTER)));
@@ -113,8 +137,9 @@ fn thin_sets_are_refused(rt: HostRuntime) -> Result<(), Fail> {
 #[test]
 fn an_act_is_done_once(rt: HostRuntime) -> Result<(), Fail> {
     let mut replica = replica(rt.alloc())?;
+    let first = first(rt.alloc())?;
     let done = Verdict::Done {
-        stamps: stamped(rt.alloc())?,
+        stamps: stamped(rt.alloc(), first)?,
         answer: five(rt.alloc())?,
     };
     for _ in 0..2 {
@@ -122,24 +147,50 @@ fn an_act_is_done_once(rt: HostRuntime) -> Result<(), Fail> {
             rt.alloc(),
             &mut replica,
             ClientId(1),
-            sets(rt.alloc(), COUNTER, 0, 5)?,
+            sets(rt.alloc(), COUNTER, 5)?,
             add_five(rt.alloc())?,
         )?;
         assert_eq!(rt; verdict, done);
         assert_eq!(rt; shown.as_slice(), [2].as_slice());
     }
-    let version = replica.version(COUNTER, &FIRST).ok_or("no version")?;
+    let version = replica.version(COUNTER, &first).ok_or("no version")?;
     assert_eq!(rt; version.value, Value::Counter(5));
     let (verdict, shown) = told(
         rt.alloc(),
         &mut replica,
         ClientId(2),
-        sets(rt.alloc(), COUNTER, 0, 5)?,
+        sets(rt.alloc(), COUNTER, 5)?,
         add_five(rt.alloc())?,
     )?;
     assert_eq!(rt;
         verdict,
-        Verdict::Refused(Refusal::NotCurrent(COUNTER, FIRST))
+        Verdict::Refused(Refusal::NotCurrent(COUNTER, first))
+    );
+    assert_eq!(rt; shown.as_slice(), [2].as_slice());
+    Ok(())
+}
+
+#[test]
+fn an_act_upon_other_sets_is_no_retry(rt: HostRuntime) -> Result<(), Fail> {
+    let mut replica = replica(rt.alloc())?;
+    let first = first(rt.alloc())?;
+    told(
+        rt.alloc(),
+        &mut replica,
+        ClientId(1),
+        sets(rt.alloc(), COUNTER, 5)?,
+        add_five(rt.alloc())?,
+    )?;
+    let (verdict, shown) = told(
+        rt.alloc(),
+        &mut replica,
+        ClientId(1),
+        sets(rt.alloc(), COUNTER, 6)?,
+        add_five(rt.alloc())?,
+    )?;
+    assert_eq!(rt;
+        verdict,
+        Verdict::Refused(Refusal::NotCurrent(COUNTER, first))
     );
     assert_eq!(rt; shown.as_slice(), [2].as_slice());
     Ok(())
@@ -148,22 +199,23 @@ fn an_act_is_done_once(rt: HostRuntime) -> Result<(), Fail> {
 #[test]
 fn a_query_is_told_what_a_quorum_holds(rt: HostRuntime) -> Result<(), Fail> {
     let mut replica = replica(rt.alloc())?;
+    let first = first(rt.alloc())?;
     told(
         rt.alloc(),
         &mut replica,
         ClientId(1),
-        sets(rt.alloc(), COUNTER, 0, 5)?,
+        sets(rt.alloc(), COUNTER, 5)?,
         add_five(rt.alloc())?,
     )?;
     let (verdict, _) = told(
         rt.alloc(),
         &mut replica,
         ClientId(2),
-        sets(rt.alloc(), COUNTER, 5, 5)?,
+        updated_sets(rt.alloc(), COUNTER, first, 5, 5)?,
         read(rt.alloc())?,
     )?;
     let told_five = Verdict::Told {
-        stamps: stamped(rt.alloc())?,
+        stamps: stamped(rt.alloc(), first)?,
         answer: five(rt.alloc())?,
     };
     assert_eq!(rt; verdict, told_five);
@@ -171,7 +223,7 @@ fn a_query_is_told_what_a_quorum_holds(rt: HostRuntime) -> Result<(), Fail> {
         rt.alloc(),
         &mut replica,
         ClientId(2),
-        sets(rt.alloc(), COUNTER, 3, 5)?,
+        updated_sets(rt.alloc(), COUNTER, first, 3, 5)?,
         read(rt.alloc())?,
     )?;
     assert_eq!(rt;
@@ -190,7 +242,7 @@ fn an_unknown_object_is_refused(rt: HostRuntime) -> Result<(), Fail> {
         rt.alloc(),
         &mut replica,
         ClientId(1),
-        sets(rt.alloc(), unknown, 0, 5)?,
+        sets(rt.alloc(), unknown, 5)?,
         add_five(rt.alloc())?,
     )?;
     assert_eq!(rt; verdict, Verdict::Refused(Refusal::UnknownObject(unknown)));

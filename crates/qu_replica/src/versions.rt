@@ -30,6 +30,7 @@ pub(crate) fn version_at<'a>(
 }
 
 /// The first entry of an object under this stamp.
+#[tactic(auto, unfolding(qu_stamp::specs::Stamp::same_stamp))]
 fn first_stored<'a>(versions: &'a [Stored], object: ObjectId, stamp: &Stamp) -> Option<&'a Stored>
     ensures { option_copied result ≡ find (is_stored object stamp.now) versions.now }
 {

@@ -28,7 +28,7 @@ use Rattle.qu_replica.specs.declared.decision.Accepted.{Accepted}
 use Rattle.qu_replica.specs.declared.decision.Decision.{Decision}
 use Rattle.qu_replica.specs.declared.decision.Decision.TheVariants.{Answers, Waits}
 use Rattle.qu_replica.specs.State.{ReplicaState, candidates_in, own_candidates, own_latest, with_candidate, accept, accept_all}
-use Rattle.qu_replica.specs.Rows.{Asked, refuse, shown_of, base_of, base_version, fresh_stamp, fresh_on, row_unknown, row_thin, row_retry, row_current, row_method, row_version, row_time, row_full, row_done, row_told, first_given, decide_act, decide_ask, decision_on}
+use Rattle.qu_replica.specs.Rows.{Asked, asked_of, refuse, shown_of, base_of, base_version, fresh_stamp, fresh_on, row_unknown, row_thin, row_retry, row_current, row_method, row_version, row_time, row_full, row_done, row_told, first_given, decide_act, decide_ask, decision_on}
 use Rattle.qu_replica.specs.Step.{carried_out, replica_step}
 use Rattle.qu_replica.specs.Versions.{version_at}
 use Rattle.qu_replica.specs.Growth.{MayAccept, MayAcceptAll, MayDecide, HasParts}
@@ -122,7 +122,7 @@ ask_accepts state asked parts objects =
 -- an act accepts one candidate, for which there are grounds
 record MakesOne (state : ReplicaState) (asked : Asked) (part : ObjectId × Method) (accepted : List Accepted) : Type 0 where
   candidate : Candidate
-  grounds : IsGround state asked.client asked.number asked.sets part.0 candidate
+  grounds : IsGround state asked part.0 candidate
   version : ObjState
   performed : IsPerformed state part.0 grounds.base part.1 version
   alone : accepted ≡ record { object = part.0; candidate = candidate; state = version } ∷ []
@@ -210,7 +210,7 @@ unfolding accept_all
 stays state new accepted is_new none = is_new ∙ ap (accept_all state) none
 
 moves : (state new : ReplicaState) (client : ClientId) (number round : ℕ) (sets : List SetOf) (part : ObjectId × Method) (accepted : List Accepted)
-    → MayAcceptAll state accepted → MakesOne state (record { client = client; number = number; sets = sets }) part accepted → new ≡ accept_all state accepted
+    → MayAcceptAll state accepted → MakesOne state (asked_of client number sets (body.Act (part ∷ []))) part accepted → new ≡ accept_all state accepted
     → AcceptsAlone state new (frame.Request client number round sets (body.Act (part ∷ [])))
 unfolding accept_all
 moves state new client number round sets part accepted may made is_new =
@@ -241,7 +241,7 @@ moves state new client number round sets part accepted may made is_new =
 act_moves : (state : ReplicaState) (client : ClientId) (number round : ℕ) (sets : List SetOf) (part : ObjectId × Method) → HasParts (frame.Request client number round sets (body.Act (part ∷ [])))
     → ((replica_step state (frame.Request client number round sets (body.Act (part ∷ [])))).0 ≡ state) ⊎ AcceptsAlone state (replica_step state (frame.Request client number round sets (body.Act (part ∷ [])))).0 (frame.Request client number round sets (body.Act (part ∷ [])))
 act_moves state client number round sets part parts =
-    let asked : Asked = record { client = client; number = number; sets = sets } in
+    let asked : Asked = asked_of client number sets (body.Act (part ∷ [])) in
     let decision : Decision = decide_act state asked (part ∷ []) (part.0 ∷ []) in
     let new : ReplicaState = (carried_out state client number round sets decision).0 in
     let is_new : new ≡ accept_all state (accepted_in decision) = carried state client number round sets decision in
@@ -257,7 +257,7 @@ step_moves state (frame.Request client number round sets (body.Act [])) parts = 
 step_moves state (frame.Request client number round sets (body.Act (part ∷ []))) parts = act_moves state client number round sets part parts
 step_moves state (frame.Request client number round sets (body.Act (first ∷ second ∷ later))) parts = absurd (false≢true parts)
 step_moves state (frame.Request client number round sets (body.Ask asks)) parts =
-    let asked : Asked = record { client = client; number = number; sets = sets } in
+    let asked : Asked = asked_of client number sets (body.Ask asks) in
     let decision : Decision = decision_on state asked (body.Ask asks) in
     inl (stays state (carried_out state client number round sets decision).0 (accepted_in decision) (carried state client number round sets decision) (ask_accepts state asked asks _))
 step_moves state (frame.Reply replica client number round verdict shown) parts = inl refl

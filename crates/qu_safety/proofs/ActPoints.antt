@@ -1,5 +1,5 @@
 -- A completed act has a point before its reply: the first event after which its candidate is established.
-use Rattle.std.proofs.Common.{◌≡◌, ℕ, suc, ◌-◌, ◌<◌, ◌≤◌, false, List, length, Some, refl, sym, ap, subst, ◌∙◌, arith, inl, inr}
+use Rattle.std.proofs.Common.{◌≡◌, ℕ, suc, ◌-◌, ◌<◌, ◌≤◌, false, List, [], ◌∷◌, length, Some, refl, sym, ap, subst, ◌∙◌, arith, inl, inr}
 use Rattle.std.specs.Prelude.{Contains}
 use Rattle.std.proofs.lemmas.Bool.{false≢true, cases_Bool}
 use Rattle.qu_base.specs.declared.party.ObjectId.{ObjectId}
@@ -19,13 +19,16 @@ use Rattle.qu_machine.specs.Serial.{Stands}
 use Rattle.qu_trace.specs.declared.trace.Trace.{Trace}
 use Rattle.qu_trace.specs.Operations.{operations_of}
 use Rattle.qu_world.specs.Run.{IsRun}
+use Rattle.qu_objects.specs.Text.{act_digest}
+use Rattle.qu_safety.proofs.OneAct.{ActsAreOne}
+use Rattle.qu_safety.specs.Digested.{IsMadeFor}
 use Rattle.qu_safety.specs.Decided.{is_established, IsDecided, TookEffect}
 use Rattle.qu_safety.specs.Order.{world_after, DecidesAt, effect_of, IsPoint}
 use Rattle.qu_safety.specs.Views.{HaveParts}
 use Rattle.qu_safety.proofs.ChainLaws.{setting, laws, established_of}
 use Rattle.qu_safety.proofs.CompletedActs.{CompletedAct, completed_act}
 use Rattle.qu_safety.proofs.Established.{Established, is_established_by, acceptor, accepted_by_established, established_by_decided}
-use Rattle.qu_safety.proofs.Numbered.{operation_numbered, numbered_late}
+use Rattle.qu_safety.proofs.Numbered.{act_late}
 use Rattle.qu_safety.proofs.OneCandidate.{one_candidate}
 
 -- the operation has a point, which is before the event of its reply
@@ -35,7 +38,7 @@ pub record StandsBefore (trace : Trace) (operation : OpRecord) (reply : ℕ) : T
   pub stands : Stands operation point
   pub before : point.event < reply
 
-module _ (trace : Trace) (is_run : IsRun trace) (have : HaveParts trace.entries) where
+module _ (trace : Trace) (is_run : IsRun trace) (have : HaveParts trace.entries) (one_act : ActsAreOne trace) where
   -- no replica begins with a candidate that has a time
   not_at_first : (object : ObjectId) (candidate : Candidate) → 1 ≤ (candidate.stamp).time → is_established (world_after trace 0) object candidate ≡ false
   unfolding setting
@@ -51,38 +54,38 @@ module _ (trace : Trace) (is_run : IsRun trace) (have : HaveParts trace.entries)
 
   -- ---- an update with an established candidate
 
-  module _ (operation : OpRecord) (numbered : 1 ≤ operation.number) (object : ObjectId) (candidate : Candidate) (of_client : candidate.stamp.client ≡ operation.client) (of_number : candidate.stamp.number ≡ operation.number) where
-    late : (time : ℕ) → time ≤ length trace.entries → (place : ObjectId) (other : Candidate) → Established trace is_run have time place other → other.stamp.number ≡ operation.number → 1 ≤ (other.stamp).time
-    late time within place other established number =
-        numbered_late trace is_run have place other (accepted_by_established trace is_run have time within place other established) (omega arith)
+  module _ (operation : OpRecord) (parts : List (ObjectId × Method)) (object : ObjectId) (candidate : Candidate) (made : IsMadeFor trace candidate operation.client operation.number parts) where
+    late : (time : ℕ) → time ≤ length trace.entries → Established trace is_run have time object candidate → 1 ≤ (candidate.stamp).time
+    late time within established =
+        act_late trace is_run have object candidate (accepted_by_established trace is_run have time within object candidate established) _ made.of_act
 
     -- where the update took effect its candidate is established
     effect_establishes : (end : ℕ) → end ≤ length trace.entries → Established trace is_run have end object candidate
-        → (time : ℕ) → time ≤ length trace.entries → TookEffect (world_after trace time) operation.client operation.number → Established trace is_run have time object candidate
+        → (time : ℕ) → time ≤ length trace.entries → TookEffect (world_after trace time) operation.client (act_digest operation.client operation.number parts) → Established trace is_run have time object candidate
     effect_establishes end within established time among took =
         let other : Candidate = took.candidate in
         let there : Established trace is_run have time took.object other = established_by_decided trace is_run have time among took.object other took.is_decided in
         let same : (took.object ≡ object) × (other ≡ candidate) =
-        one_candidate trace is_run have took.object object other candidate
+        one_candidate trace is_run have one_act took.object object other candidate
         (accepted_by_established trace is_run have time among took.object other there) (accepted_by_established trace is_run have end within object candidate established)
-        (took.of_client ∙ sym of_client) (took.of_number ∙ sym of_number)
-        (late time among took.object other there took.of_number) (late end within object candidate established of_number) in
+        _ took.of_act made.of_act in
         subst (λ (it : Candidate). Established trace is_run have time object it) same.1
         (subst (λ (it : ObjectId). Established trace is_run have time it other) same.0 there)
 
     -- it decides at the first event after which the candidate is established
     decides_at_turn : (end : ℕ) → end ≤ length trace.entries → Established trace is_run have end object candidate
-        → (turn : Turn (λ (time : ℕ). is_established (world_after trace time) object candidate) 0 end) → DecidesAt trace operation.client operation.number (suc turn.time)
+        → (turn : Turn (λ (time : ℕ). is_established (world_after trace time) object candidate) 0 end) → DecidesAt trace operation.client operation.number parts (suc turn.time)
     decides_at_turn end within established turn =
         let below : turn.time < end = turn.within in
         record {
+          handled = made.handled;
           happened = omega arith;
           by_then = record {
             object = object;
             candidate = candidate;
             is_decided = IsDecided.by_acceptors candidate turn.after;
-            of_client = of_client;
-            of_number = of_number;
+            of_client = made.of_client;
+            of_act = made.of_act;
           };
           not_before = λ earlier before took.
               let there : Established trace is_run have earlier object candidate = effect_establishes end within established earlier (omega arith) took in
@@ -94,23 +97,22 @@ module _ (trace : Trace) (is_run : IsRun trace) (have : HaveParts trace.entries)
     first_turn : (end : ℕ) → end ≤ length trace.entries → Established trace is_run have end object candidate → Turn (λ (time : ℕ). is_established (world_after trace time) object candidate) 0 end
     first_turn end within established =
         turn_between (λ (time : ℕ). is_established (world_after trace time) object candidate) 0 end (omega arith)
-        (not_at_first object candidate (late end within object candidate established of_number))
+        (not_at_first object candidate (late end within established))
         (is_established_by trace is_run have end object candidate established)
 
 -- a completed act has a point before its reply
-pub act_has_point : (trace : Trace) → IsRun trace → HaveParts trace.entries → (operation : OpRecord) → Contains (operations_of trace.entries) operation → (reply : ℕ) (answer : Answer) → operation.reply ≡ Some (reply, outcome.Done answer)
+pub act_has_point : (trace : Trace) → IsRun trace → HaveParts trace.entries → ActsAreOne trace → (operation : OpRecord) → Contains (operations_of trace.entries) operation → (reply : ℕ) (answer : Answer) → operation.reply ≡ Some (reply, outcome.Done answer)
     → (act : List (ObjectId × Method)) → operation.op ≡ op.Act act → StandsBefore trace operation reply
-act_has_point trace is_run have operation among reply answer replied act is_act =
+act_has_point trace is_run have one_act operation among reply answer replied act is_act =
     let done : CompletedAct trace operation reply answer = completed_act trace is_run have operation among reply answer replied act is_act in
-    let numbered : 1 ≤ operation.number = operation_numbered trace.entries operation among in
     let ended : reply ≤ length trace.entries = done.within in
     let begins : 1 ≤ reply = done.begins in
     let end : ℕ = reply - 1 in
     let within : end ≤ length trace.entries = omega arith in
     let turn : Turn (λ (time : ℕ). is_established (world_after trace time) done.object done.candidate) 0 end =
-    first_turn trace is_run have operation numbered done.object done.candidate done.of_client done.of_number end within done.established in
-    let decides : DecidesAt trace operation.client operation.number (suc turn.time) =
-    decides_at_turn trace is_run have operation numbered done.object done.candidate done.of_client done.of_number end within done.established turn in
+    first_turn trace is_run have one_act operation ((done.object, done.method) ∷ []) done.object done.candidate done.made end within done.established in
+    let decides : DecidesAt trace operation.client operation.number ((done.object, done.method) ∷ []) (suc turn.time) =
+    decides_at_turn trace is_run have one_act operation ((done.object, done.method) ∷ []) done.object done.candidate done.made end within done.established turn in
     let below : turn.time < end = turn.within in
     record {
       point = record { event = suc turn.time; client = operation.client; number = operation.number; op = operation.op; faulty = false };
@@ -121,7 +123,7 @@ act_has_point trace is_run have operation among reply answer replied act is_act 
         number = refl;
         op = refl;
         correct = refl;
-        effect = subst (λ (it : Op). effect_of trace operation (suc turn.time) it) (sym is_act) decides;
+        effect = subst (λ (it : Op). effect_of trace operation (suc turn.time) it) (sym done.is_act) decides;
       };
       stands = record { correct = refl; client = refl; number = refl; op = refl };
       before = omega arith;

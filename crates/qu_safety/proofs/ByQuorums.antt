@@ -1,5 +1,5 @@
 -- In every run a quorum stands behind the answer of each completed operation.
-use Rattle.std.proofs.Common.{◌≡◌, ℕ, ◌-◌, ◌≤◌, List, [], ◌∷◌, length, refl, sym, ap, subst, ◌∙◌, arith}
+use Rattle.std.proofs.Common.{◌≡◌, ℕ, ◌-◌, ◌≤◌, List, [], ◌∷◌, length, Some, refl, sym, ap, subst, ◌∙◌, arith}
 use Rattle.std.specs.Prelude.{All, Contains}
 use Rattle.std.proofs.lemmas.List.Elements.{All-weaker}
 use Rattle.qu_base.specs.declared.party.ObjectId.{ObjectId}
@@ -19,10 +19,12 @@ use Rattle.qu_replica.specs.State.{own_candidates}
 use Rattle.qu_trace.specs.declared.trace.Trace.{Trace}
 use Rattle.qu_trace.specs.Operations.{operations_of}
 use Rattle.qu_world.specs.Run.{IsRun}
+use Rattle.qu_objects.specs.Text.{act_digest}
+use Rattle.qu_objects.specs.declared.act.Method.{Method}
 use Rattle.qu_safety.specs.Completions.{Replied, RepliedAt, IsCompleted}
 use Rattle.qu_safety.specs.Quorums.{ToldFrom, QueryOfQuorum, IsOfQuorum, CompletesByQuorums}
 use Rattle.qu_safety.specs.Views.{HaveParts}
-use Rattle.qu_safety.proofs.CompletedActs.{CompletedAct, completed_act}
+use Rattle.qu_safety.proofs.CompletedActs.{CompletedAct, completed_act, same_parts}
 use Rattle.qu_safety.proofs.CompletedQueries.{IsTold, told_by_fit, Tells, tells_by_reply, same_stamped}
 use Rattle.qu_safety.proofs.KnownRuns.{completion}
 use Rattle.qu_safety.proofs.Small.{some_member, some_quorum}
@@ -69,7 +71,14 @@ module _ (trace : Trace) (is_run : IsRun trace) (have : HaveParts trace.entries)
   of_quorum : (operation : OpRecord) (reply : ℕ) (answer : Answer) → Contains (operations_of trace.entries) operation → Completes operation reply answer → (what : Op) → operation.op ≡ what → IsOfQuorum trace operation reply answer what
   of_quorum operation reply answer among completes (op.Act act) is =
       let done : CompletedAct trace operation reply answer = completed_act trace is_run have operation among reply answer completes act is in
-      record { object = done.object; candidate = done.candidate; of_client = done.of_client; of_number = done.of_number; accepted = done.by_quorum }
+      let parts : (done.object, done.method) ∷ [] ≡ act = same_parts ((done.object, done.method) ∷ []) act (sym done.is_act ∙ is) in
+      record {
+        object = done.object;
+        candidate = done.candidate;
+        of_client = (done.made).of_client;
+        of_act = (done.made).of_act ∙ ap (λ (it : List (ObjectId × Method)). Some (act_digest operation.client operation.number it)) parts;
+        accepted = done.by_quorum;
+      }
   of_quorum operation reply answer among completes (op.Query query) is =
       query_of_quorum operation reply answer (completion trace is_run operation among reply answer completes) query is
 

@@ -20,7 +20,6 @@ use Rattle.qu_objects.specs.declared.op.Op.{Op}
 use Rattle.qu_objects.specs.declared.op.Op.TheVariants as op
 use Rattle.qu_objects.specs.declared.op.Outcome.TheVariants as outcome
 use Rattle.qu_objects.specs.declared.state.ObjState.{ObjState}
-use Rattle.qu_frames.specs.declared.frame.Body.TheVariants as body
 use Rattle.qu_frames.specs.declared.frame.Frame.TheVariants as frame
 use Rattle.qu_frames.specs.declared.verdict.Verdict.{Verdict}
 use Rattle.qu_frames.specs.declared.verdict.Verdict.TheVariants as verdict
@@ -31,6 +30,11 @@ use Rattle.qu_machine.specs.declared.record.OpRecord.{OpRecord}
 use Rattle.qu_trace.specs.declared.trace.Trace.{Trace}
 use Rattle.qu_trace.specs.Operations.{operations_of}
 use Rattle.qu_world.specs.Run.{IsRun}
+use Rattle.qu_objects.specs.Text.{act_digest}
+use Rattle.qu_safety.proofs.Established.{same_accepted}
+use Rattle.qu_safety.proofs.CompletedQueries.{same_stamped}
+use Rattle.qu_safety.proofs.OneAct.{act_by}
+use Rattle.qu_safety.specs.Digested.{IsMadeFor}
 use Rattle.qu_safety.specs.Chained.{last_world}
 use Rattle.qu_safety.specs.Completions.{RepliedAt, Replied, IsCompleted}
 use Rattle.qu_safety.specs.Decided.{accepts, is_accepted}
@@ -45,13 +49,11 @@ use Rattle.qu_safety.proofs.Endings.{EndsAt, operation_ends}
 use Rattle.qu_safety.proofs.Invocations.{request_of}
 use Rattle.qu_safety.proofs.KnownRuns.{known, completion}
 use Rattle.qu_safety.proofs.Members.{is_among, members_count}
-use Rattle.qu_safety.proofs.Numbered.{operation_numbered, numbered_late}
-use Rattle.qu_safety.proofs.OneCandidate.{one_candidate}
 use Rattle.qu_safety.proofs.Recorded.{recorded_op}
-use Rattle.qu_safety.proofs.RepliesInRuns.{IsActOn, act_of_done, done_in_run}
+use Rattle.qu_safety.proofs.RepliesInRuns.{IsActOn, act_of_done, done_in_run, done_handled}
 use Rattle.qu_safety.proofs.Replying.{reply_sent}
 use Rattle.qu_safety.proofs.StoredValues.{version_is}
-use Rattle.qu_safety.proofs.Verdicts.{IsDone, fits_act, same_done}
+use Rattle.qu_safety.proofs.Verdicts.{IsDone, fits_act, equal_done}
 use Rattle.qu_safety.proofs.WorldGrowth.{has_more, world_after-grows, is_accepted-more}
 use Rattle.qu_safety.proofs.Small.{some_member, some_quorum}
 
@@ -61,8 +63,7 @@ pub record CompletedAct (trace : Trace) (operation : OpRecord) (reply : ℕ) (an
   pub method : Method
   pub is_act : operation.op ≡ op.Act ((object, method) ∷ [])
   pub candidate : Candidate
-  pub of_client : candidate.stamp.client ≡ operation.client
-  pub of_number : candidate.stamp.number ≡ operation.number
+  pub made : IsMadeFor trace candidate operation.client operation.number ((object, method) ∷ [])
   pub version : ObjState
   pub has : HasVersion trace object candidate version
   pub answer_is : answer ≡ version.answer
@@ -84,32 +85,31 @@ among_all P (member ∷ members) all index among =
 
 -- ---- members
 
-act_by_body : (what : Op) (parts : List (ObjectId × Method)) → body_of what ≡ body.Act parts → what ≡ op.Act parts
-act_by_body (op.Act others) parts same = cc
-act_by_body (op.Query others) parts same = absurd cc
+pub same_parts : (first second : List (ObjectId × Method)) → op.Act first ≡ op.Act second → first ≡ second
+same_parts first second same = cc
 
 -- the replica has a candidate of the operation after so many events, and its version has the answer
-record HasCandidate (trace : Trace) (operation : OpRecord) (answer : Answer) (time replica : ℕ) : Type 0 where
+record HasCandidate (trace : Trace) (operation : OpRecord) (answer : Answer) (stamps : List (ObjectId × Stamp)) (time replica : ℕ) : Type 0 where
   object : ObjectId
   method : Method
   is_act : operation.op ≡ op.Act ((object, method) ∷ [])
   candidate : Candidate
-  of_client : candidate.stamp.client ≡ operation.client
-  of_number : candidate.stamp.number ≡ operation.number
+  made : IsMadeFor trace candidate operation.client operation.number ((object, method) ∷ [])
+  stamps_are : stamps ≡ (object, candidate.stamp) ∷ []
   accepted : test_at (accepts object candidate) (world_after trace time).replicas replica ≡ true
   version : ObjState
   has : HasVersion trace object candidate version
   answer_is : answer ≡ version.answer
 
-module _ (trace : Trace) (is_run : IsRun trace) (have : HaveParts trace.entries) (operation : OpRecord) (among : Contains (operations_of trace.entries) operation) (answer : Answer) where
+module _ (trace : Trace) (is_run : IsRun trace) (have : HaveParts trace.entries) (operation : OpRecord) (among : Contains (operations_of trace.entries) operation) (answer : Answer) (stamps : List (ObjectId × Stamp)) where
   abbrev Has : ℕ → ℕ → Type 0
-  Has time replica = HasCandidate trace operation answer time replica
+  Has time replica = HasCandidate trace operation answer stamps time replica
 
   -- a replica that told Done has the candidate
-  has_by_reply : (at : ℕ) → at < length trace.entries → (replica round : ℕ) (stamps : List (ObjectId × Stamp)) → IsReplyTo trace at replica operation.client operation.number round (verdict.Done stamps answer) → Has (at + 1) replica
-  has_by_reply at below replica round stamps reply =
+  has_by_reply : (at : ℕ) → at < length trace.entries → (replica round : ℕ) → IsReplyTo trace at replica operation.client operation.number round (verdict.Done stamps answer) → Has (at + 1) replica
+  has_by_reply at below replica round reply =
       let asks : IsActOn reply.body = act_of_done trace is_run have at below replica operation.client operation.number round stamps answer reply in
-      let done : TellsDone reply.new operation.client operation.number asks.object stamps answer =
+      let done : TellsDone reply.new operation.client (act_digest operation.client operation.number ((asks.object, asks.method) ∷ [])) asks.object stamps answer =
       done_in_run trace is_run have at below replica operation.client operation.number round stamps answer reply in
       let request : IsRequestOf trace at operation.client operation.number reply.body =
       request_of trace is_run at (omega arith) reply.asked reply.letter reply.is_letter operation.client operation.number round reply.sets reply.body reply.is_request in
@@ -118,10 +118,10 @@ module _ (trace : Trace) (is_run : IsRun trace) (have : HaveParts trace.entries)
       record {
         object = asks.object;
         method = asks.method;
-        is_act = act_by_body operation.op ((asks.object, asks.method) ∷ []) (ap (λ (it : OpRecord). body_of it.op) (sym same) ∙ sym request.asks ∙ asks.is_act);
+        is_act = act_by ((asks.object, asks.method) ∷ []) operation.op (sym asks.is_act ∙ request.asks ∙ ap (λ (it : OpRecord). body_of it.op) same);
         candidate = done.candidate;
-        of_client = done.of_client;
-        of_number = done.of_number;
+        stamps_are = done.stamps_are;
+        made = record { handled = done_handled trace is_run have at below replica operation.client operation.number round stamps answer reply; of_client = done.of_client; of_act = done.of_act };
         accepted = test_at-here (accepts asks.object done.candidate) (world_after trace (at + 1)).replicas replica reply.new reply.is_new ∙ done.held;
         version = done.version;
         has = version_is trace (known trace is_run have) is_run have (at + 1) (omega arith) replica reply.new reply.is_new asks.object done.candidate done.held done.version done.of_candidate;
@@ -135,25 +135,25 @@ module _ (trace : Trace) (is_run : IsRun trace) (have : HaveParts trace.entries)
     method = held.method;
     is_act = held.is_act;
     candidate = held.candidate;
-    of_client = held.of_client;
-    of_number = held.of_number;
+    made = held.made;
+    stamps_are = held.stamps_are;
     accepted = accepted-later (setting trace) (laws trace is_run have) early late order held.object replica held.candidate held.accepted;
     version = held.version;
     has = held.has;
     answer_is = held.answer_is;
   }
 
-  has_by_verdict : (before round : ℕ) (given : Verdict) → IsDone given answer → (replica : ℕ) → Replied trace before operation.client operation.number round given replica → Has before replica
-  has_by_verdict before round given done replica replied =
+  has_by_verdict : (before round : ℕ) (given : Verdict) → given ≡ verdict.Done stamps answer → (replica : ℕ) → Replied trace before operation.client operation.number round given replica → Has before replica
+  has_by_verdict before round given is_done replica replied =
       let at : ℕ = replied.at in
       let earlier : at < before = replied.earlier in
       let sent : RepliedAt trace at operation.client operation.number round given replica = replied.replied in
       let below : at < length trace.entries = slice_get_within trace.entries at sent.entry sent.is_entry in
-      let told : IsDone sent.told answer = same_done sent.told done.stamps answer (ap (same_verdict sent.told) (sym done.is) ∙ sent.same) in
-      let reply : IsReplyTo trace at replica operation.client operation.number round (verdict.Done told.stamps answer) =
-      reply_sent trace is_run have at below sent.entry sent.is_entry sent.letter sent.sent (record { 0 = replica }) operation.client operation.number round (verdict.Done told.stamps answer) sent.shown
-      (sent.is_reply ∙ ap (λ (it : Verdict). frame.Reply (record { 0 = replica }) operation.client operation.number round it sent.shown) told.is) in
-      has_later (at + 1) before (omega arith) replica (has_by_reply at below replica round told.stamps reply)
+      let told : sent.told ≡ verdict.Done stamps answer = equal_done sent.told stamps answer (ap (same_verdict sent.told) (sym is_done) ∙ sent.same) in
+      let reply : IsReplyTo trace at replica operation.client operation.number round (verdict.Done stamps answer) =
+      reply_sent trace is_run have at below sent.entry sent.is_entry sent.letter sent.sent (record { 0 = replica }) operation.client operation.number round (verdict.Done stamps answer) sent.shown
+      (sent.is_reply ∙ ap (λ (it : Verdict). frame.Reply (record { 0 = replica }) operation.client operation.number round it sent.shown) told) in
+      has_later (at + 1) before (omega arith) replica (has_by_reply at below replica round reply)
 
   -- ---- they all have one
 
@@ -162,19 +162,15 @@ module _ (trace : Trace) (is_run : IsRun trace) (have : HaveParts trace.entries)
       is_accepted-more (world_after trace time) (last_world trace) (has_more (world_after trace time) (last_world trace) (world_after-grows trace time (length trace.entries) within))
       held.object held.candidate (somewhere_accepted held.object held.candidate (world_after trace time).replicas replica held.accepted)
 
-  late : (time : ℕ) → time ≤ length trace.entries → (replica : ℕ) (held : Has time replica) → 1 ≤ (held.candidate.stamp).time
-  late time within replica held =
-      let from : 1 ≤ operation.number = operation_numbered trace.entries operation among in
-      let number : (held.candidate.stamp).number ≡ operation.number = held.of_number in
-      numbered_late trace is_run have held.object held.candidate (accepted_last time within replica held) (omega arith)
-
   has_first : (time : ℕ) → time ≤ length trace.entries → (first : ℕ) (held : Has time first) → (replica : ℕ) → Has time replica → test_at (accepts held.object held.candidate) (world_after trace time).replicas replica ≡ true
   has_first time within first held replica other =
-      let same : (held.object ≡ other.object) × (held.candidate ≡ other.candidate) =
-      one_candidate trace is_run have held.object other.object held.candidate other.candidate (accepted_last time within first held) (accepted_last time within replica other)
-      (held.of_client ∙ sym other.of_client) (held.of_number ∙ sym other.of_number) (late time within first held) (late time within replica other) in
+      let same : (held.object ≡ other.object) × (held.candidate.stamp ≡ other.candidate.stamp) =
+      same_stamped held.object other.object held.candidate.stamp other.candidate.stamp (sym held.stamps_are ∙ other.stamps_are) in
+      let accepted : is_accepted (last_world trace) other.object held.candidate ≡ true =
+      ap (λ (it : ObjectId). is_accepted (last_world trace) it held.candidate) (sym same.0) ∙ accepted_last time within first held in
+      let candidates : held.candidate ≡ other.candidate = same_accepted trace is_run have other.object held.candidate other.candidate accepted (accepted_last time within replica other) same.1 in
       ap (λ (it : ObjectId). test_at (accepts it held.candidate) (world_after trace time).replicas replica) same.0 ∙
-      ap (λ (it : Candidate). test_at (accepts other.object it) (world_after trace time).replicas replica) same.1 ∙
+      ap (λ (it : Candidate). test_at (accepts other.object it) (world_after trace time).replicas replica) candidates ∙
       other.accepted
 
   quorum_by : (time : ℕ) → time ≤ length trace.entries → (members : List ℕ) → AllPairs (λ (a b : ℕ). a ≢ b) members → All (λ (member : ℕ). member < replicas trace.setup.bounds) members → quorum trace.setup.bounds ≤ length members → All (Has time) members
@@ -206,8 +202,7 @@ module _ (trace : Trace) (is_run : IsRun trace) (have : HaveParts trace.entries)
         method = held.method;
         is_act = held.is_act;
         candidate = held.candidate;
-        of_client = held.of_client;
-        of_number = held.of_number;
+        made = held.made;
         version = held.version;
         has = held.has;
         answer_is = held.answer_is;
@@ -226,6 +221,6 @@ completed_act trace is_run have operation among reply answer replied act is_act 
     let ends : EndsAt trace.entries 1 operation.client operation.number reply (outcome.Done answer) = operation_ends trace.entries operation among reply (outcome.Done answer) replied in
     let at : reply ≡ 1 + ends.index = ends.is_at in
     let below : ends.index < length trace.entries = slice_get_within trace.entries ends.index ends.entry ends.is_entry in
-    by_members trace is_run have operation among answer reply (omega arith) (omega arith) done.members done.different done.within done.enough
-    (All-weaker (Replied trace (reply - 1) operation.client operation.number done.round done.verdict) (HasCandidate trace operation answer (reply - 1))
-    (has_by_verdict trace is_run have operation among answer (reply - 1) done.round done.verdict given) done.members done.replied)
+    by_members trace is_run have operation among answer given.stamps reply (omega arith) (omega arith) done.members done.different done.within done.enough
+    (All-weaker (Replied trace (reply - 1) operation.client operation.number done.round done.verdict) (HasCandidate trace operation answer given.stamps (reply - 1))
+    (has_by_verdict trace is_run have operation among answer given.stamps (reply - 1) done.round done.verdict given.is) done.members done.replied)

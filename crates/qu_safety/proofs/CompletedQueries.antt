@@ -45,6 +45,7 @@ use Rattle.qu_trace.specs.declared.trace.Trace.{Trace}
 use Rattle.qu_trace.specs.Operations.{operations_of}
 use Rattle.qu_world.specs.State.{letter_of}
 use Rattle.qu_world.specs.Run.{IsRun}
+use Rattle.qu_safety.proofs.Recorded.{recorded_op}
 use Rattle.qu_safety.specs.Chained.{last_world}
 use Rattle.qu_safety.specs.Completions.{Replied, RepliedAt, IsCompleted}
 use Rattle.qu_safety.specs.Decided.{accepts, is_accepted}
@@ -357,7 +358,7 @@ module _ (trace : Trace) (is_run : IsRun trace) (have : HaveParts trace.entries)
         let request : IsRequestOf trace tells.at client number mine.body =
         known.request_of tells.at (omega arith) mine.asked mine.letter mine.is_letter client number round mine.sets mine.body mine.is_request in
         let same : request.operation ≡ operation =
-        known.recorded_op request.operation operation request.of_trace among
+        recorded_op trace request.operation operation request.of_trace among
         (ap (λ (it : ClientId). it.0) (request.of_client ∙ sym of_client)) (request.of_number ∙ sym of_number) in
         let asks : body.Ask ((tells.object, tells.ask) ∷ []) ≡ body.Ask query =
         sym tells.is_ask ∙ request.asks ∙ ap (λ (it : OpRecord). body_of it.op) same ∙ ap body_of is_query in

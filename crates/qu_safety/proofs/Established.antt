@@ -3,14 +3,13 @@
 use Rattle.std.proofs.Common.{◌≡◌, ℕ, zero, suc, ◌+◌, ◌<◌, ◌≤◌, Bool, true, false, cond, length, refl, sym, ap, subst, ◌∙◌, arith, inl, inr}
 use Rattle.std.specs.Prelude.{count_by, nat_le}
 use Rattle.std.proofs.lemmas.Bool.{cases_lt, le-leb}
-use Rattle.std.proofs.lemmas.Bool.Decides.{nat_tests}
 use Rattle.qu_base.specs.declared.party.ObjectId.{ObjectId}
 use Rattle.qu_base.specs.Thresholds.{replicas, quorum}
 use Rattle.qu_stamp.specs.declared.stamp.Stamp.{Stamp}
 use Rattle.qu_stamp.specs.declared.candidate.Candidate.{Candidate}
 use Rattle.qu_stamp.specs.Stamp.{is_below, opening_stamp}
 use Rattle.qu_stamp.specs.Candidate.{opening}
-use Rattle.qu_stamp.proofs.Order.{is_below-self}
+use Rattle.qu_stamp.proofs.Order.{is_below-self, is_below-not_back, is_below_by_time}
 use Rattle.qu_chain.specs.Count.{count}
 use Rattle.qu_chain.specs.Chain.{Setting, acceptors, IsEstablished, IsAttested, IsNew}
 use Rattle.qu_chain.specs.Chain as chain
@@ -175,7 +174,7 @@ module _ (trace : Trace) (is_run : IsRun trace) (have : HaveParts trace.entries)
       ]
     where
       later_not_below : (later earlier : Stamp) → later.time ≡ earlier.time + 1 → is_below later earlier ≡ false
-      later_not_below later earlier next = grind (arith, nat_tests)
+      later_not_below later earlier next = is_below-not_back earlier later (is_below_by_time earlier later (omega arith))
 
   pub last_established : (time : ℕ) → time ≤ length trace.entries → (object : ObjectId) (candidate : Candidate) → Established time object candidate → Established (length trace.entries) object candidate
   last_established time within object candidate established =

@@ -1,6 +1,7 @@
--- A replica accepts only upon full sets: it refuses a request with fewer entries of an object than a quorum.
+-- A replica accepts only upon full sets of objects that it has: it refuses a request with an object that it does not
+-- have, or with fewer entries of an object than a quorum.
 use Rattle.std.proofs.Common.{◌≡◌, ◌⊎◌, ℕ, ◌+◌, Bool, true, false, not, ◌&&◌, cond, List, [], ◌∷◌, ◌++◌, length, Option, None, Some, refl, sym, ap, ◌∙◌, arith, inl, inr, length-append}
-use Rattle.std.specs.Prelude.{slice_get, nat_lt, find, option_map}
+use Rattle.std.specs.Prelude.{slice_get, nat_le, nat_lt, find, option_map}
 use Rattle.std.specs.List.{list_all}
 use Rattle.std.proofs.lemmas.Option.{none-some, same_Some}
 use Rattle.qu_base.specs.declared.party.ClientId.{ClientId}
@@ -18,9 +19,8 @@ use Rattle.qu_frames.specs.declared.verdict.Refusal.{Refusal}
 use Rattle.qu_frames.specs.declared.verdict.Refusal.TheVariants as refusal
 use Rattle.qu_replica.specs.declared.decision.Decision.{Decision}
 use Rattle.qu_replica.specs.State.{ReplicaState, own_candidates}
-use Rattle.qu_replica.specs.Rows.{Asked, refuse, row_unknown, row_thin, first_given, objects_of, decide_act}
+use Rattle.qu_replica.specs.Rows.{Asked, asked_of, refuse, row_unknown, row_thin, first_given, objects_of, decide_act}
 use Rattle.qu_replica.specs.Step.{carried_out, replica_step}
-use Rattle.qu_replica.specs.Growth.{HasParts}
 use Rattle.qu_client.specs.Rounds.{are_full}
 use Rattle.qu_trace.specs.declared.event.Event.{Event}
 use Rattle.qu_trace.specs.declared.event.Event.TheVariants.{Deliver}
@@ -36,11 +36,11 @@ use Rattle.qu_safety.proofs.Each.{set_here}
 
 -- ---- the rows
 
-two_rows : (First : Type 0) (one two : Option Decision) (later : List (Option Decision)) → AcceptsNothing one → AcceptsNothing two → (two ≡ None → First) → (accepted_in (first_given (one ∷ two ∷ later)) ≡ []) ⊎ First
+two_rows : (First : Type 0) (one two : Option Decision) (later : List (Option Decision)) → AcceptsNothing one → AcceptsNothing two → (one ≡ None → two ≡ None → First) → (accepted_in (first_given (one ∷ two ∷ later)) ≡ []) ⊎ First
 unfolding first_given
 two_rows First (Some decision) two later none nothing past = inl (none decision refl)
 two_rows First None (Some decision) later none nothing past = inl (nothing decision refl)
-two_rows First None None later none nothing past = inr (past refl)
+two_rows First None None later none nothing past = inr (past refl refl)
 
 pass_first : {X : Type 0} (why : X → Refusal) (bad : Bool) (item : X) (found : Option X) (rest : Bool) → option_map (λ (it : X). refuse (why it)) (cond bad (Some item) found) ≡ None → (option_map (λ (it : X). refuse (why it)) found ≡ None → rest ≡ true) → (not bad && rest) ≡ true
 pass_first why true item found rest none later = absurd (none-some (refuse (why item)) (sym none))
@@ -56,11 +56,26 @@ unfolding row_thin
 not_thin state asked none =
     all_pass (λ (set : SetOf). refusal.Thin set.object) (λ (set : SetOf). nat_lt (length set.entries) (quorum state.bounds)) asked.sets none
 
--- an act accepts nothing, or has full sets
-act_full : (state : ReplicaState) (asked : Asked) (parts : List (ObjectId × Method)) (objects : List ObjectId) → (accepted_in (decide_act state asked parts objects) ≡ []) ⊎ (are_full state.bounds asked.sets ≡ true)
+-- the objects of the sets are the replica's
+abbrev pub are_had : ReplicaState → List SetOf → Bool
+are_had state sets = list_all (λ (set : SetOf). not (nat_le (length state.histories) (set.object).0)) sets
+
+pub not_unknown : (state : ReplicaState) (asked : Asked) → row_unknown state asked ≡ None → are_had state asked.sets ≡ true
+unfolding row_unknown
+not_unknown state asked none =
+    all_pass (λ (set : SetOf). refusal.UnknownObject set.object) (λ (set : SetOf). nat_le (length state.histories) (set.object).0) asked.sets none
+
+-- what the sets are of a request upon which something is accepted
+pub record IsUpon (state : ReplicaState) (sets : List SetOf) : Type 0 where
+  pub had : are_had state sets ≡ true
+  pub full : are_full state.bounds sets ≡ true
+
+-- an act accepts nothing, or has such sets
+act_upon : (state : ReplicaState) (asked : Asked) (parts : List (ObjectId × Method)) (objects : List ObjectId) → (accepted_in (decide_act state asked parts objects) ≡ []) ⊎ IsUpon state asked.sets
 unfolding decide_act
-act_full state asked parts objects =
-    two_rows (are_full state.bounds asked.sets ≡ true) (row_unknown state asked) (row_thin state asked) _ (unknown state asked) (thin state asked) (not_thin state asked)
+act_upon state asked parts objects =
+    two_rows (IsUpon state asked.sets) (row_unknown state asked) (row_thin state asked) _ (unknown state asked) (thin state asked)
+    (λ is_known not_thin_is. record { had = not_unknown state asked is_known; full = not_thin state asked not_thin_is })
 
 -- ---- the step
 
@@ -70,25 +85,21 @@ not_added candidates candidate same =
     let equal : length candidates ≡ length (candidates ++ candidate ∷ []) = ap length same in
     omega arith
 
-act_step_full : (state : ReplicaState) (client : ClientId) (number round : ℕ) (sets : List SetOf) (parts : List (ObjectId × Method)) (object : ObjectId) (candidate : Candidate) → own_candidates (replica_step state (frame.Request client number round sets (body.Act parts))).0 object ≡ own_candidates state object ++ candidate ∷ [] → are_full state.bounds sets ≡ true
-act_step_full state client number round sets parts object candidate added =
-    let asked : Asked = record { client = client; number = number; sets = sets } in
+act_step_upon : (state : ReplicaState) (client : ClientId) (number round : ℕ) (sets : List SetOf) (parts : List (ObjectId × Method)) (object : ObjectId) (candidate : Candidate) → own_candidates (replica_step state (frame.Request client number round sets (body.Act parts))).0 object ≡ own_candidates state object ++ candidate ∷ [] → IsUpon state sets
+act_step_upon state client number round sets parts object candidate added =
+    let asked : Asked = asked_of client number sets (body.Act parts) in
     let decision : Decision = decide_act state asked parts (objects_of parts) in
-    elim (act_full state asked parts (objects_of parts)) [
+    elim (act_upon state asked parts (objects_of parts)) [
       | inl none ↦
           let same : (carried_out state client number round sets decision).0 ≡ state = stays state _ (accepted_in decision) (carried state client number round sets decision) none in
           absurd (not_added (own_candidates state object) candidate (sym (ap (λ (it : ReplicaState). own_candidates it object) same) ∙ added))
-      | inr full ↦ full
+      | inr upon ↦ upon
     ]
 
-full_by : (old new : ReplicaState) (taken : Frame) (object : ObjectId) (accepts : AcceptsOne old new taken object) → (replica_step old taken).0 ≡ new → are_full old.bounds accepts.sets ≡ true
-full_by old new taken object accepts is =
-    act_step_full old accepts.client accepts.number accepts.round accepts.sets ((object, accepts.method) ∷ []) object accepts.candidate
+upon_by : (old new : ReplicaState) (taken : Frame) (object : ObjectId) (accepts : AcceptsOne old new taken object) → (replica_step old taken).0 ≡ new → IsUpon old accepts.sets
+upon_by old new taken object accepts is =
+    act_step_upon old accepts.client accepts.number accepts.round accepts.sets ((object, accepts.method) ∷ []) object accepts.candidate
     (ap (λ (it : Frame). own_candidates (replica_step old it).0 object) (sym accepts.is_request) ∙ ap (λ (it : ReplicaState). own_candidates it object) is ∙ accepts.added)
-
--- what a step accepts rests on full sets
-pub accepts_full : (state : ReplicaState) (taken : Frame) → HasParts taken → (object : ObjectId) (accepts : AcceptsOne state (replica_step state taken).0 taken object) → are_full state.bounds accepts.sets ≡ true
-accepts_full state taken parts object accepts = full_by state (replica_step state taken).0 taken object accepts refl
 
 -- ---- the same in a run
 
@@ -105,14 +116,14 @@ delivered_to world event place old new object happened is_old is_new =
     ap (at_replica world deliver (record { 0 = place }) letter.frame) is_old in
     same_Some stepped new (sym (set_here world.replicas place old stepped is_old) ∙ ap (λ (it : WorldState). slice_get it.replicas place) (sym is) ∙ is_new)
 
--- a letter that made a replica accept a candidate shows full sets
-pub delivered_full : (world : WorldState) (event : Event) (place : ℕ) (old new : ReplicaState) (object : ObjectId) (happened : IsDelivered world event place old new object) → slice_get world.replicas place ≡ Some old → slice_get (world_step world event).replicas place ≡ Some new → are_full old.bounds (happened.accepts).sets ≡ true
-delivered_full world event place old new object happened is_old is_new =
-    full_by old new (happened.letter).frame object happened.accepts (delivered_to world event place old new object happened is_old is_new)
+-- a letter that made a replica accept a candidate shows such sets
+pub delivered_upon : (world : WorldState) (event : Event) (place : ℕ) (old new : ReplicaState) (object : ObjectId) (happened : IsDelivered world event place old new object) → slice_get world.replicas place ≡ Some old → slice_get (world_step world event).replicas place ≡ Some new → IsUpon old (happened.accepts).sets
+delivered_upon world event place old new object happened is_old is_new =
+    upon_by old new (happened.letter).frame object happened.accepts (delivered_to world event place old new object happened is_old is_new)
 
 pub accepted_upon_full : (trace : Trace) (count : ℕ) (object : ObjectId) (candidate : Candidate) (origin : Origin trace count object candidate) → are_full trace.setup.bounds ((origin.delivered).accepts).sets ≡ true
 accepted_upon_full trace count object candidate origin =
     let sets : List SetOf = ((origin.delivered).accepts).sets in
     ap (λ (size : ℕ). are_full size sets) (sym (bounds_are trace origin.past origin.place origin.old origin.is_old)) ∙
-    delivered_full (world_after trace origin.past) origin.event origin.place origin.old origin.new object origin.delivered origin.is_old
-    (ap (λ (it : WorldState). slice_get it.replicas origin.place) (sym origin.is_step) ∙ origin.is_new)
+    (delivered_upon (world_after trace origin.past) origin.event origin.place origin.old origin.new object origin.delivered origin.is_old
+    (ap (λ (it : WorldState). slice_get it.replicas origin.place) (sym origin.is_step) ∙ origin.is_new)).full

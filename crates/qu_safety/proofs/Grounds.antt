@@ -1,21 +1,19 @@
 -- Where a candidate with grounds stands: above all that its replica holds, and upon a base that the replica
 -- has nothing above.
-use Rattle.std.proofs.Common.{◌≡◌, ◌≤◌, ℕ, ◌+◌, true, false, ◌&&◌, List, Option, None, Some, sym, ap, ◌∙◌, arith}
+use Rattle.std.proofs.Common.{◌≡◌, ◌≤◌, ℕ, ◌+◌, true, false, ◌&&◌, List, Option, None, Some, refl, sym, ap, ◌∙◌, arith, inl, inr}
 use Rattle.std.specs.Prelude.{nat_le}
-use Rattle.std.proofs.lemmas.Bool.{and_parts, leb-true}
-use Rattle.std.proofs.lemmas.Bool.Decides.{nat_tests}
+use Rattle.std.proofs.lemmas.Bool.{false≢true, cases_Bool, and_parts, leb-true}
 use Rattle.std.proofs.lemmas.Option.{none-some, cond_some}
-use Rattle.qu_base.specs.declared.party.ClientId.{ClientId}
 use Rattle.qu_base.specs.declared.party.ObjectId.{ObjectId}
 use Rattle.qu_base.specs.Thresholds.{quorum}
 use Rattle.qu_stamp.specs.declared.stamp.Stamp.{Stamp}
 use Rattle.qu_stamp.specs.declared.candidate.Candidate.{Candidate}
 use Rattle.qu_stamp.specs.Stamp.{is_below, same_stamp}
-use Rattle.qu_stamp.proofs.Order.{is_below-self, is_below-not_chain, equal_by_same_stamp}
-use Rattle.qu_history.specs.declared.sets.SetOf.{SetOf}
+use Rattle.qu_stamp.proofs.Order.{is_below-self, is_below-not_chain, is_below_by_time, equal_by_same_stamp}
 use Rattle.qu_history.specs.History.{ObjectHistory, holds}
 use Rattle.qu_history.specs.Sets.{entries_of, order_of, candidates_of, latest_of, object_candidate, if_method, method_at}
 use Rattle.qu_history.proofs.Stamps.{not_below_latest}
+use Rattle.qu_replica.specs.Rows.{Asked, fresh_stamp}
 use Rattle.qu_replica.specs.State.{ReplicaState, own_candidates, own_latest}
 use Rattle.qu_safety.specs.Grounds.{IsGround}
 
@@ -48,38 +46,44 @@ shown_not_above entries shown holding = not_below_latest (candidates_of entries)
 
 -- ---- where its replica has it
 
--- a fresh stamp is above all that the replica accepted
-fresh_later : (latest own : Stamp) (client : ClientId) (number : ℕ) → is_below latest own ≡ false → is_below own (record { time = latest.time + 1; client = client; number = number }) ≡ true
-fresh_later latest own client number current = grind (arith, nat_tests)
-
 below_by_latest : (held latest fresh : Stamp) → is_below latest held ≡ false → is_below latest fresh ≡ true → is_below held fresh ≡ true
-below_by_latest held latest fresh not_above later = grind (arith, nat_tests)
+below_by_latest held latest fresh not_above later =
+    elim (cases_Bool (is_below held fresh)) [
+      | inl below ↦ below
+      | inr not_below ↦ absurd (false≢true (sym (is_below-not_chain latest held fresh not_above not_below) ∙ later))
+    ]
 
-module _ {state : ReplicaState} {client : ClientId} {number : ℕ} {sets : List SetOf} {object : ObjectId} {candidate : Candidate} (grounds : IsGround state client number sets object candidate) where
+-- a fresh stamp is above all that the replica accepted
+fresh_later : (latest own fresh : Stamp) → fresh.time ≡ latest.time + 1 → is_below latest own ≡ false → is_below own fresh ≡ true
+fresh_later latest own fresh next current =
+    let above : is_below latest fresh ≡ true = is_below_by_time latest fresh (omega arith) in
+    below_by_latest own latest fresh current above
+
+module _ {state : ReplicaState} {asked : Asked} {object : ObjectId} {candidate : Candidate} (grounds : IsGround state asked object candidate) where
   -- the base is the latest of what is shown
-  pub base_latest : (grounds.base).stamp ≡ latest_of (entries_of object sets)
-  base_latest = (is_base state.bounds (entries_of object sets) grounds.base grounds.method).latest
+  pub base_latest : (grounds.base).stamp ≡ latest_of (entries_of object asked.sets)
+  base_latest = (is_base state.bounds (entries_of object asked.sets) grounds.base grounds.method).latest
 
-  pub base_of_quorum : quorum state.bounds ≤ order_of grounds.base (entries_of object sets)
-  base_of_quorum = (is_base state.bounds (entries_of object sets) grounds.base grounds.method).of_quorum
+  pub base_of_quorum : quorum state.bounds ≤ order_of grounds.base (entries_of object asked.sets)
+  base_of_quorum = (is_base state.bounds (entries_of object asked.sets) grounds.base grounds.method).of_quorum
 
-  pub base_not_below_shown : (shown : Candidate) → holds shown (candidates_of (entries_of object sets)) ≡ true → is_below (grounds.base).stamp shown.stamp ≡ false
+  pub base_not_below_shown : (shown : Candidate) → holds shown (candidates_of (entries_of object asked.sets)) ≡ true → is_below (grounds.base).stamp shown.stamp ≡ false
   base_not_below_shown shown holding =
-      ap (λ (stamp : Stamp). is_below stamp shown.stamp) base_latest ∙ shown_not_above (entries_of object sets) shown holding
+      ap (λ (stamp : Stamp). is_below stamp shown.stamp) base_latest ∙ shown_not_above (entries_of object asked.sets) shown holding
 
   -- the candidate comes after its base
   pub above_base : is_below (grounds.base).stamp candidate.stamp ≡ true
   above_base =
-      let latest : Stamp = latest_of (entries_of object sets) in
+      let latest : Stamp = latest_of (entries_of object asked.sets) in
       ap (λ (stamp : Stamp). is_below stamp candidate.stamp) base_latest ∙
       ap (λ (stamp : Stamp). is_below latest stamp) grounds.stamp ∙
-      fresh_later latest latest client number (is_below-self latest)
+      fresh_later latest latest (fresh_stamp asked object) refl (is_below-self latest)
 
   -- and after all that the replica holds
   pub above_own : is_below (own_latest state object) candidate.stamp ≡ true
   above_own =
       ap (λ (stamp : Stamp). is_below (own_latest state object) stamp) grounds.stamp ∙
-      fresh_later (latest_of (entries_of object sets)) (own_latest state object) client number grounds.current
+      fresh_later (latest_of (entries_of object asked.sets)) (own_latest state object) (fresh_stamp asked object) refl grounds.current
 
   pub above_held : (held : Candidate) → holds held (own_candidates state object) ≡ true → is_below held.stamp candidate.stamp ≡ true
   above_held held holding =
@@ -89,4 +93,4 @@ module _ {state : ReplicaState} {client : ClientId} {number : ℕ} {sets : List 
   pub base_not_below : (held : Candidate) → holds held (own_candidates state object) ≡ true → is_below (grounds.base).stamp held.stamp ≡ false
   base_not_below held holding =
       ap (λ (stamp : Stamp). is_below stamp held.stamp) base_latest ∙
-      is_below-not_chain (latest_of (entries_of object sets)) (own_latest state object) held.stamp grounds.current (not_below_latest (own_candidates state object) held holding)
+      is_below-not_chain (latest_of (entries_of object asked.sets)) (own_latest state object) held.stamp grounds.current (not_below_latest (own_candidates state object) held holding)

@@ -2,15 +2,15 @@
 -- version of an accepted candidate is the act performed upon the version of its base.
 use Rattle.std.proofs.Common.{◌≡◌, ◌⊎◌, ℕ, suc, ◌+◌, Bool, true, false, ◌&&◌, cond, List, [], ◌∷◌, ◌++◌, Option, None, Some, inl, inr, refl, sym, subst, ap, ◌∙◌, arith, zero-add}
 use Rattle.std.specs.Prelude.{◌==◌, slice_get}
-use Rattle.std.proofs.lemmas.Bool.{false≢true, cases_Bool, and_parts, eqb-true}
+use Rattle.std.proofs.lemmas.Bool.{false≢true, cases_Bool, or_left, and_parts, eqb-true}
 use Rattle.std.proofs.lemmas.Option.{none-some, cond_some}
 use Rattle.qu_base.specs.declared.party.ObjectId.{ObjectId}
 use Rattle.qu_base.specs.declared.party.ReplicaId.{ReplicaId}
 use Rattle.qu_stamp.specs.declared.stamp.Stamp.{Stamp}
 use Rattle.qu_stamp.specs.declared.candidate.Candidate.{Candidate}
 use Rattle.qu_stamp.specs.Stamp.{opening_stamp, is_below, same_stamp}
-use Rattle.qu_stamp.specs.Candidate.{opening}
-use Rattle.qu_stamp.proofs.Order.{is_below-self, equal_by_same_stamp}
+use Rattle.qu_stamp.specs.Candidate.{opening, same}
+use Rattle.qu_stamp.proofs.Order.{is_below-self, same-self, equal_by_same_stamp}
 use Rattle.qu_history.specs.History.{holds}
 use Rattle.qu_history.proofs.Rising.{holds_pushed, holds_still}
 use Rattle.qu_objects.specs.declared.answer.Answer.TheVariants as answer
@@ -72,7 +72,7 @@ opening_of_held me bounds kinds = record {
       let place : object.0 ≡ begun.place = begun.at ∙ zero-add begun.place in
       record {
         held = opening;
-        is_held = ap (λ (it : ℕ). holds opening (candidates_in (slice_get (opening_histories me 0 kinds) it))) place ∙ ap (holds opening) begun.alone;
+        is_held = ap (λ (it : ℕ). holds opening (candidates_in (slice_get (opening_histories me 0 kinds) it))) place ∙ ap (holds opening) begun.alone ∙ or_left (same opening opening) false (same-self opening);
         under = equal_by_same_stamp opening_stamp stamp begun.under;
       };
 }

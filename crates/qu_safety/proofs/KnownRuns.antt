@@ -23,7 +23,6 @@ pub known : (trace : Trace) → IsRun trace → HaveParts trace.entries → Know
 known trace is_run have = record {
   one_prior = one_prior trace is_run have;
   request_of = request_of trace is_run;
-  recorded_op = recorded_op trace;
 }
 
 -- what a client has under way is an operation of the trace

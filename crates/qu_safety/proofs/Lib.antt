@@ -67,3 +67,8 @@ pub mod SerialOrder
 pub mod PartsLaws
 pub mod InTurn
 pub mod ByQuorums
+pub mod Handled
+pub mod HandledActs
+pub mod OneAct
+pub mod Ranges
+pub mod ActLists

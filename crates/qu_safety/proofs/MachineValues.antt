@@ -1,6 +1,6 @@
 -- The values of the machine after so many events: of each object that of the version of the
 -- greatest candidate that was established by then.
-use Rattle.std.proofs.Common.{◌≡◌, ℕ, zero, suc, ◌+◌, ◌<◌, ◌≤◌, Bool, true, false, cond, List, [], ◌∷◌, length, map, get_or, Option, Some, refl, sym, ap, subst, ◌∙◌, arith, inl, inr}
+use Rattle.std.proofs.Common.{◌≡◌, ℕ, zero, suc, ◌+◌, ◌<◌, Bool, true, false, cond, List, [], ◌∷◌, length, map, get_or, Option, Some, refl, sym, ap, subst, ◌∙◌, arith, inl, inr}
 use Rattle.std.specs.Prelude.{slice_get, slice_set, count_by, Contains}
 use Rattle.std.proofs.lemmas.Bool.{false≢true, cases_Bool, or_left, cases_eq}
 use Rattle.std.proofs.lemmas.List.{length-map, length-set}
@@ -29,14 +29,17 @@ use Rattle.qu_objects.specs.declared.op.Op.TheVariants as op
 use Rattle.qu_objects.specs.declared.state.ObjState.{ObjState}
 use Rattle.qu_objects.specs.Kind.{fresh_value}
 use Rattle.qu_objects.specs.Perform.{performed_values}
-use Rattle.qu_machine.specs.declared.record.OpRecord.{OpRecord}
 use Rattle.qu_machine.specs.declared.record.Point.{Point}
 use Rattle.qu_machine.specs.Machine.{act_values, with_values, values_at}
 use Rattle.qu_replica.specs.State.{ReplicaState, candidates_in, opening_histories, opening_state}
 use Rattle.qu_trace.specs.declared.trace.Trace.{Trace}
-use Rattle.qu_trace.specs.Operations.{operations_of}
 use Rattle.qu_world.specs.Run.{IsRun}
 use Rattle.qu_world.specs.State.{WorldState, opening_replicas}
+use Rattle.qu_objects.specs.Text.{act_digest}
+use Rattle.std.proofs.lemmas.Option.{none-some}
+use Rattle.qu_safety.proofs.OneAct.{ActsAreOne}
+use Rattle.qu_safety.proofs.OneAct.{one_made_for}
+use Rattle.qu_safety.specs.Digested.{IsMadeFor}
 use Rattle.qu_safety.specs.Decided.{accepts, IsDecided, TookEffect}
 use Rattle.qu_safety.specs.Order.{world_after, DecidesAt, effect_of, IsPoint, IsPrintedOrder}
 use Rattle.qu_safety.specs.Values.{HasVersion}
@@ -46,7 +49,6 @@ use Rattle.qu_safety.proofs.ChainLaws.{setting, acceptors_are, laws}
 use Rattle.qu_safety.proofs.Changes.{established_cases, Change, change, how_updated, point_of, is_point}
 use Rattle.qu_safety.proofs.Established.{Established, is_established_by, established_by_decided, acceptor, accepted_by_established, IsTop, Rests, rests, same_accepted}
 use Rattle.qu_safety.proofs.Folding.{IsQuestion}
-use Rattle.qu_safety.proofs.Recorded.{recorded_op}
 use Rattle.qu_safety.proofs.Tops.{AreOne, one_accepted, base_is_top, one_top}
 use Rattle.qu_safety.proofs.Values.{Known, one_version, same_method, IsUpdated}
 use Rattle.qu_safety.proofs.WorldGrowth.{world_after-none}
@@ -81,7 +83,7 @@ all_accept object number (suc count) bounds kinds below =
     sum_by-cons (counted object) (opening_state (record { 0 = number }) bounds kinds) (opening_replicas (number + 1) count bounds kinds) in
     omega (arith, here, there, whole)
 
-module _ (trace : Trace) (is_run : IsRun trace) (have : HaveParts trace.entries) (known : Known trace) (from_one : (operation : OpRecord) → Contains (operations_of trace.entries) operation → 1 ≤ operation.number) where
+module _ (trace : Trace) (is_run : IsRun trace) (have : HaveParts trace.entries) (known : Known trace) (one_act : ActsAreOne trace) where
   -- the value of an object after so many events
   pub record ValueAt (time : ℕ) (object : ObjectId) (values : List Value) : Type 0 where
     pub candidate : Candidate
@@ -152,12 +154,12 @@ module _ (trace : Trace) (is_run : IsRun trace) (have : HaveParts trace.entries)
       no_question (op.Query query) parts is question = absurd (cc)
 
       was_there : (object : ObjectId) (other : Candidate) → Established trace is_run have (suc time) object other → Established trace is_run have time object other
-      was_there object other established = elim (established_cases trace is_run have known from_one time object other) [
+      was_there object other established = elim (established_cases trace is_run have known one_act time object other) [
         | inl is ↦ is
         | inr not ↦
-            let changed : Change trace is_run have known from_one time object other = change trace is_run have known from_one time within object other established not in
-            let point : Point = point_of trace is_run have known from_one time object other changed in
-            let contained : Contains order point = printed.complete point (is_point trace is_run have known from_one time within object other established not changed) in
+            let changed : Change trace is_run have known one_act time object other = change trace is_run have known one_act time within object other established not in
+            let point : Point = point_of trace is_run have known one_act time object other changed in
+            let contained : Contains order point = printed.complete point (is_point trace is_run have known one_act time within object other established not changed) in
             absurd (no_question (changed.operation).op ((object, changed.method) ∷ []) changed.is_act (quiet point contained refl))
       ]
 
@@ -174,7 +176,7 @@ module _ (trace : Trace) (is_run : IsRun trace) (have : HaveParts trace.entries)
       at_one there is = rw found refl
 
   changed_values : (time : ℕ) (values : List Value) → time < length trace.entries → IsValues time values → (object : ObjectId) (candidate : Candidate) → Established trace is_run have (suc time) object candidate → ¬ (Established trace is_run have time object candidate)
-      → (changed : Change trace is_run have known from_one time object candidate) → IsUpdated trace object candidate changed.version → IsValues (suc time) (act_values values ((object, changed.method) ∷ []))
+      → (changed : Change trace is_run have known one_act time object candidate) → IsUpdated trace object candidate changed.version → IsValues (suc time) (act_values values ((object, changed.method) ∷ []))
   changed_values time values within are object candidate after before changed updated =
       let on : Rests trace is_run have time object candidate = rests trace is_run have time object changed.place candidate changed.new in
       let base : on.base ≡ updated.base =
@@ -183,11 +185,11 @@ module _ (trace : Trace) (is_run : IsRun trace) (have : HaveParts trace.entries)
       let was : ValueAt time object values = are.each object changed.known_object in
       let same : was.candidate ≡ updated.base = one_top trace is_run have time (omega arith) object was.candidate on.base was.top top ∙ base in
       let versions : was.version ≡ updated.before =
-      one_version trace known object updated.base was.version updated.before (subst (λ (it : Candidate). HasVersion trace object it was.version) same was.has) updated.has in
+      one_version trace known one_act object updated.base was.version updated.before (subst (λ (it : Candidate). HasVersion trace object it was.version) same was.has) updated.has in
       let found : slice_get values object.0 ≡ Some (updated.before).value = was.value_is ∙ ap (λ (it : ObjState). Some it.value) versions in
-      let operations : changed.operation ≡ updated.operation =
-      recorded_op trace changed.operation updated.operation changed.of_trace updated.of_trace (ap (λ (it : _). it.0) (changed.of_client ∙ updated.of_client)) (changed.of_number ∙ updated.of_number) in
-      let methods : changed.method ≡ updated.method = same_method object changed.method updated.method (sym changed.is_act ∙ ap (λ (it : OpRecord). it.op) operations ∙ updated.is_act) in
+      let methods : changed.method ≡ updated.method =
+      same_method object changed.method updated.method
+      (ap op.Act (one_made_for trace one_act candidate (changed.operation).client (updated.operation).client (changed.operation).number (updated.operation).number ((object, changed.method) ∷ []) ((object, updated.method) ∷ []) changed.made updated.made).2) in
       let sets : act_values values ((object, changed.method) ∷ []) ≡ slice_set values object.0 (changed.version).value =
       ap (λ (it : Method). act_values values ((object, it) ∷ [])) methods ∙ act_sets values object updated.method (updated.before).value (changed.version).value found updated.values in
       subst (IsValues (suc time)) (sym sets) (record {
@@ -218,17 +220,17 @@ module _ (trace : Trace) (is_run : IsRun trace) (have : HaveParts trace.entries)
       -- what is newly established at this event is the candidate
       only : (other : ObjectId) (rival : Candidate) → Established trace is_run have (suc time) other rival → ¬ (Established trace is_run have time other rival) → AreOne trace is_run have object other candidate rival
       only other rival established not =
-          let change_there : Change trace is_run have known from_one time other rival = change trace is_run have known from_one time within other rival established not in
+          let change_there : Change trace is_run have known one_act time other rival = change trace is_run have known one_act time within other rival established not in
           one_accepted trace is_run have time object other changed.place change_there.place candidate rival changed.new change_there.new
 
       elsewhere : (other : ObjectId) → (other.0 ≡ object.0 → ⊥) → (rival : Candidate) → Established trace is_run have (suc time) other rival → Established trace is_run have time other rival
-      elsewhere other apart rival established = elim (established_cases trace is_run have known from_one time other rival) [
+      elsewhere other apart rival established = elim (established_cases trace is_run have known one_act time other rival) [
         | inl is ↦ is
         | inr not ↦ absurd (apart (ap (λ (it : ObjectId). it.0) (sym (only other rival established not).objects)))
       ]
 
       not_above : (on : Rests trace is_run have time object candidate) → IsTop trace is_run have time object on.base → (rival : Candidate) → Established trace is_run have (suc time) object rival → is_below candidate.stamp rival.stamp ≡ false
-      not_above on top rival established = elim (established_cases trace is_run have known from_one time object rival) [
+      not_above on top rival established = elim (established_cases trace is_run have known one_act time object rival) [
         | inl is ↦ elim (cases_Bool (is_below candidate.stamp rival.stamp)) [
           | inl above ↦ absurd (false≢true (sym (top.nothing_above rival is) ∙ is_below-chain (on.base).stamp candidate.stamp rival.stamp on.below above))
           | inr not ↦ not
@@ -241,31 +243,26 @@ module _ (trace : Trace) (is_run : IsRun trace) (have : HaveParts trace.entries)
   loud_values order printed time values point parts within are contained at is =
       let it : IsPoint trace point = printed.sound point contained in
       let act : (it.operation).op ≡ op.Act parts = it.op ∙ is in
-      let decides : DecidesAt trace (it.operation).client (it.operation).number (suc time) =
-      subst (λ (event : ℕ). DecidesAt trace (it.operation).client (it.operation).number event) at (subst (λ (what : Op). effect_of trace it.operation point.event what) act it.effect) in
-      let took : TookEffect (world_after trace (suc time)) (it.operation).client (it.operation).number = decides.by_then in
+      let decides : DecidesAt trace (it.operation).client (it.operation).number parts (suc time) =
+      subst (λ (event : ℕ). DecidesAt trace (it.operation).client (it.operation).number parts event) at (subst (λ (what : Op). effect_of trace it.operation point.event what) act it.effect) in
+      let took : TookEffect (world_after trace (suc time)) (it.operation).client (act_digest (it.operation).client (it.operation).number parts) = decides.by_then in
       let after : Established trace is_run have (suc time) took.object took.candidate = established_by_decided trace is_run have (suc time) (omega arith) took.object took.candidate took.is_decided in
-      let changed : Change trace is_run have known from_one time took.object took.candidate = change trace is_run have known from_one time within took.object took.candidate after (not_yet it decides took) in
-      let operations : changed.operation ≡ it.operation =
-      recorded_op trace changed.operation it.operation changed.of_trace it.of_trace (ap (λ (who : _). who.0) (changed.of_client ∙ took.of_client)) (changed.of_number ∙ took.of_number) in
-      let same : parts ≡ (took.object, changed.method) ∷ [] = parts_are parts ((took.object, changed.method) ∷ []) (sym act ∙ ap (λ (one : OpRecord). one.op) (sym operations) ∙ changed.is_act) in
+      let changed : Change trace is_run have known one_act time took.object took.candidate = change trace is_run have known one_act time within took.object took.candidate after (not_yet it decides took) in
+      let made : IsMadeFor trace took.candidate (it.operation).client (it.operation).number parts = record { handled = decides.handled; of_client = took.of_client; of_act = took.of_act } in
+      let same : parts ≡ (took.object, changed.method) ∷ [] =
+      (one_made_for trace one_act took.candidate (it.operation).client (changed.operation).client (it.operation).number (changed.operation).number parts ((took.object, changed.method) ∷ []) made changed.made).2 in
       subst (λ (all : List (ObjectId × Method)). IsValues (suc time) (act_values values all)) (sym same)
       (elim (how_updated trace took.object took.candidate changed.version changed.has) [
         | inl first ↦
-            let none : ((took.candidate).stamp).number ≡ 0 = ap (λ (one : Candidate). (one.stamp).number) first in
-            let numbered : 1 ≤ (it.operation).number = from_one it.operation it.of_trace in
-            absurd (omega (arith, none, numbered, took.of_number))
+            absurd (none-some _ (sym (ap (λ (one : Candidate). (one.stamp).act) first) ∙ took.of_act))
         | inr updated ↦ changed_values time values within are took.object took.candidate after (not_yet it decides took) changed updated
       ])
     where
-      parts_are : (first second : List (ObjectId × Method)) → op.Act first ≡ op.Act second → first ≡ second
-      parts_are first second same = cc
-
-      not_yet : (it : IsPoint trace point) → (decides : DecidesAt trace (it.operation).client (it.operation).number (suc time)) → (took : TookEffect (world_after trace (suc time)) (it.operation).client (it.operation).number) → ¬ (Established trace is_run have time took.object took.candidate)
+      not_yet : (it : IsPoint trace point) → (decides : DecidesAt trace (it.operation).client (it.operation).number parts (suc time)) → (took : TookEffect (world_after trace (suc time)) (it.operation).client (act_digest (it.operation).client (it.operation).number parts)) → ¬ (Established trace is_run have time took.object took.candidate)
       not_yet it decides took already = decides.not_before time (omega arith) (record {
         object = took.object;
         candidate = took.candidate;
         is_decided = IsDecided.by_acceptors took.candidate (is_established_by trace is_run have time took.object took.candidate already);
         of_client = took.of_client;
-        of_number = took.of_number;
+        of_act = took.of_act;
       })

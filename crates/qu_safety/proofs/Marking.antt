@@ -1,5 +1,6 @@
 -- From one event of a run to the next the marks stay those of the first decisions.
 use Rattle.std.proofs.Common.{◌≡◌, ℕ, zero, suc, ◌+◌, ◌<◌, ◌≤◌, Bool, true, false, List, [], ◌∷◌, length, get_or, take, Option, None, Some, sym, ap, subst, ◌∙◌, arith, inl, inr}
+use Rattle.std.specs.Prelude.{slice_get}
 use Rattle.std.specs.List.{AllZip, All}
 use Rattle.std.specs.Option.{OnSome}
 use Rattle.std.proofs.lemmas.Bool.{false≢true, cases_lt}
@@ -8,6 +9,7 @@ use Rattle.std.proofs.lemmas.List.Elements.{All-head, All-tail, All-nil, All-con
 use Rattle.std.proofs.lemmas.Option.{none-some, same_Some}
 use Rattle.qu_base.specs.declared.party.ObjectId.{ObjectId}
 use Rattle.qu_stamp.specs.declared.candidate.Candidate.{Candidate}
+use Rattle.qu_replica.specs.State.{ReplicaState}
 use Rattle.qu_trace.specs.declared.event.Event.{Event}
 use Rattle.qu_trace.specs.declared.trace.Entry.{Entry}
 use Rattle.qu_trace.specs.declared.trace.Setup.{Setup}
@@ -136,6 +138,12 @@ run_has trace count =
     let opening : EachHas (length trace.setup.kinds) (world_after trace 0).replicas =
     subst (λ (world : WorldState). EachHas (length trace.setup.kinds) world.replicas) (sym (world_after-none trace)) (opening_has trace.setup) in
     each_has-grows (length trace.setup.kinds) (world_after trace 0).replicas (world_after trace count).replicas (world_after-grows trace 0 count (omega arith)).replicas opening
+
+-- a replica among these has at most so many objects
+pub found_within : (number : ℕ) (states : List ReplicaState) (place : ℕ) (state : ReplicaState) → EachHas number states → slice_get states place ≡ Some state → length state.histories ≤ number
+found_within number [] place state each found = absurd (none-some state found)
+found_within number (first ∷ later) zero state each found = subst (λ (it : ReplicaState). length it.histories ≤ number) (same_Some first state found) each.0
+found_within number (first ∷ later) (suc place) state each found = found_within number later place state each.1 found
 
 abbrev pub news_after : Trace → ℕ → List Tracked
 news_after trace count = news_from (length trace.setup.kinds) (sizes_of (length trace.setup.kinds) (world_after trace count).replicas) 0 (world_after trace (count + 1)).replicas

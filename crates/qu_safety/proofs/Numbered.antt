@@ -1,8 +1,10 @@
--- A client numbers its operations from 1 on, so no operation's candidate is the opening one.
-use Rattle.std.proofs.Common.{◌≡◌, ℕ, ◌+◌, ◌≤◌, true, List, [], ◌∷◌, ◌++◌, subst, ap, arith, inl, inr}
+-- A client numbers its operations from 1 on; and no candidate of an act is the opening one.
+use Rattle.std.proofs.Common.{◌≡◌, ℕ, ◌+◌, ◌≤◌, true, List, [], ◌∷◌, ◌++◌, Some, sym, ◌∙◌, subst, ap, arith, inl, inr}
 use Rattle.std.specs.Prelude.{Contains}
 use Rattle.std.specs.List.{All}
 use Rattle.std.proofs.lemmas.List.Elements.{All-nil, All-cons}
+use Rattle.std.proofs.lemmas.Option.{none-some}
+use Rattle.qu_base.specs.declared.party.Digest.{Digest}
 use Rattle.qu_base.specs.declared.party.ObjectId.{ObjectId}
 use Rattle.qu_stamp.specs.declared.candidate.Candidate.{Candidate}
 use Rattle.qu_machine.specs.declared.record.OpRecord.{OpRecord}
@@ -35,13 +37,11 @@ pub operation_numbered : (entries : List Entry) (operation : OpRecord) → Conta
 operation_numbered entries operation among =
     subst IsNumbered among.2 (all_numbered [] 1 entries among.0 operation among.1)
 
--- an accepted candidate with a number is not the opening one, so it comes after its base
-pub numbered_late : (trace : Trace) → IsRun trace → HaveParts trace.entries → (object : ObjectId) (candidate : Candidate) → is_accepted (last_world trace) object candidate ≡ true → 1 ≤ (candidate.stamp).number → 1 ≤ (candidate.stamp).time
-numbered_late trace is_run have object candidate accepted numbered =
+-- an accepted candidate with an act is not the opening one, so it comes after its base
+pub act_late : (trace : Trace) → IsRun trace → HaveParts trace.entries → (object : ObjectId) (candidate : Candidate) → is_accepted (last_world trace) object candidate ≡ true → (act : Digest) → (candidate.stamp).act ≡ Some act → 1 ≤ (candidate.stamp).time
+act_late trace is_run have object candidate accepted act of_act =
     elim (accepted_in_the_end trace is_run have object candidate accepted) [
-      | inl is ↦
-          let none : (candidate.stamp).number ≡ 0 = ap (λ (it : Candidate). (it.stamp).number) is in
-          absurd (omega arith)
+      | inl is ↦ absurd (none-some act (sym (ap (λ (it : Candidate). (it.stamp).act) is) ∙ of_act))
       | inr after ↦
           let next : (candidate.stamp).time ≡ ((after.base).stamp).time + 1 = after.next in
           omega arith

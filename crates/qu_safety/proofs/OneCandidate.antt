@@ -1,33 +1,38 @@
--- An update has one candidate: what replicas accepted of one operation of a client is on one object, and
--- is the same.
-use Rattle.std.proofs.Common.{◌≡◌, ◌⊎◌, ℕ, suc, ◌+◌, ◌<◌, ◌≤◌, Bool, true, IsTrue, List, [], ◌∷◌, length, Some, refl, sym, ap, ◌∙◌, arith, inl, inr}
+-- An update has one candidate: what replicas accepted with one act digest is on one object, and is the same.
+use Rattle.std.proofs.Common.{◌≡◌, ◌⊎◌, ℕ, suc, ◌<◌, Bool, true, IsTrue, List, [], ◌∷◌, length, Some, refl, sym, ap, ◌∙◌, arith, inl, inr}
 use Rattle.std.specs.Prelude.{slice_get}
 use Rattle.std.specs.List.{list_any}
 use Rattle.std.proofs.lemmas.Bool.{false≢true, or_cases}
-use Rattle.std.proofs.lemmas.Option.{same_Some}
+use Rattle.std.proofs.lemmas.Option.{none-some, same_Some}
 use Rattle.qu_base.specs.declared.party.ClientId.{ClientId}
+use Rattle.qu_base.specs.declared.party.Digest.{Digest}
 use Rattle.qu_base.specs.declared.party.ObjectId.{ObjectId}
 use Rattle.qu_stamp.specs.declared.candidate.Candidate.{Candidate}
 use Rattle.qu_stamp.specs.declared.stamp.Stamp.{Stamp}
 use Rattle.qu_stamp.specs.Candidate.{opening}
 use Rattle.qu_history.specs.declared.sets.SetOf.{SetOf}
-use Rattle.qu_history.specs.Sets.{entries_of, latest_of, method_at}
+use Rattle.qu_history.specs.Sets.{entries_of, method_at}
 use Rattle.qu_objects.specs.declared.act.Method.{Method}
+use Rattle.qu_objects.specs.Text.{act_digest}
 use Rattle.qu_frames.specs.declared.frame.Body.TheVariants as body
 use Rattle.qu_frames.specs.declared.frame.Frame.TheVariants as frame
 use Rattle.qu_frames.specs.declared.frame.Letter.{Letter}
+use Rattle.qu_replica.specs.Rows.{asked_of, fresh_stamp}
 use Rattle.qu_replica.specs.State.{ReplicaState}
 use Rattle.qu_client.specs.Rounds.{are_full}
 use Rattle.qu_trace.specs.declared.trace.Trace.{Trace}
-use Rattle.qu_world.specs.State.{letter_of}
+use Rattle.qu_world.specs.State.{WorldState, letter_of}
 use Rattle.qu_world.specs.Run.{IsRun}
 use Rattle.qu_safety.specs.Chained.{last_world}
 use Rattle.qu_safety.specs.Decided.{accepts, is_accepted}
+use Rattle.qu_safety.specs.Digested.{IsHandled, IsMadeFor}
 use Rattle.qu_safety.specs.Grounds.{IsGround, AcceptsOne}
 use Rattle.qu_safety.specs.Origins.{Origin}
 use Rattle.qu_safety.specs.Views.{HaveParts}
 use Rattle.qu_safety.proofs.FullSets.{accepted_upon_full}
+use Rattle.qu_safety.proofs.Handled.{handled, made_for}
 use Rattle.qu_safety.proofs.LaterLetters.{letter_later}
+use Rattle.qu_safety.proofs.OneAct.{ActsAreOne}
 use Rattle.qu_safety.proofs.OneRequest.{one_full_request}
 use Rattle.qu_safety.proofs.OpeningReplicas.{bounds_are}
 use Rattle.qu_safety.proofs.Origins.{origin}
@@ -45,18 +50,16 @@ any_place test (item ∷ later) some =
           (suc rest.0, rest.1, rest.2, rest.3)
     ]
 
--- the opening candidate has time 0
-not_opening : (trace : Trace) (count : ℕ) (object : ObjectId) (candidate : Candidate) → 1 ≤ (candidate.stamp).time → (candidate ≡ opening) ⊎ Origin trace count object candidate → Origin trace count object candidate
-not_opening trace count object candidate late (inl begins) =
-    let none : (candidate.stamp).time ≡ 0 = ap (λ (it : Candidate). (it.stamp).time) begins in
-    absurd (omega arith)
-not_opening trace count object candidate late (inr came) = came
+-- the opening candidate has no act
+not_opening : (trace : Trace) (count : ℕ) (object : ObjectId) (candidate : Candidate) (act : Digest) → (candidate.stamp).act ≡ Some act → (candidate ≡ opening) ⊎ Origin trace count object candidate → Origin trace count object candidate
+not_opening trace count object candidate act of_act (inl begins) = absurd (none-some act (sym (ap (λ (it : Candidate). (it.stamp).act) begins) ∙ of_act))
+not_opening trace count object candidate act of_act (inr came) = came
 
--- an accepted candidate with a later time has an origin
-pub accepted_origin : (trace : Trace) → IsRun trace → HaveParts trace.entries → (object : ObjectId) (candidate : Candidate) → IsTrue (is_accepted (last_world trace) object candidate) → 1 ≤ (candidate.stamp).time → Origin trace (length trace.entries) object candidate
-accepted_origin trace is_run have object candidate accepted late =
+-- an accepted candidate with an act has an origin
+pub accepted_origin : (trace : Trace) → IsRun trace → HaveParts trace.entries → (object : ObjectId) (candidate : Candidate) → IsTrue (is_accepted (last_world trace) object candidate) → (act : Digest) → (candidate.stamp).act ≡ Some act → Origin trace (length trace.entries) object candidate
+accepted_origin trace is_run have object candidate accepted act of_act =
     let found : (place : ℕ) × (state : ReplicaState) × (slice_get (last_world trace).replicas place ≡ Some state) × (accepts object candidate state ≡ true) = any_place (accepts object candidate) (last_world trace).replicas accepted in
-    not_opening trace (length trace.entries) object candidate late
+    not_opening trace (length trace.entries) object candidate act of_act
     (origin trace is_run have (length trace.entries) (omega arith) found.0 found.1 found.2 object candidate found.3)
 
 -- ---- of one request
@@ -68,74 +71,76 @@ abbrev first_of_parts : ObjectId → List (ObjectId × Method) → ObjectId
 first_of_parts default [] = default
 first_of_parts default (part ∷ later) = part.0
 
+-- the stamp that a request of an act makes on the object of its first part
+abbrev stamp_made : ObjectId → ClientId → ℕ → List SetOf → List (ObjectId × Method) → Stamp
+stamp_made default client number sets parts = fresh_stamp (asked_of client number sets (body.Act parts)) (first_of_parts default parts)
+
 -- the request upon full sets that a candidate came from
 record IsAsked (trace : Trace) (object : ObjectId) (candidate : Candidate) : Type 0 where
   at : ℕ
   letter : Letter
   is_letter : letter_of (last_world trace) at ≡ Some letter
+  client : ClientId
+  number : ℕ
   round : ℕ
   sets : List SetOf
   method : Method
-  is_request : letter.frame ≡ frame.Request (candidate.stamp).client (candidate.stamp).number round sets (body.Act ((object, method) ∷ []))
+  is_request : letter.frame ≡ frame.Request client number round sets (body.Act ((object, method) ∷ []))
   full : are_full trace.setup.bounds sets ≡ true
-  time : (candidate.stamp).time ≡ (latest_of (entries_of object sets)).time + 1
+  stamp : candidate.stamp ≡ stamp_made object client number sets ((object, method) ∷ [])
+  made : IsMadeFor trace candidate client number ((object, method) ∷ [])
   base : Candidate
   is_base : method_at trace.setup.bounds (entries_of object sets) ≡ Some base
   prior : candidate.prior ≡ base.stamp
 
-asked_by : (trace : Trace) (object : ObjectId) (candidate : Candidate) → Origin trace (length trace.entries) object candidate → IsAsked trace object candidate
-asked_by trace object candidate came =
+asked_by : (trace : Trace) → IsRun trace → (object : ObjectId) (candidate : Candidate) → Origin trace (length trace.entries) object candidate → IsAsked trace object candidate
+asked_by trace is_run object candidate came =
     let one : AcceptsOne came.old came.new ((came.delivered).letter).frame object = (came.delivered).accepts in
-    let why : IsGround came.old one.client one.number one.sets object one.candidate = one.grounds in
-    let stamp : candidate.stamp ≡ record { time = (latest_of (entries_of object one.sets)).time + 1; client = one.client; number = one.number } = ap (λ (it : Candidate). it.stamp) (sym came.is_candidate) ∙ why.stamp in
-    let client : one.client ≡ (candidate.stamp).client = ap (λ (it : Stamp). it.client) (sym stamp) in
-    let number : one.number ≡ (candidate.stamp).number = ap (λ (it : Stamp). it.number) (sym stamp) in
+    let why : IsGround came.old (asked_of one.client one.number one.sets (body.Act ((object, one.method) ∷ []))) object one.candidate = one.grounds in
     let before : came.past < length trace.entries = came.earlier in
+    let was : IsHandled trace one.client one.number ((object, one.method) ∷ []) =
+    handled trace is_run came.past before came.entry came.of_trace came.event came.event_is came.place came.old came.new came.is_old
+    (ap (λ (it : WorldState). slice_get it.replicas came.place) (sym came.is_step) ∙ came.is_new) object came.delivered in
     record {
       at = (came.delivered).number;
       letter = (came.delivered).letter;
       is_letter = letter_later trace came.past (length trace.entries) (came.delivered).number (came.delivered).letter (omega arith) (omega arith) (came.delivered).is_letter;
+      client = one.client;
+      number = one.number;
       round = one.round;
       sets = one.sets;
       method = one.method;
-      is_request = one.is_request ∙
-          ap (λ (it : ClientId). frame.Request it one.number one.round one.sets (body.Act ((object, one.method) ∷ []))) client ∙
-          ap (λ (it : ℕ). frame.Request (candidate.stamp).client it one.round one.sets (body.Act ((object, one.method) ∷ []))) number;
+      is_request = one.is_request;
       full = accepted_upon_full trace (length trace.entries) object candidate came;
-      time = ap (λ (it : Stamp). it.time) stamp;
+      stamp = ap (λ (it : Candidate). it.stamp) (sym came.is_candidate) ∙ why.stamp;
+      made = made_for trace came.old came.new ((came.delivered).letter).frame object one candidate came.is_candidate was;
       base = why.base;
       is_base = ap (λ (size : ℕ). method_at size (entries_of object one.sets)) (sym (bounds_are trace came.past came.place came.old came.is_old)) ∙ why.method;
       prior = ap (λ (it : Candidate). it.prior) (sym came.is_candidate) ∙ why.prior;
     }
 
-same_stamps : (a b : Stamp) → a.time ≡ b.time → a.client ≡ b.client → a.number ≡ b.number → a ≡ b
-same_stamps a b times clients numbers =
-    let with_time : ℕ → Stamp = λ it. record { time = it; client = a.client; number = a.number } in
-    let with_client : ClientId → Stamp = λ it. record { time = b.time; client = it; number = a.number } in
-    let with_number : ℕ → Stamp = λ it. record { time = b.time; client = b.client; number = it } in
-    ap with_time times ∙ ap with_client clients ∙ ap with_number numbers
-
--- the same sets of the same object make the same candidate
-one_made : (trace : Trace) (object other : ObjectId) (first second : Candidate) (one : IsAsked trace object first) (two : IsAsked trace other second) → (first.stamp).client ≡ (second.stamp).client → (first.stamp).number ≡ (second.stamp).number → one.sets ≡ two.sets → object ≡ other → first ≡ second
-one_made trace object other first second one two clients numbers sets objects =
+-- one request upon the same sets makes the same candidate
+one_made : (trace : Trace) (object other : ObjectId) (first second : Candidate) (one : IsAsked trace object first) (two : IsAsked trace other second) → one.client ≡ two.client → one.number ≡ two.number → one.sets ≡ two.sets → acts_on object one.method ≡ acts_on other two.method → first ≡ second
+one_made trace object other first second one two clients numbers sets parts =
+    let objects : object ≡ other = ap (first_of_parts object) parts in
     let entries : entries_of object one.sets ≡ entries_of other two.sets = ap (entries_of object) sets ∙ ap (λ (it : ObjectId). entries_of it two.sets) objects in
-    let times : (first.stamp).time ≡ (second.stamp).time = one.time ∙ ap (λ it. (latest_of it).time + 1) entries ∙ sym two.time in
     let bases : one.base ≡ two.base = same_Some one.base two.base (sym one.is_base ∙ ap (method_at trace.setup.bounds) entries ∙ two.is_base) in
     same_candidate first second
-    (same_stamps first.stamp second.stamp times clients numbers)
+    (one.stamp ∙ (λ i. stamp_made object (clients i) (numbers i) (sets i) (parts i)) ∙ sym two.stamp)
     (one.prior ∙ ap (λ (it : Candidate). it.stamp) bases ∙ sym two.prior)
 
--- what was accepted of one operation of a client is one candidate of one object
-pub one_candidate : (trace : Trace) → IsRun trace → HaveParts trace.entries → (object other : ObjectId) (first second : Candidate) → IsTrue (is_accepted (last_world trace) object first) → IsTrue (is_accepted (last_world trace) other second) → (first.stamp).client ≡ (second.stamp).client → (first.stamp).number ≡ (second.stamp).number → 1 ≤ (first.stamp).time → 1 ≤ (second.stamp).time → (object ≡ other) × (first ≡ second)
-one_candidate trace is_run have object other first second accepted besides clients numbers late later =
-    let one : IsAsked trace object first = asked_by trace object first (accepted_origin trace is_run have object first accepted late) in
-    let two : IsAsked trace other second = asked_by trace other second (accepted_origin trace is_run have other second besides later) in
-    let is_second : (two.letter).frame ≡ frame.Request (first.stamp).client (first.stamp).number two.round two.sets (body.Act ((other, two.method) ∷ [])) =
-    two.is_request ∙
-    ap (λ (it : ClientId). frame.Request it (second.stamp).number two.round two.sets (body.Act ((other, two.method) ∷ []))) (sym clients) ∙
-    ap (λ (it : ℕ). frame.Request (first.stamp).client it two.round two.sets (body.Act ((other, two.method) ∷ []))) (sym numbers) in
+-- what was accepted with one act digest is one candidate of one object
+pub one_candidate : (trace : Trace) → IsRun trace → HaveParts trace.entries → ActsAreOne trace → (object other : ObjectId) (first second : Candidate) → IsTrue (is_accepted (last_world trace) object first) → IsTrue (is_accepted (last_world trace) other second)
+    → (act : Digest) → (first.stamp).act ≡ Some act → (second.stamp).act ≡ Some act → (object ≡ other) × (first ≡ second)
+one_candidate trace is_run have one_act object other first second accepted besides act of_first of_second =
+    let one : IsAsked trace object first = asked_by trace is_run object first (accepted_origin trace is_run have object first accepted act of_first) in
+    let two : IsAsked trace other second = asked_by trace is_run other second (accepted_origin trace is_run have other second besides act of_second) in
+    let digests : act_digest one.client one.number (acts_on object one.method) ≡ act_digest two.client two.number (acts_on other two.method) =
+    same_Some _ _ (sym (one.made).of_act ∙ of_first ∙ sym of_second ∙ (two.made).of_act) in
+    let acts = one_act one.client two.client one.number two.number (acts_on object one.method) (acts_on other two.method) (one.made).handled (two.made).handled digests in
+    let is_second : (two.letter).frame ≡ frame.Request one.client one.number two.round two.sets (body.Act ((other, two.method) ∷ [])) =
+    two.is_request ∙ sym (λ i. frame.Request (acts.0 i) (acts.1 i) two.round two.sets (body.Act ((other, two.method) ∷ []))) in
     let same : (one.sets ≡ two.sets) × (acts_on object one.method ≡ acts_on other two.method) =
     one_full_request trace is_run (length trace.entries) (omega arith) one.at two.at one.letter two.letter one.is_letter two.is_letter
-    (first.stamp).client (first.stamp).number one.round two.round one.sets two.sets ((object, one.method) ∷ []) ((other, two.method) ∷ []) one.is_request is_second one.full two.full in
-    let objects : object ≡ other = ap (first_of_parts object) same.1 in
-    (objects, one_made trace object other first second one two clients numbers same.0 objects)
+    one.client one.number one.round two.round one.sets two.sets ((object, one.method) ∷ []) ((other, two.method) ∷ []) one.is_request is_second one.full two.full in
+    (ap (first_of_parts object) acts.2, one_made trace object other first second one two acts.0 acts.1 same.0 acts.2)

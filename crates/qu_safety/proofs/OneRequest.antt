@@ -19,7 +19,7 @@ use Rattle.qu_frames.specs.declared.verdict.Verdict.{Verdict}
 use Rattle.qu_replica.specs.declared.decision.Decision.{Decision}
 use Rattle.qu_replica.specs.declared.decision.Decision.TheVariants.{Answers, Waits}
 use Rattle.qu_replica.specs.State.{ReplicaState, accept_all}
-use Rattle.qu_replica.specs.Rows.{decision_on}
+use Rattle.qu_replica.specs.Rows.{asked_of, decision_on}
 use Rattle.qu_replica.specs.Step.{shown, reply, carried_out, replica_step}
 use Rattle.qu_client.specs.declared.state.ClientState.{ClientState}
 use Rattle.qu_client.specs.declared.state.Stepped.{Stepped}
@@ -150,7 +150,7 @@ answered state client number round sets (Answers verdict accepted) letter stands
 
 pub replica_asks : (state : ReplicaState) (sent : Frame) (letter : Letter) → StandsIn (replica_step state sent).1 letter → (client : ClientId) (number round : ℕ) (sets : List SetOf) (asks : Body) → letter.frame ≡ frame.Request client number round sets asks → ⊥
 replica_asks state (frame.Request client number round sets asks) letter stands =
-    answered state client number round sets (decision_on state (record { client = client; number = number; sets = sets }) asks) letter stands
+    answered state client number round sets (decision_on state (asked_of client number sets asks) asks) letter stands
 replica_asks state (frame.Reply replica client number round verdict shown) letter stands = absurd (none_stands letter stands)
 
 module _ (bounds : ℕ) where

@@ -1,5 +1,5 @@
 -- A replica holds the opening candidate of an object, and else only what an event of the run made it accept.
-use Rattle.std.proofs.Common.{◌≡◌, ◌⊎◌, ℕ, zero, suc, ◌+◌, ◌<◌, ◌≤◌, true, false, ◌||◌, length, get_or, Some, sym, ap, subst, ◌∙◌, arith, add-one, inl, inr}
+use Rattle.std.proofs.Common.{◌≡◌, ◌⊎◌, ℕ, zero, suc, ◌+◌, ◌<◌, ◌≤◌, true, false, ◌||◌, length, get_or, Some, refl, sym, ap, subst, ◌∙◌, arith, add-one, inl, inr}
 use Rattle.std.specs.Prelude.{slice_get}
 use Rattle.std.proofs.lemmas.Bool.{false≢true, or_cases}
 use Rattle.qu_base.specs.declared.party.ObjectId.{ObjectId}
@@ -14,6 +14,7 @@ use Rattle.qu_trace.specs.declared.trace.Entry.{Entry}
 use Rattle.qu_trace.specs.declared.trace.Trace.{Trace}
 use Rattle.qu_world.specs.Step.{world_step}
 use Rattle.qu_world.specs.Run.{IsRun}
+use Rattle.std.proofs.lemmas.List.Elements.{Contains-get_or}
 use Rattle.qu_safety.specs.Order.{world_after}
 use Rattle.qu_safety.specs.Origins.{Origin}
 use Rattle.qu_safety.specs.Views.{HaveParts}
@@ -35,6 +36,9 @@ origin_later trace count object candidate origin =
       past = origin.past;
       earlier = omega arith;
       event = origin.event;
+      entry = origin.entry;
+      of_trace = origin.of_trace;
+      event_is = origin.event_is;
       is_step = origin.is_step;
       place = origin.place;
       old = origin.old;
@@ -73,6 +77,9 @@ module _ (trace : Trace) (is_run : IsRun trace) (have : HaveParts trace.entries)
                   past = count;
                   earlier = omega arith;
                   event = event;
+                  entry = get_or trace.entries count default;
+                  of_trace = Contains-get_or trace.entries count default below;
+                  event_is = refl;
                   is_step = next;
                   place = place;
                   old = was.old;

@@ -17,7 +17,7 @@ use Rattle.qu_replica.specs.declared.decision.Accepted.{Accepted}
 use Rattle.qu_replica.specs.declared.decision.Decision.{Decision}
 use Rattle.qu_replica.specs.declared.decision.Decision.TheVariants.{Answers, Waits}
 use Rattle.qu_replica.specs.State.{ReplicaState, with_candidate, accept, accept_all, opening_state}
-use Rattle.qu_replica.specs.Rows.{decision_on}
+use Rattle.qu_replica.specs.Rows.{asked_of, decision_on}
 use Rattle.qu_replica.specs.Step.{carried_out, replica_step}
 use Rattle.qu_replica.proofs.Own.{IsOwn, own_history, opening-histories}
 use Rattle.qu_world.specs.State.{WorldState, opening_replicas, history_at}
@@ -88,7 +88,7 @@ carried_out-in_place place state client number round sets Waits in_place = in_pl
 
 pub step-in_place : (place : ℕ) (state : ReplicaState) (received : Frame) → IsInPlace place state → IsInPlace place (replica_step state received).0
 step-in_place place state (frame.Request client number round sets body) in_place =
-    carried_out-in_place place state client number round sets (decision_on state (record { client = client; number = number; sets = sets }) body) in_place
+    carried_out-in_place place state client number round sets (decision_on state (asked_of client number sets body) body) in_place
 step-in_place place state (frame.Reply replica client number round verdict shown) in_place = in_place
 
 -- ---- all replicas of a world

@@ -2,11 +2,10 @@
 use Rattle.std.proofs.Common.{◌≡◌, ℕ, zero, suc, ◌<◌, ◌≤◌, true, List, [], ◌∷◌, length, get_or, Option, None, Some, refl, sym, ap, subst, ◌∙◌, arith}
 use Rattle.std.specs.Prelude.{◌==◌, ◌&&◌, slice_get, Contains}
 use Rattle.std.proofs.lemmas.Bool.{false≢true, and_parts, eqb-true}
-use Rattle.std.proofs.lemmas.Option.{same_Some, slice_get_within, get_or_from_slice_get}
+use Rattle.std.proofs.lemmas.Option.{none-some, same_Some, slice_get_within, get_or_from_slice_get}
 use Rattle.qu_base.specs.declared.party.ClientId.{ClientId}
 use Rattle.qu_base.specs.declared.party.ReplicaId.{ReplicaId}
 use Rattle.qu_base.specs.declared.party.ObjectId.{ObjectId}
-use Rattle.qu_stamp.specs.declared.stamp.Stamp.{Stamp}
 use Rattle.qu_stamp.specs.declared.candidate.Candidate.{Candidate}
 use Rattle.qu_stamp.specs.Candidate.{opening}
 use Rattle.qu_history.specs.declared.sets.SetOf.{SetOf}
@@ -32,6 +31,12 @@ use Rattle.qu_trace.specs.declared.trace.Trace.{Trace}
 use Rattle.qu_trace.specs.Operations.{operations_of}
 use Rattle.qu_world.specs.State.{letter_of}
 use Rattle.qu_world.specs.Run.{IsRun}
+use Rattle.qu_base.specs.declared.party.Digest.{Digest}
+use Rattle.qu_objects.specs.declared.act.Method.{Method}
+use Rattle.qu_objects.specs.Text.{act_digest}
+use Rattle.qu_safety.proofs.OneAct.{ActsAreOne, one_made_for}
+use Rattle.qu_safety.proofs.Handled.{accepted_made}
+use Rattle.qu_safety.specs.Digested.{IsMadeFor}
 use Rattle.qu_safety.specs.Decided.{accepts, IsDecided, TookEffect}
 use Rattle.qu_safety.specs.Grounds.{AcceptsOne, IsDelivered}
 use Rattle.qu_safety.specs.Invocations.{IsRequestOf}
@@ -48,13 +53,6 @@ use Rattle.qu_safety.proofs.Replying.{reply_sent}
 use Rattle.qu_safety.proofs.Taking.{effect_once}
 use Rattle.qu_safety.proofs.WorldGrowth.{accepted_by_decided}
 use Rattle.qu_safety.proofs.Small.{same_clients, same_deliver, same_point}
-use Rattle.qu_safety.proofs.Numbered.{operation_numbered}
-
--- ---- numbers
-
--- the numbers of operations begin with 1
-pub number_from_one : (trace : Trace) (operation : OpRecord) → Contains (operations_of trace.entries) operation → 1 ≤ operation.number
-number_from_one trace operation held = operation_numbered trace.entries operation held
 
 -- ---- answers
 
@@ -95,25 +93,25 @@ record IsAskedAt (trace : Trace) (time : ℕ) (client : ClientId) (number : ℕ)
 abbrev IsAskedBy : Trace → ℕ → ClientId → ℕ → Type 0
 IsAskedBy trace event client number = (time : ℕ) × (event ≡ suc time) × IsAskedAt trace time client number
 
-module _ (trace : Trace) (is_run : IsRun trace) (have : HaveParts trace.entries) where
-  -- before the first event no operation has taken effect: what is accepted then has number 0
-  not_at_first : (client : ClientId) (number : ℕ) → 1 ≤ number → TookEffect (world_after trace 0) client number → ⊥
-  not_at_first client number some took =
+module _ (trace : Trace) (is_run : IsRun trace) (have : HaveParts trace.entries) (one_act : ActsAreOne trace) where
+  -- before the first event no operation has taken effect: what is accepted then has no act
+  not_at_first : (client : ClientId) (act : Digest) → TookEffect (world_after trace 0) client act → ⊥
+  not_at_first client act took =
       let held : AcceptedAt took.object took.candidate (world_after trace 0).replicas =
       accepted_somewhere took.object took.candidate (world_after trace 0).replicas (accepted_by_decided (world_after trace 0) took.object took.candidate took.is_decided) in
       let found : Found (accepts took.object took.candidate) (world_after trace 0).replicas held.place = found_at (accepts took.object took.candidate) (world_after trace 0).replicas held.place held.accepted in
       let first : took.candidate ≡ opening = opening_alone trace held.place found.item took.object took.candidate found.is_at found.passed in
-      let none : number ≡ 0 = sym took.of_number ∙ ap (λ (it : Candidate). it.stamp.number) first in
-      absurd (omega arith)
+      none-some act (sym (ap (λ (it : Candidate). it.stamp.act) first) ∙ took.of_act)
 
   -- what a replica accepts is asked for
-  asked_by_acceptance : (time : ℕ) (object : ObjectId) (place : ℕ) (candidate : Candidate) (client : ClientId) (number : ℕ) → time < length trace.entries → Acceptance trace time object place candidate → candidate.stamp.client ≡ client → candidate.stamp.number ≡ number
+  asked_by_acceptance : (time : ℕ) (object : ObjectId) (place : ℕ) (candidate : Candidate) (client : ClientId) (number : ℕ) (parts : List (ObjectId × Method)) → time < length trace.entries → Acceptance trace time object place candidate → IsMadeFor trace candidate client number parts
       → IsAskedAt trace time client number
-  asked_by_acceptance time object place candidate client number within accepted of_client of_number =
+  asked_by_acceptance time object place candidate client number parts within accepted made =
       let delivered : IsDelivered (world_after trace time) accepted.event place accepted.old accepted.new object = accepted.delivered in
       let one : AcceptsOne accepted.old accepted.new (delivered.letter).frame object = delivered.accepts in
-      let same_client : one.client ≡ client = ap (λ (it : Stamp). it.client) (sym (one.grounds).stamp) ∙ ap (λ (it : Candidate). it.stamp.client) accepted.candidate_is ∙ of_client in
-      let same_number : one.number ≡ number = ap (λ (it : Stamp). it.number) (sym (one.grounds).stamp) ∙ ap (λ (it : Candidate). it.stamp.number) accepted.candidate_is ∙ of_number in
+      let same = one_made_for trace one_act candidate one.client client one.number number ((object, one.method) ∷ []) parts (accepted_made trace is_run time within object place candidate accepted) made in
+      let same_client : one.client ≡ client = same.0 in
+      let same_number : one.number ≡ number = same.1 in
       record {
         within = within;
         asked = delivered.number;
@@ -127,11 +125,11 @@ module _ (trace : Trace) (is_run : IsRun trace) (have : HaveParts trace.entries)
       }
 
   -- an update takes effect where a candidate of it is established
-  decides_asked : (client : ClientId) (number event : ℕ) → 1 ≤ number → DecidesAt trace client number event → IsAskedBy trace event client number
-  decides_asked client number zero some decides = absurd (not_at_first client number some decides.by_then)
-  decides_asked client number (suc time) some decides =
+  decides_asked : (client : ClientId) (number : ℕ) (parts : List (ObjectId × Method)) (event : ℕ) → DecidesAt trace client number parts event → IsAskedBy trace event client number
+  decides_asked client number parts zero decides = absurd (not_at_first client (act_digest client number parts) decides.by_then)
+  decides_asked client number parts (suc time) decides =
       let happened : suc time ≤ length trace.entries = decides.happened in
-      let took : TookEffect (world_after trace (suc time)) client number = decides.by_then in
+      let took : TookEffect (world_after trace (suc time)) client (act_digest client number parts) = decides.by_then in
       let after : Established trace is_run have (suc time) took.object took.candidate = established_by_decided trace is_run have (suc time) happened took.object took.candidate took.is_decided in
       let new : Establishes trace is_run have time took.object took.candidate =
       establishes trace is_run have time (omega arith) took.object took.candidate after
@@ -140,12 +138,13 @@ module _ (trace : Trace) (is_run : IsRun trace) (have : HaveParts trace.entries)
         candidate = took.candidate;
         is_decided = IsDecided.by_acceptors took.candidate (is_established_by trace is_run have time took.object took.candidate before);
         of_client = took.of_client;
-        of_number = took.of_number;
+        of_act = took.of_act;
       })) in (
         time,
         refl,
-        asked_by_acceptance time took.object new.place took.candidate client number (omega arith)
-            (accepted_of trace is_run have time took.object new.place took.candidate new.new) took.of_client took.of_number,
+        asked_by_acceptance time took.object new.place took.candidate client number parts (omega arith)
+            (accepted_of trace is_run have time took.object new.place took.candidate new.new)
+            (record { handled = decides.handled; of_client = took.of_client; of_act = took.of_act }),
       )
 
   -- a reply is sent where its request is delivered
@@ -182,9 +181,9 @@ module _ (trace : Trace) (is_run : IsRun trace) (have : HaveParts trace.entries)
   query_asked operation event None effect = absurd effect
   query_asked operation event (Some reply) effect = completed_asked operation event reply.0 reply.1 effect
 
-  effect_asked : (operation : OpRecord) (event : ℕ) (what : Op) → 1 ≤ operation.number → effect_of trace operation event what → IsAskedBy trace event operation.client operation.number
-  effect_asked operation event (op.Act act) some effect = decides_asked operation.client operation.number event some effect
-  effect_asked operation event (op.Query query) some effect = query_asked operation event operation.reply effect
+  effect_asked : (operation : OpRecord) (event : ℕ) (what : Op) → effect_of trace operation event what → IsAskedBy trace event operation.client operation.number
+  effect_asked operation event (op.Act parts) effect = decides_asked operation.client operation.number parts event effect
+  effect_asked operation event (op.Query query) effect = query_asked operation event operation.reply effect
 
 -- ---- points
 
@@ -216,9 +215,9 @@ asks_for trace is_run time operation of_trace asked =
       begun = subst (λ (it : OpRecord). it.invoked ≤ time) same request.begun;
     }
 
-module _ (trace : Trace) (is_run : IsRun trace) (have : HaveParts trace.entries) where
+module _ (trace : Trace) (is_run : IsRun trace) (have : HaveParts trace.entries) (one_act : ActsAreOne trace) where
   asked_of_point : (point : Point) → (is : IsPoint trace point) → IsAskedBy trace point.event is.operation.client is.operation.number
-  asked_of_point point is = effect_asked trace is_run have is.operation point.event is.operation.op (number_from_one trace is.operation is.of_trace) is.effect
+  asked_of_point point is = effect_asked trace is_run have one_act is.operation point.event is.operation.op is.effect
 
   pub point_request : (point : Point) → IsPoint trace point → (time : ℕ) × (point.event ≡ suc time) × PointRequest trace time point
   point_request point is =
@@ -274,7 +273,7 @@ one_point trace first second one two same_client same_number =
 same_request : (first second : ClientId) (asked number turn round : ℕ) (sets shown : List SetOf) (asks told : Body) → frame.Request first asked turn sets asks ≡ frame.Request second number round shown told → (first ≡ second) × (asked ≡ number)
 same_request first second asked number turn round sets shown asks told same = (cc, cc)
 
-module _ (trace : Trace) (is_run : IsRun trace) (have : HaveParts trace.entries) where
+module _ (trace : Trace) (is_run : IsRun trace) (have : HaveParts trace.entries) (one_act : ActsAreOne trace) where
   -- one event delivers one letter
   apart_at : (time : ℕ) (first second : Point) → PointRequest trace time first → PointRequest trace time second → (first.client ≡ second.client) × (first.number ≡ second.number)
   apart_at time first second one two =
@@ -287,8 +286,8 @@ module _ (trace : Trace) (is_run : IsRun trace) (have : HaveParts trace.entries)
   -- points differ in their events
   pub points_apart : (first second : Point) → IsPoint trace first → IsPoint trace second → first.event ≡ second.event → first ≡ second
   points_apart first second one two same =
-      let before : (time : ℕ) × (first.event ≡ suc time) × PointRequest trace time first = point_request trace is_run have first one in
-      let after : (time : ℕ) × (second.event ≡ suc time) × PointRequest trace time second = point_request trace is_run have second two in
+      let before : (time : ℕ) × (first.event ≡ suc time) × PointRequest trace time first = point_request trace is_run have one_act first one in
+      let after : (time : ℕ) × (second.event ≡ suc time) × PointRequest trace time second = point_request trace is_run have one_act second two in
       let first_at : first.event ≡ suc before.0 = before.1 in
       let second_at : second.event ≡ suc after.0 = after.1 in
       let time : before.0 ≡ after.0 = omega arith in

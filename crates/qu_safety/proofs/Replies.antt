@@ -20,7 +20,7 @@ use Rattle.qu_replica.specs.declared.decision.Decision.{Decision}
 use Rattle.qu_replica.specs.declared.decision.Decision.TheVariants.{Answers, Waits}
 use Rattle.qu_replica.specs.State.{ReplicaState}
 use Rattle.qu_replica.specs.Growth.{Grows}
-use Rattle.qu_replica.specs.Rows.{decision_on}
+use Rattle.qu_replica.specs.Rows.{asked_of, decision_on}
 use Rattle.qu_replica.specs.Step.{carried_out, replica_step}
 use Rattle.qu_replica.proofs.Growth.{accept_all-me}
 use Rattle.qu_client.specs.declared.state.ClientState.{ClientState}
@@ -83,7 +83,7 @@ by_replica bound state client number round sets Waits below = All-nil (RepliesWi
 
 replica_replies : (bound : ℕ) (state : ReplicaState) (received : Frame) → (state.me).0 < bound → All (RepliesWithin bound) (replica_step state received).1
 replica_replies bound state (frame.Request client number round sets body) below =
-    by_replica bound state client number round sets (decision_on state (record { client = client; number = number; sets = sets }) body) below
+    by_replica bound state client number round sets (decision_on state (asked_of client number sets body) body) below
 replica_replies bound state (frame.Reply replica client number round verdict shown) below = All-nil (RepliesWithin bound)
 
 -- requests are no replies

@@ -1,5 +1,5 @@
 -- What the replies of a run say is true of the replicas that sent them.
-use Rattle.std.proofs.Common.{◌≡◌, ℕ, ◌<◌, List, [], ◌∷◌, length, IsTrue, refl, sym, subst, ap, ◌∙◌, arith}
+use Rattle.std.proofs.Common.{◌≡◌, ℕ, ◌<◌, List, [], ◌∷◌, length, IsTrue, refl, sym, subst, ap, ◌∙◌, arith, None}
 use Rattle.std.proofs.lemmas.Bool.{false≢true}
 use Rattle.qu_base.specs.declared.party.ClientId.{ClientId}
 use Rattle.qu_base.specs.declared.party.ObjectId.{ObjectId}
@@ -8,6 +8,7 @@ use Rattle.qu_history.specs.declared.sets.SetOf.{SetOf}
 use Rattle.qu_objects.specs.declared.act.Method.{Method}
 use Rattle.qu_objects.specs.declared.answer.Answer.{Answer}
 use Rattle.qu_objects.specs.declared.query.Ask.{Ask}
+use Rattle.qu_objects.specs.Text.{act_digest}
 use Rattle.qu_frames.specs.declared.frame.Body.{Body}
 use Rattle.qu_frames.specs.declared.frame.Body.TheVariants as body
 use Rattle.qu_frames.specs.declared.frame.Frame.{Frame}
@@ -19,15 +20,19 @@ use Rattle.qu_replica.specs.declared.decision.Decision.{Decision}
 use Rattle.qu_replica.specs.declared.decision.Decision.TheVariants.{Answers}
 use Rattle.qu_replica.specs.State.{ReplicaState, accept_all}
 use Rattle.qu_replica.specs.Growth.{has_parts, HasParts}
-use Rattle.qu_replica.specs.Rows.{Asked, decision_on}
+use Rattle.qu_replica.specs.Rows.{asked_of, row_unknown, objects_of, decision_on}
 use Rattle.qu_replica.specs.Step.{carried_out, replica_step}
 use Rattle.qu_trace.specs.declared.trace.Trace.{Trace}
 use Rattle.qu_world.specs.Run.{IsRun}
+use Rattle.qu_machine.proofs.Firsts.{contains_at}
+use Rattle.qu_safety.proofs.FullSets.{not_unknown}
+use Rattle.qu_safety.proofs.Handled.{handled_upon}
+use Rattle.qu_safety.specs.Digested.{IsHandled}
 use Rattle.qu_safety.specs.Replies.{TellsDone, TellsQuery, IsReplyTo}
 use Rattle.qu_safety.specs.Views.{HaveParts}
 use Rattle.qu_safety.proofs.HeldInRuns.{held_versions}
 use Rattle.qu_safety.proofs.HeldVersions.{AreOfHeld}
-use Rattle.qu_safety.proofs.TrueReplies.{done_is_true, act_is_not_told, told_is_true, told_accepts_nothing, query_is_not_done}
+use Rattle.qu_safety.proofs.TrueReplies.{done_is_true, act_is_not_told, told_is_true, told_accepts_nothing, query_is_not_done, done_is_known}
 use Rattle.qu_safety.proofs.Views.{sent_has_parts}
 
 -- ---- bodies
@@ -45,7 +50,7 @@ pub record IsAskOf (body_is : Body) : Type 0 where
   pub is_ask : body_is ≡ body.Ask ((object, ask) ∷ [])
 
 done_to_act : (state : ReplicaState) (client : ClientId) (number : ℕ) (sets : List SetOf) (asks : Body) (accepted : List Accepted) (stamps : List (ObjectId × Stamp)) (answer : Answer) → IsTrue (has_parts asks)
-    → decision_on state (record { client = client; number = number; sets = sets }) asks ≡ Answers (verdict.Done stamps answer) accepted → IsActOn asks
+    → decision_on state (asked_of client number sets asks) asks ≡ Answers (verdict.Done stamps answer) accepted → IsActOn asks
 done_to_act state client number sets (body.Act []) accepted stamps answer parts decided = absurd (false≢true parts)
 done_to_act state client number sets (body.Act ((object, method) ∷ [])) accepted stamps answer parts decided = record { object = object; method = method; is_act = refl }
 done_to_act state client number sets (body.Act (first ∷ second ∷ later)) accepted stamps answer parts decided = absurd (false≢true parts)
@@ -55,7 +60,7 @@ done_to_act state client number sets (body.Ask ((object, ask) ∷ [])) accepted 
 done_to_act state client number sets (body.Ask (first ∷ second ∷ later)) accepted stamps answer parts decided = absurd (false≢true parts)
 
 told_to_ask : (state : ReplicaState) (client : ClientId) (number : ℕ) (sets : List SetOf) (asks : Body) (accepted : List Accepted) (stamps : List (ObjectId × Stamp)) (answer : Answer) → AreOfHeld state → IsTrue (has_parts asks)
-    → decision_on state (record { client = client; number = number; sets = sets }) asks ≡ Answers (verdict.Told stamps answer) accepted → IsAskOf asks
+    → decision_on state (asked_of client number sets asks) asks ≡ Answers (verdict.Told stamps answer) accepted → IsAskOf asks
 told_to_ask state client number sets (body.Act []) accepted stamps answer are parts decided = absurd (false≢true parts)
 told_to_ask state client number sets (body.Act ((object, method) ∷ [])) accepted stamps answer are parts decided =
     absurd (act_is_not_told state client number sets object method accepted stamps answer are decided)
@@ -69,7 +74,7 @@ told_to_ask state client number sets (body.Ask (first ∷ second ∷ later)) acc
 -- what the replica becomes, where its decision is known
 after_decision : (old new : ReplicaState) (taken : Frame) (client : ClientId) (number round : ℕ) (sets : List SetOf) (asks : Body) (given : Verdict) (accepted : List Accepted)
     → new ≡ (replica_step old taken).0 → taken ≡ frame.Request client number round sets asks
-    → decision_on old (record { client = client; number = number; sets = sets }) asks ≡ Answers given accepted → new ≡ accept_all old accepted
+    → decision_on old (asked_of client number sets asks) asks ≡ Answers given accepted → new ≡ accept_all old accepted
 after_decision old new taken client number round sets asks given accepted step is decided =
     step ∙ ap (λ (it : Frame). (replica_step old it).0) is ∙ ap (λ (it : Decision). (carried_out old client number round sets it).0) decided
 
@@ -88,15 +93,26 @@ module _ (trace : Trace) (is_run : IsRun trace) (have : HaveParts trace.entries)
     act_of_done reply =
         done_to_act reply.old client number reply.sets reply.body reply.accepted stamps answer (body_has_parts (verdict.Done stamps answer) reply) reply.decided
 
-    pub done_in_run : (reply : IsReplyTo trace at replica client number round (verdict.Done stamps answer)) → TellsDone reply.new client number (act_of_done reply).object stamps answer
+    pub done_in_run : (reply : IsReplyTo trace at replica client number round (verdict.Done stamps answer)) → TellsDone reply.new client (act_digest client number (((act_of_done reply).object, (act_of_done reply).method) ∷ [])) (act_of_done reply).object stamps answer
     done_in_run reply =
         let act : IsActOn reply.body = act_of_done reply in
-        let asked : Asked = record { client = client; number = number; sets = reply.sets } in
         let is_new : reply.new ≡ accept_all reply.old reply.accepted =
         after_decision reply.old reply.new (reply.letter).frame client number round reply.sets reply.body (verdict.Done stamps answer) reply.accepted reply.step reply.is_request reply.decided in
-        subst (λ (it : ReplicaState). TellsDone it client number act.object stamps answer) (sym is_new)
+        subst (λ (it : ReplicaState). TellsDone it client (act_digest client number ((act.object, act.method) ∷ [])) act.object stamps answer) (sym is_new)
         (done_is_true reply.old client number reply.sets act.object act.method reply.accepted stamps answer (old_of_held (verdict.Done stamps answer) reply)
-        (ap (decision_on reply.old asked) (sym act.is_act) ∙ reply.decided))
+        (ap (λ (it : Body). decision_on reply.old (asked_of client number reply.sets it) it) (sym act.is_act) ∙ reply.decided))
+
+    -- the replica handled the request
+    pub done_handled : (reply : IsReplyTo trace at replica client number round (verdict.Done stamps answer)) → IsHandled trace client number (((act_of_done reply).object, (act_of_done reply).method) ∷ [])
+    done_handled reply =
+        let act : IsActOn reply.body = act_of_done reply in
+        let parts : List (ObjectId × Method) = (act.object, act.method) ∷ [] in
+        let known : row_unknown reply.old (asked_of client number reply.sets (body.Act parts)) ≡ None =
+        done_is_known reply.old (asked_of client number reply.sets (body.Act parts)) parts (objects_of parts) stamps answer reply.accepted
+        (ap (λ (it : Body). decision_on reply.old (asked_of client number reply.sets it) it) (sym act.is_act) ∙ reply.decided) in
+        handled_upon trace is_run at below reply.entry (contains_at trace.entries at reply.entry reply.is_entry) reply.asked reply.is_deliver replica reply.old reply.is_old
+        reply.letter reply.is_letter reply.to client number round reply.sets parts (reply.is_request ∙ ap (λ (it : Body). frame.Request client number round reply.sets it) act.is_act)
+        (not_unknown reply.old (asked_of client number reply.sets (body.Act parts)) known)
 
     -- an answer is told to a query, from what the replica has, and the replica stays as it is
     pub ask_of_told : (reply : IsReplyTo trace at replica client number round (verdict.Told stamps answer)) → IsAskOf reply.body
@@ -106,17 +122,15 @@ module _ (trace : Trace) (is_run : IsRun trace) (have : HaveParts trace.entries)
     pub told_in_run : (reply : IsReplyTo trace at replica client number round (verdict.Told stamps answer)) → TellsQuery reply.old reply.sets (ask_of_told reply).object (ask_of_told reply).ask stamps answer
     told_in_run reply =
         let query : IsAskOf reply.body = ask_of_told reply in
-        let asked : Asked = record { client = client; number = number; sets = reply.sets } in
         told_is_true reply.old client number reply.sets query.object query.ask reply.accepted stamps answer
-        (ap (decision_on reply.old asked) (sym query.is_ask) ∙ reply.decided)
+        (ap (λ (it : Body). decision_on reply.old (asked_of client number reply.sets it) it) (sym query.is_ask) ∙ reply.decided)
 
     pub told_leaves : (reply : IsReplyTo trace at replica client number round (verdict.Told stamps answer)) → reply.new ≡ reply.old
     unfolding accept_all
     told_leaves reply =
         let query : IsAskOf reply.body = ask_of_told reply in
-        let asked : Asked = record { client = client; number = number; sets = reply.sets } in
         let none : reply.accepted ≡ [] =
         told_accepts_nothing reply.old client number reply.sets query.object query.ask reply.accepted stamps answer
-        (ap (decision_on reply.old asked) (sym query.is_ask) ∙ reply.decided) in
+        (ap (λ (it : Body). decision_on reply.old (asked_of client number reply.sets it) it) (sym query.is_ask) ∙ reply.decided) in
         after_decision reply.old reply.new (reply.letter).frame client number round reply.sets reply.body (verdict.Told stamps answer) reply.accepted reply.step reply.is_request reply.decided ∙
         ap (accept_all reply.old) none

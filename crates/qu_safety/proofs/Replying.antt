@@ -21,7 +21,7 @@ use Rattle.qu_replica.specs.declared.decision.Accepted.{Accepted}
 use Rattle.qu_replica.specs.declared.decision.Decision.{Decision}
 use Rattle.qu_replica.specs.declared.decision.Decision.TheVariants.{Answers, Waits}
 use Rattle.qu_replica.specs.State.{ReplicaState, accept_all}
-use Rattle.qu_replica.specs.Rows.{decision_on}
+use Rattle.qu_replica.specs.Rows.{asked_of, decision_on}
 use Rattle.qu_replica.specs.Step.{reply, carried_out, replica_step}
 use Rattle.qu_client.specs.declared.state.ClientState.{ClientState}
 use Rattle.qu_client.specs.declared.state.Stepped.{Stepped}
@@ -156,7 +156,7 @@ record IsDecidedOn (state : ReplicaState) (taken : Frame) (replica : ReplicaId) 
   body : Body
   is_request : taken ≡ frame.Request client number round sets body
   accepted : List Accepted
-  decided : decision_on state (record { client = client; number = number; sets = sets }) body ≡ Answers verdict accepted
+  decided : decision_on state (asked_of client number sets body) body ≡ Answers verdict accepted
   from : replica ≡ ((replica_step state taken).0).me
 
 module _ (replica : ReplicaId) (client : ClientId) (number round : ℕ) (verdict : Verdict) (shown : List ObjectHistory) where
@@ -166,7 +166,7 @@ module _ (replica : ReplicaId) (client : ClientId) (number round : ℕ) (verdict
   same_reply me other asked turn given histories same = (cc, cc, cc, cc, cc)
 
   decided_by : (state : ReplicaState) (other : ClientId) (asked turn : ℕ) (sets : List SetOf) (body : Body) (accepted : List Accepted) (given : Verdict)
-      → decision_on state (record { client = other; number = asked; sets = sets }) body ≡ Answers given accepted
+      → decision_on state (asked_of other asked sets body) body ≡ Answers given accepted
       → (accept_all state accepted).me ≡ replica → other ≡ client → asked ≡ number → turn ≡ round → given ≡ verdict
       → ((replica_step state (frame.Request other asked turn sets body)).0).me ≡ replica
       → IsDecidedOn state (frame.Request other asked turn sets body) replica client number round verdict
@@ -176,15 +176,15 @@ module _ (replica : ReplicaId) (client : ClientId) (number round : ℕ) (verdict
     is_request = cc;
     accepted = accepted;
     decided =
-        ap (λ (it : ClientId). decision_on state (record { client = it; number = number; sets = sets }) body) (sym is_client) ∙
-        ap (λ (it : ℕ). decision_on state (record { client = other; number = it; sets = sets }) body) (sym is_number) ∙
+        ap (λ (it : ClientId). decision_on state (asked_of it number sets body) body) (sym is_client) ∙
+        ap (λ (it : ℕ). decision_on state (asked_of other it sets body) body) (sym is_number) ∙
         is ∙
         ap (λ (it : Verdict). Answers it accepted) is_verdict;
     from = sym me;
   }
 
   carried_reply : (state : ReplicaState) (other : ClientId) (asked turn : ℕ) (sets : List SetOf) (body : Body) (decision : Decision)
-      → decision_on state (record { client = other; number = asked; sets = sets }) body ≡ decision
+      → decision_on state (asked_of other asked sets body) body ≡ decision
       → (place : ℕ) (sent : Letter) → slice_get (carried_out state other asked turn sets decision).1 place ≡ Some sent → sent.frame ≡ frame.Reply replica client number round verdict shown
       → IsDecidedOn state (frame.Request other asked turn sets body) replica client number round verdict
   carried_reply state other asked turn sets body Waits is place sent found is_reply = absurd (none-some sent found)
@@ -198,7 +198,7 @@ module _ (replica : ReplicaId) (client : ClientId) (number round : ℕ) (verdict
   reply_decided : (state : ReplicaState) (taken : Frame) (place : ℕ) (sent : Letter) → slice_get (replica_step state taken).1 place ≡ Some sent → sent.frame ≡ frame.Reply replica client number round verdict shown
       → IsDecidedOn state taken replica client number round verdict
   reply_decided state (frame.Request other asked turn sets body) place sent found is_reply =
-      carried_reply state other asked turn sets body (decision_on state (record { client = other; number = asked; sets = sets }) body) refl place sent found is_reply
+      carried_reply state other asked turn sets body (decision_on state (asked_of other asked sets body) body) refl place sent found is_reply
   reply_decided state (frame.Reply me other asked turn given histories) place sent found is_reply = absurd (none-some sent found)
 
 -- ---- the replies of a run

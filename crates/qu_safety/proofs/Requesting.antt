@@ -17,7 +17,7 @@ use Rattle.qu_frames.specs.Body.{body_of}
 use Rattle.qu_replica.specs.declared.decision.Decision.{Decision}
 use Rattle.qu_replica.specs.declared.decision.Decision.TheVariants.{Answers, Waits}
 use Rattle.qu_replica.specs.State.{ReplicaState}
-use Rattle.qu_replica.specs.Rows.{decision_on}
+use Rattle.qu_replica.specs.Rows.{asked_of, decision_on}
 use Rattle.qu_replica.specs.Step.{carried_out, replica_step}
 use Rattle.qu_client.specs.declared.state.Stepped.{Stepped}
 use Rattle.qu_client.specs.declared.work.Work.{Work}
@@ -74,7 +74,7 @@ carried_asked trace count state client number round sets Waits = All-nil (IsAske
 -- a replica sends no request
 pub replica_asked : (trace : Trace) (count : ℕ) (state : ReplicaState) (sent : Frame) → All (IsAsked trace count) (replica_step state sent).1
 replica_asked trace count state (frame.Request client number round sets body) =
-    carried_asked trace count state client number round sets (decision_on state (record { client = client; number = number; sets = sets }) body)
+    carried_asked trace count state client number round sets (decision_on state (asked_of client number sets body) body)
 replica_asked trace count state (frame.Reply replica client number round verdict shown) = All-nil (IsAsked trace count)
 
 -- ---- clients

@@ -11,6 +11,7 @@ use Rattle.qu_machine.proofs.Firsts.{contains_at}
 use Rattle.qu_trace.specs.declared.trace.Trace.{Trace}
 use Rattle.qu_trace.specs.Operations.{operations_of}
 use Rattle.qu_world.specs.Run.{IsRun}
+use Rattle.qu_safety.proofs.OneAct.{ActsAreOne}
 use Rattle.qu_safety.specs.Order.{is_earlier, are_in_order, IsPoint, IsPrintedOrder}
 use Rattle.qu_safety.specs.Views.{HaveParts}
 use Rattle.qu_safety.proofs.PointRequests.{begun_before, point_bounds, one_point}
@@ -77,16 +78,16 @@ module _ (trace : Trace) (order : List Point) (is_order : IsPrintedOrder trace o
       (sym (here.stands).client ∙ (there.stands).client) (sym (here.stands).number ∙ (there.stands).number) in
       one_place order at other second is_order.in_order (here.there ∙ ap Some same) there.there
 
-  module _ (is_run : IsRun trace) (have : HaveParts trace.entries) where
+  module _ (is_run : IsRun trace) (have : HaveParts trace.entries) (one_act : ActsAreOne trace) where
     -- each operation stands at one place at most, after its invocation
     pub stand_at_most_once : (operation : OpRecord) → Contains (operations_of trace.entries) operation → StandsAtMostOnce operation order
     stand_at_most_once operation of_trace = record {
       alone = stands_alone operation;
       after = λ at point here.
           let is : IsPoint trace point = point_at_place at point here.there in
-          subst (λ (it : OpRecord). it.invoked < point.event) (stands_of operation of_trace point here.stands is) (begun_before trace is_run have point is);
+          subst (λ (it : OpRecord). it.invoked < point.event) (stands_of operation of_trace point here.stands is) (begun_before trace is_run have one_act point is);
     }
 
     -- each point is at an event of the trace
     pub order_bounds : (at : ℕ) (point : Point) → slice_get order at ≡ Some point → (1 ≤ point.event) × (point.event ≤ length trace.entries)
-    order_bounds at point there = point_bounds trace is_run have point (point_at_place at point there)
+    order_bounds at point there = point_bounds trace is_run have one_act point (point_at_place at point there)

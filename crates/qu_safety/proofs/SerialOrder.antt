@@ -1,7 +1,6 @@
 -- The printed order of a run is a serial order of its operations.
 use Rattle.std.proofs.Common.{◌≡◌, ℕ, zero, suc, ◌-◌, ◌<◌, ◌≤◌, List, [], ◌∷◌, length, take, Some, refl, sym, ap, subst, ◌∙◌, arith, inl, inr}
 use Rattle.std.specs.Prelude.{slice_get, slice_index_or, Contains}
-use Rattle.qu_base.specs.declared.party.ClientId.{ClientId}
 use Rattle.qu_base.specs.declared.party.ObjectId.{ObjectId}
 use Rattle.qu_stamp.specs.declared.candidate.Candidate.{Candidate}
 use Rattle.qu_chain.proofs.Chain.{Acceptor}
@@ -22,13 +21,16 @@ use Rattle.qu_machine.specs.Serial.{op_answer, values_after, answer_at, IsRising
 use Rattle.qu_trace.specs.declared.trace.Trace.{Trace}
 use Rattle.qu_trace.specs.Operations.{operations_of}
 use Rattle.qu_world.specs.Run.{IsRun}
+use Rattle.std.proofs.lemmas.Option.{none-some}
+use Rattle.qu_objects.specs.Text.{act_digest}
+use Rattle.qu_safety.proofs.OneAct.{ActsAreOne, one_made_for}
 use Rattle.qu_safety.specs.Decided.{accepts, IsDecided, TookEffect}
 use Rattle.qu_safety.specs.Order.{world_after, DecidesAt, effect_of, IsPoint, IsPrintedOrder}
 use Rattle.qu_safety.specs.Points.{point_at}
 use Rattle.qu_safety.specs.Values.{HasVersion}
 use Rattle.qu_safety.specs.Views.{HaveParts}
 use Rattle.qu_safety.proofs.ChainLaws.{setting}
-use Rattle.qu_safety.proofs.Changes.{found_within, held_within, how_updated, Change, change, same_update}
+use Rattle.qu_safety.proofs.Changes.{held_within, how_updated, Change, change, same_update}
 use Rattle.qu_safety.proofs.ActPoints.{StandsBefore, act_has_point}
 use Rattle.qu_safety.proofs.CompletedActs.{CompletedAct, completed_act}
 use Rattle.qu_safety.proofs.CompletedQueries.{CompletedQuery, completed_query, point_of_query, query_has_point}
@@ -36,10 +38,9 @@ use Rattle.qu_safety.proofs.Established.{Established, is_established_by, establi
 use Rattle.qu_safety.proofs.Folding.{fold_along}
 use Rattle.qu_safety.proofs.KnownRuns.{known, completion}
 use Rattle.qu_safety.proofs.MachineValues.{ValueAt, IsValues, first_values, quiet_values, loud_values}
-use Rattle.qu_safety.proofs.Marking.{run_has}
+use Rattle.qu_safety.proofs.Marking.{run_has, found_within}
 use Rattle.qu_safety.proofs.OneRound.{one_round_request}
-use Rattle.qu_safety.proofs.PointRequests.{number_from_one, PointRequest, point_request, point_bounds, one_point, points_apart}
-use Rattle.qu_safety.proofs.Recorded.{recorded_op}
+use Rattle.qu_safety.proofs.PointRequests.{PointRequest, point_request, point_bounds, one_point, points_apart}
 use Rattle.qu_safety.proofs.Rising.{rising_from_order}
 use Rattle.qu_safety.proofs.SerialFields.{point_at_place, points_known, points_faulty, stand_at_most_once, stands_of}
 use Rattle.qu_safety.proofs.Tops.{base_is_top, one_top}
@@ -58,29 +59,26 @@ index_in (first ∷ later) (suc at) point below is = index_in later at point (om
 place_of : (order : List Point) (point : Point) → Contains order point → PlaceOf order point
 place_of order point held = record { at = held.0; there = index_in order held.0 point held.1 held.2 }
 
-module _ (trace : Trace) (is_run : IsRun trace) (have : HaveParts trace.entries) (order : List Point) (printed : IsPrintedOrder trace order) where
+module _ (trace : Trace) (is_run : IsRun trace) (have : HaveParts trace.entries) (one_act : ActsAreOne trace) (order : List Point) (printed : IsPrintedOrder trace order) where
   facts : Known trace
   facts = known trace is_run have
 
-  from_one : (operation : OpRecord) → Contains (operations_of trace.entries) operation → 1 ≤ operation.number
-  from_one operation among = number_from_one trace operation among
-
   rising : IsRising order
   rising = rising_from_order order printed.in_order
-      (λ first second one two same. points_apart trace is_run have first second (printed.sound first one) (printed.sound second two) same)
+      (λ first second one two same. points_apart trace is_run have one_act first second (printed.sound first one) (printed.sound second two) same)
 
   -- ---- the values of the machine at a point
 
   abbrev Values : ℕ → List Value → Type 0
-  Values time values = IsValues trace is_run have facts from_one time values
+  Values time values = IsValues trace is_run have facts one_act time values
 
   values_along : (at : ℕ) (point : Point) → slice_get order at ≡ Some point → (time : ℕ) → point.event ≡ suc time → Values time (values_after trace.setup.kinds (take at order))
   values_along at point there time same =
-      fold_along trace.setup.kinds order (length trace.entries) (IsValues trace is_run have facts from_one) rising
-      (λ it held. point_bounds trace is_run have it (printed.sound it held))
-      (first_values trace is_run have facts from_one)
-      (quiet_values trace is_run have facts from_one order printed)
-      (loud_values trace is_run have facts from_one order printed)
+      fold_along trace.setup.kinds order (length trace.entries) (IsValues trace is_run have facts one_act) rising
+      (λ it held. point_bounds trace is_run have one_act it (printed.sound it held))
+      (first_values trace is_run have facts one_act)
+      (quiet_values trace is_run have facts one_act order printed)
+      (loud_values trace is_run have facts one_act order printed)
       at point there time same
 
   known_object : (time : ℕ) (object : ObjectId) (candidate : Candidate) → Established trace is_run have time object candidate → object.0 < length trace.setup.kinds
@@ -95,9 +93,9 @@ module _ (trace : Trace) (is_run : IsRun trace) (have : HaveParts trace.entries)
   -- the value of an object is that of the version of its greatest established candidate
   value_of_top : (time : ℕ) → time ≤ length trace.entries → (values : List Value) → Values time values → (object : ObjectId) (candidate : Candidate) (version : ObjState) → IsTop trace is_run have time object candidate → HasVersion trace object candidate version → slice_get values object.0 ≡ Some version.value
   value_of_top time within values are object candidate version top has =
-      let there : ValueAt trace is_run have facts from_one time object values = are.each object (known_object time object candidate top.established) in
+      let there : ValueAt trace is_run have facts one_act time object values = are.each object (known_object time object candidate top.established) in
       let same : there.candidate ≡ candidate = one_top trace is_run have time within object there.candidate candidate there.top top in
-      let versions : there.version ≡ version = one_version trace facts object candidate there.version version (subst (λ (it : Candidate). HasVersion trace object it there.version) same there.has) has in
+      let versions : there.version ≡ version = one_version trace facts one_act object candidate there.version version (subst (λ (it : Candidate). HasVersion trace object it there.version) same there.has) has in
       there.value_is ∙ ap (λ (it : ObjState). Some it.value) versions
 
   values_at_one : {X : Type 0} (values : List Value) (object : ObjectId) (part : X) (value : Value) → slice_get values object.0 ≡ Some value → values_at values ((object, part) ∷ []) ≡ value ∷ []
@@ -106,7 +104,7 @@ module _ (trace : Trace) (is_run : IsRun trace) (have : HaveParts trace.entries)
   -- ---- points of completed operations
 
   stands_before : (operation : OpRecord) → Contains (operations_of trace.entries) operation → (reply : ℕ) (answer : Answer) → operation.reply ≡ Some (reply, outcome.Done answer) → (what : Op) → operation.op ≡ what → StandsBefore trace operation reply
-  stands_before operation among reply answer replied (op.Act act) is = act_has_point trace is_run have operation among reply answer replied act is
+  stands_before operation among reply answer replied (op.Act act) is = act_has_point trace is_run have one_act operation among reply answer replied act is
   stands_before operation among reply answer replied (op.Query query) is =
       let found = query_has_point trace is_run have (completion trace is_run) facts (one_round_request trace is_run) operation among reply answer replied query is in
       record { point = found.0; is_point = found.1; stands = found.2; before = found.3 }
@@ -115,7 +113,7 @@ module _ (trace : Trace) (is_run : IsRun trace) (have : HaveParts trace.entries)
   completed operation reply answer among completes =
       let it : StandsBefore trace operation reply = stands_before operation among reply answer completes operation.op refl in
       let place : PlaceOf order it.point = place_of order it.point (printed.complete it.point it.is_point) in
-      let once : StandsAtMostOnce operation order = stand_at_most_once trace order printed is_run have operation among in
+      let once : StandsAtMostOnce operation order = stand_at_most_once trace order printed is_run have one_act operation among in
       let here : StandsAt operation order place.at it.point = record { there = place.there; stands = it.stands } in
       record {
         at = place.at;
@@ -129,24 +127,24 @@ module _ (trace : Trace) (is_run : IsRun trace) (have : HaveParts trace.entries)
   -- ---- answers
 
   -- the update had not taken effect before its point
-  not_yet : (operation : OpRecord) (reply : ℕ) (answer : Answer) (time : ℕ) (first : OpRecord) → first ≡ operation → DecidesAt trace first.client first.number (suc time) → (done : CompletedAct trace operation reply answer) → ¬ (Established trace is_run have time done.object done.candidate)
-  not_yet operation reply answer time first same decides done already = decides.not_before time (omega arith) (record {
+  not_yet : (operation : OpRecord) (reply : ℕ) (answer : Answer) (time : ℕ) (done : CompletedAct trace operation reply answer) → DecidesAt trace operation.client operation.number ((done.object, done.method) ∷ []) (suc time) → ¬ (Established trace is_run have time done.object done.candidate)
+  not_yet operation reply answer time done decides already = decides.not_before time (omega arith) (record {
     object = done.object;
     candidate = done.candidate;
     is_decided = IsDecided.by_acceptors done.candidate (is_established_by trace is_run have time done.object done.candidate already);
-    of_client = done.of_client ∙ ap (λ (one : OpRecord). one.client) (sym same);
-    of_number = done.of_number ∙ ap (λ (one : OpRecord). one.number) (sym same);
+    of_client = (done.made).of_client;
+    of_act = (done.made).of_act;
   })
 
   -- and has at it
-  established_now : (operation : OpRecord) (reply : ℕ) (answer : Answer) (time : ℕ) → time < length trace.entries → (first : OpRecord) → first ≡ operation → 1 ≤ operation.number → TookEffect (world_after trace (suc time)) first.client first.number → (done : CompletedAct trace operation reply answer) → Established trace is_run have (suc time) done.object done.candidate
-  established_now operation reply answer time within first same numbered took done =
+  established_now : (operation : OpRecord) (reply : ℕ) (answer : Answer) (time : ℕ) → time < length trace.entries → (done : CompletedAct trace operation reply answer) → TookEffect (world_after trace (suc time)) operation.client (act_digest operation.client operation.number ((done.object, done.method) ∷ []))
+      → Established trace is_run have (suc time) done.object done.candidate
+  established_now operation reply answer time within done took =
       let after : Established trace is_run have (suc time) took.object took.candidate = established_by_decided trace is_run have (suc time) (omega arith) took.object took.candidate took.is_decided in
       let begins : 1 ≤ reply = done.begins in
       let ends : reply ≤ length trace.entries = done.within in
-      let number : (took.candidate.stamp).number ≡ operation.number = took.of_number ∙ ap (λ (it : OpRecord). it.number) same in
-      let one = same_update trace is_run have facts from_one (suc time) (reply - 1) (omega arith) (omega arith) took.object done.object took.candidate done.candidate after done.established
-      (took.of_client ∙ ap (λ (it : OpRecord). it.client) same ∙ sym done.of_client) (number ∙ sym done.of_number) (omega (arith, numbered, number)) in
+      let one = same_update trace is_run have facts one_act (suc time) (reply - 1) (omega arith) (omega arith) took.object done.object took.candidate done.candidate after done.established
+      _ took.of_act (done.made).of_act in
       subst (λ (object : ObjectId). Established trace is_run have (suc time) object done.candidate) one.0 (subst (λ (candidate : Candidate). Established trace is_run have (suc time) took.object candidate) one.1 after)
 
   -- the machine's answer to an update is that stored with its version
@@ -154,15 +152,15 @@ module _ (trace : Trace) (is_run : IsRun trace) (have : HaveParts trace.entries)
       → Established trace is_run have (suc time) done.object done.candidate → ¬ (Established trace is_run have time done.object done.candidate) → IsUpdated trace done.object done.candidate done.version
       → act_answer values ((done.object, done.method) ∷ []) ≡ answer
   updated_answer operation reply answer among time within values are done now before updated =
-      let changed : Change trace is_run have facts from_one time done.object done.candidate = change trace is_run have facts from_one time within done.object done.candidate now before in
+      let changed : Change trace is_run have facts one_act time done.object done.candidate = change trace is_run have facts one_act time within done.object done.candidate now before in
       let on : Rests trace is_run have time done.object done.candidate = rests trace is_run have time done.object changed.place done.candidate changed.new in
       let base : on.base ≡ updated.base =
       same_accepted trace is_run have done.object on.base updated.base (accepted_by_established trace is_run have time (omega arith) done.object on.base on.established) updated.accepted (sym on.prior ∙ updated.prior) in
       let top : IsTop trace is_run have time done.object updated.base = subst (IsTop trace is_run have time done.object) base (base_is_top trace is_run have time within done.object done.candidate on now before) in
       let value : slice_get values (done.object).0 ≡ Some (updated.before).value = value_of_top time (omega arith) values are done.object updated.base updated.before top updated.has in
-      let operations : operation ≡ updated.operation =
-      recorded_op trace operation updated.operation among updated.of_trace (ap (λ (it : ClientId). it.0) (sym done.of_client ∙ updated.of_client)) (sym done.of_number ∙ updated.of_number) in
-      let methods : done.method ≡ updated.method = same_method done.object done.method updated.method (sym done.is_act ∙ ap (λ (it : OpRecord). it.op) operations ∙ updated.is_act) in
+      let methods : done.method ≡ updated.method =
+      same_method done.object done.method updated.method
+      (ap op.Act (one_made_for trace one_act done.candidate operation.client (updated.operation).client operation.number (updated.operation).number ((done.object, done.method) ∷ []) ((done.object, updated.method) ∷ []) done.made updated.made).2) in
       ap (performed_answer ((done.object, done.method) ∷ [])) (values_at_one values done.object done.method (updated.before).value value) ∙
       ap (λ (it : Method). performed_answer ((done.object, it) ∷ []) ((updated.before).value ∷ [])) methods ∙ updated.answers ∙ sym done.answer_is
 
@@ -171,18 +169,16 @@ module _ (trace : Trace) (is_run : IsRun trace) (have : HaveParts trace.entries)
       let it : IsPoint trace point = point_at_place trace order printed at point here.there in
       let done : CompletedAct trace operation reply answer = completed_act trace is_run have operation among reply answer completes act is_act in
       let operations : it.operation ≡ operation = stands_of trace order printed operation among point here.stands it in
-      let what : (it.operation).op ≡ op.Act ((done.object, done.method) ∷ []) = ap (λ (one : OpRecord). one.op) operations ∙ done.is_act in
-      let decides : DecidesAt trace (it.operation).client (it.operation).number (suc time) =
-      subst (λ (event : ℕ). DecidesAt trace (it.operation).client (it.operation).number event) same (subst (λ (one : Op). effect_of trace it.operation point.event one) what it.effect) in
-      let numbered : 1 ≤ operation.number = from_one operation among in
-      let now : Established trace is_run have (suc time) done.object done.candidate = established_now operation reply answer time within it.operation operations numbered decides.by_then done in
-      let before : ¬ (Established trace is_run have time done.object done.candidate) = not_yet operation reply answer time it.operation operations decides done in
+      let effect : effect_of trace operation point.event operation.op = subst (λ (one : OpRecord). effect_of trace one point.event one.op) operations it.effect in
+      let decides : DecidesAt trace operation.client operation.number ((done.object, done.method) ∷ []) (suc time) =
+      subst (λ (event : ℕ). DecidesAt trace operation.client operation.number ((done.object, done.method) ∷ []) event) same (subst (λ (one : Op). effect_of trace operation point.event one) done.is_act effect) in
+      let now : Established trace is_run have (suc time) done.object done.candidate = established_now operation reply answer time within done decides.by_then in
+      let before : ¬ (Established trace is_run have time done.object done.candidate) = not_yet operation reply answer time done decides in
       let are : Values time (values_after trace.setup.kinds (take at order)) = values_along at point here.there time same in
       ap (op_answer (values_after trace.setup.kinds (take at order))) (sym (here.stands).op ∙ done.is_act) ∙
       elim (how_updated trace done.object done.candidate done.version done.has) [
         | inl first ↦
-            let none : ((done.candidate).stamp).number ≡ 0 = ap (λ (one : Candidate). (one.stamp).number) first in
-            absurd (omega (arith, none, numbered, done.of_number))
+            absurd (none-some _ (sym (ap (λ (one : Candidate). (one.stamp).act) first) ∙ (done.made).of_act))
         | inr updated ↦ updated_answer operation reply answer among time within (values_after trace.setup.kinds (take at order)) are done now before updated
       ]
 
@@ -193,7 +189,7 @@ module _ (trace : Trace) (is_run : IsRun trace) (have : HaveParts trace.entries)
       let same : point ≡ point_at operation done.event =
       one_point trace point (point_at operation done.event) (point_at_place trace order printed at point here.there) there.0 (sym (here.stands).client) (sym (here.stands).number) in
       let event : point.event ≡ suc done.time = ap (λ (it : Point). it.event) same ∙ done.is_after in
-      let bounds : (1 ≤ point.event) × (point.event ≤ length trace.entries) = point_bounds trace is_run have point (point_at_place trace order printed at point here.there) in
+      let bounds : (1 ≤ point.event) × (point.event ≤ length trace.entries) = point_bounds trace is_run have one_act point (point_at_place trace order printed at point here.there) in
       let are : Values done.time (values_after trace.setup.kinds (take at order)) = values_along at point here.there done.time event in
       let value : slice_get (values_after trace.setup.kinds (take at order)) (done.object).0 ≡ Some (done.version).value =
       value_of_top done.time (let most : point.event ≤ length trace.entries = bounds.1 in omega arith) (values_after trace.setup.kinds (take at order)) are done.object done.base done.version done.top done.has in
@@ -202,7 +198,7 @@ module _ (trace : Trace) (is_run : IsRun trace) (have : HaveParts trace.entries)
 
   answers_of : (operation : OpRecord) (reply : ℕ) (answer : Answer) → Contains (operations_of trace.entries) operation → Completes operation reply answer → (what : Op) → operation.op ≡ what → (at : ℕ) (point : Point) → StandsAt operation order at point → answer_at trace.setup.kinds order at point ≡ answer
   answers_of operation reply answer among completes (op.Act act) is at point here =
-      let when : (time : ℕ) × (point.event ≡ suc time) × PointRequest trace time point = point_request trace is_run have point (point_at_place trace order printed at point here.there) in
+      let when : (time : ℕ) × (point.event ≡ suc time) × PointRequest trace time point = point_request trace is_run have one_act point (point_at_place trace order printed at point here.there) in
       act_answers operation reply answer among completes act is at point here when.0 (when.2).within when.1
   answers_of operation reply answer among completes (op.Query query) is at point here = query_answers operation reply answer among completes query is at point here
 
@@ -210,7 +206,7 @@ module _ (trace : Trace) (is_run : IsRun trace) (have : HaveParts trace.entries)
   serial = record {
     rising = rising;
     completed = completed;
-    once = stand_at_most_once trace order printed is_run have;
+    once = stand_at_most_once trace order printed is_run have one_act;
     known = points_known trace order printed;
     faulty = points_faulty trace order printed;
     answers = λ operation reply answer among completes at point here. answers_of operation reply answer among completes operation.op refl at point here;

@@ -1,12 +1,11 @@
 -- Every replica that accepted a candidate stores the version of the candidate with it.
 use Rattle.std.proofs.Common.{◌≡◌, ℕ, zero, suc, ◌+◌, ◌<◌, ◌≤◌, Bool, true, false, ◌&&◌, cond, List, [], ◌∷◌, length, get_or, Some, inl, inr, refl, sym, ap, subst, ◌∙◌, arith, add-one}
-use Rattle.std.specs.Prelude.{◌==◌, slice_get, count_by}
+use Rattle.std.specs.Prelude.{◌==◌, slice_get, count_by, Contains}
 use Rattle.std.proofs.lemmas.Bool.{false≢true, cases_Bool, or_cases, and_from, and_parts, eq-eqb, eqb-true, le-leb}
 use Rattle.std.proofs.lemmas.Option.{same_Some}
 use Rattle.qu_base.specs.declared.party.ObjectId.{ObjectId}
 use Rattle.qu_base.specs.declared.party.ReplicaId.{ReplicaId}
 use Rattle.qu_base.specs.Thresholds.{quorum}
-use Rattle.qu_stamp.specs.declared.stamp.Stamp.{Stamp}
 use Rattle.qu_stamp.specs.declared.candidate.Candidate.{Candidate}
 use Rattle.qu_stamp.specs.Stamp.{opening_stamp, same_stamp}
 use Rattle.qu_stamp.specs.Candidate.{opening, same}
@@ -14,17 +13,12 @@ use Rattle.qu_stamp.proofs.Order.{same_stamp-self, equal_by_same}
 use Rattle.qu_history.specs.History.{holds}
 use Rattle.qu_history.specs.Sets.{entries_of, method_at}
 use Rattle.qu_history.proofs.Rising.{holds_push}
-use Rattle.qu_objects.specs.declared.act.Method.{Method}
 use Rattle.qu_objects.specs.declared.answer.Answer.TheVariants as answer
 use Rattle.qu_objects.specs.declared.kind.KindName.{KindName}
-use Rattle.qu_objects.specs.declared.op.Op.{Op}
-use Rattle.qu_objects.specs.declared.op.Op.TheVariants as op
 use Rattle.qu_objects.specs.declared.state.ObjState.{ObjState}
 use Rattle.qu_objects.specs.Kind.{fresh_value}
-use Rattle.qu_frames.specs.declared.frame.Body.{Body}
 use Rattle.qu_frames.specs.declared.frame.Body.TheVariants as body
 use Rattle.qu_frames.specs.declared.frame.Letter.{Letter}
-use Rattle.qu_frames.specs.Body.{body_of}
 use Rattle.qu_machine.specs.declared.record.OpRecord.{OpRecord}
 use Rattle.qu_replica.specs.State.{ReplicaState, candidates_in, own_candidates, opening_histories, opening_versions, opening_state}
 use Rattle.qu_replica.specs.Growth.{HasParts, Grows}
@@ -37,6 +31,11 @@ use Rattle.qu_world.specs.State.{WorldState, letter_of}
 use Rattle.qu_world.specs.Step.{world_step}
 use Rattle.qu_world.specs.Run.{IsRun}
 use Rattle.qu_chain.proofs.Counting.{test_at-here}
+use Rattle.qu_replica.specs.Rows.{asked_of}
+use Rattle.std.proofs.lemmas.List.Elements.{Contains-get_or}
+use Rattle.qu_safety.proofs.OneAct.{act_by}
+use Rattle.qu_safety.proofs.Handled.{handled, made_for, made_for_operation}
+use Rattle.qu_safety.specs.Digested.{IsHandled}
 use Rattle.qu_safety.specs.Chained.{last_world}
 use Rattle.qu_safety.specs.Decided.{accepts, is_accepted, is_established, IsDecided}
 use Rattle.qu_safety.specs.Grounds.{IsGround, IsPerformed, AcceptsOne, IsMoved}
@@ -133,19 +132,6 @@ opening-versioned trace me = record {
 
 -- ---- what an accepted candidate is made of
 
-abbrev acts_of : Body → List (ObjectId × Method)
-acts_of (body.Act parts) = parts
-acts_of (body.Ask parts) = []
-
-abbrev IsAct : Body → Type 0
-IsAct (body.Act parts) = Unit {0}
-IsAct (body.Ask parts) = ⊥
-
--- the body of an act is that of an act only
-op_of_body : (what : Op) (parts : List (ObjectId × Method)) → body.Act parts ≡ body_of what → what ≡ op.Act parts
-op_of_body (op.Act act) parts asks = ap op.Act (ap acts_of (sym asks))
-op_of_body (op.Query query) parts asks = absurd (subst IsAct asks tt)
-
 module _ (trace : Trace) (known : Known trace) (is_run : IsRun trace) (have : HaveParts trace.entries) (count : ℕ) (within : count ≤ length trace.entries) where
   still_accepted : (object : ObjectId) (candidate : Candidate) → is_accepted (world_after trace count) object candidate ≡ true → is_accepted (last_world trace) object candidate ≡ true
   still_accepted object candidate accepted =
@@ -175,7 +161,7 @@ module _ (trace : Trace) (known : Known trace) (is_run : IsRun trace) (have : Ha
     -- a quorum showed the base, so it was accepted
     base_accepted : is_accepted (last_world trace) object (one.grounds).base ≡ true
     base_accepted =
-        let grounds : IsGround old one.client one.number one.sets object one.candidate = one.grounds in
+        let grounds : IsGround old (asked_of one.client one.number one.sets (body.Act ((object, one.method) ∷ []))) object one.candidate = one.grounds in
         quorum_accepted object grounds.base
         (method_is_shown trace is_run count within one.sets (body.Act ((object, one.method) ∷ [])) view object grounds.base
         (ap (λ (bounds : ℕ). method_at bounds (entries_of object one.sets)) (sym before.bounds) ∙ grounds.method))
@@ -183,7 +169,7 @@ module _ (trace : Trace) (known : Known trace) (is_run : IsRun trace) (have : Ha
     -- the version that the replica stores under the stamp of the base is that of the base
     base_version : HasVersion trace object (one.grounds).base (one.performed).before
     base_version =
-        let grounds : IsGround old one.client one.number one.sets object one.candidate = one.grounds in
+        let grounds : IsGround old (asked_of one.client one.number one.sets (body.Act ((object, one.method) ∷ []))) object one.candidate = one.grounds in
         let performed : IsPerformed old object grounds.base one.method one.version = one.performed in
         let base : Candidate = grounds.base in
         let under : HoldsUnder old object base.stamp = before.of_held.of_held object base.stamp performed.before performed.of_base in
@@ -195,18 +181,18 @@ module _ (trace : Trace) (known : Known trace) (is_run : IsRun trace) (have : Ha
         let is_before : stored.0 ≡ performed.before = same_Some stored.0 performed.before (sym stored.1 ∙ performed.of_base) in
         subst (HasVersion trace object base) is_before stored.2
 
-    accepted_stores : Stores trace object new one.candidate
-    accepted_stores =
-        let grounds : IsGround old one.client one.number one.sets object one.candidate = one.grounds in
+    accepted_stores : IsHandled trace one.client one.number ((object, one.method) ∷ []) → Stores trace object new one.candidate
+    accepted_stores was =
+        let grounds : IsGround old (asked_of one.client one.number one.sets (body.Act ((object, one.method) ∷ []))) object one.candidate = one.grounds in
         let performed : IsPerformed old object grounds.base one.method one.version = one.performed in
         let operation : OpRecord = request.operation in (
           one.version,
           version_of_fresh before.of_held one,
           HasVersion.of_update one.candidate grounds.base operation one.method performed.before one.version
               grounds.prior (above_base grounds) base_accepted request.of_trace
-              (ap (λ (stamp : Stamp). stamp.client) grounds.stamp ∙ sym request.of_client)
-              (ap (λ (stamp : Stamp). stamp.number) grounds.stamp ∙ sym request.of_number)
-              (op_of_body operation.op ((object, one.method) ∷ []) request.asks)
+              (act_by ((object, one.method) ∷ []) operation.op request.asks)
+              (made_for_operation trace count one.candidate one.client one.number ((object, one.method) ∷ []) (body.Act ((object, one.method) ∷ [])) request
+              (made_for trace old new letter.frame object one one.candidate refl was))
               base_version performed.value performed.answer,
         )
 
@@ -217,7 +203,12 @@ still_stores : (trace : Trace) (old new : ReplicaState) → Grows old new → (o
 still_stores trace old new grows object candidate stored =
     (stored.0, version_at-grows old new grows object candidate.stamp stored.0 stored.1, stored.2)
 
-module _ (trace : Trace) (known : Known trace) (is_run : IsRun trace) (have : HaveParts trace.entries) (count : ℕ) (within : count ≤ length trace.entries) (event : Event) (place : ℕ) (old new : ReplicaState) (is_old : slice_get (world_after trace count).replicas place ≡ Some old) (grows : Grows old new) (before : IsVersioned trace old) where
+module _ (trace : Trace) (known : Known trace) (is_run : IsRun trace) (have : HaveParts trace.entries) (count : ℕ) (within : count ≤ length trace.entries) (below : count < length trace.entries) (entry : Entry) (of_trace : Contains trace.entries entry) (event : Event) (event_is : event ≡ entry.event) (place : ℕ) (old new : ReplicaState) (is_old : slice_get (world_after trace count).replicas place ≡ Some old) (is_new : slice_get (world_step (world_after trace count) event).replicas place ≡ Some new) (grows : Grows old new) (before : IsVersioned trace old) where
+  one_handled : (moved : IsMoved (world_after trace count) event place old new) (object : ObjectId) (one : AcceptsOne old new (moved.letter).frame object) → IsHandled trace one.client one.number ((object, one.method) ∷ [])
+  one_handled moved object one =
+      handled trace is_run count below entry of_trace event event_is place old new is_old is_new object
+      (record { number = moved.number; is_deliver = moved.is_deliver; letter = moved.letter; is_letter = moved.is_letter; to = moved.to; accepts = one })
+
   one_stores : (moved : IsMoved (world_after trace count) event place old new) (object : ObjectId) → AcceptsOne old new (moved.letter).frame object
       → (candidate : Candidate) → holds candidate (own_candidates new object) ≡ true → Stores trace object new candidate
   one_stores moved object one candidate held =
@@ -226,7 +217,7 @@ module _ (trace : Trace) (known : Known trace) (is_run : IsRun trace) (have : Ha
         | inr last ↦ elim (or_cases (same one.candidate candidate) false last) [
           | inl is ↦
               subst (Stores trace object new) (equal_by_same one.candidate candidate is)
-              (accepted_stores trace known is_run have count within moved.number moved.letter moved.is_letter place old new is_old before object one)
+              (accepted_stores trace known is_run have count within moved.number moved.letter moved.is_letter place old new is_old before object one (one_handled moved object one))
           | inr never ↦ absurd (false≢true never)
         ]
       ]
@@ -238,8 +229,8 @@ module _ (trace : Trace) (known : Known trace) (is_run : IsRun trace) (have : Ha
         | inr one ↦ one_stores moved object one candidate held
       ]
 
-  event-versioned : slice_get (world_step (world_after trace count) event).replicas place ≡ Some new → IsVersioned trace new
-  event-versioned is_new =
+  event-versioned : IsVersioned trace new
+  event-versioned =
       let parts : (number : ℕ) (letter : Letter) → letter_of (world_after trace count) number ≡ Some letter → HasParts letter.frame =
       λ number letter sent. sent_has_parts trace is_run have count within number letter sent in
       elim (event_moves (world_after trace count) event place old new is_old is_new parts) [
@@ -270,7 +261,7 @@ versioned_next trace known is_run have count below before = λ place new is_new.
     let now : slice_get (world_step (world_after trace count) event).replicas place ≡ Some new =
     ap (λ (world : WorldState). slice_get world.replicas place) (sym next) ∙ is_new in
     let was : WasBefore (world_after trace count).replicas place new = was_before (world_after trace count) event place new now in
-    event-versioned trace known is_run have count (omega arith) event place was.old new was.is_old was.grows (before place was.old was.is_old) now
+    event-versioned trace known is_run have count (omega arith) below (get_or trace.entries count default) (Contains-get_or trace.entries count default below) event refl place was.old new was.is_old now was.grows (before place was.old was.is_old)
 
 versioned : (trace : Trace) → Known trace → IsRun trace → HaveParts trace.entries → (count : ℕ) → count ≤ length trace.entries → AreVersioned trace count
 versioned trace known is_run have zero within = versioned_none trace

@@ -1,8 +1,9 @@
 -- Where updates and queries took effect.
-use Rattle.std.proofs.Common.{◌≡◌, ℕ, zero, suc, ◌+◌, ◌<◌, ◌≤◌, Bool, true, false, List, [], ◌∷◌, length, get_or, Option, None, Some, refl, sym, ap, subst, ◌∙◌, arith, inl, inr, add-one}
-use Rattle.std.specs.Prelude.{position, slice_get, option_map, ◌==◌}
+use Rattle.std.proofs.Common.{◌≡◌, ℕ, zero, suc, ◌+◌, ◌<◌, ◌≤◌, Bool, true, false, cond, List, [], ◌∷◌, length, get_or, Option, None, Some, refl, sym, ap, subst, ◌∙◌, arith, inl, inr, add-one}
+use Rattle.std.specs.Prelude.{position, slice_get, option_map, Contains, ◌==◌}
 use Rattle.std.specs.Option.{MatchOption}
-use Rattle.std.proofs.lemmas.Bool.{false≢true, cases_lt, cases_order, and_parts, and_from, eqb-true, eq-eqb}
+use Rattle.std.specs.Prelude.{Result, Ok, Err, IfOk}
+use Rattle.std.proofs.lemmas.Bool.{false≢true, cases_Bool, cases_lt, cases_order, and_parts, and_from, eq-eqb}
 use Rattle.std.proofs.lemmas.Bool.Decides.{nat_tests}
 use Rattle.std.proofs.lemmas.List.Quantifiers.{position-Some}
 use Rattle.std.proofs.lemmas.Option.{none-some, same_Some}
@@ -19,11 +20,22 @@ use Rattle.qu_machine.specs.declared.record.OpRecord.{OpRecord}
 use Rattle.qu_trace.specs.declared.trace.Entry.{Entry}
 use Rattle.qu_trace.specs.declared.trace.Trace.{Trace}
 use Rattle.qu_world.specs.State.{numbered}
+use Rattle.std.specs.Option.{option_eq}
+use Rattle.qu_base.specs.declared.party.Digest.{Digest}
+use Rattle.qu_objects.specs.Text.{act_digest}
+use Rattle.qu_stamp.specs.declared.stamp.Stamp.{Stamp}
+use Rattle.qu_stamp.specs.Stamp.{opening_stamp, same_digest, same_stamp}
+use Rattle.qu_stamp.proofs.Order.{same_stamp-self, equal_by_same_stamp}
+use Rattle.qu_trace.specs.Operations.{operations_of}
+use Rattle.qu_world.specs.Run.{IsRun}
+use Rattle.std.specs.List.{list_any}
+use Rattle.qu_safety.proofs.HandledActs.{handled_among, among_handled}
+use Rattle.qu_safety.specs.Digested.{IsHandled}
 use Rattle.qu_safety.specs.declared.tracked.Tracked.{Tracked}
 use Rattle.qu_safety.specs.Decided.{is_accepted, IsDecided, TookEffect}
 use Rattle.qu_safety.specs.Order.{world_after, DecidesAt, AnswersFirst, delivered_round, sends_answer, answers_at, completed_effect, query_effect, effect_of}
 use Rattle.qu_safety.specs.Tracker.{TellsFirst, TellsOf, Tracks}
-use Rattle.qu_safety.specs.Points.{is_of_update, first_mark, answers_in}
+use Rattle.qu_safety.specs.Points.{act_mark, handled_acts, is_act, is_of_update, first_mark, answers_in}
 use Rattle.qu_safety.proofs.WorldGrowth.{has_more, world_after-grows, is_accepted-more, accepted_by_decided}
 use Rattle.qu_safety.proofs.Settling.{StandsIn, stands_in}
 use Rattle.qu_safety.proofs.Places.{position_none}
@@ -39,9 +51,27 @@ tells_up_to trace end object candidate (Some first) tells event before decided =
       | inr order ↦ (first, refl, order)
     ]
 
-module _ (trace : Trace) (tracked : List Tracked) (tracks : Tracks trace (length trace.entries) tracked) (client : ClientId) (number : ℕ) where
+-- acts are compared as those of two stamps that are alike otherwise
+abbrev with_act : Option Digest → Stamp
+with_act act = record opening_stamp { act = act }
+
+same_act-self : (act : Option Digest) → option_eq same_digest act act ≡ true
+unfolding same_stamp
+same_act-self act = (and_parts (option_eq same_digest act act) _ (same_stamp-self (with_act act))).0
+
+equal_by_same_act : (a b : Option Digest) → option_eq same_digest a b ≡ true → a ≡ b
+unfolding same_stamp
+equal_by_same_act a b alike = ap (λ (it : Stamp). it.act) (equal_by_same_stamp (with_act a) (with_act b) (and_from (option_eq same_digest a b) _ alike refl))
+
+act_is_same : (found : Option Digest) (act : Digest) → found ≡ Some act → option_eq same_digest found (Some act) ≡ true
+act_is_same found act is = ap (λ (it : Option Digest). option_eq same_digest it (Some act)) is ∙ same_act-self (Some act)
+
+module _ (trace : Trace) (tracked : List Tracked) (tracks : Tracks trace (length trace.entries) tracked) (client : ClientId) (number : ℕ) (parts : List (ObjectId × Method)) where
+  abbrev digest : Digest
+  digest = act_digest client number parts
+
   -- an update that took effect has a first mark, by then
-  took_marks : (event : ℕ) → event ≤ length trace.entries → TookEffect (world_after trace event) client number → IsUpTo (first_mark client number tracked) event
+  took_marks : (event : ℕ) → event ≤ length trace.entries → TookEffect (world_after trace event) client digest → IsUpTo (first_mark client digest tracked) event
   took_marks event happened took =
       let count : ℕ = length trace.entries in
       let held : is_accepted (world_after trace event) took.object took.candidate ≡ true = accepted_by_decided (world_after trace event) took.object took.candidate took.is_decided in
@@ -52,31 +82,32 @@ module _ (trace : Trace) (tracked : List Tracked) (tracks : Tracks trace (length
       let decided : IsDecided (world_after trace event) stands.found.object stands.found.candidate = rw (stands.object_is, stands.candidate_is) took.is_decided in
       let mark : IsUpTo stands.found.decided event = tells_up_to trace (count + 1) stands.found.object stands.found.candidate stands.found.decided tells event (omega arith) decided in
       let of_client : (stands.found.candidate.stamp.client).0 ≡ client.0 = ap (λ (it : Candidate). (it.stamp.client).0) stands.candidate_is ∙ ap (λ (it : ClientId). it.0) took.of_client in
-      let of_number : stands.found.candidate.stamp.number ≡ number = ap (λ (it : Candidate). it.stamp.number) stands.candidate_is ∙ took.of_number in
-      let of_update : is_of_update client number stands.found ≡ true = and_from _ _ (eq-eqb _ _ of_client) (eq-eqb _ _ of_number) in
-      let first : IsUpTo (first_mark client number tracked) mark.0 = first_mark_least client number tracked stands.place stands.found mark.0 stands.below stands.at of_update mark.1 in
+      let of_act : stands.found.candidate.stamp.act ≡ Some digest = ap (λ (it : Candidate). it.stamp.act) stands.candidate_is ∙ took.of_act in
+      let of_update : is_of_update client digest stands.found ≡ true = and_from _ _ (eq-eqb _ _ of_client) (act_is_same stands.found.candidate.stamp.act digest of_act) in
+      let first : IsUpTo (first_mark client digest tracked) mark.0 = first_mark_least client digest tracked stands.place stands.found mark.0 stands.below stands.at of_update mark.1 in
       let order : mark.0 ≤ event = mark.2 in
       let least : first.0 ≤ mark.0 = first.2 in
       (first.0, first.1, omega arith)
 
   -- the first mark is where the update took effect
-  pub decides_at : (event : ℕ) → first_mark client number tracked ≡ Some event → DecidesAt trace client number event
-  decides_at event is =
+  pub decides_at : IsHandled trace client number parts → (event : ℕ) → first_mark client digest tracked ≡ Some event → DecidesAt trace client number parts event
+  decides_at handled event is =
       let count : ℕ = length trace.entries in
-      let has : HasMark client number tracked event = first_mark_found client number tracked event is in
+      let has : HasMark client digest tracked event = first_mark_found client digest tracked event is in
       let tells : TellsOf trace (count + 1) has.found = subst (TellsOf trace (count + 1)) has.at (tracks.marks has.place has.found has.below) in
       let first : TellsFirst trace (count + 1) has.found.object has.found.candidate (Some event) =
       subst (λ (mark : Option ℕ). TellsFirst trace (count + 1) has.found.object has.found.candidate mark) has.mark tells in
       let within : event < count + 1 = first.0 in
-      let parts : (((has.found.candidate.stamp.client).0 == client.0) ≡ true) × ((has.found.candidate.stamp.number == number) ≡ true) = and_parts _ _ has.of_update in
+      let of : (((has.found.candidate.stamp.client).0 == client.0) ≡ true) × (option_eq same_digest has.found.candidate.stamp.act (Some digest) ≡ true) = and_parts _ _ has.of_update in
       record {
+        handled = handled;
         happened = omega arith;
         by_then = record {
           object = has.found.object;
           candidate = has.found.candidate;
           is_decided = first.1;
-          of_client = same_client has.found.candidate.stamp.client client parts.0;
-          of_number = eqb-true _ _ parts.1;
+          of_client = same_client has.found.candidate.stamp.client client of.0;
+          of_act = equal_by_same_act has.found.candidate.stamp.act (Some digest) of.1;
         };
         not_before = λ earlier before took. not_earlier event is earlier before (took_marks earlier (omega arith) took);
       }
@@ -84,16 +115,16 @@ module _ (trace : Trace) (tracked : List Tracked) (tracks : Tracks trace (length
       same_client : (first second : ClientId) → (first.0 == second.0) ≡ true → first ≡ second
       same_client first second alike = grind (arith, nat_tests)
 
-      not_earlier : (event : ℕ) → first_mark client number tracked ≡ Some event → (earlier : ℕ) → earlier < event → IsUpTo (first_mark client number tracked) earlier → ⊥
+      not_earlier : (event : ℕ) → first_mark client digest tracked ≡ Some event → (earlier : ℕ) → earlier < event → IsUpTo (first_mark client digest tracked) earlier → ⊥
       not_earlier event is earlier before up_to =
           let same : event ≡ up_to.0 = same_Some event up_to.0 (sym is ∙ up_to.1) in
           let order : up_to.0 ≤ earlier = up_to.2 in
           absurd (omega arith)
 
   -- where there is none it took no effect
-  pub decides_nowhere : first_mark client number tracked ≡ None → (event : ℕ) → ¬ (DecidesAt trace client number event)
+  pub decides_nowhere : first_mark client digest tracked ≡ None → (event : ℕ) → ¬ (DecidesAt trace client number parts event)
   decides_nowhere none event decides =
-      let up_to : IsUpTo (first_mark client number tracked) event = took_marks event decides.happened decides.by_then in
+      let up_to : IsUpTo (first_mark client digest tracked) event = took_marks event decides.happened decides.by_then in
       none-some up_to.0 (sym none ∙ up_to.1)
 
 -- ---- queries
@@ -147,8 +178,8 @@ answers_never trace client number reply none event first = none-some first.round
 
 -- ---- one event
 
-decides_once : (trace : Trace) (client : ClientId) (number first second : ℕ) → DecidesAt trace client number first → DecidesAt trace client number second → first ≡ second
-decides_once trace client number first second one two =
+decides_once : (trace : Trace) (client : ClientId) (number : ℕ) (parts : List (ObjectId × Method)) (first second : ℕ) → DecidesAt trace client number parts first → DecidesAt trace client number parts second → first ≡ second
+decides_once trace client number parts first second one two =
     elim (cases_order first second) [
       | inl same ↦ same
       | inr other ↦ elim other [
@@ -178,7 +209,7 @@ query_once trace operation first second (Some reply) one two = completes_once tr
 
 -- an operation took effect at one event
 pub effect_once : (trace : Trace) (operation : OpRecord) (first second : ℕ) (what : Op) → effect_of trace operation first what → effect_of trace operation second what → first ≡ second
-effect_once trace operation first second (op.Act act) one two = decides_once trace operation.client operation.number first second one two
+effect_once trace operation first second (op.Act parts) one two = decides_once trace operation.client operation.number parts first second one two
 effect_once trace operation first second (op.Query query) one two = query_once trace operation first second operation.reply one two
 
 -- ---- as the code finds them
@@ -192,14 +223,39 @@ abbrev pub IsEffect : Trace → OpRecord → Op → Option ℕ → Type 0
 IsEffect trace operation what found =
     MatchOption found ((event : ℕ) → ¬ (effect_of trace operation event what)) (λ event. effect_of trace operation event what)
 
-acted : (trace : Trace) (tracked : List Tracked) → Tracks trace (length trace.entries) tracked → (client : ClientId) (number : ℕ) (found : Option ℕ) → first_mark client number tracked ≡ found → MatchOption found ((event : ℕ) → ¬ (DecidesAt trace client number event)) (λ event. DecidesAt trace client number event)
-acted trace tracked tracks client number None is = decides_nowhere trace tracked tracks client number is
-acted trace tracked tracks client number (Some event) is = decides_at trace tracked tracks client number event is
+acted : (trace : Trace) (tracked : List Tracked) → Tracks trace (length trace.entries) tracked → (client : ClientId) (number : ℕ) (parts : List (ObjectId × Method)) → IsHandled trace client number parts → (found : Option ℕ) → first_mark client (act_digest client number parts) tracked ≡ found
+    → MatchOption found ((event : ℕ) → ¬ (DecidesAt trace client number parts event)) (λ event. DecidesAt trace client number parts event)
+acted trace tracked tracks client number parts handled None is = decides_nowhere trace tracked tracks client number parts is
+acted trace tracked tracks client number parts handled (Some event) is = decides_at trace tracked tracks client number parts handled event is
 
-pub act_effect : (trace : Trace) (tracked : List Tracked) (operation : OpRecord) (what : Op) (act : List (ObjectId × Method)) (found : Option ℕ) → Tracks trace (length trace.entries) tracked → what ≡ op.Act act → found ≡ first_mark operation.client operation.number tracked → IsEffect trace operation what found
-act_effect trace tracked operation what act found tracks is mark =
+-- the mark of an act takes it for handled where its client and number are among those of the handled acts
+marked : (trace : Trace) → IsRun trace → (tracked : List Tracked) → Tracks trace (length trace.entries) tracked → (operation : OpRecord) → Contains (operations_of trace.entries) operation → (parts : List (ObjectId × Method)) → operation.op ≡ op.Act parts
+    → (found : Option ℕ) → act_mark operation.client operation.number parts (handled_acts trace) tracked ≡ found
+    → MatchOption found ((event : ℕ) → ¬ (DecidesAt trace operation.client operation.number parts event)) (λ event. DecidesAt trace operation.client operation.number parts event)
+marked trace is_run tracked tracks operation among parts is found mark =
+    elim (cases_Bool (list_any (is_act operation.client operation.number) (handled_acts trace))) [
+      | inl there ↦
+          acted trace tracked tracks operation.client operation.number parts (among_handled trace is_run operation among parts is there) found
+          (sym (ap (λ (test : Bool). cond test (first_mark operation.client (act_digest operation.client operation.number parts) tracked) None) there) ∙ mark)
+      | inr not_there ↦
+          subst (λ it. MatchOption it ((event : ℕ) → ¬ (DecidesAt trace operation.client operation.number parts event)) (λ event. DecidesAt trace operation.client operation.number parts event))
+          (sym (ap (λ (test : Bool). cond test (first_mark operation.client (act_digest operation.client operation.number parts) tracked) None) not_there) ∙ mark)
+          (λ event decides. false≢true (sym not_there ∙ handled_among trace operation.client operation.number parts decides.handled))
+    ]
+
+pub act_effect : (trace : Trace) → IsRun trace → (tracked : List Tracked) (operation : OpRecord) → Contains (operations_of trace.entries) operation → (what : Op) (act : List (ObjectId × Method)) (found : Option ℕ) → Tracks trace (length trace.entries) tracked → what ≡ operation.op → what ≡ op.Act act
+    → found ≡ act_mark operation.client operation.number act (handled_acts trace) tracked → IsEffect trace operation what found
+act_effect trace is_run tracked operation among what act found tracks same is mark =
     subst (λ (it : Op). IsEffect trace operation it found) (sym is)
-    (acted trace tracked tracks operation.client operation.number found (sym mark))
+    (marked trace is_run tracked tracks operation among act (sym same ∙ is) found (sym mark))
+
+-- the same of a result
+pub act_effect_of : {E : Type 0} (trace : Trace) → IsRun trace → (tracked : List Tracked) (operation : OpRecord) → Contains (operations_of trace.entries) operation → (what : Op) (act : List (ObjectId × Method)) (acts : List (ClientId × ℕ)) (seen : List Tracked) (result : Result (Option ℕ) E)
+    → Tracks trace (length trace.entries) tracked → what ≡ operation.op → what ≡ op.Act act → acts ≡ handled_acts trace → seen ≡ tracked
+    → IfOk result (λ found. found ≡ act_mark operation.client operation.number act acts seen) → IfOk result (IsEffect trace operation what)
+act_effect_of trace is_run tracked operation among what act acts seen (Err missing) tracks same is are seen_is mark = mark
+act_effect_of trace is_run tracked operation among what act acts seen (Ok found) tracks same is are seen_is mark =
+    act_effect trace is_run tracked operation among what act found tracks same is (mark ∙ (λ i. act_mark operation.client operation.number act (are i) (seen_is i)))
 
 pub ask_effect : (trace : Trace) (operation : OpRecord) (what : Op) (query : List (ObjectId × Ask)) (found : Option ℕ) → what ≡ op.Query query → MatchOption found ((event : ℕ) → ¬ (query_effect trace operation event operation.reply)) (λ event. query_effect trace operation event operation.reply) → IsEffect trace operation what found
 ask_effect trace operation what query found is effect =

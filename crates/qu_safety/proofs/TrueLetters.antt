@@ -19,7 +19,7 @@ use Rattle.qu_frames.specs.Body.{body_of}
 use Rattle.qu_replica.specs.declared.decision.Decision.{Decision}
 use Rattle.qu_replica.specs.declared.decision.Decision.TheVariants.{Answers, Waits}
 use Rattle.qu_replica.specs.State.{ReplicaState, accept_all}
-use Rattle.qu_replica.specs.Rows.{decision_on}
+use Rattle.qu_replica.specs.Rows.{asked_of, decision_on}
 use Rattle.qu_replica.specs.Step.{shown, carried_out, replica_step}
 use Rattle.qu_client.specs.declared.kept.Kept.{Kept}
 use Rattle.qu_client.specs.declared.work.Work.{Work}
@@ -184,5 +184,5 @@ module _ (Held : ObjectHistory → Type 0) (bounds : ℕ) where
   -- a replica answers with histories that it has after its step
   pub replica_step-true : (state : ReplicaState) (received : Frame) → ((place : ℕ) (history : ObjectHistory) → slice_get (replica_step state received).0.histories place ≡ Some history → Held history) → AllByRecursion (IsTrueLetter Held bounds) (replica_step state received).1
   replica_step-true state (frame.Request client number round sets body) has =
-      carried_out-true state client number round sets (decision_on state (record { client = client; number = number; sets = sets }) body) has
+      carried_out-true state client number round sets (decision_on state (asked_of client number sets body) body) has
   replica_step-true state (frame.Reply replica client number round verdict histories) has = tt

@@ -4,6 +4,7 @@ use Rattle.std.specs.Prelude.{option_map, option_and_then, find, nat_le, ◌==�
 use Rattle.std.proofs.lemmas.Bool.{false≢true, cases_Bool, leb-false, eqb-true}
 use Rattle.std.proofs.lemmas.Option.{none-some, same_Some}
 use Rattle.qu_base.specs.declared.party.ClientId.{ClientId}
+use Rattle.qu_base.specs.declared.party.Digest.{Digest}
 use Rattle.qu_base.specs.declared.party.ObjectId.{ObjectId}
 use Rattle.qu_stamp.specs.declared.stamp.Stamp.{Stamp}
 use Rattle.qu_stamp.specs.declared.candidate.Candidate.{Candidate}
@@ -19,6 +20,7 @@ use Rattle.qu_objects.specs.declared.query.Ask.{Ask}
 use Rattle.qu_objects.specs.declared.answer.Answer.{Answer}
 use Rattle.qu_objects.specs.declared.kind.Value.{Value}
 use Rattle.qu_objects.specs.declared.state.ObjState.{ObjState}
+use Rattle.qu_objects.specs.Text.{act_digest}
 use Rattle.qu_objects.specs.Perform.{performed_answer, performed_values}
 use Rattle.qu_frames.specs.declared.frame.Body.TheVariants as body
 use Rattle.qu_frames.specs.declared.verdict.ClassCode.TheVariants.{Barrier}
@@ -29,7 +31,7 @@ use Rattle.qu_replica.specs.declared.decision.Accepted.{Accepted}
 use Rattle.qu_replica.specs.declared.decision.Decision.{Decision}
 use Rattle.qu_replica.specs.declared.decision.Decision.TheVariants.{Answers, Waits}
 use Rattle.qu_replica.specs.State.{ReplicaState, own_candidates, own_latest, accept_all}
-use Rattle.qu_replica.specs.Rows.{Asked, refuse, shown_of, base_of, base_version, fresh_stamp, fresh_on, fresh_stamps, is_held, kept_answer, row_unknown, row_thin, row_retry, row_current, row_method, row_version, row_time, row_full, row_done, row_told, first_given, decide_act, decide_ask, decision_on}
+use Rattle.qu_replica.specs.Rows.{asked_of, Asked, refuse, shown_of, base_of, base_version, fresh_stamp, fresh_on, fresh_stamps, is_held, kept_answer, row_unknown, row_thin, row_retry, row_current, row_method, row_version, row_time, row_full, row_done, row_told, first_given, decide_act, decide_ask, decision_on}
 use Rattle.qu_replica.specs.Versions.{is_stored, version_at}
 use Rattle.qu_replica.proofs.Carried.{performed_one, done_one, told_one}
 use Rattle.qu_safety.specs.Grounds.{IsGround}
@@ -215,23 +217,23 @@ query_tells state asked object ask =
 
 module _ (state : ReplicaState) (client : ClientId) (number : ℕ) (sets : List SetOf) (object : ObjectId) (ask : Ask) (accepted : List Accepted) (stamps : List (ObjectId × Stamp)) (answer : Answer) where
   -- a told answer is that of the version of a base that the replica has nothing above
-  pub told_is_true : decision_on state (record { client = client; number = number; sets = sets }) (body.Ask ((object, ask) ∷ [])) ≡ Answers (verdict.Told stamps answer) accepted → TellsQuery state sets object ask stamps answer
-  told_is_true decided = (subst (QueryTells state sets object ask) decided (query_tells state (record { client = client; number = number; sets = sets }) object ask)).0
+  pub told_is_true : decision_on state (asked_of client number sets (body.Ask ((object, ask) ∷ []))) (body.Ask ((object, ask) ∷ [])) ≡ Answers (verdict.Told stamps answer) accepted → TellsQuery state sets object ask stamps answer
+  told_is_true decided = (subst (QueryTells state sets object ask) decided (query_tells state (asked_of client number sets (body.Ask ((object, ask) ∷ []))) object ask)).0
 
-  pub told_accepts_nothing : decision_on state (record { client = client; number = number; sets = sets }) (body.Ask ((object, ask) ∷ [])) ≡ Answers (verdict.Told stamps answer) accepted → accepted ≡ []
-  told_accepts_nothing decided = (subst (QueryTells state sets object ask) decided (query_tells state (record { client = client; number = number; sets = sets }) object ask)).1
+  pub told_accepts_nothing : decision_on state (asked_of client number sets (body.Ask ((object, ask) ∷ []))) (body.Ask ((object, ask) ∷ [])) ≡ Answers (verdict.Told stamps answer) accepted → accepted ≡ []
+  told_accepts_nothing decided = (subst (QueryTells state sets object ask) decided (query_tells state (asked_of client number sets (body.Ask ((object, ask) ∷ []))) object ask)).1
 
-  pub query_is_not_done : decision_on state (record { client = client; number = number; sets = sets }) (body.Ask ((object, ask) ∷ [])) ≡ Answers (verdict.Done stamps answer) accepted → ⊥
-  query_is_not_done decided = subst (QueryTells state sets object ask) decided (query_tells state (record { client = client; number = number; sets = sets }) object ask)
+  pub query_is_not_done : decision_on state (asked_of client number sets (body.Ask ((object, ask) ∷ []))) (body.Ask ((object, ask) ∷ [])) ≡ Answers (verdict.Done stamps answer) accepted → ⊥
+  query_is_not_done decided = subst (QueryTells state sets object ask) decided (query_tells state (asked_of client number sets (body.Ask ((object, ask) ∷ []))) object ask)
 
 -- ---- an act
 
 -- what is done is held, with its version
-abbrev ActTells : ReplicaState → ClientId → ℕ → ObjectId → Decision → Type 0
-ActTells state client number object (Answers (verdict.Done stamps answer) accepted) = TellsDone (accept_all state accepted) client number object stamps answer
-ActTells state client number object (Answers (verdict.Told stamps answer) accepted) = ⊥
-ActTells state client number object (Answers (verdict.Refused why) accepted) = accepted ≡ []
-ActTells state client number object Waits = Unit {0}
+abbrev ActTells : ReplicaState → ClientId → Digest → ObjectId → Decision → Type 0
+ActTells state client act object (Answers (verdict.Done stamps answer) accepted) = TellsDone (accept_all state accepted) client act object stamps answer
+ActTells state client act object (Answers (verdict.Told stamps answer) accepted) = ⊥
+ActTells state client act object (Answers (verdict.Refused why) accepted) = accepted ≡ []
+ActTells state client act object Waits = Unit {0}
 
 abbrev fresh_of : Asked → ObjectId → Candidate → Candidate
 fresh_of asked object base = record { stamp = fresh_stamp asked object; prior = base.stamp }
@@ -271,18 +273,18 @@ module _ (state : ReplicaState) (asked : Asked) (object : ObjectId) where
       retry_by test (held_where base is) ∙
       ap (λ (stamps : List (ObjectId × Stamp)). cond (test && true) (option_map (λ (kept : Answer). Answers (verdict.Done stamps kept) []) (kept_answer state asked (object ∷ []))) None) (stamps_where base is)
 
-  kept_tells : (base : Candidate) (holding : Bool) (stored : Option ObjState) → holds (fresh_of asked object base) (own_candidates state object) ≡ holding → version_at object (fresh_stamp asked object) state.versions ≡ stored
-      → Gives (ActTells state asked.client asked.number object) (cond (holding && true) (kept_by stored) None)
+  kept_tells : (act : Digest) → asked.act ≡ Some act → (base : Candidate) (holding : Bool) (stored : Option ObjState) → holds (fresh_of asked object base) (own_candidates state object) ≡ holding → version_at object (fresh_stamp asked object) state.versions ≡ stored
+      → Gives (ActTells state asked.client act object) (cond (holding && true) (kept_by stored) None)
   unfolding accept_all
-  kept_tells base false stored is_held is_stored decision given = absurd (none-some decision given)
-  kept_tells base true None is_held is_stored decision given = absurd (none-some decision given)
-  kept_tells base true (Some version) is_held is_stored decision given =
-      subst (ActTells state asked.client asked.number object) (same_Some _ decision given)
+  kept_tells act is_act base false stored is_held is_stored decision given = absurd (none-some decision given)
+  kept_tells act is_act base true None is_held is_stored decision given = absurd (none-some decision given)
+  kept_tells act is_act base true (Some version) is_held is_stored decision given =
+      subst (ActTells state asked.client act object) (same_Some _ decision given)
       (record {
         candidate = fresh_of asked object base;
         held = is_held;
         of_client = refl;
-        of_number = refl;
+        of_act = is_act;
         stamps_are = refl;
         version = version;
         of_candidate = is_stored;
@@ -290,12 +292,12 @@ module _ (state : ReplicaState) (asked : Asked) (object : ObjectId) where
       })
 
   -- a retry is told what is stored with the candidate that is held
-  retry_tells : (found : Option Candidate) → base_of state asked object ≡ found → Gives (ActTells state asked.client asked.number object) (row_retry state asked (object ∷ []))
-  retry_tells None is decision given = absurd (none-some decision (sym (retry_none is) ∙ given))
-  retry_tells (Some base) is decision given = kept_tells base _ _ refl refl decision (sym (retry_some base is) ∙ given)
+  retry_tells : (act : Digest) → asked.act ≡ Some act → (found : Option Candidate) → base_of state asked object ≡ found → Gives (ActTells state asked.client act object) (row_retry state asked (object ∷ []))
+  retry_tells act is_act None is decision given = absurd (none-some decision (sym (retry_none is) ∙ given))
+  retry_tells act is_act (Some base) is decision given = kept_tells act is_act base _ _ refl refl decision (sym (retry_some base is) ∙ given)
 
 -- a fresh candidate is above all that are held, so no version is stored under its stamp
-module _ {state : ReplicaState} {client : ClientId} {number : ℕ} {sets : List SetOf} {object : ObjectId} {candidate : Candidate} (are : AreOfHeld state) (grounds : IsGround state client number sets object candidate) where
+module _ {state : ReplicaState} {asked : Asked} {object : ObjectId} {candidate : Candidate} (are : AreOfHeld state) (grounds : IsGround state asked object candidate) where
   none_of : (found : Option ObjState) → version_at object candidate.stamp state.versions ≡ found → found ≡ None
   none_of None is_found = refl
   none_of (Some version) is_found =
@@ -308,27 +310,27 @@ module _ {state : ReplicaState} {client : ClientId} {number : ℕ} {sets : List 
   none_under = none_of (version_at object candidate.stamp state.versions) refl
 
 -- the replica holds what it accepted, and finds the version that it stored
-accepted_tells : (state : ReplicaState) (asked : Asked) (object : ObjectId) (base : Candidate) (version : ObjState)
+accepted_tells : (state : ReplicaState) (asked : Asked) (act : Digest) → asked.act ≡ Some act → (object : ObjectId) (base : Candidate) (version : ObjState)
     → object.0 < length state.histories → version_at object (fresh_stamp asked object) state.versions ≡ None
-    → TellsDone (accept_all state (record { object = object; candidate = fresh_of asked object base; state = version } ∷ [])) asked.client asked.number object ((object, fresh_stamp asked object) ∷ []) version.answer
+    → TellsDone (accept_all state (record { object = object; candidate = fresh_of asked object base; state = version } ∷ [])) asked.client act object ((object, fresh_stamp asked object) ∷ []) version.answer
 unfolding accept_all
-accepted_tells state asked object base version known none =
+accepted_tells state asked act is_act object base version known none =
     let fresh : Candidate = fresh_of asked object base in
     record {
       candidate = fresh;
       held = ap (holds fresh) (candidates_after object.0 fresh state.histories known) ∙ holds_pushed fresh (own_candidates state object);
       of_client = refl;
-      of_number = refl;
+      of_act = is_act;
       stamps_are = refl;
       version = version;
       of_candidate = version_at-push object (fresh_stamp asked object) state.versions version none;
       answer_is = refl;
     }
 
-done_tells : (state : ReplicaState) (asked : Asked) (object : ObjectId) (method : Method) → AreOfHeld state
+done_tells : (state : ReplicaState) (asked : Asked) (act : Digest) → asked.act ≡ Some act → (object : ObjectId) (method : Method) → AreOfHeld state
     → row_unknown state asked ≡ None → row_current state asked (object ∷ []) ≡ None → row_method state asked (object ∷ []) ≡ None → row_version state asked (object ∷ []) ≡ None
-    → Gives (ActTells state asked.client asked.number object) (row_done state asked ((object, method) ∷ []) (object ∷ []))
-done_tells state asked object method are is_known is_current is_method is_version decision given =
+    → Gives (ActTells state asked.client act object) (row_done state asked ((object, method) ∷ []) (object ∷ []))
+done_tells state asked act is_act object method are is_known is_current is_method is_version decision given =
     let parts : List (ObjectId × Method) = (object, method) ∷ [] in
     let found : (it : Candidate) × (base_of state asked object ≡ Some it) = passed_method state asked object is_method in
     let base : Candidate = found.0 in
@@ -338,22 +340,42 @@ done_tells state asked object method are is_known is_current is_method is_versio
     let answer : Answer = performed_answer parts ((before.0).value ∷ []) in
     let fresh : Candidate = fresh_of asked object base in
     let is_fresh : fresh_on state asked object ≡ Some fresh = ap (option_map (fresh_of asked object)) found.1 in
-    let grounds : IsGround state asked.client asked.number asked.sets object fresh =
+    let grounds : IsGround state asked object fresh =
     record { base = base; method = found.1; prior = refl; stamp = refl; current = passed_current state asked object is_current } in
     let known : object.0 < length state.histories = known_by_base (length state.histories) state.bounds asked.sets object base (passed_unknown state asked object is_known) found.1 in
-    subst (ActTells state asked.client asked.number object)
+    subst (ActTells state asked.client act object)
     (same_Some _ decision (sym (done_one state asked parts object fresh before.0 value.0 answer is_fresh before.1 value.1 refl) ∙ given))
-    (accepted_tells state asked object base (record { value = value.0; answer = answer }) known (none_under are grounds))
+    (accepted_tells state asked act is_act object base (record { value = value.0; answer = answer }) known (none_under are grounds))
 
-act_tells : (state : ReplicaState) (asked : Asked) (object : ObjectId) (method : Method) → AreOfHeld state → ActTells state asked.client asked.number object (decision_on state asked (body.Act ((object, method) ∷ [])))
-act_tells state asked object method are =
-    act_cases (ActTells state asked.client asked.number object) (λ why. refl) tt state asked ((object, method) ∷ []) (object ∷ [])
-    (retry_tells state asked object (base_of state asked object) refl) (done_tells state asked object method are)
+act_tells : (state : ReplicaState) (asked : Asked) (object : ObjectId) (method : Method) (act : Digest) → asked.act ≡ Some act → AreOfHeld state → ActTells state asked.client act object (decision_on state asked (body.Act ((object, method) ∷ [])))
+act_tells state asked object method act is_act are =
+    act_cases (ActTells state asked.client act object) (λ why. refl) tt state asked ((object, method) ∷ []) (object ∷ [])
+    (retry_tells state asked object act is_act (base_of state asked object) refl) (done_tells state asked act is_act object method are)
+
+-- what is done was not refused
+abbrev IsNotDone : Decision → Type 0
+IsNotDone (Answers (verdict.Done stamps answer) accepted) = ⊥
+IsNotDone (Answers (verdict.Told stamps answer) accepted) = Unit {0}
+IsNotDone (Answers (verdict.Refused why) accepted) = Unit {0}
+IsNotDone Waits = Unit {0}
+
+passed_first : (one : Option Decision) (later : List (Option Decision)) (stamps : List (ObjectId × Stamp)) (answer : Answer) (accepted : List Accepted) → Gives IsNotDone one → first_given (one ∷ later) ≡ Answers (verdict.Done stamps answer) accepted → one ≡ None
+unfolding first_given
+passed_first None later stamps answer accepted refuses done = refl
+passed_first (Some decision) later stamps answer accepted refuses done = absurd (subst IsNotDone done (refuses decision refl))
+
+-- no object of an act that is done is unknown
+pub done_is_known : (state : ReplicaState) (asked : Asked) (parts : List (ObjectId × Method)) (objects : List ObjectId) (stamps : List (ObjectId × Stamp)) (answer : Answer) (accepted : List Accepted) → decide_act state asked parts objects ≡ Answers (verdict.Done stamps answer) accepted → row_unknown state asked ≡ None
+unfolding decide_act
+done_is_known state asked parts objects stamps answer accepted done =
+    passed_first (row_unknown state asked) _ stamps answer accepted (unknown IsNotDone (λ why. tt) tt state asked) done
 
 module _ (state : ReplicaState) (client : ClientId) (number : ℕ) (sets : List SetOf) (object : ObjectId) (method : Method) (accepted : List Accepted) (stamps : List (ObjectId × Stamp)) (answer : Answer) (are : AreOfHeld state) where
   -- where Done is told, the replica has the candidate afterwards, and the answer is the stored one
-  pub done_is_true : decision_on state (record { client = client; number = number; sets = sets }) (body.Act ((object, method) ∷ [])) ≡ Answers (verdict.Done stamps answer) accepted → TellsDone (accept_all state accepted) client number object stamps answer
-  done_is_true decided = subst (ActTells state client number object) decided (act_tells state (record { client = client; number = number; sets = sets }) object method are)
+  pub done_is_true : decision_on state (asked_of client number sets (body.Act ((object, method) ∷ []))) (body.Act ((object, method) ∷ [])) ≡ Answers (verdict.Done stamps answer) accepted → TellsDone (accept_all state accepted) client (act_digest client number ((object, method) ∷ [])) object stamps answer
+  done_is_true decided = subst (ActTells state client (act_digest client number ((object, method) ∷ [])) object) decided
+      (act_tells state (asked_of client number sets (body.Act ((object, method) ∷ []))) object method (act_digest client number ((object, method) ∷ [])) refl are)
 
-  pub act_is_not_told : decision_on state (record { client = client; number = number; sets = sets }) (body.Act ((object, method) ∷ [])) ≡ Answers (verdict.Told stamps answer) accepted → ⊥
-  act_is_not_told decided = subst (ActTells state client number object) decided (act_tells state (record { client = client; number = number; sets = sets }) object method are)
+  pub act_is_not_told : decision_on state (asked_of client number sets (body.Act ((object, method) ∷ []))) (body.Act ((object, method) ∷ [])) ≡ Answers (verdict.Told stamps answer) accepted → ⊥
+  act_is_not_told decided = subst (ActTells state client (act_digest client number ((object, method) ∷ [])) object) decided
+      (act_tells state (asked_of client number sets (body.Act ((object, method) ∷ []))) object method (act_digest client number ((object, method) ∷ [])) refl are)

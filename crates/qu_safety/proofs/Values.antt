@@ -29,10 +29,12 @@ use Rattle.qu_trace.specs.declared.trace.Trace.{Trace}
 use Rattle.qu_trace.specs.Operations.{operations_of}
 use Rattle.qu_world.specs.State.{letter_of}
 use Rattle.qu_safety.specs.Decided.{is_accepted}
+use Rattle.qu_safety.specs.Digested.{IsMadeFor}
 use Rattle.qu_safety.specs.Order.{world_after}
 use Rattle.qu_safety.specs.Chained.{last_world}
 use Rattle.qu_safety.specs.Invocations.{IsRequestOf}
 use Rattle.qu_safety.specs.Values.{HasVersion}
+use Rattle.qu_safety.proofs.OneAct.{ActsAreOne, one_made_for}
 
 -- what the versions of a run rest on
 pub record Known (trace : Trace) : Type 0 where
@@ -45,10 +47,6 @@ pub record Known (trace : Trace) : Type 0 where
       → letter_of (world_after trace count) number ≡ Some letter
       → (client : ClientId) (asked round : ℕ) (sets : List SetOf) (body : Body) → letter.frame ≡ frame.Request client asked round sets body
       → IsRequestOf trace count client asked body
-  -- a client has one operation of each number
-  pub recorded_op : (first second : OpRecord)
-      → Contains (operations_of trace.entries) first → Contains (operations_of trace.entries) second
-      → (first.client).0 ≡ (second.client).0 → first.number ≡ second.number → first ≡ second
 
 -- ---- parts of equal wholes
 
@@ -100,9 +98,8 @@ pub record IsUpdated (trace : Trace) (object : ObjectId) (candidate : Candidate)
   pub below : is_below base.stamp candidate.stamp ≡ true
   pub accepted : is_accepted (last_world trace) object base ≡ true
   pub of_trace : Contains (operations_of trace.entries) operation
-  pub of_client : (candidate.stamp).client ≡ operation.client
-  pub of_number : (candidate.stamp).number ≡ operation.number
   pub is_act : operation.op ≡ op.Act ((object, method) ∷ [])
+  pub made : IsMadeFor trace candidate operation.client operation.number ((object, method) ∷ [])
   pub has : HasVersion trace object base before
   pub values : performed_values ((object, method) ∷ []) (before.value ∷ []) ≡ version.value ∷ []
   pub answers : performed_answer ((object, method) ∷ []) (before.value ∷ []) ≡ version.answer
@@ -110,7 +107,7 @@ pub record IsUpdated (trace : Trace) (object : ObjectId) (candidate : Candidate)
 pub version_cases : (trace : Trace) (object : ObjectId) (candidate : Candidate) (version : ObjState) → HasVersion trace object candidate version → IsFresh trace object candidate version ⊎ IsUpdated trace object candidate version
 version_cases trace object candidate version (HasVersion.of_opening kind is_kind) =
     inl (record { kind = kind; is_kind = is_kind; is_opening = refl; fresh = refl })
-version_cases trace object candidate version (HasVersion.of_update it base operation method before made prior below accepted of_trace of_client of_number act of_base value answers) =
+version_cases trace object candidate version (HasVersion.of_update it base operation method before made prior below accepted of_trace act made_for of_base value answers) =
     inr (record {
       base = base;
       operation = operation;
@@ -120,9 +117,8 @@ version_cases trace object candidate version (HasVersion.of_update it base opera
       below = below;
       accepted = accepted;
       of_trace = of_trace;
-      of_client = of_client;
-      of_number = of_number;
       is_act = act;
+      made = made_for;
       has = of_base;
       values = value;
       answers = answers;
@@ -136,7 +132,7 @@ made_not_opening trace object candidate version made is_opening =
 
 -- ---- one version
 
-module _ (trace : Trace) (known : Known trace) (object : ObjectId) where
+module _ (trace : Trace) (known : Known trace) (one_act : ActsAreOne trace) (object : ObjectId) where
   fresh_same : (candidate : Candidate) (first second : ObjState) → IsFresh trace object candidate first → IsFresh trace object candidate second → first ≡ second
   fresh_same candidate first second one other =
       let kinds : one.kind ≡ other.kind = same_Some one.kind other.kind (sym one.is_kind ∙ other.is_kind) in
@@ -150,11 +146,9 @@ module _ (trace : Trace) (known : Known trace) (object : ObjectId) where
       let stamps : (one.base).stamp ≡ (other.base).stamp = sym one.prior ∙ other.prior in
       let bases : one.base ≡ other.base = same_candidate one.base other.base stamps (known.one_prior object one.base other.base one.accepted other.accepted stamps) in
       let befores : one.before ≡ other.before = same_before other.before (subst (λ (it : Candidate). HasVersion trace object it other.before) (sym bases) other.has) in
-      let operations : one.operation ≡ other.operation =
-      known.recorded_op one.operation other.operation one.of_trace other.of_trace
-      (ap (λ (it : ClientId). it.0) (sym one.of_client ∙ other.of_client)) (sym one.of_number ∙ other.of_number) in
       let methods : one.method ≡ other.method =
-      same_method object one.method other.method (sym one.is_act ∙ ap (λ (it : OpRecord). it.op) operations ∙ other.is_act) in
+      same_method object one.method other.method
+      (ap op.Act (one_made_for trace one_act candidate (one.operation).client (other.operation).client (one.operation).number (other.operation).number ((object, one.method) ∷ []) ((object, other.method) ∷ []) one.made other.made).2) in
       same_version first second
       (same_head first.value second.value
       (sym one.values ∙
@@ -182,12 +176,12 @@ module _ (trace : Trace) (known : Known trace) (object : ObjectId) where
       ]
 
 -- by what a version is made of
-pub one_version : (trace : Trace) → Known trace → (object : ObjectId) (candidate : Candidate) (first second : ObjState)
+pub one_version : (trace : Trace) → Known trace → ActsAreOne trace → (object : ObjectId) (candidate : Candidate) (first second : ObjState)
     → HasVersion trace object candidate first → HasVersion trace object candidate second → first ≡ second
-one_version trace known object candidate first second (HasVersion.of_opening kind is_kind) held =
-    fresh_only trace known object candidate first second (record { kind = kind; is_kind = is_kind; is_opening = refl; fresh = refl }) held
-one_version trace known object candidate first second (HasVersion.of_update it base operation method before made prior below accepted of_trace of_client of_number act of_base value answers) held =
-    made_only trace known object candidate first second (record {
+one_version trace known one_act object candidate first second (HasVersion.of_opening kind is_kind) held =
+    fresh_only trace known one_act object candidate first second (record { kind = kind; is_kind = is_kind; is_opening = refl; fresh = refl }) held
+one_version trace known one_act object candidate first second (HasVersion.of_update it base operation method before made prior below accepted of_trace act made_for of_base value answers) held =
+    made_only trace known one_act object candidate first second (record {
       base = base;
       operation = operation;
       method = method;
@@ -196,10 +190,9 @@ one_version trace known object candidate first second (HasVersion.of_update it b
       below = below;
       accepted = accepted;
       of_trace = of_trace;
-      of_client = of_client;
-      of_number = of_number;
       is_act = act;
+      made = made_for;
       has = of_base;
       values = value;
       answers = answers;
-    }) (λ version of_same. one_version trace known object base before version of_base of_same) held
+    }) (λ version of_same. one_version trace known one_act object base before version of_base of_same) held

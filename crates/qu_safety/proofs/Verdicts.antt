@@ -80,6 +80,3 @@ fits_act act (verdict.Done stamps told) answer fits = record {
 }
 fits_act act (verdict.Told stamps told) answer fits = absurd (none-some answer fits)
 fits_act act (verdict.Refused why) answer fits = absurd (none-some answer fits)
-
-pub same_done : (told : Verdict) (stamps : List (ObjectId × Stamp)) (answer : Answer) → same_verdict told (verdict.Done stamps answer) ≡ true → IsDone told answer
-same_done told stamps answer same = record { stamps = stamps; is = equal_done told stamps answer same }

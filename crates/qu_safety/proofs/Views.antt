@@ -111,7 +111,7 @@ module _ (Held : ObjectHistory → Type 0) (bounds : ℕ) where
   world_step-true : (world : WorldState) (event : Event) → HasEventParts event → IsTrueWorld Held bounds world → ((history : ObjectHistory) → history_at (world_step world event) history.replica history.object ≡ Some history → Held history) → IsTrueWorld Held bounds (world_step world event)
   world_step-true world (Invoke client op) parts before now =
       at_client-true world (Invoke client op) client (λ (state : ClientState). client_invoke state op) (numbered world.clients client.0) refl
-      (λ state is. client_invoke-true Held bounds state op parts is) before
+      (λ state is. client_invoke-true Held bounds state op parts.1 is) before
   world_step-true world (Deliver number) parts before now =
       delivered-true world (Deliver number) number (letter_of world number) refl before now
   world_step-true world (Tick client) parts before now =
@@ -164,7 +164,7 @@ true_world trace parts (suc count) within =
 -- ---- what letters show
 
 body_parts : (what : Op) → HasOpParts what → IsTrue (has_parts (body_of what))
-body_parts (op.Act act) parts = parts
+body_parts (op.Act act) parts = parts.0
 body_parts (op.Query query) parts = parts
 
 made_parts : (Held : ObjectHistory → Type 0) (bounds : ℕ) (sent : Frame) → IsTrueFrame Held bounds sent → HasParts sent

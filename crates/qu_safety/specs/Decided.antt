@@ -1,8 +1,9 @@
 -- Which candidates took effect. This looks at all correct replicas at once, which no replica and no
 -- client can do (Query/Update: established and decided candidates).
-use Rattle.std.specs.Prelude.{◌≡◌, ℕ, Bool, ◌+◌, nat_le, count_by, IsTrue}
+use Rattle.std.specs.Prelude.{◌≡◌, Bool, ◌+◌, nat_le, count_by, Some, IsTrue}
 use Rattle.std.specs.List.{list_any}
 use Rattle.qu_base.specs.declared.party.ClientId.{ClientId}
+use Rattle.qu_base.specs.declared.party.Digest.{Digest}
 use Rattle.qu_base.specs.declared.party.ObjectId.{ObjectId}
 use Rattle.qu_base.specs.Thresholds.{quorum}
 use Rattle.qu_stamp.specs.declared.candidate.Candidate.{Candidate}
@@ -28,10 +29,10 @@ pub data IsDecided (world : WorldState) (object : ObjectId) : Candidate → Type
   as_prior : (candidate child : Candidate) → IsDecided world object child → child.prior ≡ candidate.stamp
       → IsTrue (is_accepted world object candidate) → IsDecided world object candidate
 
--- an update took effect: a candidate of it is decided on one of its objects
-pub record TookEffect (world : WorldState) (client : ClientId) (number : ℕ) : Type 0 where
+-- an update took effect: a candidate of it is decided on one of its objects; `act` is the digest of the update
+pub record TookEffect (world : WorldState) (client : ClientId) (act : Digest) : Type 0 where
   pub object : ObjectId
   pub candidate : Candidate
   pub is_decided : IsDecided world object candidate
   pub of_client : candidate.stamp.client ≡ client
-  pub of_number : candidate.stamp.number ≡ number
+  pub of_act : candidate.stamp.act ≡ Some act

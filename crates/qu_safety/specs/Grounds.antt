@@ -1,5 +1,5 @@
 -- Why a replica accepts a candidate, and what an event of a world adds to a replica.
-use Rattle.std.specs.Prelude.{◌≡◌, ℕ, false, ◌+◌, List, [], ◌∷◌, ◌++◌, Some}
+use Rattle.std.specs.Prelude.{◌≡◌, ℕ, false, List, [], ◌∷◌, ◌++◌, Some}
 use Rattle.qu_base.specs.declared.party.ClientId.{ClientId}
 use Rattle.qu_base.specs.declared.party.ObjectId.{ObjectId}
 use Rattle.qu_base.specs.declared.party.Party.TheVariants as party
@@ -14,6 +14,7 @@ use Rattle.qu_frames.specs.declared.frame.Body.TheVariants as body
 use Rattle.qu_frames.specs.declared.frame.Frame.{Frame}
 use Rattle.qu_frames.specs.declared.frame.Frame.TheVariants as frame
 use Rattle.qu_frames.specs.declared.frame.Letter.{Letter}
+use Rattle.qu_replica.specs.Rows.{Asked, asked_of, fresh_stamp}
 use Rattle.qu_replica.specs.State.{ReplicaState, own_candidates, own_latest}
 use Rattle.qu_replica.specs.Versions.{version_at}
 use Rattle.qu_trace.specs.declared.event.Event.{Event}
@@ -22,12 +23,12 @@ use Rattle.qu_world.specs.State.{WorldState, letter_of}
 
 -- why a replica in this state accepts a candidate on an object upon a request: the sets show a base that
 -- a quorum holds and that nothing shown is above, and the replica itself has nothing above what is shown
-pub record IsGround (state : ReplicaState) (client : ClientId) (number : ℕ) (sets : List SetOf) (object : ObjectId) (candidate : Candidate) : Type 0 where
+pub record IsGround (state : ReplicaState) (asked : Asked) (object : ObjectId) (candidate : Candidate) : Type 0 where
   pub base : Candidate
-  pub method : method_at state.bounds (entries_of object sets) ≡ Some base
+  pub method : method_at state.bounds (entries_of object asked.sets) ≡ Some base
   pub prior : candidate.prior ≡ base.stamp
-  pub stamp : candidate.stamp ≡ record { time = (latest_of (entries_of object sets)).time + 1; client = client; number = number }
-  pub current : is_below (latest_of (entries_of object sets)) (own_latest state object) ≡ false
+  pub stamp : candidate.stamp ≡ fresh_stamp asked object
+  pub current : is_below (latest_of (entries_of object asked.sets)) (own_latest state object) ≡ false
 
 -- the version has the value and the answer of the act, performed upon the version of the base
 pub record IsPerformed (state : ReplicaState) (object : ObjectId) (base : Candidate) (method : Method) (version : ObjState) : Type 0 where
@@ -46,7 +47,7 @@ pub record AcceptsOne (old new : ReplicaState) (received : Frame) (object : Obje
   pub is_request : received ≡ frame.Request client number round sets (body.Act ((object, method) ∷ []))
   pub candidate : Candidate
   pub added : own_candidates new object ≡ own_candidates old object ++ candidate ∷ []
-  pub grounds : IsGround old client number sets object candidate
+  pub grounds : IsGround old (asked_of client number sets (body.Act ((object, method) ∷ []))) object candidate
   pub version : ObjState
   pub performed : IsPerformed old object grounds.base method version
   pub stored : new.versions ≡ old.versions ++ (record { object = object; stamp = candidate.stamp; state = version }) ∷ []

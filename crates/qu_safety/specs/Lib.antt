@@ -1,4 +1,5 @@
 pub mod Decided
+pub mod Digested
 pub mod Order
 pub mod Points
 pub mod Tracker

@@ -2,10 +2,13 @@
 use Rattle.std.specs.Prelude.{◌≡◌, ℕ, Bool, true, false, ◌==◌, ◌&&◌, ◌||◌, ◌<◌, ◌≤◌, nat_lt, List, [], ◌∷◌, take, length, Option, None, Some, IsTrue, Contains}
 use Rattle.std.specs.List.{list_any}
 use Rattle.qu_base.specs.declared.party.ClientId.{ClientId}
+use Rattle.qu_base.specs.declared.party.ObjectId.{ObjectId}
+use Rattle.qu_objects.specs.declared.act.Method.{Method}
 use Rattle.qu_objects.specs.declared.op.Op.{Op}
 use Rattle.qu_objects.specs.declared.op.Op.TheVariants as op
 use Rattle.qu_objects.specs.declared.op.Outcome.{Outcome}
 use Rattle.qu_objects.specs.declared.op.Outcome.TheVariants as outcome
+use Rattle.qu_objects.specs.Text.{act_digest}
 use Rattle.qu_frames.specs.declared.frame.Frame.TheVariants as frame
 use Rattle.qu_frames.specs.declared.frame.Letter.{Letter}
 use Rattle.qu_machine.specs.declared.record.OpRecord.{OpRecord}
@@ -18,6 +21,7 @@ use Rattle.qu_trace.specs.Operations.{operations_of}
 use Rattle.qu_world.specs.State.{WorldState, numbered}
 use Rattle.qu_world.specs.Run.{run, events_of}
 use Rattle.qu_safety.specs.Decided.{TookEffect}
+use Rattle.qu_safety.specs.Digested.{IsHandled}
 
 -- the world after so many events of a trace
 abbrev pub world_after : Trace → ℕ → WorldState
@@ -25,11 +29,12 @@ world_after trace count = run trace.setup (events_of (take count trace.entries))
 
 -- ---- updates
 
--- the first event after which the update had taken effect
-pub record DecidesAt (trace : Trace) (client : ClientId) (number event : ℕ) : Type 0 where
+-- the update was handled, and this is the first event after which it had taken effect
+pub record DecidesAt (trace : Trace) (client : ClientId) (number : ℕ) (parts : List (ObjectId × Method)) (event : ℕ) : Type 0 where
+  pub handled : IsHandled trace client number parts
   pub happened : event ≤ length trace.entries
-  pub by_then : TookEffect (world_after trace event) client number
-  pub not_before : (earlier : ℕ) → earlier < event → ¬ (TookEffect (world_after trace earlier) client number)
+  pub by_then : TookEffect (world_after trace event) client (act_digest client number parts)
+  pub not_before : (earlier : ℕ) → earlier < event → ¬ (TookEffect (world_after trace earlier) client (act_digest client number parts))
 
 -- ---- queries
 
@@ -87,7 +92,7 @@ query_effect trace operation event (Some reply) = completed_effect trace operati
 
 -- where an operation took effect
 abbrev pub effect_of : Trace → OpRecord → ℕ → Op → Type 0
-effect_of trace operation event (op.Act act) = DecidesAt trace operation.client operation.number event
+effect_of trace operation event (op.Act parts) = DecidesAt trace operation.client operation.number parts event
 effect_of trace operation event (op.Query query) = query_effect trace operation event operation.reply
 
 -- a point is that of an operation of the trace, at the event at which it took effect

@@ -1,9 +1,10 @@
 -- Where a candidate that a replica holds came from.
-use Rattle.std.specs.Prelude.{◌≡◌, ℕ, ◌+◌, ◌<◌, slice_get, Some}
+use Rattle.std.specs.Prelude.{◌≡◌, ℕ, ◌+◌, ◌<◌, slice_get, Some, Contains}
 use Rattle.qu_base.specs.declared.party.ObjectId.{ObjectId}
 use Rattle.qu_stamp.specs.declared.candidate.Candidate.{Candidate}
 use Rattle.qu_replica.specs.State.{ReplicaState}
 use Rattle.qu_trace.specs.declared.event.Event.{Event}
+use Rattle.qu_trace.specs.declared.trace.Entry.{Entry}
 use Rattle.qu_trace.specs.declared.trace.Trace.{Trace}
 use Rattle.qu_world.specs.Step.{world_step}
 use Rattle.qu_safety.specs.Grounds.{IsDelivered}
@@ -14,6 +15,9 @@ pub record Origin (trace : Trace) (count : ℕ) (object : ObjectId) (candidate :
   pub past : ℕ
   pub earlier : past < count
   pub event : Event
+  pub entry : Entry
+  pub of_trace : Contains trace.entries entry
+  pub event_is : event ≡ entry.event
   pub is_step : world_after trace (past + 1) ≡ world_step (world_after trace past) event
   pub place : ℕ
   pub old : ReplicaState

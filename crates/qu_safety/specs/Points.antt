@@ -1,24 +1,55 @@
 -- The points of some operations of a trace, in their order.
 use Rattle.std.specs.Prelude.{◌≡◌, ℕ, Bool, false, ◌==◌, ◌&&◌, if◌then◌else◌, List, [], ◌∷◌, min, Option, None, Some, IsTrue, Contains, ◌⊎◌}
-use Rattle.std.specs.List.{list_any}
+use Rattle.std.specs.List.{list_any, filter_map}
+use Rattle.std.specs.Option.{option_eq}
 use Rattle.qu_base.specs.declared.party.ClientId.{ClientId}
+use Rattle.qu_base.specs.declared.party.Digest.{Digest}
+use Rattle.qu_base.specs.declared.party.ObjectId.{ObjectId}
+use Rattle.qu_stamp.specs.Stamp.{same_digest}
+use Rattle.qu_objects.specs.declared.act.Method.{Method}
+use Rattle.qu_objects.specs.Text.{act_digest}
+use Rattle.qu_frames.specs.declared.frame.Body.{Body}
+use Rattle.qu_frames.specs.declared.frame.Body.TheVariants as body
 use Rattle.qu_machine.specs.declared.record.OpRecord.{OpRecord}
 use Rattle.qu_machine.specs.declared.record.Point.{Point}
 use Rattle.qu_trace.specs.declared.trace.Entry.{Entry}
 use Rattle.qu_trace.specs.declared.trace.Trace.{Trace}
 use Rattle.qu_safety.specs.declared.tracked.Tracked.{Tracked}
+use Rattle.qu_safety.specs.Digested.{Request, handled_by}
 use Rattle.qu_safety.specs.Order.{answers, effect_of, is_earlier, are_in_order}
 
 -- ---- updates
 
--- the candidate is one of this update
-abbrev pub is_of_update : ClientId → ℕ → Tracked → Bool
-is_of_update client number tracked =
-    (tracked.candidate.stamp.client).0 == client.0 && tracked.candidate.stamp.number == number
+-- client and number of the act that is asked for
+abbrev pub act_asked : ClientId → ℕ → Body → Option (ClientId × ℕ)
+act_asked client number (body.Act parts) = Some (client, number)
+act_asked client number (body.Ask parts) = None
+
+-- the same of a request
+abbrev pub act_in : Option Request → Option (ClientId × ℕ)
+act_in None = None
+act_in (Some request) = act_asked request.client request.number request.body
+
+-- the same of the request that the event of an entry lets a replica handle
+abbrev pub act_at : Trace → Entry → Option (ClientId × ℕ)
+act_at trace entry = act_in (handled_by trace entry.event)
+
+-- client and number of each act that a replica handled
+unfoldable pub handled_acts : Trace → List (ClientId × ℕ)
+handled_acts trace = filter_map (act_at trace) trace.entries
+
+-- the act is of this client, and has this number
+abbrev pub is_act : ClientId → ℕ → ClientId × ℕ → Bool
+is_act client number act = (act.0).0 == client.0 && act.1 == number
+
+-- the candidate is one of the update of this client whose digest is `act`
+abbrev pub is_of_update : ClientId → Digest → Tracked → Bool
+is_of_update client act tracked =
+    (tracked.candidate.stamp.client).0 == client.0 && option_eq same_digest tracked.candidate.stamp.act (Some act)
 
 -- the mark of the candidate, where it is one of this update
-abbrev pub mark_of : ClientId → ℕ → Tracked → Option ℕ
-mark_of client number tracked = if is_of_update client number tracked then tracked.decided else None
+abbrev pub mark_of : ClientId → Digest → Tracked → Option ℕ
+mark_of client act tracked = if is_of_update client act tracked then tracked.decided else None
 
 -- the earlier of two events, where there are two
 abbrev pub earlier_of : Option ℕ → Option ℕ → Option ℕ
@@ -27,10 +58,15 @@ earlier_of (Some first) None = Some first
 earlier_of (Some first) (Some second) = Some (min first second)
 
 -- the first event after which a candidate of this update was decided
-unfoldable pub first_mark : ClientId → ℕ → List Tracked → Option ℕ
-first_mark client number [] = None
-first_mark client number (tracked ∷ later) =
-    earlier_of (mark_of client number tracked) (first_mark client number later)
+unfoldable pub first_mark : ClientId → Digest → List Tracked → Option ℕ
+first_mark client act [] = None
+first_mark client act (tracked ∷ later) =
+    earlier_of (mark_of client act tracked) (first_mark client act later)
+
+-- the same of the update that this client asks for under this number, where it is among the handled acts
+abbrev pub act_mark : ClientId → ℕ → List (ObjectId × Method) → List (ClientId × ℕ) → List Tracked → Option ℕ
+act_mark client number parts acts tracked =
+    if list_any (is_act client number) acts then first_mark client (act_digest client number parts) tracked else None
 
 -- ---- queries
 

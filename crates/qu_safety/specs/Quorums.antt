@@ -7,9 +7,11 @@ use Rattle.qu_stamp.specs.declared.stamp.Stamp.{Stamp}
 use Rattle.qu_stamp.specs.declared.candidate.Candidate.{Candidate}
 use Rattle.qu_stamp.specs.Stamp.{is_below}
 use Rattle.qu_history.specs.History.{holds}
+use Rattle.qu_objects.specs.declared.act.Method.{Method}
 use Rattle.qu_objects.specs.declared.answer.Answer.{Answer}
 use Rattle.qu_objects.specs.declared.op.Op.{Op}
 use Rattle.qu_objects.specs.declared.op.Op.TheVariants as op
+use Rattle.qu_objects.specs.Text.{act_digest}
 use Rattle.qu_frames.specs.declared.verdict.Verdict.TheVariants as verdict
 use Rattle.qu_machine.specs.declared.record.OpRecord.{OpRecord}
 use Rattle.qu_machine.specs.Serial.{Completes}
@@ -21,11 +23,11 @@ use Rattle.qu_safety.specs.Decided.{accepts}
 use Rattle.qu_safety.specs.Order.{world_after}
 
 -- a quorum had accepted a candidate of the act before the event of its reply
-pub record ActOfQuorum (trace : Trace) (operation : OpRecord) (reply : ℕ) : Type 0 where
+pub record ActOfQuorum (trace : Trace) (operation : OpRecord) (parts : List (ObjectId × Method)) (reply : ℕ) : Type 0 where
   pub object : ObjectId
   pub candidate : Candidate
   pub of_client : candidate.stamp.client ≡ operation.client
-  pub of_number : candidate.stamp.number ≡ operation.number
+  pub of_act : candidate.stamp.act ≡ Some (act_digest operation.client operation.number parts)
   pub accepted : quorum trace.setup.bounds ≤ count_by (accepts object candidate) (world_after trace (reply - 1)).replicas
 
 -- the replica told this answer to the query, from the version with this stamp, and had then accepted
@@ -50,7 +52,7 @@ pub record QueryOfQuorum (trace : Trace) (operation : OpRecord) (reply : ℕ) (a
   pub told : All (ToldFrom trace operation reply round object stamp answer) members
 
 abbrev pub IsOfQuorum : Trace → OpRecord → ℕ → Answer → Op → Type 0
-IsOfQuorum trace operation reply answer (op.Act act) = ActOfQuorum trace operation reply
+IsOfQuorum trace operation reply answer (op.Act parts) = ActOfQuorum trace operation parts reply
 IsOfQuorum trace operation reply answer (op.Query query) = QueryOfQuorum trace operation reply answer
 
 -- each completed operation of a run

@@ -1,6 +1,7 @@
 -- What a replica's reply says of the replica.
 use Rattle.std.specs.Prelude.{◌≡◌, ℕ, true, false, ◌+◌, List, [], ◌∷◌, slice_get, Some}
 use Rattle.qu_base.specs.declared.party.ClientId.{ClientId}
+use Rattle.qu_base.specs.declared.party.Digest.{Digest}
 use Rattle.qu_base.specs.declared.party.ObjectId.{ObjectId}
 use Rattle.qu_base.specs.declared.party.Party.TheVariants as party
 use Rattle.qu_stamp.specs.declared.stamp.Stamp.{Stamp}
@@ -20,7 +21,7 @@ use Rattle.qu_frames.specs.declared.verdict.Verdict.{Verdict}
 use Rattle.qu_replica.specs.declared.decision.Accepted.{Accepted}
 use Rattle.qu_replica.specs.declared.decision.Decision.TheVariants.{Answers}
 use Rattle.qu_replica.specs.State.{ReplicaState, own_candidates}
-use Rattle.qu_replica.specs.Rows.{decision_on}
+use Rattle.qu_replica.specs.Rows.{asked_of, decision_on}
 use Rattle.qu_replica.specs.Step.{replica_step}
 use Rattle.qu_replica.specs.Versions.{version_at}
 use Rattle.qu_trace.specs.declared.event.Event.TheVariants.{Deliver}
@@ -29,12 +30,13 @@ use Rattle.qu_trace.specs.declared.trace.Trace.{Trace}
 use Rattle.qu_world.specs.State.{letter_of}
 use Rattle.qu_safety.specs.Order.{world_after}
 
--- a replica that tells Done has the update's candidate, and tells the answer that is stored with it
-pub record TellsDone (new : ReplicaState) (client : ClientId) (number : ℕ) (object : ObjectId) (stamps : List (ObjectId × Stamp)) (answer : Answer) : Type 0 where
+-- a replica that tells Done has the candidate of the update, whose digest is `act`, and tells the answer that is
+-- stored with it
+pub record TellsDone (new : ReplicaState) (client : ClientId) (act : Digest) (object : ObjectId) (stamps : List (ObjectId × Stamp)) (answer : Answer) : Type 0 where
   pub candidate : Candidate
   pub held : holds candidate (own_candidates new object) ≡ true
   pub of_client : candidate.stamp.client ≡ client
-  pub of_number : candidate.stamp.number ≡ number
+  pub of_act : candidate.stamp.act ≡ Some act
   pub stamps_are : stamps ≡ (object, candidate.stamp) ∷ []
   pub version : ObjState
   pub of_candidate : version_at object candidate.stamp new.versions ≡ Some version
@@ -70,4 +72,4 @@ pub record IsReplyTo (trace : Trace) (at : ℕ) (replica : ℕ) (client : Client
   pub is_request : letter.frame ≡ frame.Request client number round sets body
   pub step : new ≡ (replica_step old letter.frame).0
   pub accepted : List Accepted
-  pub decided : decision_on old (record { client = client; number = number; sets = sets }) body ≡ Answers verdict accepted
+  pub decided : decision_on old (asked_of client number sets body) body ≡ Answers verdict accepted

@@ -15,6 +15,7 @@ use Rattle.qu_machine.specs.declared.record.OpRecord.{OpRecord}
 use Rattle.qu_trace.specs.declared.trace.Trace.{Trace}
 use Rattle.qu_trace.specs.Operations.{operations_of}
 use Rattle.qu_safety.specs.Decided.{is_accepted}
+use Rattle.qu_safety.specs.Digested.{IsMadeFor}
 use Rattle.qu_safety.specs.Chained.{last_world}
 
 -- the version of a candidate of an object: the opening one's is fresh; another's is what its update makes
@@ -24,8 +25,8 @@ pub data HasVersion (trace : Trace) (object : ObjectId) : Candidate → ObjState
       → HasVersion trace object opening (record { value = fresh_value kind; answer = answer.Ok [] })
   of_update : (candidate base : Candidate) (operation : OpRecord) (method : Method) (before version : ObjState)
       → candidate.prior ≡ base.stamp → is_below base.stamp candidate.stamp ≡ true → IsTrue (is_accepted (last_world trace) object base)
-      → Contains (operations_of trace.entries) operation → candidate.stamp.client ≡ operation.client → candidate.stamp.number ≡ operation.number
-      → operation.op ≡ op.Act ((object, method) ∷ [])
+      → Contains (operations_of trace.entries) operation → operation.op ≡ op.Act ((object, method) ∷ [])
+      → IsMadeFor trace candidate operation.client operation.number ((object, method) ∷ [])
       → HasVersion trace object base before
       → performed_values ((object, method) ∷ []) (before.value ∷ []) ≡ version.value ∷ []
       → performed_answer ((object, method) ∷ []) (before.value ∷ []) ≡ version.answer

@@ -1,11 +1,12 @@
 -- What a request shows: histories that their replicas had at an earlier moment of the run.
-use Rattle.std.specs.Prelude.{◌≡◌, ℕ, ◌≤◌, List, Some, IsTrue}
+use Rattle.std.specs.Prelude.{◌≡◌, ℕ, ◌<◌, ◌≤◌, ◌^◌, List, Some, IsTrue}
 use Rattle.std.specs.List.{AllByRecursion}
 use Rattle.qu_history.specs.declared.sets.SetOf.{SetOf}
 use Rattle.qu_history.specs.History.{ObjectHistory}
 use Rattle.qu_objects.specs.declared.op.Op.{Op}
 use Rattle.qu_objects.specs.declared.op.Op.TheVariants as op
 use Rattle.qu_objects.specs.Parts.{are_parts}
+use Rattle.qu_objects.specs.Text.{PartsFit}
 use Rattle.qu_frames.specs.declared.frame.Body.{Body}
 use Rattle.qu_frames.specs.Body.{body_of}
 use Rattle.qu_client.specs.declared.kept.Kept.{Kept}
@@ -23,17 +24,17 @@ pub record WasHeld (trace : Trace) (count : ℕ) (history : ObjectHistory) : Typ
   pub earlier : past ≤ count
   pub held : history_at (world_after trace past) history.replica history.object ≡ Some history
 
--- the parts of an operation are those of an act or a query
+-- the parts of an operation are those of an act or a query, and the numbers of an act fit their bytes
 abbrev pub HasOpParts : Op → Type 0
-HasOpParts (op.Act parts) = IsTrue (are_parts parts)
+HasOpParts (op.Act parts) = IsTrue (are_parts parts) × PartsFit parts
 HasOpParts (op.Query parts) = IsTrue (are_parts parts)
 
 abbrev pub HasEventParts : Event → Type 0
-HasEventParts (Invoke client op) = HasOpParts op
+HasEventParts (Invoke client op) = (client.0 < 2 ^ 16) × HasOpParts op
 HasEventParts (Deliver letter) = Unit {0}
 HasEventParts (Tick client) = Unit {0}
 
--- each operation that begins has parts
+-- each operation that begins has parts, and a client whose number fits its bytes
 abbrev pub HaveParts : List Entry → Type 0
 HaveParts entries = AllByRecursion (λ entry. HasEventParts entry.event) entries
 

@@ -1,37 +1,41 @@
-ghost use Rattle.std.specs.Prelude.{◌≡◌, ℕ, ◌+◌, length, position, option_map, IfSome, MatchOption, ◌<◌, ◌^◌};
+ghost use Rattle.std.specs.Prelude.{◌≡◌, ℕ, ◌+◌, length, position, option_map, IfOk, IfSome, MatchOption, Contains, ◌<◌, ◌^◌};
 ghost use Rattle.std.specs.Option.{option_copied};
+ghost use Rattle.qu_trace.specs.Operations.{operations_of};
+ghost use Rattle.qu_world.specs.Run.{IsRun};
 ghost use Rattle.qu_world.specs.State.{numbered};
 ghost use Rattle.qu_safety.specs.Order.{answers, delivered_round, round_of, query_effect, effect_of, AnswersFirst};
 ghost use Rattle.qu_safety.specs.Tracker.{Tracks};
-ghost use Rattle.qu_safety.specs.Points.{mark_of, earlier_of, first_mark, answers_in};
+ghost use Rattle.qu_safety.specs.Points.{handled_acts, mark_of, earlier_of, first_mark, act_mark, answers_in};
 
+use super::acts::is_handled;
 use super::tracked::Tracked;
 use super::tracker::Tracker;
-use qu_base::ClientId;
+use qu_base::{ClientId, Digest, NoMemory};
 use qu_frames::{Frame, Letter};
 use qu_machine::OpRecord;
-use qu_objects::{Op, Outcome};
+use qu_objects::{Act, Op, Outcome, act_digest};
 use qu_trace::{Entry, Event, Trace};
 use qu_world::letter_at;
+use std::alloc::Global;
 
-/// The first event after which a candidate of this update was decided.
+/// The first event after which a candidate of the update with this digest was decided.
 #[tactic(auto, using(crate::proofs::Firsts::first_mark_more, crate::proofs::Firsts::first_mark_end))]
-fn first_mark(tracked: &[Tracked], client: ClientId, number: u64) -> Option<u64>
-    ensures { result ≡ first_mark client number tracked.now }
+fn first_mark(tracked: &[Tracked], client: ClientId, act: Digest) -> Option<u64>
+    ensures { result ≡ first_mark client act tracked.now }
 {
     let mut first = None;
     for candidate in tracked {
-        first = earlier(first, mark_of(candidate, client, number));
+        first = earlier(first, mark_of(candidate, client, act));
     }
     first
 }
 
 /// The mark of the candidate, where it is one of this update.
-fn mark_of(tracked: &Tracked, client: ClientId, number: u64) -> Option<u64>
-    ensures { result ≡ mark_of client number tracked.now }
+fn mark_of(tracked: &Tracked, client: ClientId, act: Digest) -> Option<u64>
+    ensures { result ≡ mark_of client act tracked.now }
 {
     let stamp = &tracked.candidate.stamp;
-    if stamp.client == client && stamp.number == number {
+    if stamp.client == client && stamp.act == Some(act) {
         tracked.decided
     } else {
         None
@@ -49,15 +53,42 @@ fn earlier(first: Option<u64>, second: Option<u64>) -> Option<u64>
     }
 }
 
-/// The event at which an operation took effect, None where it took none.
-pub fn effect(trace: &Trace, tracker: &Tracker, operation: &OpRecord) -> Option<u64>
-    requires { Tracks trace.now (length trace.now.entries) tracker.now }
-    ensures { MatchOption result ((event : ℕ) → ¬ (effect_of trace.now operation.now event operation.now.op)) (λ event. effect_of trace.now operation.now event operation.now.op) }
+/// The event at which an operation of a run took effect, None where it took none. The acts are those
+/// that replicas handled.
+pub fn effect(
+    alloc: Global,
+    trace: &Trace,
+    tracker: &Tracker,
+    acts: &[(ClientId, u64)],
+    operation: &OpRecord,
+) -> Result<Option<u64>, NoMemory>
+    requires run { IsRun trace.now }
+    requires tracked { Tracks trace.now (length trace.now.entries) tracker.now }
+    requires handled { acts.now ≡ handled_acts trace.now }
+    requires of_trace { Contains (operations_of trace.now.entries) operation.now }
+    ensures { IfOk result (λ found. MatchOption found ((event : ℕ) → ¬ (effect_of trace.now operation.now event operation.now.op)) (λ event. effect_of trace.now operation.now event operation.now.op)) }
 {
     match &operation.op {
-        Op::Act(_) => first_mark(tracker.as_slice(), operation.client, operation.number),
-        Op::Query(_) => query_effect(trace, operation),
+        Op::Act(act) => act_mark(alloc, tracker.as_slice(), acts, operation, act),
+        Op::Query(_) => Ok(query_effect(trace, operation)),
     }
+}
+
+/// The first event after which a candidate of a handled update was decided.
+fn act_mark(
+    alloc: Global,
+    tracked: &[Tracked],
+    acts: &[(ClientId, u64)],
+    operation: &OpRecord,
+    act: &Act,
+) -> Result<Option<u64>, NoMemory>
+    ensures { IfOk result (λ mark. mark ≡ act_mark operation.now.client operation.now.number act.now acts.now tracked.now) }
+{
+    if !is_handled(acts, operation.client, operation.number) {
+        return Ok(None);
+    }
+    let digest = act_digest(alloc, operation.client, operation.number, act)?;
+    Ok(first_mark(tracked, operation.client, digest))
 }
 
 /// The event at which a query took effect, None where it did not complete.

@@ -1,6 +1,7 @@
 //! The points at which operations took effect, in one order.
 #![tactic(auto)]
 
+mod acts;
 mod effects;
 mod news;
 mod order;

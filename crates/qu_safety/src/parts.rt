@@ -1,10 +1,13 @@
+ghost use Rattle.std.specs.Prelude.{◌<◌, ◌^◌};
+ghost use Rattle.qu_objects.specs.Text.{MethodFits, PartsFit};
 ghost use Rattle.qu_safety.specs.Views.{HaveParts, HasEventParts};
 
-use qu_objects::Op;
+use qu_base::{ClientId, ObjectId};
+use qu_objects::{Method, Op};
 use qu_trace::{Entry, Event};
 
-/// Each operation that begins has parts. Its type keeps this; here it is told of a whole run, and
-/// nothing is computed.
+/// Each operation that begins has parts, and its numbers fit their bytes. Its type keeps this; here
+/// it is told of a whole run, and nothing is computed.
 pub fn have_parts(entries: &[Entry])
     ensures { HaveParts entries.now }
 {
@@ -18,12 +21,36 @@ fn has_parts(event: &Event)
     ensures { HasEventParts event.now }
 {
     match event {
-        Event::Invoke(_, Op::Act(act)) => {
-            act.parts();
+        Event::Invoke(client, Op::Act(act)) => {
+            client_fits(*client);
+            parts_fit(act.parts().as_slice());
         }
-        Event::Invoke(_, Op::Query(query)) => {
+        Event::Invoke(client, Op::Query(query)) => {
+            client_fits(*client);
             query.parts();
         }
         Event::Deliver(_) | Event::Tick(_) => {}
+    }
+}
+
+fn client_fits(client: ClientId)
+    ensures { client.0 < 2 ^ 16 }
+{
+    let _ = client.0;
+}
+
+fn parts_fit(parts: &[(ObjectId, Method)])
+    ensures { PartsFit parts.now }
+{
+    for (_, method) in parts {
+        method_fits(*method);
+    }
+}
+
+fn method_fits(method: Method)
+    ensures { MethodFits method }
+{
+    match method {
+        Method::Add(_) | Method::Take(_) => {}
     }
 }

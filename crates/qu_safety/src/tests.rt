@@ -1,3 +1,5 @@
+ghost use Rattle.std.specs.Prelude.{◌≤◌};
+
 use super::order_of;
 use qu_base::{Bounds, ClientId, List, ObjectId};
 use qu_objects::{Act, Ask, KindName, Method, Op, Query};
@@ -6,25 +8,27 @@ use qu_world::{World, WorldFail};
 use std::alloc::Global;
 use std::test::Fail;
 
-/// A world of six replicas, one client and one counter.
-fn started(alloc: Global) -> Result<World, Fail> {
+/// A world of six replicas, so many clients and one counter.
+fn started(alloc: Global, clients: u16) -> Result<World, Fail>
+    requires { clients ≤ 64 }
+{
     let bounds = Bounds::new(1)?;
     let mut kinds = List::new(alloc);
     kinds.push(KindName::Counter)?;
     let setup = Setup {
         bounds,
         seed: 7,
-        clients: 1,
+        clients,
         kinds,
     };
     Ok(World::start(alloc, setup)?)
 }
 
-fn invoke_add(alloc: Global, world: &mut World, more: u64) -> Result<(), Fail> {
+fn invoke_add(alloc: Global, world: &mut World, client: u16, more: u64) -> Result<(), Fail> {
     let mut parts = List::new(alloc);
     parts.push((ObjectId(0), Method::Add(more)))?;
     let act = Act::new(parts)?;
-    world.apply(Event::Invoke(ClientId(1), Op::Act(act)))?;
+    world.apply(Event::Invoke(ClientId(client), Op::Act(act)))?;
     Ok(())
 }
 
@@ -64,20 +68,34 @@ fn points_of(alloc: Global, world: &World) -> Result<Vec<(u64, u16, u64)>, Fail>
 // arrive at events 27 to 32, are accepted: by the fourth replica at event 30.
 #[test]
 fn two_updates_in_order(rt: HostRuntime) -> Result<(), Fail> {
-    let mut world = started(rt.alloc())?;
-    invoke_add(rt.alloc(), &mut world, 5)?;
+    let mut world = started(rt.alloc(), 1)?;
+    invoke_add(rt.alloc(), &mut world, 1, 5)?;
     deliver(&mut world, 1, 100)?;
-    invoke_add(rt.alloc(), &mut world, 2)?;
+    invoke_add(rt.alloc(), &mut world, 1, 2)?;
     deliver(&mut world, 25, 100)?;
     let points = points_of(rt.alloc(), &world)?;
     assert_eq!(rt; points.as_slice(), [(17, 1, 1), (30, 1, 2)].as_slice());
     Ok(())
 }
 
+// The second client knows nothing either: its requests arrive at events 27 to 32, those of its second
+// round at events 39 to 44, and the fourth replica accepts at event 42.
+#[test]
+fn equal_updates_of_two_clients_have_their_own_points(rt: HostRuntime) -> Result<(), Fail> {
+    let mut world = started(rt.alloc(), 2)?;
+    invoke_add(rt.alloc(), &mut world, 1, 5)?;
+    deliver(&mut world, 1, 100)?;
+    invoke_add(rt.alloc(), &mut world, 2, 5)?;
+    deliver(&mut world, 25, 100)?;
+    let points = points_of(rt.alloc(), &world)?;
+    assert_eq!(rt; points.as_slice(), [(17, 1, 1), (42, 2, 1)].as_slice());
+    Ok(())
+}
+
 #[test]
 fn an_open_update_takes_effect_with_the_fourth_acceptance(rt: HostRuntime) -> Result<(), Fail> {
-    let mut world = started(rt.alloc())?;
-    invoke_add(rt.alloc(), &mut world, 5)?;
+    let mut world = started(rt.alloc(), 1)?;
+    invoke_add(rt.alloc(), &mut world, 1, 5)?;
     deliver(&mut world, 1, 15)?;
     assert!(rt; points_of(rt.alloc(), &world)?.is_empty());
     deliver(&mut world, 16, 16)?;
@@ -90,7 +108,7 @@ fn an_open_update_takes_effect_with_the_fourth_acceptance(rt: HostRuntime) -> Re
 // open it has no point.
 #[test]
 fn a_query_takes_effect_at_the_first_answer_of_its_last_round(rt: HostRuntime) -> Result<(), Fail> {
-    let mut world = started(rt.alloc())?;
+    let mut world = started(rt.alloc(), 1)?;
     invoke_read(rt.alloc(), &mut world)?;
     deliver(&mut world, 1, 22)?;
     assert!(rt; points_of(rt.alloc(), &world)?.is_empty());

@@ -68,7 +68,7 @@ impl Tracker {
         Ok(())
     }
 
-    #[tactic(auto, unfolding(crate::specs::Tracker::is_tracked))]
+    #[tactic(auto, unfolding(crate::specs::Tracker::is_tracked, qu_stamp::specs::Stamp::same_stamp))]
     fn is_tracked(&self, object: ObjectId, candidate: &Candidate) -> bool
         ensures { result ≡ is_tracked object candidate.now self.now }
     {
@@ -118,6 +118,7 @@ impl Tracker {
 }
 
 /// Whether the other one is decided and rests upon this one.
+#[tactic(auto, unfolding(qu_stamp::specs::Stamp::same_stamp))]
 fn is_child(tracked: &Tracked, other: &Tracked) -> bool
     ensures { result ≡ is_child tracked.now other.now }
 {

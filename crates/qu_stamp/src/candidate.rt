@@ -1,7 +1,6 @@
 ghost use Rattle.std.specs.Prelude.{◌≡◌};
 
 use super::Stamp;
-use std::cmp::Ordering;
 
 /// A version of an object that a replica may accept: its own stamp, and the stamp of the version
 /// upon which it rests. Candidates compare by stamp, then prior.
@@ -25,12 +24,11 @@ impl Candidate {
     }
 
     /// Whether this candidate is below the other one.
+    #[tactic(auto, unfolding(crate::specs::Stamp::same_stamp))]
     pub fn is_before(&self, other: &Candidate) -> bool
         ensures { result ≡ is_before self.now other.now }
     {
-        match self.cmp(other) {
-            Ordering::Less => true,
-            Ordering::Equal | Ordering::Greater => false,
-        }
+        self.stamp.is_below(&other.stamp)
+            || self.stamp == other.stamp && self.prior.is_below(&other.prior)
     }
 }

@@ -2,7 +2,14 @@
 #![tactic(auto)]
 
 mod candidate;
+mod reading;
 mod stamp;
+mod writing;
 
 pub use candidate::Candidate;
+pub use reading::{prior_at, read_candidate, read_stamp, stamp_at};
 pub use stamp::{LAST_TIME, Stamp};
+pub use writing::{write_candidate, write_stamp};
+
+#[cfg(test)]
+mod tests;

@@ -1,20 +1,26 @@
 ghost use Rattle.std.specs.Prelude.{◌≡◌};
+ghost use Rattle.qu_stamp.specs.Stamp.{stamp_cmp};
 
-use qu_base::ClientId;
+use qu_base::{ClientId, Digest};
 use std::cmp::Ordering;
 
 /// The greatest time of a stamp, 2^62.
 pub const LAST_TIME: u64 = 1 << 62;
 
-/// The logical time of a candidate. Stamps compare by time, then client, then number.
+/// The logical time of a candidate. Stamps compare field by field: `false` before `true`, `None`
+/// before `Some`, digests by their bytes.
 #[derive(Clone, Copy, Debug, PartialEq, Eq, PartialOrd, Ord, Hash)]
 pub struct Stamp {
     /// From 0 to `LAST_TIME`; 0 in the opening stamp alone.
     pub time: u64,
-    /// Who asked for the update.
+    /// Whether this is the stamp of a barrier.
+    pub barrier: bool,
+    /// Who asked for it.
     pub client: ClientId,
-    /// The number of the update among the operations of its client.
-    pub number: u64,
+    /// The digest of the act that is performed; none in a barrier and in the opening stamp.
+    pub act: Option<Digest>,
+    /// The digest of the sets that were shown with the request.
+    pub set: Digest,
 }
 
 impl Stamp {
@@ -26,18 +32,28 @@ impl Stamp {
     {
         Stamp {
             time: 0,
+            barrier: false,
             client: ClientId(0),
-            number: 0,
+            act: None,
+            set: Digest([0; 32]),
         }
     }
 
     /// Whether this stamp is below the other one.
+    #[tactic(auto, unfolding(crate::specs::Stamp::is_below))]
     pub fn is_below(&self, other: &Stamp) -> bool
         ensures { result ≡ is_below self.now other.now }
     {
-        match self.cmp(other) {
+        match compare(*self, *other) {
             Ordering::Less => true,
             Ordering::Equal | Ordering::Greater => false,
         }
     }
+}
+
+/// How the first stamp stands to the second.
+fn compare(stamp: Stamp, other: Stamp) -> Ordering
+    ensures { result ≡ stamp_cmp stamp other }
+{
+    stamp.cmp(&other)
 }

@@ -204,10 +204,10 @@ not_full : (full : Bool) → cond full (Some fails.TooManyEvents) None ≡ None 
 not_full true free = absurd cc
 not_full false free = refl
 
-below_limit : (entries : List Entry) → refused_at_limit entries ≡ None → length entries < EVENT_LIMIT
+pub below_limit : (entries : List Entry) → refused_at_limit entries ≡ None → length entries < EVENT_LIMIT
 below_limit entries free = leb-false EVENT_LIMIT (length entries) (not_full (nat_le EVENT_LIMIT (length entries)) free)
 
-idle_by : (work : Option Work) (entries : List Entry) → cond (is_some work) (Some fails.Busy) (refused_at_limit entries) ≡ None → (work ≡ None) × (length entries < EVENT_LIMIT)
+pub idle_by : (work : Option Work) (entries : List Entry) → cond (is_some work) (Some fails.Busy) (refused_at_limit entries) ≡ None → (work ≡ None) × (length entries < EVENT_LIMIT)
 idle_by None entries free = (refl, below_limit entries free)
 idle_by (Some work) entries free = absurd cc
 

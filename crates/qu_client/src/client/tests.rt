@@ -1,5 +1,5 @@
 use super::*;
-use qu_base::{Bounds, ObjectId, Party, ReplicaId};
+use qu_base::{Bounds, Digest, ObjectId, Party, ReplicaId};
 use qu_frames::{Refusal, Verdict};
 use qu_history::History;
 use qu_objects::{Act, Answer, Item, Method};
@@ -52,8 +52,10 @@ fn done(alloc: Global, value: u64) -> Result<Verdict, NoMemory> {
         COUNTER,
         Stamp {
             time: 1,
+            barrier: false,
             client: ClientId(7),
-            number: 1,
+            act: Some(Digest([1; 32])),
+            set: Digest([2; 32]),
         },
     ))?;
     let mut items = List::new(alloc);

@@ -1,6 +1,6 @@
-ghost use Rattle.std.specs.Prelude.{◌≡◌, IfOk, IsTrue};
+ghost use Rattle.std.specs.Prelude.{◌≡◌, IfOk};
 ghost use Rattle.qu_replica.specs.Rows.{decision_on};
-ghost use Rattle.qu_replica.specs.Growth.{MayDecide, has_parts};
+ghost use Rattle.qu_replica.specs.Growth.{MayDecide};
 
 use super::Replica;
 use crate::asked::Asked;
@@ -13,7 +13,6 @@ impl Replica {
     pub(super) fn decide(&self, asked: &Asked, body: &Body) -> Result<Decision, NoMemory>
         ensures value { IfOk result (λ decision. decision ≡ decision_on self.now asked.now body.now) }
         ensures may { IfOk result (λ decision. MayDecide self.now decision) }
-        ensures parts { IsTrue (has_parts body.now) }
     {
         match body {
             Body::Act(act) => self.decide_act(asked, act),

@@ -43,8 +43,10 @@ impl Replica {
             Some(base) => Some(Candidate {
                 stamp: Stamp {
                     time,
+                    barrier: false,
                     client: asked.client,
-                    number: asked.number,
+                    act: asked.act,
+                    set: asked.set,
                 },
                 prior: base.stamp,
             }),

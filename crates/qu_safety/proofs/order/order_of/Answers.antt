@@ -9,22 +9,30 @@ use Rattle.qu_safety.proofs.ByQuorums.{completes_by_quorums}
 use Rattle.qu_safety.proofs.Chained.{is_chained}
 use Rattle.qu_safety.proofs.Distinct.{operations_apart}
 use Rattle.qu_safety.proofs.InTurn.{decides_in_turn}
+use Rattle.qu_safety.proofs.OneAct.{acts_are_one}
 use Rattle.qu_safety.proofs.Printed.{printed}
 use Rattle.qu_safety.proofs.SerialOrder.{serial}
 use Rattle.qu_safety.proofs.order.order_of.Goals as goal
 
 pub points-requires-clause-apart : goal.points-requires-clause-apart
 points-requires-clause-apart c =
-    subst (λ (operations : List OpRecord). AllPairs AreApart operations) (sym (c.as_slice-2.ensures ∙ c.in_ok-operations.ensures)) (operations_apart c.args.trace.now.entries)
+    subst (λ (operations : List OpRecord). AllPairs AreApart operations) (sym (c.as_slice-3.ensures ∙ c.in_ok-operations.ensures)) (operations_apart c.args.trace.now.entries)
+
+pub points-requires-clause-of_trace : goal.points-requires-clause-of_trace
+points-requires-clause-of_trace c = c.as_slice-3.ensures ∙ c.in_ok-operations.ensures
+
+pub points-requires-clause-handled : goal.points-requires-clause-handled
+points-requires-clause-handled c = c.as_slice-2.ensures ∙ c.in_ok-acts.ensures
 
 pub returns-clause-printed : goal.returns-clause-printed
 returns-clause-printed c =
     subst (IsPrintedOrder c.args.trace.now) (sym c.from.ensures)
-    (printed c.args.trace.now c.as_slice-2.result.now c.in_ok-points.points.items (c.as_slice-2.ensures ∙ c.in_ok-operations.ensures) c.in_ok-points.ensures)
+    (printed c.args.trace.now c.as_slice-3.result.now c.in_ok-points.points.items (c.as_slice-3.ensures ∙ c.in_ok-operations.ensures) c.in_ok-points.ensures)
 
 pub returns-clause-serial : goal.returns-clause-serial
 returns-clause-serial c =
-    serial c.args.trace.now c.requires (subst HaveParts c.as_slice.ensures c.have_parts.ensures) c.from.result (returns-clause-printed c)
+    λ no_collision. serial c.args.trace.now c.requires (subst HaveParts c.as_slice.ensures c.have_parts.ensures)
+    (acts_are_one c.args.trace.now c.requires (subst HaveParts c.as_slice.ensures c.have_parts.ensures) no_collision) c.from.result (returns-clause-printed c)
 
 pub returns-clause-chained : goal.returns-clause-chained
 returns-clause-chained c = is_chained c.args.trace.now c.requires (subst HaveParts c.as_slice.ensures c.have_parts.ensures)

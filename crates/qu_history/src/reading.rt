@@ -1,0 +1,74 @@
+ghost use Rattle.std.specs.Prelude.{◌≡◌, ◌≤◌, length, None, Some, IsTrue, IfOk, OnErr};
+ghost use Rattle.qu_base.specs.Format.{items};
+ghost use Rattle.qu_base.specs.Reading.{Reads, Gives, IsGiven};
+ghost use Rattle.qu_stamp.specs.Forms.{candidate_form};
+ghost use Rattle.qu_history.specs.History.{is_history};
+ghost use Rattle.qu_history.specs.Forms.{next_stamp, next_candidate, candidates_form};
+
+use super::HISTORY_LIMIT;
+use qu_base::{BadText, Cursor, List, NoMemory, ReadFail, Why};
+use qu_stamp::{Candidate, Stamp, prior_at, stamp_at};
+use std::alloc::Global;
+
+/// A count, and so many candidates by rising stamps: those of a history.
+#[tactic(auto, using(crate::proofs::Forms::candidates_are_history, crate::proofs::Forms::candidates_are_few))]
+pub(super) fn candidates_at(alloc: Global, text: &mut Cursor) -> Result<List<Candidate>, ReadFail>
+    ensures given { Gives candidates_form result text.old text.new }
+    ensures rising { IfOk result (λ candidates. IsTrue (is_history candidates)) }
+    ensures few { IfOk result (λ candidates. length candidates ≤ HISTORY_LIMIT) }
+{
+    text.are_bytes();
+    let candidates = counted_candidates(alloc, text)?;
+    Ok(candidates)
+}
+
+#[tactic(auto, unfolding(crate::specs::Forms::candidates_form))]
+fn counted_candidates(alloc: Global, text: &mut Cursor) -> Result<List<Candidate>, ReadFail>
+    ensures { Gives candidates_form result text.old text.new }
+{
+    let count = text.u16_within(1, HISTORY_LIMIT as u16)?;
+    next_candidates(alloc, count, text)
+}
+
+/// So many candidates, the first of them the opening one.
+#[tactic(auto, using(qu_base::proofs::Lists::list_laws))]
+fn next_candidates(
+    alloc: Global,
+    count: u16,
+    text: &mut Cursor,
+) -> Result<List<Candidate>, ReadFail>
+    ensures { Gives (items candidate_form.spell next_candidate (λ candidate. Some candidate.stamp) None count) result text.old text.new }
+{
+    let mut candidates = List::new(alloc);
+    let mut before = None;
+    for _ in 0..count {
+        let candidate = next_candidate(text, before)?;
+        candidates.push(candidate)?;
+        before = Some(candidate.stamp);
+    }
+    Ok(candidates)
+}
+
+/// The candidate after one with this stamp.
+#[tactic(auto, unfolding(crate::specs::Forms::next_candidate))]
+fn next_candidate(text: &mut Cursor, before: Option<Stamp>) -> Result<Candidate, BadText>
+    ensures { Reads (next_candidate before) result text.old text.new }
+{
+    let stamp = next_stamp(text, before)?;
+    let prior = prior_at(text, &stamp)?;
+    Ok(Candidate { stamp, prior })
+}
+
+/// The stamp of the candidate after one with this stamp: the opening one first.
+#[tactic(auto, unfolding(qu_stamp::specs::Stamp::same_stamp))]
+fn next_stamp(text: &mut Cursor, before: Option<Stamp>) -> Result<Stamp, BadText>
+    ensures { Reads (next_stamp before) result text.old text.new }
+{
+    let start = text.ahead();
+    let stamp = stamp_at(text, true)?;
+    match before {
+        None if stamp != Stamp::opening() => Err(start.refusal(Why::Range)),
+        Some(before) if !before.is_below(&stamp) => Err(start.refusal(Why::Order)),
+        None | Some(_) => Ok(stamp),
+    }
+}

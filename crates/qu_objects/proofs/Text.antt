@@ -1,0 +1,65 @@
+-- Two acts with one text are one act of one client and number.
+use Rattle.std.proofs.Common.{◌≡◌, ℕ, ◌-◌, ◌^◌, ◌<◌, List, [], ◌∷◌, Some, refl, sym, ap, arith}
+use Rattle.std.specs.Prelude.{IsTrue}
+use Rattle.std.proofs.lemmas.Bool.{ltb-true}
+use Rattle.std.specs.Int.{w16}
+use Rattle.qu_base.specs.declared.party.ClientId.{ClientId}
+use Rattle.qu_base.specs.declared.party.ObjectId.{ObjectId}
+use Rattle.qu_base.specs.Format.{object_form, number, both, IsExact}
+use Rattle.qu_base.proofs.Formats.{wide16, number-exact, both-exact, made-exact, one_spelling}
+use Rattle.qu_objects.specs.declared.act.Method.{Method}
+use Rattle.qu_objects.specs.declared.act.Method.TheVariants.{Add, Take}
+use Rattle.qu_objects.specs.Parts.{are_parts}
+use Rattle.qu_objects.specs.Forms.{word_form, method_form, act_form}
+use Rattle.qu_objects.specs.Text.{any_object, any_client, act_text_form, act_text, MethodFits, PartsFit}
+use Rattle.qu_objects.proofs.Forms.{word-exact, act-exact}
+
+some_is : {A : Type 0} {one other : A} → Some one ≡ Some other → one ≡ other
+some_is is = cc
+
+client-exact : IsExact any_client
+client-exact =
+    made-exact (λ number. record { 0 = number }) (λ client. Some client.0) (number w16 0 (2 ^ 16 - 1))
+    (number-exact w16 (2 ^ 16) 0 (2 ^ 16 - 1) wide16 (omega arith)) (λ found fits. refl)
+    (λ client found fits is. ap (λ (number : ℕ). record { 0 = number }) (sym (some_is is)))
+
+pub act_text-exact : IsExact act_text_form
+unfolding act_text_form
+act_text-exact =
+    both-exact any_client (λ client. both word_form (λ number. act_form any_object)) client-exact
+    (λ client fits. both-exact word_form (λ number. act_form any_object) word-exact (λ number fits. act-exact any_object))
+
+-- ---- what has a spelling
+
+method_fits : (method : Method) → MethodFits method → method_form.Fits method
+unfolding method_form
+method_fits (Add more) fits = (((omega arith, omega arith), refl), (omega arith, omega arith))
+method_fits (Take fewer) fits = (((omega arith, omega arith), refl), (omega arith, omega arith))
+
+object_fits : (object : ObjectId) → object.0 < 64 → object_form.Fits object
+object_fits object below = (omega arith, omega arith)
+
+act_fits : (parts : List (ObjectId × Method)) → IsTrue (are_parts parts) → PartsFit parts → (act_form any_object).Fits parts
+unfolding act_form
+act_fits [] in_order fits = absurd cc
+act_fits (part ∷ []) in_order fits =
+    ((omega arith, omega arith), (refl, ((((object_fits part.0 (ltb-true _ _ in_order), refl), refl), method_fits part.1 fits.0), tt)))
+act_fits (first ∷ second ∷ parts) in_order fits = absurd cc
+
+text_fits : (client : ClientId) (number : ℕ) (parts : List (ObjectId × Method)) → client.0 < 2 ^ 16 → number < 2 ^ 64 → IsTrue (are_parts parts) → PartsFit parts
+    → act_text_form.Fits (client, (number, parts))
+unfolding act_text_form
+text_fits client number parts is_client is_number in_order fits =
+    ((omega arith, omega arith), ((omega arith, omega arith), act_fits parts in_order fits))
+
+pub act_text-one : (client other : ClientId) (number turn : ℕ) (parts others : List (ObjectId × Method))
+    → client.0 < 2 ^ 16 → other.0 < 2 ^ 16 → number < 2 ^ 64 → turn < 2 ^ 64
+    → IsTrue (are_parts parts) → IsTrue (are_parts others) → PartsFit parts → PartsFit others
+    → act_text client number parts ≡ act_text other turn others → (client ≡ other) × (number ≡ turn) × (parts ≡ others)
+unfolding act_text
+act_text-one client other number turn parts others is_client is_other is_number is_turn in_order others_in_order fits others_fit same =
+    let one : (client, (number, parts)) ≡ (other, (turn, others)) =
+    one_spelling act_text_form act_text-exact (client, (number, parts)) (other, (turn, others))
+    (text_fits client number parts is_client is_number in_order fits) (text_fits other turn others is_other is_turn others_in_order others_fit) same in
+    let V = ClientId × (ℕ × List (ObjectId × Method)) in
+    (ap (λ (value : V). value.0) one, ap (λ (value : V). (value.1).0) one, ap (λ (value : V). (value.1).1) one)

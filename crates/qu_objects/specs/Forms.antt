@@ -1,0 +1,143 @@
+-- The formats of operations and of what they answer.
+use Rattle.std.specs.Prelude.{ℕ, ◌-◌, ◌^◌, ◌==◌, Bool, true, ◌&&◌, ◌||◌, nat_lt, nat_le, List, ◌++◌, Option, None, Some}
+use Rattle.std.specs.List.{list_any}
+use Rattle.std.specs.Int.{w8, w64}
+use Rattle.qu_base.specs.declared.bad_text.Why.TheVariants.{Range, Order}
+use Rattle.qu_base.specs.declared.party.ObjectId.{ObjectId}
+use Rattle.qu_base.specs.Format.{Format, number, both, tested, made, either, nothing, items, counted, tagged, object_form}
+use Rattle.qu_objects.specs.declared.act.Method.{Method}
+use Rattle.qu_objects.specs.declared.act.Method.TheVariants.{Add, Take}
+use Rattle.qu_objects.specs.declared.query.Ask.{Ask}
+use Rattle.qu_objects.specs.declared.query.Ask.TheVariants.{Read}
+use Rattle.qu_objects.specs.declared.answer.Item.{Item}
+use Rattle.qu_objects.specs.declared.answer.Item.TheVariants.{Number}
+use Rattle.qu_objects.specs.declared.answer.Answer.{Answer}
+use Rattle.qu_objects.specs.declared.answer.Answer.TheVariants as answer
+use Rattle.qu_objects.specs.declared.limits.TheConstants.{MOST_PARTS, LAST_METHOD, LAST_ASK, LAST_ITEM}
+
+-- a number of eight bytes
+abbrev pub word_form : Format ℕ
+word_form = number w64 0 (2 ^ 64 - 1)
+
+-- ---- updates, questions and items
+
+abbrev pub method_code : Method → ℕ
+method_code (Add more) = 1
+method_code (Take fewer) = 2
+
+abbrev pub added : Method → Option ℕ
+added (Add more) = Some more
+added (Take fewer) = None
+
+abbrev pub taken : Method → Option ℕ
+taken (Add more) = None
+taken (Take fewer) = Some fewer
+
+abbrev pub is_method_code : ℕ → Bool
+is_method_code code = nat_le 1 code && nat_le code LAST_METHOD
+
+abbrev pub method_body : ℕ → Format Method
+method_body code = either (code == 1) (made Add added word_form) (made Take taken word_form)
+
+-- 1: what is added; 2: what is taken
+unfoldable pub method_form : Format Method
+method_form = tagged is_method_code method_code method_body
+
+abbrev pub ask_code : Ask → ℕ
+ask_code Read = 1
+
+abbrev pub is_ask_code : ℕ → Bool
+is_ask_code code = nat_le 1 code && nat_le code LAST_ASK
+
+-- 1: a read
+unfoldable pub ask_form : Format Ask
+ask_form = tagged is_ask_code ask_code (λ code. nothing Read)
+
+abbrev pub item_code : Item → ℕ
+item_code (Number value) = 1
+
+abbrev pub item_number : Item → Option ℕ
+item_number (Number value) = Some value
+
+abbrev pub is_item_code : ℕ → Bool
+is_item_code code = nat_le 1 code && nat_le code LAST_ITEM
+
+-- 1: a number
+unfoldable pub item_form : Format Item
+item_form = tagged is_item_code item_code (λ code. made Number item_number word_form)
+
+-- ---- parts
+
+abbrev pub is_after : Option ObjectId → ObjectId → Bool
+is_after None object = true
+is_after (Some before) object = nat_lt before.0 object.0
+
+-- whether the object is one of these
+abbrev pub is_one_of : List ObjectId → ObjectId → Bool
+is_one_of objects object = list_any (λ (other : ObjectId). other.0 == object.0) objects
+
+-- an object that is known, above the one before it
+abbrev pub next_object : (ObjectId → Bool) → Option ObjectId → Format ObjectId
+next_object known before = tested (is_after before) Order (tested known Range object_form)
+
+-- an object, and what is done to it or asked of it
+abbrev pub part_form : {X : Type 0} → Format X → (ObjectId → Bool) → Option ObjectId → Format (ObjectId × X)
+part_form form known before = both (next_object known before) (λ object. form)
+
+abbrev pub spelled_object : {X : Type 0} → Format X → ObjectId × X → List ℕ
+spelled_object form part = object_form.spell part.0 ++ form.spell part.1
+
+-- so many parts in the rising order of their objects
+abbrev pub some_parts : {X : Type 0} → Format X → (ObjectId → Bool) → ℕ → Format (List (ObjectId × X))
+some_parts form known count = items (spelled_object form) (part_form form known) (λ part. Some part.0) None count
+
+-- a count, and so many parts
+abbrev pub parts_form : {X : Type 0} → Format X → (ObjectId → Bool) → Format (List (ObjectId × X))
+parts_form form known = counted (number w8 1 MOST_PARTS) (spelled_object form) (part_form form known) (λ part. Some part.0) None
+
+-- the parts of an act, of these known objects
+unfoldable pub act_form : (ObjectId → Bool) → Format (List (ObjectId × Method))
+act_form known = parts_form method_form known
+
+-- the parts of a query, of these known objects
+unfoldable pub query_form : (ObjectId → Bool) → Format (List (ObjectId × Ask))
+query_form known = parts_form ask_form known
+
+-- ---- answers
+
+abbrev pub is_refusal : ℕ → Bool
+is_refusal why = (nat_le 3 why && nat_le why 9) || (why == 12)
+
+-- the position of a part, and the number of the refusal: 3 to 9, or 12
+abbrev pub refusal_form : Format (ℕ × ℕ)
+refusal_form = both (number w8 0 3) (λ at. tested is_refusal Range (number w8 0 255))
+
+abbrev pub some_items : ℕ → Format (List Item)
+some_items count = items {K = Unit {0}} item_form.spell (λ before. item_form) (λ item. tt) tt count
+
+-- one to four items
+abbrev pub items_form : Format (List Item)
+items_form = counted {K = Unit {0}} (number w8 1 4) item_form.spell (λ before. item_form) (λ item. tt) tt
+
+abbrev pub answer_code : Answer → ℕ
+answer_code (answer.Ok items) = 0
+answer_code (answer.Refused at why) = 1
+
+abbrev pub answered : Answer → Option (List Item)
+answered (answer.Ok items) = Some items
+answered (answer.Refused at why) = None
+
+abbrev pub refusal : Answer → Option (ℕ × ℕ)
+refusal (answer.Ok items) = None
+refusal (answer.Refused at why) = Some (at, why)
+
+abbrev pub is_answer_code : ℕ → Bool
+is_answer_code code = nat_le code 1
+
+abbrev pub answer_body : ℕ → Format Answer
+answer_body code =
+    either (code == 0) (made answer.Ok answered items_form) (made (λ refused. answer.Refused refused.0 refused.1) refusal refusal_form)
+
+-- 0: the items; 1: the first refused part
+unfoldable pub answer_form : Format Answer
+answer_form = tagged is_answer_code answer_code answer_body

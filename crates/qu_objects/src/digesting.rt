@@ -1,0 +1,24 @@
+ghost use Rattle.std.specs.Prelude.{◌≡◌, IfOk};
+ghost use Rattle.qu_objects.specs.Text.{act_digest};
+
+use super::{Act, write_act};
+use qu_base::{ClientId, Digest, NoMemory, Outbytes};
+use qu_seal::digest;
+use std::alloc::Global;
+
+/// The digest of an act of this client, which is its operation with this number, counted from 1.
+#[tactic(auto, unfolding(crate::specs::Text::act_digest, crate::specs::Text::act_text, crate::specs::Text::act_text_form))]
+pub fn act_digest(
+    alloc: Global,
+    client: ClientId,
+    number: u64,
+    act: &Act,
+) -> Result<Digest, NoMemory>
+    ensures { IfOk result (λ digest. digest ≡ act_digest client number act.now) }
+{
+    let mut text = Outbytes::new(alloc);
+    text.u16(client.0)?;
+    text.u64(number)?;
+    write_act(&mut text, act)?;
+    Ok(digest(1, text.done().as_slice()))
+}

@@ -1,0 +1,73 @@
+//! Single operations and items as bytes, by the formats of `specs/Forms.antt`.
+ghost use Rattle.std.specs.Prelude.{◌≡◌, ◌++◌, length, take, OnOk, OnErr};
+ghost use Rattle.std.specs.Int.{w8, to_be_bytes};
+ghost use Rattle.qu_base.specs.Format.{object_form};
+ghost use Rattle.qu_objects.specs.Forms.{method_form, ask_form, item_form};
+
+use super::{Ask, Item, Method};
+use qu_base::{NoMemory, ObjectId, Outbytes};
+
+/// Appends an update: its code, and its number as eight bytes. Without memory the text stays as it is.
+pub fn write_method(out: &mut Outbytes, method: &Method) -> Result<(), NoMemory>
+    ensures ok { OnOk result (out.new ≡ out.old ++ method_form.spell method.now) }
+    ensures err { OnErr result (out.new ≡ out.old) }
+{
+    let start = out.len();
+    let written = put_method(out, method);
+    if written.is_err() {
+        out.rewind(start);
+    }
+    written
+}
+
+/// Appends a question: its code. Without memory the text stays as it is.
+#[tactic(auto, unfolding(crate::specs::Forms::ask_form))]
+pub fn write_ask(out: &mut Outbytes, ask: &Ask) -> Result<(), NoMemory>
+    ensures ok { OnOk result (out.new ≡ out.old ++ ask_form.spell ask.now) }
+    ensures err { OnErr result (out.new ≡ out.old) }
+{
+    match ask {
+        Ask::Read => out.u8(1),
+    }
+}
+
+/// Appends an update, and on failure a part of it.
+#[tactic(auto, unfolding(crate::specs::Forms::method_form), using(qu_base::proofs::Writing::writing_laws))]
+pub(crate) fn put_method(out: &mut Outbytes, method: &Method) -> Result<(), NoMemory>
+    ensures ok { OnOk result (out.new ≡ out.old ++ method_form.spell method.now) }
+    ensures err { OnErr result (take (length out.old) out.new ≡ out.old) }
+{
+    let (code, number) = match method {
+        Method::Add(more) => (1, *more),
+        Method::Take(fewer) => (2, *fewer),
+    };
+    out.u8(code)?;
+    out.u64(number)
+}
+
+/// Appends an item: its code, and its number as eight bytes; on failure a part of it.
+#[tactic(auto, unfolding(crate::specs::Forms::item_form), using(qu_base::proofs::Writing::writing_laws))]
+pub(crate) fn put_item(out: &mut Outbytes, item: &Item) -> Result<(), NoMemory>
+    ensures ok { OnOk result (out.new ≡ out.old ++ item_form.spell item.now) }
+    ensures err { OnErr result (take (length out.old) out.new ≡ out.old) }
+{
+    let Item::Number(value) = item;
+    out.u8(1)?;
+    out.u64(*value)
+}
+
+/// Appends an object as two bytes.
+pub(crate) fn put_object(out: &mut Outbytes, object: ObjectId) -> Result<(), NoMemory>
+    ensures ok { OnOk result (out.new ≡ out.old ++ object_form.spell object) }
+    ensures err { OnErr result (out.new ≡ out.old) }
+{
+    out.u16(object.0)
+}
+
+/// Appends a count as its lowest byte.
+pub(crate) fn put_count(out: &mut Outbytes, count: usize) -> Result<(), NoMemory>
+    ensures ok { OnOk result (out.new ≡ out.old ++ to_be_bytes w8 count) }
+    ensures err { OnErr result (out.new ≡ out.old) }
+{
+    out.u8((count % 256) as u8)
+}

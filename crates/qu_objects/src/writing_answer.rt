@@ -1,0 +1,56 @@
+//! Answers as bytes.
+ghost use Rattle.std.specs.Prelude.{◌≡◌, ◌++◌, length, take, OnOk, OnErr};
+ghost use Rattle.std.specs.List.{flat_map};
+ghost use Rattle.qu_objects.specs.Forms.{item_form, answer_form};
+
+use super::writing::{put_count, put_item};
+use super::{Answer, Item};
+use qu_base::{NoMemory, Outbytes};
+
+/// Appends an answer. Without memory the text stays as it is.
+///
+/// It can be read again where it has one to four items, or where the refused part has a position
+/// from 0 to 3 and the refusal the number 3 to 9 or 12.
+pub fn write_answer(out: &mut Outbytes, answer: &Answer) -> Result<(), NoMemory>
+    ensures ok { OnOk result (out.new ≡ out.old ++ answer_form.spell answer.now) }
+    ensures err { OnErr result (out.new ≡ out.old) }
+{
+    let start = out.len();
+    let written = put_answer(out, answer);
+    if written.is_err() {
+        out.rewind(start);
+    }
+    written
+}
+
+/// Appends an answer, and on failure a part of it.
+#[tactic(auto, unfolding(crate::specs::Forms::answer_form), using(qu_base::proofs::Writing::writing_laws))]
+fn put_answer(out: &mut Outbytes, answer: &Answer) -> Result<(), NoMemory>
+    ensures ok { OnOk result (out.new ≡ out.old ++ answer_form.spell answer.now) }
+    ensures err { OnErr result (take (length out.old) out.new ≡ out.old) }
+{
+    match answer {
+        Answer::Ok(items) => {
+            out.u8(0)?;
+            put_count(out, items.len())?;
+            put_items(out, items.as_slice())
+        }
+        Answer::Refused { at, why } => {
+            out.u8(1)?;
+            out.u8(*at)?;
+            out.u8(*why)
+        }
+    }
+}
+
+/// Appends items, and on failure a part of them.
+#[tactic(auto, using(qu_base::proofs::Writing::writing_laws))]
+fn put_items(out: &mut Outbytes, items: &[Item]) -> Result<(), NoMemory>
+    ensures ok { OnOk result (out.new ≡ out.old ++ flat_map item_form.spell items.now) }
+    ensures err { OnErr result (take (length out.old) out.new ≡ out.old) }
+{
+    for item in items {
+        put_item(out, item)?;
+    }
+    Ok(())
+}

@@ -1,0 +1,172 @@
+-- What a replica accepts it handled, and it was made for that act; and a request that was handled was sent.
+use Rattle.std.proofs.Common.{◌≡◌, ℕ, suc, ◌<◌, ◌≤◌, Bool, true, false, not, cond, List, [], ◌∷◌, length, Option, get_or, None, Some, refl, sym, ap, subst, ◌∙◌, arith, add-one}
+use Rattle.std.specs.Prelude.{slice_get, nat_le, nat_lt, Contains}
+use Rattle.std.specs.List.{list_all}
+use Rattle.std.proofs.lemmas.Bool.{and_parts, and_from, lt-ltb}
+use Rattle.std.proofs.lemmas.Bool.Decides.{nat_tests}
+use Rattle.std.proofs.lemmas.List.{take_all}
+use Rattle.std.proofs.lemmas.List.Elements.{Contains-get_or}
+use Rattle.std.proofs.lemmas.Option.{none-some, cond_some, slice_get_within}
+use Rattle.qu_base.specs.declared.party.ClientId.{ClientId}
+use Rattle.qu_base.specs.declared.party.ObjectId.{ObjectId}
+use Rattle.qu_base.specs.declared.party.Party.{Party}
+use Rattle.qu_base.specs.declared.party.Party.TheVariants as party
+use Rattle.qu_base.specs.Thresholds.{replicas}
+use Rattle.qu_stamp.specs.declared.candidate.Candidate.{Candidate}
+use Rattle.qu_stamp.specs.declared.stamp.Stamp.{Stamp}
+use Rattle.qu_history.specs.declared.sets.SetOf.{SetOf}
+use Rattle.qu_objects.specs.declared.act.Method.{Method}
+use Rattle.qu_frames.specs.declared.frame.Body.{Body}
+use Rattle.qu_frames.specs.declared.frame.Body.TheVariants as body
+use Rattle.qu_frames.specs.declared.frame.Frame.{Frame}
+use Rattle.qu_frames.specs.declared.frame.Frame.TheVariants as frame
+use Rattle.qu_frames.specs.declared.frame.Letter.{Letter}
+use Rattle.qu_replica.specs.Rows.{asked_of, fresh_stamp}
+use Rattle.qu_replica.specs.State.{ReplicaState}
+use Rattle.qu_trace.specs.declared.event.Event.{Event}
+use Rattle.qu_trace.specs.declared.event.Event.TheVariants.{Invoke, Deliver, Tick}
+use Rattle.qu_trace.specs.declared.trace.Entry.{Entry}
+use Rattle.qu_trace.specs.declared.trace.Setup.{Setup}
+use Rattle.qu_trace.specs.declared.trace.Trace.{Trace}
+use Rattle.qu_trace.specs.Letters.{letters_of}
+use Rattle.qu_world.specs.State.{WorldState, numbered, letter_of}
+use Rattle.qu_world.specs.Step.{world_step}
+use Rattle.qu_world.specs.Run.{IsRun}
+use Rattle.qu_safety.specs.Digested.{Request, is_known, request_in, request_to, request_by, handled_by, IsHandled, IsMadeFor}
+use Rattle.qu_safety.specs.Grounds.{AcceptsOne, IsDelivered}
+use Rattle.qu_safety.specs.Invocations.{IsRequestOf}
+use Rattle.qu_safety.specs.Order.{world_after}
+use Rattle.qu_safety.proofs.Accepting.{some_entry, Acceptance}
+use Rattle.qu_safety.proofs.Acceptors.{all_replicas}
+use Rattle.qu_safety.proofs.FullSets.{IsUpon, are_had, delivered_upon}
+use Rattle.qu_safety.proofs.Invocations.{request_of}
+use Rattle.qu_safety.proofs.Marking.{run_has, found_within}
+use Rattle.qu_safety.proofs.Recording.{entries_after}
+use Rattle.qu_safety.proofs.Replies.{letter_stays}
+use Rattle.qu_safety.proofs.WorldGrowth.{world_after-next}
+
+-- ---- what is accepted was handled
+
+one_known : (size number count : ℕ) → size ≤ count → not (nat_le size number) ≡ true → nat_lt number count ≡ true
+one_known size number count few had = grind (arith, nat_tests)
+
+all_known : (setup : Setup) (size : ℕ) → size ≤ length setup.kinds → (sets : List SetOf) → list_all (λ (set : SetOf). not (nat_le size (set.object).0)) sets ≡ true → list_all (is_known setup) sets ≡ true
+all_known setup size few [] had = refl
+all_known setup size few (set ∷ sets) had =
+    let parts : (not (nat_le size (set.object).0) ≡ true) × (list_all (λ (it : SetOf). not (nat_le size (it.object).0)) sets ≡ true) = and_parts _ _ had in
+    and_from _ _ (one_known size (set.object).0 (length setup.kinds) few parts.0) (all_known setup size few sets parts.1)
+
+-- a replica handles a request that shows it objects that it has
+pub handled_upon : (trace : Trace) → IsRun trace → (time : ℕ) → time < length trace.entries → (entry : Entry) → Contains trace.entries entry → (asked : ℕ) → entry.event ≡ Deliver asked
+    → (place : ℕ) (old : ReplicaState) → slice_get (world_after trace time).replicas place ≡ Some old
+    → (letter : Letter) → letter_of (world_after trace time) asked ≡ Some letter → letter.to ≡ party.Replica (record { 0 = place })
+    → (client : ClientId) (number round : ℕ) (sets : List SetOf) (parts : List (ObjectId × Method)) → letter.frame ≡ frame.Request client number round sets (body.Act parts) → are_had old sets ≡ true
+    → IsHandled trace client number parts
+handled_upon trace is_run time within entry of_trace asked is_deliver place old is_old letter is_letter to client number round sets parts is_request had =
+    let few : length old.histories ≤ length trace.setup.kinds = found_within (length trace.setup.kinds) (world_after trace time).replicas place old (run_has trace time) is_old in
+    let known : list_all (is_known trace.setup) sets ≡ true = all_known trace.setup (length old.histories) few sets had in
+    let there : place < length (world_after trace time).replicas = slice_get_within (world_after trace time).replicas place old is_old in
+    let all : length (world_after trace time).replicas ≡ replicas trace.setup.bounds = all_replicas trace time in
+    let among : nat_lt place (replicas trace.setup.bounds) ≡ true = lt-ltb _ _ (omega (arith, there, all)) in
+    let found : numbered (letters_of trace.entries) asked ≡ Some letter = letter_stays trace is_run time (omega arith) asked letter is_letter in
+    let request : Request = record { client = client; number = number; sets = sets; body = body.Act parts } in
+    record {
+      entry = entry;
+      of_trace = of_trace;
+      sets = sets;
+      handled =
+          ap (handled_by trace) is_deliver ∙
+          ap (request_by trace.setup) found ∙
+          ap (request_to trace.setup letter.frame) to ∙
+          ap (λ (test : Bool). cond test (request_in trace.setup letter.frame) None) among ∙
+          ap (request_in trace.setup) is_request ∙
+          ap (λ (test : Bool). cond test (Some request) None) known;
+    }
+
+-- a replica handled the request upon which it accepts a candidate
+pub handled : (trace : Trace) → IsRun trace → (time : ℕ) → time < length trace.entries → (entry : Entry) → Contains trace.entries entry → (event : Event) → event ≡ entry.event → (place : ℕ) (old new : ReplicaState)
+    → slice_get (world_after trace time).replicas place ≡ Some old → slice_get (world_step (world_after trace time) event).replicas place ≡ Some new → (object : ObjectId) (delivered : IsDelivered (world_after trace time) event place old new object)
+    → IsHandled trace (delivered.accepts).client (delivered.accepts).number ((object, (delivered.accepts).method) ∷ [])
+handled trace is_run time within entry of_trace event event_is place old new is_old is_new object delivered =
+    let one : AcceptsOne old new (delivered.letter).frame object = delivered.accepts in
+    let upon : IsUpon old one.sets = delivered_upon (world_after trace time) event place old new object delivered is_old is_new in
+    handled_upon trace is_run time within entry of_trace delivered.number (sym event_is ∙ delivered.is_deliver) place old is_old delivered.letter delivered.is_letter delivered.to
+    one.client one.number one.round one.sets ((object, one.method) ∷ []) one.is_request upon.had
+
+-- ---- for which act a candidate was made
+
+-- the stamp is that of the act
+pub made_for : (trace : Trace) (old new : ReplicaState) (taken : Frame) (object : ObjectId) (one : AcceptsOne old new taken object) (candidate : Candidate) → one.candidate ≡ candidate → IsHandled trace one.client one.number ((object, one.method) ∷ [])
+    → IsMadeFor trace candidate one.client one.number ((object, one.method) ∷ [])
+made_for trace old new taken object one candidate is was =
+    let stamp : candidate.stamp ≡ fresh_stamp (asked_of one.client one.number one.sets (body.Act ((object, one.method) ∷ []))) object =
+    ap (λ (it : Candidate). it.stamp) (sym is) ∙ (one.grounds).stamp in
+    record { handled = was; of_client = ap (λ (it : Stamp). it.client) stamp; of_act = ap (λ (it : Stamp). it.act) stamp }
+
+-- what a replica accepts at an event was made for the act that the event asks of it
+pub accepted_made : (trace : Trace) → IsRun trace → (time : ℕ) → time < length trace.entries → (object : ObjectId) (place : ℕ) (candidate : Candidate) (accepted : Acceptance trace time object place candidate)
+    → IsMadeFor trace candidate ((accepted.delivered).accepts).client ((accepted.delivered).accepts).number ((object, ((accepted.delivered).accepts).method) ∷ [])
+accepted_made trace is_run time within object place candidate accepted =
+    let entry : Entry = get_or trace.entries time some_entry in
+    let next : world_step (world_after trace time) accepted.event ≡ world_after trace (suc time) =
+    ap (world_step (world_after trace time)) accepted.event_is ∙ sym (world_after-next trace time some_entry within) ∙ ap (world_after trace) (add-one time) in
+    let is_new : slice_get (world_step (world_after trace time) accepted.event).replicas place ≡ Some accepted.new =
+    ap (λ (it : WorldState). slice_get it.replicas place) next ∙ accepted.is_new in
+    made_for trace accepted.old accepted.new ((accepted.delivered).letter).frame object (accepted.delivered).accepts candidate accepted.candidate_is
+    (handled trace is_run time within entry (Contains-get_or trace.entries time some_entry within) accepted.event accepted.event_is place accepted.old accepted.new accepted.is_old is_new object accepted.delivered)
+
+-- so it was made for the operation that the request is one of
+pub made_for_operation : (trace : Trace) (count : ℕ) (candidate : Candidate) (client : ClientId) (number : ℕ) (parts : List (ObjectId × Method)) (asked : Body) (request : IsRequestOf trace count client number asked) → IsMadeFor trace candidate client number parts
+    → IsMadeFor trace candidate (request.operation).client (request.operation).number parts
+made_for_operation trace count candidate client number parts asked request made =
+    subst (λ (who : ClientId). IsMadeFor trace candidate who (request.operation).number parts) (sym request.of_client)
+    (subst (λ (it : ℕ). IsMadeFor trace candidate client it parts) (sym request.of_number) made)
+
+-- ---- what was handled was sent
+
+cond_given : {X : Type 0} (test : Bool) (found : Option X) (it : X) → cond test found None ≡ Some it → found ≡ Some it
+cond_given true found it given = given
+cond_given false found it given = absurd (none-some it given)
+
+-- a letter of the trace with the request
+pub record IsSent (trace : Trace) (request : Request) : Type 0 where
+  pub number : ℕ
+  pub letter : Letter
+  pub is_letter : numbered (letters_of trace.entries) number ≡ Some letter
+  pub round : ℕ
+  pub is_request : letter.frame ≡ frame.Request request.client request.number round request.sets request.body
+
+carried : (setup : Setup) (sent : Frame) (request : Request) → request_in setup sent ≡ Some request → (round : ℕ) × (sent ≡ frame.Request request.client request.number round request.sets request.body)
+carried setup (frame.Request client number round sets asked) request is =
+    let it : Request = record { client = client; number = number; sets = sets; body = asked } in
+    let same : it ≡ request = (cond_some (list_all (is_known setup) sets) it request is).1 in
+    (round, ap (λ (one : Request). frame.Request one.client one.number round one.sets one.body) same)
+carried setup (frame.Reply replica client number round verdict shown) request is = absurd (none-some request is)
+
+carried_to : (setup : Setup) (sent : Frame) (to : Party) (request : Request) → request_to setup sent to ≡ Some request → request_in setup sent ≡ Some request
+carried_to setup sent (party.Replica me) request is = cond_given (nat_lt me.0 (replicas setup.bounds)) (request_in setup sent) request is
+carried_to setup sent (party.Client me) request is = absurd (none-some request is)
+
+sent_by : (trace : Trace) (number : ℕ) (found : Option Letter) (request : Request) → numbered (letters_of trace.entries) number ≡ found → request_by trace.setup found ≡ Some request → IsSent trace request
+sent_by trace number None request found is = absurd (none-some request is)
+sent_by trace number (Some letter) request found is =
+    let it = carried trace.setup letter.frame request (carried_to trace.setup letter.frame letter.to request is) in
+    record { number = number; letter = letter; is_letter = found; round = it.0; is_request = it.1 }
+
+pub sent : (trace : Trace) (event : Event) (request : Request) → handled_by trace event ≡ Some request → IsSent trace request
+sent trace (Invoke client op) request is = absurd (none-some request is)
+sent trace (Deliver number) request is = sent_by trace number (numbered (letters_of trace.entries) number) request refl is
+sent trace (Tick client) request is = absurd (none-some request is)
+
+-- so it is one of an operation
+pub asked_by : (trace : Trace) → IsRun trace → (request : Request) → IsSent trace request → IsRequestOf trace (length trace.entries) request.client request.number request.body
+asked_by trace is_run request it =
+    let last : ℕ = length trace.entries in
+    let all : (world_after trace last).entries ≡ trace.entries = entries_after trace is_run last (omega arith) ∙ take_all last trace.entries (omega arith) in
+    request_of trace is_run last (omega arith) it.number it.letter (ap (λ (entries : List Entry). numbered (letters_of entries) it.number) all ∙ it.is_letter)
+    request.client request.number it.round request.sets request.body it.is_request
+
+pub asked_by_handled : (trace : Trace) → IsRun trace → (client : ClientId) (number : ℕ) (parts : List (ObjectId × Method)) → IsHandled trace client number parts → IsRequestOf trace (length trace.entries) client number (body.Act parts)
+asked_by_handled trace is_run client number parts it =
+    let request : Request = record { client = client; number = number; sets = it.sets; body = body.Act parts } in
+    asked_by trace is_run request (sent trace (it.entry).event request it.handled)
