@@ -10,7 +10,7 @@ use Rattle.qu_base.specs.declared.bad_text.BadText.{BadText}
 use Rattle.qu_base.specs.declared.bad_text.Why.{Why}
 use Rattle.qu_base.specs.declared.bad_text.Why.TheVariants.{Short, Range}
 use Rattle.qu_base.specs.Front.{Front, Takes}
-use Rattle.qu_base.specs.Format.{Format, front_of, behind, refused, and_then, number_at, number, bytes_at, bytes, nothing, both, tested, FitsPart, spelled_part, made, either, FitsFrom, items_at, items, counted, flag, optional, tagged, digest_form, object_form, replica_form, Spells, AreBytes, IsExact}
+use Rattle.qu_base.specs.Format.{Format, front_of, behind, refused, and_then, number_at, number, bytes_at, bytes, nothing, both, tested, FitsPart, spelled_part, made, either, FitsFrom, items_at, items, counted, flag, optional, tagged, digest_form, object_form, replica_form, Spells, AreBytes, IsExact, IsPrefixCode}
 
 -- ---- fronts
 
@@ -213,7 +213,7 @@ tested-exact test why form exact = record {
       rw (exact.only old new value (record { fits = spelled.fits.0; takes = spelled.takes }), spelled.fits.1) refl;
 }
 
-some_is : {A : Type 0} {one other : A} → Some one ≡ Some other → one ≡ other
+pub some_is : {A : Type 0} {one other : A} → Some one ≡ Some other → one ≡ other
 some_is given = cc
 
 -- the part of a value that fits is there
@@ -420,3 +420,9 @@ one_spelling {V = V} form exact value other fits others same =
     λ it fit. record { fits = fit; takes = record { bytes = sym (append-nil (form.spell it)); place = omega arith } } in
     (one_value form exact (front_of (form.spell value)) (end value) (end other) value other (spelled value fits)
     (subst (λ (text : List ℕ). Spells form (front_of text) (end other) other) (sym same) (spelled other others))).0
+
+pub prefix_code : {V : Type 0} (form : Format V) → IsExact form → IsPrefixCode form
+prefix_code form exact = record {
+  exact = exact;
+  one = one_value form exact;
+}

@@ -182,3 +182,8 @@ AreBytes content = (index : ℕ) → get_or content index 0 < 256
 pub record IsExact {V : Type 0} (form : Format V) : Type 0 where
   pub found : (old new : Front) (value : V) → AreBytes old.rest → form.read old ≡ Ok (value, new) → Spells form old new value
   pub only : (old new : Front) (value : V) → Spells form old new value → form.read old ≡ Ok (value, new)
+
+-- and no spelling begins another: where the spellings of two values stand at one front, the values are one
+pub record IsPrefixCode {V : Type 0} (form : Format V) : Type 0 where
+  pub exact : IsExact form
+  pub one : (old new end : Front) (value other : V) → Spells form old new value → Spells form old end other → (value ≡ other) × (new ≡ end)

@@ -70,6 +70,14 @@ impl Outbytes {
         self.put(&value.to_be_bytes())
     }
 
+    /// Appends a count as its lowest byte. Without memory the text stays as it is.
+    pub fn count(&mut self, count: usize) -> Result<(), NoMemory>
+        ensures ok { OnOk result (self.new ≡ self.old ++ to_be_bytes w8 count) }
+        ensures err { OnErr result (self.new ≡ self.old) }
+    {
+        self.u8((count % 256) as u8)
+    }
+
     /// How many bytes were written.
     pub fn len(&self) -> usize
         ensures { result ≡ length self.now }

@@ -1,3 +1,4 @@
 pub mod EndFacts
 pub mod ScriptFacts
 pub mod TransferFacts
+pub mod Premises

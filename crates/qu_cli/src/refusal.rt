@@ -15,6 +15,7 @@ fn kind_words(kind: BadKind) -> &'static str
         BadKind::NoSuchLetter => "no such letter",
         BadKind::Busy => "busy",
         BadKind::TooManyEvents => "too many events",
+        BadKind::TooManyBytes => "too many bytes",
     }
 }
 

@@ -1,4 +1,5 @@
-ghost use Rattle.std.specs.Prelude.{IfOk};
+ghost use Rattle.std.specs.Prelude.{IfOk, IsTrue};
+ghost use Rattle.qu_trace.specs.Injections.{no_injection};
 ghost use Rattle.qu_world.specs.Run.{IsRun};
 ghost use Rattle.qu_script.specs.Script.{Gives};
 ghost use Rattle.qu_script.specs.Events.{sim_of};
@@ -15,6 +16,7 @@ use qu_trace::Trace;
 use std::alloc::Global;
 
 /// Runs a script and reports the run, or tells why there is none.
+#[tactic(auto, using(crate::proofs::Premises::serial_run))]
 pub fn simulate(alloc: Global, script: &[u8]) -> Result<Answer, NoMemory>
     ensures { IfOk result (IsAnswer Command.Sim script.now) }
 {
@@ -34,6 +36,7 @@ pub fn simulate(alloc: Global, script: &[u8]) -> Result<Answer, NoMemory>
 fn run_text(alloc: Global, text: &[u8]) -> Result<Trace, ScriptFail>
     ensures value { Gives (λ trace. trace) result (sim_of text.now) }
     ensures run { IfOk result IsRun }
+    ensures scripted { IfOk result (λ trace. IsTrue (no_injection trace.entries)) }
 {
     let script = read_script(alloc, text)?;
     run_script(alloc, &script)

@@ -7,41 +7,39 @@ use Rattle.qu_base.specs.declared.party.ObjectId.{ObjectId}
 use Rattle.qu_base.specs.declared.party.Party.TheVariants as party
 use Rattle.qu_base.specs.Thresholds.{replicas}
 use Rattle.qu_history.specs.declared.sets.SetOf.{SetOf}
-use Rattle.qu_history.specs.History.{ObjectHistory}
-use Rattle.qu_history.specs.Sets.{are_entries, are_sets_from, are_sets}
+use Rattle.qu_history.specs.declared.sealed.Sealed.{Sealed}
+use Rattle.qu_history.specs.Sets.{histories, are_entries, are_sets_from, are_sets}
 use Rattle.qu_objects.specs.Parts.{are_parts}
-use Rattle.qu_frames.specs.declared.frame.Body.{Body}
-use Rattle.qu_frames.specs.declared.frame.Frame.TheVariants as frame
 use Rattle.qu_frames.specs.declared.frame.Letter.{Letter}
-use Rattle.qu_frames.specs.Body.{body_of}
+use Rattle.qu_frames.specs.Forms.{frame_form}
 use Rattle.qu_client.specs.declared.kept.Kept.{Kept}
 use Rattle.qu_client.specs.declared.work.Work.{Work}
 use Rattle.qu_client.specs.State.{kept_of}
-use Rattle.qu_client.specs.Rounds.{are_objects, entries_from, set_of, requests_from}
+use Rattle.qu_client.specs.Rounds.{are_objects, entries_from, set_of, request_of, requests_from}
 
 -- so many are left of a number below another
 left_after : (n at : ℕ) → at < n → n - at ≡ suc (n - (at + 1))
 left_after n at below = omega arith
 
-entries_from-some : (object : ObjectId) (replica count : ℕ) (kept : List Kept) (history : ObjectHistory) → kept_of object replica kept ≡ Some history → entries_from object replica (suc count) kept ≡ history ∷ entries_from object (replica + 1) count kept
+entries_from-some : (object : ObjectId) (replica count : ℕ) (kept : List Kept) (sealed : Sealed) → kept_of object replica kept ≡ Some sealed → entries_from object replica (suc count) kept ≡ sealed ∷ entries_from object (replica + 1) count kept
 unfolding entries_from
-entries_from-some object replica count kept history is = rw (is, entries_from) refl
+entries_from-some object replica count kept sealed is = rw (is, entries_from) refl
 
 entries_from-none : (object : ObjectId) (replica count : ℕ) (kept : List Kept) → kept_of object replica kept ≡ None → entries_from object replica (suc count) kept ≡ entries_from object (replica + 1) count kept
 unfolding entries_from
 entries_from-none object replica count kept is = rw (is, entries_from) refl
 
-module _ (object : ObjectId) (replica n : ℕ) (kept : List Kept) (entries total : List ObjectHistory) (so_far : entries ++ entries_from object replica (n - replica) kept ≡ total) where
-  -- a replica of which a history is kept, and copied
-  pub entries_from_some : (history copied : ObjectHistory) (grown : List ObjectHistory) → replica < n → Some history ≡ kept_of object replica kept → copied ≡ history → grown ≡ entries ++ copied ∷ [] → grown ++ entries_from object (replica + 1) (n - (replica + 1)) kept ≡ total
-  entries_from_some history copied grown below is same grows =
-      ap (λ front. front ++ entries_from object (replica + 1) (n - (replica + 1)) kept) (grows ∙ ap (λ (last : ObjectHistory). entries ++ last ∷ []) same) ∙
-      append_assoc entries (history ∷ []) _ ∙
-      ap (λ later. entries ++ later) (sym (entries_from-some object replica (n - (replica + 1)) kept history (sym is)) ∙ ap (λ count. entries_from object replica count kept) (sym (left_after n replica below))) ∙
+module _ (object : ObjectId) (replica n : ℕ) (kept : List Kept) (entries total : List Sealed) (so_far : entries ++ entries_from object replica (n - replica) kept ≡ total) where
+  -- a replica of which a sealed history is kept, and copied
+  pub entries_from_some : (sealed copied : Sealed) (grown : List Sealed) → replica < n → Some sealed ≡ kept_of object replica kept → copied ≡ sealed → grown ≡ entries ++ copied ∷ [] → grown ++ entries_from object (replica + 1) (n - (replica + 1)) kept ≡ total
+  entries_from_some sealed copied grown below is same grows =
+      ap (λ front. front ++ entries_from object (replica + 1) (n - (replica + 1)) kept) (grows ∙ ap (λ (last : Sealed). entries ++ last ∷ []) same) ∙
+      append_assoc entries (sealed ∷ []) _ ∙
+      ap (λ later. entries ++ later) (sym (entries_from-some object replica (n - (replica + 1)) kept sealed (sym is)) ∙ ap (λ count. entries_from object replica count kept) (sym (left_after n replica below))) ∙
       so_far
 
   -- a replica of which none is kept
-  pub entries_from_none : (same : List ObjectHistory) → replica < n → None ≡ kept_of object replica kept → same ≡ entries → same ++ entries_from object (replica + 1) (n - (replica + 1)) kept ≡ total
+  pub entries_from_none : (same : List Sealed) → replica < n → None ≡ kept_of object replica kept → same ≡ entries → same ++ entries_from object (replica + 1) (n - (replica + 1)) kept ≡ total
   entries_from_none same below is stays =
       ap (λ front. front ++ entries_from object (replica + 1) (n - (replica + 1)) kept) stays ∙
       ap (λ later. entries ++ later) (sym (entries_from-none object replica (n - (replica + 1)) kept (sym is)) ∙ ap (λ count. entries_from object replica count kept) (sym (left_after n replica below))) ∙
@@ -54,21 +52,17 @@ module _ (object : ObjectId) (replica n : ℕ) (kept : List Kept) (entries total
       let none : n - replica ≡ 0 = omega arith in
       sym (append-nil entries) ∙ ap (λ count. entries ++ entries_from object replica count kept) (sym none) ∙ so_far
 
-abbrev pub request : ℕ → ClientId → Work → List SetOf → Body → Letter
-request replica me work sets body = record {
-  from = party.Client me;
-  to = party.Replica (record { 0 = replica });
-  frame = frame.Request me work.number work.round sets body;
-}
+abbrev pub request : ℕ → ClientId → List ℕ → Letter
+request replica me text = record { from = party.Client me; to = party.Replica (record { 0 = replica }); text = text }
 
 module _ (replica n : ℕ) (me : ClientId) (work : Work) (sets : List SetOf) (letters total : List Letter) (so_far : letters ++ requests_from replica (n - replica) me work sets ≡ total) where
-  -- the next replica's request, with copies of the sets and the body
-  pub requests_from_more : (copied : List SetOf) (body : Body) (grown : List Letter) → replica < n → copied ≡ sets → body ≡ body_of work.op → grown ≡ letters ++ request replica me work copied body ∷ [] → grown ++ requests_from (replica + 1) (n - (replica + 1)) me work sets ≡ total
+  -- the next replica's request, with a copy of the text
+  pub requests_from_more : (text copied : List ℕ) (grown : List Letter) → replica < n → text ≡ frame_form.spell (request_of me work sets) → copied ≡ text → grown ≡ letters ++ request replica me copied ∷ [] → grown ++ requests_from (replica + 1) (n - (replica + 1)) me work sets ≡ total
   unfolding requests_from
-  requests_from_more copied body grown below same same_body grows =
+  requests_from_more text copied grown below spelled same grows =
       ap (λ front. front ++ requests_from (replica + 1) (n - (replica + 1)) me work sets)
-      (grows ∙ ap (λ those. letters ++ request replica me work those body ∷ []) same ∙ ap (λ that. letters ++ request replica me work sets that ∷ []) same_body) ∙
-      append_assoc letters (request replica me work sets (body_of work.op) ∷ []) _ ∙
+      (grows ∙ ap (λ that. letters ++ request replica me that ∷ []) (same ∙ spelled)) ∙
+      append_assoc letters (request replica me (frame_form.spell (request_of me work sets)) ∷ []) _ ∙
       ap (λ count. letters ++ requests_from replica count me work sets) (sym (left_after n replica below)) ∙
       so_far
 
@@ -80,40 +74,40 @@ module _ (replica n : ℕ) (me : ClientId) (work : Work) (sets : List SetOf) (le
       sym (append-nil letters) ∙ ap (λ count. letters ++ requests_from replica count me work sets) (sym none) ∙ so_far
 
 -- what is kept of an object and a replica is a history of that object at that replica
-IsOf : ObjectId → ℕ → ObjectHistory → Type 0
-IsOf object replica history = ((history.object).0 ≡ object.0) × ((history.replica).0 ≡ replica)
+IsOf : ObjectId → ℕ → Sealed → Type 0
+IsOf object replica sealed = ((sealed.history.object).0 ≡ object.0) × ((sealed.history.replica).0 ≡ replica)
 
-some_same : {a b : ObjectHistory} → Some a ≡ Some b → a ≡ b
+some_same : {a b : Sealed} → Some a ≡ Some b → a ≡ b
 some_same is = cc
 
-kept_of-is : (object : ObjectId) (replica : ℕ) (kept : List Kept) (history : ObjectHistory) → kept_of object replica kept ≡ Some history → IsOf object replica history
+kept_of-is : (object : ObjectId) (replica : ℕ) (kept : List Kept) (sealed : Sealed) → kept_of object replica kept ≡ Some sealed → IsOf object replica sealed
 unfolding kept_of IsOf
-kept_of-is object replica [] history is = cc
-kept_of-is object replica (held ∷ later) history is =
-    elim (cases_Bool (eqb ((held.history).object).0 object.0 && eqb ((held.history).replica).0 replica)) [
+kept_of-is object replica [] sealed is = cc
+kept_of-is object replica (held ∷ later) sealed is =
+    elim (cases_Bool (eqb ((held.sealed.history).object).0 object.0 && eqb ((held.sealed.history).replica).0 replica)) [
       | inl here ↦
-          let parts : (eqb ((held.history).object).0 object.0 ≡ true) × (eqb ((held.history).replica).0 replica ≡ true) = and_parts _ _ here in
-          let same : held.history ≡ history = some_same (rw here at is) in
-          let P : ObjectHistory → Type 0 = λ found. ((found.object).0 ≡ object.0) × ((found.replica).0 ≡ replica) in
+          let parts : (eqb ((held.sealed.history).object).0 object.0 ≡ true) × (eqb ((held.sealed.history).replica).0 replica ≡ true) = and_parts _ _ here in
+          let same : held.sealed ≡ sealed = some_same (rw here at is) in
+          let P : Sealed → Type 0 = λ found. ((found.history.object).0 ≡ object.0) × ((found.history.replica).0 ≡ replica) in
           subst P same (eqb-true _ _ parts.0, eqb-true _ _ parts.1)
-      | inr there ↦ kept_of-is object replica later history (rw there at is)
+      | inr there ↦ kept_of-is object replica later sealed (rw there at is)
     ]
 
-are_entries-cons : (object : ObjectId) (replica least : ℕ) (history : ObjectHistory) (later : List ObjectHistory) → IsOf object replica history → least ≤ replica → replica < 16 → are_entries object (replica + 1) later ≡ true → are_entries object least (history ∷ later) ≡ true
+are_entries-cons : (object : ObjectId) (replica least : ℕ) (sealed : Sealed) (later : List Sealed) → IsOf object replica sealed → least ≤ replica → replica < 16 → are_entries object (replica + 1) (histories later) ≡ true → are_entries object least (histories (sealed ∷ later)) ≡ true
 unfolding are_entries IsOf
-are_entries-cons object replica least history later of at_least below rest =
-    let place : ℕ = (history.replica).0 in
-    let rest_here : are_entries object (place + 1) later ≡ true = rw of.1 rest in
+are_entries-cons object replica least sealed later of at_least below rest =
+    let place : ℕ = (sealed.history.replica).0 in
+    let rest_here : are_entries object (place + 1) (histories later) ≡ true = rw of.1 rest in
     and_from _ _ (and_from _ _ (and_from _ _ (eq-eqb _ _ of.0) (le-leb least place (omega arith))) (lt-ltb place 16 (omega arith))) rest_here
 
-are_entries-step : (count : ℕ) (object : ObjectId) (replica least : ℕ) (kept : List Kept) → least ≤ replica → replica + suc count ≤ 16 → ((other : ℕ) → other ≤ replica + 1 → are_entries object other (entries_from object (replica + 1) count kept) ≡ true) → (found : Option ObjectHistory) → kept_of object replica kept ≡ found → are_entries object least (entries_from object replica (suc count) kept) ≡ true
+are_entries-step : (count : ℕ) (object : ObjectId) (replica least : ℕ) (kept : List Kept) → least ≤ replica → replica + suc count ≤ 16 → ((other : ℕ) → other ≤ replica + 1 → are_entries object other (histories (entries_from object (replica + 1) count kept)) ≡ true) → (found : Option Sealed) → kept_of object replica kept ≡ found → are_entries object least (histories (entries_from object replica (suc count) kept)) ≡ true
 are_entries-step count object replica least kept at_least within rest None is =
     rw (entries_from-none object replica count kept is) (rest least (omega arith))
-are_entries-step count object replica least kept at_least within rest (Some history) is =
-    rw (entries_from-some object replica count kept history is)
-    (are_entries-cons object replica least history (entries_from object (replica + 1) count kept) (kept_of-is object replica kept history is) at_least (omega arith) (rest (replica + 1) (omega arith)))
+are_entries-step count object replica least kept at_least within rest (Some sealed) is =
+    rw (entries_from-some object replica count kept sealed is)
+    (are_entries-cons object replica least sealed (entries_from object (replica + 1) count kept) (kept_of-is object replica kept sealed is) at_least (omega arith) (rest (replica + 1) (omega arith)))
 
-are_entries-from : (count : ℕ) (object : ObjectId) (replica least : ℕ) (kept : List Kept) → least ≤ replica → replica + count ≤ 16 → are_entries object least (entries_from object replica count kept) ≡ true
+are_entries-from : (count : ℕ) (object : ObjectId) (replica least : ℕ) (kept : List Kept) → least ≤ replica → replica + count ≤ 16 → are_entries object least (histories (entries_from object replica count kept)) ≡ true
 unfolding entries_from are_entries
 are_entries-from zero object replica least kept at_least within = refl
 are_entries-from (suc count) object replica least kept at_least within =
@@ -126,7 +120,7 @@ pub are_sets_kept : (bounds : ℕ) (kept : List Kept) (objects : List ObjectId) 
 unfolding are_sets are_sets_from
 are_sets_kept bounds kept [] ordered few = absurd (false≢true ordered)
 are_sets_kept bounds kept (object ∷ []) ordered few =
-    let entries : are_entries object 0 (entries_from object 0 (replicas bounds) kept) ≡ true = are_entries-from (replicas bounds) object 0 0 kept (omega arith) (omega arith) in
+    let entries : are_entries object 0 (histories (entries_from object 0 (replicas bounds) kept)) ≡ true = are_entries-from (replicas bounds) object 0 0 kept (omega arith) (omega arith) in
     and_from _ _ refl (and_from _ _ (and_from _ _ (and_from _ _ (le-leb 0 object.0 (omega arith)) ordered) entries) refl)
 are_sets_kept bounds kept (first ∷ second ∷ objects) ordered few = absurd (false≢true ordered)
 

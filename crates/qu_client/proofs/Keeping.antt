@@ -7,7 +7,7 @@ use Rattle.qu_client.specs.declared.kept.Kept.{Kept}
 use Rattle.qu_client.specs.State.{is_older, same_source, keep}
 
 abbrev pub of_source : Kept → Kept → Bool
-of_source new held = same_source new.history held.history
+of_source new held = same_source new.sealed.history held.sealed.history
 
 abbrev pub older : Kept → Kept → Bool
 older new held = is_older new.number new.round held.number held.round

@@ -10,7 +10,6 @@ use Rattle.qu_base.specs.declared.party.ReplicaId.{ReplicaId}
 use Rattle.qu_base.specs.Thresholds.{replicas}
 use Rattle.qu_history.specs.declared.sets.SetOf.{SetOf}
 use Rattle.qu_objects.specs.declared.op.Op.{Op}
-use Rattle.qu_frames.specs.declared.frame.Frame.{Frame}
 use Rattle.qu_frames.specs.declared.verdict.Verdict.{Verdict}
 use Rattle.qu_client.specs.declared.work.Counted.{Counted}
 use Rattle.qu_client.specs.declared.work.Work.{Work}
@@ -26,13 +25,13 @@ fits_by most (Some last) within few = omega arith
 
 -- name and bounds stay
 
-pub client_step-me : (state : ClientState) (frame : Frame) → (client_step state frame).state.me ≡ state.me
-client_step-me state frame =
-    step_cases state (λ stepped. stepped.state.me ≡ state.me) refl (λ _. refl) (λ _ _ _ _ _ _ _ _. refl) (λ _ _. refl) (λ _ _ _ _ _ _ _. refl) (λ _ _ _ _ _ _. refl) frame
+pub client_step-me : (state : ClientState) (text : List ℕ) → (client_step state text).state.me ≡ state.me
+client_step-me state text =
+    step_cases state (λ stepped. stepped.state.me ≡ state.me) refl (λ _. refl) (λ _ _ _ _ _ _ _ _. refl) (λ _ _. refl) (λ _ _ _ _ _ _ _. refl) (λ _ _ _ _ _ _. refl) text
 
-pub client_step-bounds : (state : ClientState) (frame : Frame) → (client_step state frame).state.bounds ≡ state.bounds
-client_step-bounds state frame =
-    step_cases state (λ stepped. stepped.state.bounds ≡ state.bounds) refl (λ _. refl) (λ _ _ _ _ _ _ _ _. refl) (λ _ _. refl) (λ _ _ _ _ _ _ _. refl) (λ _ _ _ _ _ _. refl) frame
+pub client_step-bounds : (state : ClientState) (text : List ℕ) → (client_step state text).state.bounds ≡ state.bounds
+client_step-bounds state text =
+    step_cases state (λ stepped. stepped.state.bounds ≡ state.bounds) refl (λ _. refl) (λ _ _ _ _ _ _ _ _. refl) (λ _ _. refl) (λ _ _ _ _ _ _ _. refl) (λ _ _ _ _ _ _. refl) text
 
 pub client_invoke-me : (state : ClientState) (op : Op) → (client_invoke state op).state.me ≡ state.me
 client_invoke-me state op =
@@ -51,8 +50,8 @@ work_within : (most : ℕ) (state : ClientState) (work : Work) → NumbersWithin
 work_within most state work within is =
     let P : Option Work → Type 0 = λ found. IfSome found (λ work. work.number ≤ most) in subst P is within.work
 
-pub NumbersWithin-step : (most : ℕ) (state : ClientState) (frame : Frame) → NumbersWithin most state → NumbersWithin most (client_step state frame).state
-NumbersWithin-step most state frame within =
+pub NumbersWithin-step : (most : ℕ) (state : ClientState) (text : List ℕ) → NumbersWithin most state → NumbersWithin most (client_step state text).state
+NumbersWithin-step most state text within =
     step_cases state (λ stepped. NumbersWithin most stepped.state)
     within
     (λ kept. record { last = within.last; work = within.work })
@@ -60,7 +59,7 @@ NumbersWithin-step most state frame within =
     (λ kept end. record { last = within.last; work = tt })
     (λ kept work replies acted is asking below. record { last = work_within most state work within is; work = work_within most state work within is })
     (λ kept work replies is asking below. record { last = within.last; work = work_within most state work within is })
-    frame
+    text
 
 next_within : (most : ℕ) (last : Option (ℕ × ℕ)) → IfSome last (λ last. last.0 ≤ most) → next_number last ≤ most + 1
 next_within most None within = omega arith
@@ -108,8 +107,8 @@ different_more work replica number round verdict counting different =
     all_pairs_push (λ (a b : Counted). (a.replica).0 ≢ (b.replica).0) work.replies (record { replica = replica; verdict = verdict }) different
     (λ k d within. other_replica work.replies replica k d first within)
 
-pub IsSound-step : (state : ClientState) (frame : Frame) → IsSound state → IsSound (client_step state frame).state
-IsSound-step state frame sound =
+pub IsSound-step : (state : ClientState) (text : List ℕ) → IsSound state → IsSound (client_step state text).state
+IsSound-step state text sound =
     step_cases state (λ stepped. IsSound stepped.state)
     sound
     (λ kept. sound)
@@ -119,7 +118,7 @@ IsSound-step state frame sound =
     (λ kept end. tt)
     (λ kept work replies acted is asking below. record { first = omega arith; last = omega arith; different = none_different; asked = λ _. refl })
     (λ kept work replies is asking below. record { first = omega arith; last = omega arith; different = none_different; asked = λ asks. absurd (false≢true asks) })
-    frame
+    text
 
 pub IsSound-invoke : (state : ClientState) (op : Op) → IsSound (client_invoke state op).state
 IsSound-invoke state op =
@@ -129,13 +128,13 @@ IsSound-invoke state op =
 
 -- the number of the last request changes only in an invocation, and then rises by one at most
 
-pub client_step-last_number : (state : ClientState) (frame : Frame) → IsSound state → last_number (client_step state frame).state.last_request ≡ last_number state.last_request
-client_step-last_number state frame sound =
+pub client_step-last_number : (state : ClientState) (text : List ℕ) → IsSound state → last_number (client_step state text).state.last_request ≡ last_number state.last_request
+client_step-last_number state text sound =
     step_cases state (λ stepped. last_number stepped.state.last_request ≡ last_number state.last_request)
     refl (λ _. refl) (λ _ _ _ _ _ _ _ _. refl) (λ _ _. refl)
     (λ kept work replies acted is asking below. sym (ap last_number ((sound_work state work sound is).asked asking)))
     (λ _ _ _ _ _ _. refl)
-    frame
+    text
 
 next_above : (last : Option (ℕ × ℕ)) → next_number last ≤ last_number last + 1
 next_above None = omega arith
@@ -159,22 +158,22 @@ requests_from-to zero replica all me work sets within = All-nil (IsFromTo me all
 requests_from-to (suc count) replica all me work sets within =
     All-cons (IsFromTo me all) _ _ (record { replica = replica; among = omega arith; from = refl; to = refl }) (requests_from-to count (replica + 1) all me work sets (omega arith))
 
-pub client_step-letters : (state : ClientState) (frame : Frame) → All (IsFromTo state.me (replicas state.bounds)) (client_step state frame).letters
-client_step-letters state frame =
+pub client_step-letters : (state : ClientState) (text : List ℕ) → All (IsFromTo state.me (replicas state.bounds)) (client_step state text).letters
+client_step-letters state text =
     let none = All-nil (IsFromTo state.me (replicas state.bounds)) in
     step_cases state (λ stepped. All (IsFromTo state.me (replicas state.bounds)) stepped.letters)
     none (λ _. none) (λ _ _ _ _ _ _ _ _. none) (λ _ _. none)
     (λ kept work replies acted is asking below. requests_from-to (replicas state.bounds) 0 (replicas state.bounds) state.me _ _ (omega arith))
     (λ _ _ _ _ _ _. none)
-    frame
+    text
 
-pub client_step-few : (state : ClientState) (frame : Frame) → length (client_step state frame).letters ≤ replicas state.bounds
-client_step-few state frame =
+pub client_step-few : (state : ClientState) (text : List ℕ) → length (client_step state text).letters ≤ replicas state.bounds
+client_step-few state text =
     step_cases state (λ stepped. length stepped.letters ≤ replicas state.bounds)
     (omega arith) (λ _. omega arith) (λ _ _ _ _ _ _ _ _. omega arith) (λ _ _. omega arith)
     (λ kept work replies acted is asking below. omega (arith, length-requests_from))
     (λ _ _ _ _ _ _. omega arith)
-    frame
+    text
 
 pub client_invoke-letters : (state : ClientState) (op : Op) → All (IsFromTo state.me (replicas state.bounds)) (client_invoke state op).letters
 client_invoke-letters state op =

@@ -6,13 +6,16 @@ use Rattle.qu_base.specs.declared.party.ObjectId.{ObjectId}
 use Rattle.qu_base.specs.declared.party.Party.TheVariants as party
 use Rattle.qu_base.specs.Thresholds.{replicas, quorum}
 use Rattle.qu_history.specs.declared.sets.SetOf.{SetOf}
-use Rattle.qu_history.specs.History.{ObjectHistory}
-use Rattle.qu_history.specs.Sets.{method_at}
+use Rattle.qu_history.specs.declared.sealed.Sealed.{Sealed}
+use Rattle.qu_history.specs.Sets.{histories, method_at}
 use Rattle.qu_objects.specs.declared.op.Op.{Op}
 use Rattle.qu_objects.specs.declared.op.Op.TheVariants as op
+use Rattle.qu_frames.specs.declared.frame.Frame.{Frame}
 use Rattle.qu_frames.specs.declared.frame.Frame.TheVariants as frame
 use Rattle.qu_frames.specs.declared.frame.Letter.{Letter}
 use Rattle.qu_frames.specs.Body.{body_of}
+use Rattle.qu_frames.specs.Blank.{blank_mac}
+use Rattle.qu_frames.specs.Forms.{frame_form}
 use Rattle.qu_client.specs.declared.kept.Kept.{Kept}
 use Rattle.qu_client.specs.declared.state.Begun.{Begun}
 use Rattle.qu_client.specs.declared.work.Phase.TheVariants.{Asking, Halted}
@@ -35,10 +38,10 @@ is_act (op.Act parts) = true
 is_act (op.Query parts) = false
 
 -- the entries of an object that are kept of so many replicas from this one on
-unfoldable pub entries_from : ObjectId → ℕ → ℕ → List Kept → List ObjectHistory
+unfoldable pub entries_from : ObjectId → ℕ → ℕ → List Kept → List Sealed
 entries_from object replica zero kept = []
 entries_from object replica (suc count) kept =
-    elim (kept_of object replica kept) [ None ↦ entries_from object (replica + 1) count kept | Some history ↦ history ∷ entries_from object (replica + 1) count kept ]
+    elim (kept_of object replica kept) [ None ↦ entries_from object (replica + 1) count kept | Some sealed ↦ sealed ∷ entries_from object (replica + 1) count kept ]
 
 abbrev pub set_of : ℕ → List Kept → ObjectId → SetOf
 set_of bounds kept object = record { object = object; entries = entries_from object 0 (replicas bounds) kept }
@@ -53,7 +56,11 @@ are_full bounds sets = list_all (λ set. not (nat_lt (length set.entries) (quoru
 
 -- each object is of class METHOD
 abbrev pub are_current : ℕ → List SetOf → Bool
-are_current bounds sets = list_all (λ set. is_some (method_at bounds set.entries)) sets
+are_current bounds sets = list_all (λ set. is_some (method_at bounds (histories set.entries))) sets
+
+-- what is asked in a round
+abbrev pub request_of : ClientId → Work → List SetOf → Frame
+request_of me work sets = frame.Request me work.number work.round sets (body_of work.op) blank_mac
 
 -- the same request to so many replicas from this one on
 unfoldable pub requests_from : ℕ → ℕ → ClientId → Work → List SetOf → List Letter
@@ -61,7 +68,7 @@ requests_from replica zero me work sets = []
 requests_from replica (suc count) me work sets = (record {
   from = party.Client me;
   to = party.Replica (record { 0 = replica });
-  frame = frame.Request me work.number work.round sets (body_of work.op);
+  text = frame_form.spell (request_of me work sets);
 }) ∷ requests_from (replica + 1) count me work sets
 
 -- the state and the letters that a round makes of this state

@@ -3,6 +3,7 @@ use Rattle.std.specs.Prelude.{ℕ, Bool, ◌==◌, ◌&&◌, ◌||◌, nat_lt, i
 use Rattle.qu_base.specs.declared.party.ClientId.{ClientId}
 use Rattle.qu_base.specs.declared.party.ObjectId.{ObjectId}
 use Rattle.qu_history.specs.History.{ObjectHistory}
+use Rattle.qu_history.specs.declared.sealed.Sealed.{Sealed}
 use Rattle.qu_client.specs.declared.kept.Kept.{Kept}
 pub use Rattle.qu_client.specs.declared.state.ClientState.{ClientState}
 
@@ -17,22 +18,22 @@ is_older number round other later = nat_lt number other || (number == other && n
 abbrev pub same_source : ObjectHistory → ObjectHistory → Bool
 same_source a b = (a.object).0 == (b.object).0 && (a.replica).0 == (b.replica).0
 
--- a history takes the place of the one that is kept of its object and replica, unless it is older
+-- a sealed history takes the place of the one that is kept of its object and replica, unless it is older
 unfoldable pub keep : Kept → List Kept → List Kept
 keep new [] = new ∷ []
 keep new (held ∷ later) =
-    if same_source new.history held.history
+    if same_source new.sealed.history held.sealed.history
     then (if is_older new.number new.round held.number held.round then held ∷ later else new ∷ later)
     else held ∷ keep new later
 
--- all histories of an answer
-unfoldable pub keep_all : ℕ → ℕ → List ObjectHistory → List Kept → List Kept
+-- all sealed histories of an answer
+unfoldable pub keep_all : ℕ → ℕ → List Sealed → List Kept → List Kept
 keep_all number round [] kept = kept
-keep_all number round (history ∷ later) kept =
-    keep_all number round later (keep (record { history = history; number = number; round = round }) kept)
+keep_all number round (sealed ∷ later) kept =
+    keep_all number round later (keep (record { sealed = sealed; number = number; round = round }) kept)
 
--- the history that is kept of an object and a replica
-unfoldable pub kept_of : ObjectId → ℕ → List Kept → Option ObjectHistory
+-- the sealed history that is kept of an object and a replica
+unfoldable pub kept_of : ObjectId → ℕ → List Kept → Option Sealed
 kept_of object replica [] = None
 kept_of object replica (held ∷ later) =
-    if ((held.history).object).0 == object.0 && ((held.history).replica).0 == replica then Some held.history else kept_of object replica later
+    if ((held.sealed.history).object).0 == object.0 && ((held.sealed.history).replica).0 == replica then Some held.sealed else kept_of object replica later

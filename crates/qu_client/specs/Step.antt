@@ -1,7 +1,8 @@
--- The client's step: a function from its state and an invocation, a frame or a tick to a state,
+-- The client's step: a function from its state and an invocation, a text or a tick to a state,
 -- letters and possibly an end.
-use Rattle.std.specs.Prelude.{ℕ, Bool, true, false, not, ◌+◌, ◌-◌, ◌==◌, ◌&&◌, nat_lt, nat_le, if◌then◌else◌, List, [], ◌∷◌, ◌++◌, length, count_by, max, Option, None, Some}
+use Rattle.std.specs.Prelude.{ℕ, Bool, true, false, not, ◌+◌, ◌-◌, ◌==◌, ◌&&◌, nat_lt, nat_le, if◌then◌else◌, List, [], ◌∷◌, ◌++◌, length, count_by, max, Option, None, Some, Result, Ok, Err}
 use Rattle.std.specs.List.{list_any}
+use Rattle.qu_base.specs.declared.bad_text.BadText.{BadText}
 use Rattle.qu_base.specs.declared.party.ReplicaId.{ReplicaId}
 use Rattle.qu_base.specs.Thresholds.{replicas, quorum}
 use Rattle.qu_objects.specs.declared.answer.Answer.{Answer}
@@ -15,6 +16,7 @@ use Rattle.qu_frames.specs.declared.frame.Letter.{Letter}
 use Rattle.qu_frames.specs.declared.verdict.Verdict.{Verdict}
 use Rattle.qu_frames.specs.declared.verdict.Verdict.TheVariants as verdict
 use Rattle.qu_frames.specs.Verdict.{same_verdict}
+use Rattle.qu_frames.specs.Decoding.{decoded}
 use Rattle.qu_client.specs.declared.work.Counted.{Counted}
 use Rattle.qu_client.specs.declared.work.Phase.{Phase}
 use Rattle.qu_client.specs.declared.work.Phase.TheVariants.{Asking, Halted}
@@ -89,12 +91,20 @@ counted_in state (Some work) replica number round verdict =
 
 -- a frame that is no reply to this client is ignored; a reply's histories are kept, and then its
 -- verdict counts
-abbrev pub client_step : ClientState → Frame → Stepped
-client_step state (frame.Request client number round sets body) = stays state
-client_step state (frame.Reply replica client number round verdict shown) =
+abbrev pub on_frame : ClientState → Frame → Stepped
+on_frame state (frame.Request client number round sets body mac) = stays state
+on_frame state (frame.Reply replica client number round verdict culled shown mac) =
     if client.0 == (state.me).0
     then counted_in (record state { kept = keep_all number round shown state.kept }) state.work replica number round verdict
     else stays state
+
+abbrev pub on_decoded : ClientState → Result Frame BadText → Stepped
+on_decoded state (Ok frame) = on_frame state frame
+on_decoded state (Err bad) = stays state
+
+-- a text that is no frame is ignored
+abbrev pub client_step : ClientState → List ℕ → Stepped
+client_step state text = on_decoded state (decoded text)
 
 -- a tick changes nothing
 abbrev pub client_tick : ClientState → Stepped

@@ -1,13 +1,13 @@
-ghost use Rattle.std.specs.Prelude.{◌≡◌, ◌<◌, ◌-◌, ◌^◌, ◌↔◌, Err, None, IsTrue, IsSome, IfOk, OnOk, OnErr, IfSome, option_map};
+ghost use Rattle.std.specs.Prelude.{◌≡◌, ◌<◌, ◌-◌, ◌^◌, ◌↔◌, Err, None, IsTrue, IsSome, IfOk, OnOk, OnErr, IfSome, option_map, []};
 ghost use Rattle.qu_client.specs.State.{opening_state};
-ghost use Rattle.qu_client.specs.Step.{client_invoke, client_step, client_tick, next_number};
+ghost use Rattle.qu_client.specs.Step.{client_invoke, client_step, on_frame, client_tick, next_number};
 
 use super::rounds::begin_round;
 use super::state::shown_to;
 use super::steps::counted_in;
 use super::{Begun, ClientState, Stepped, Work};
-use qu_base::{Bounds, ClientId, List, NoMemory};
-use qu_frames::{Frame, Letter};
+use qu_base::{Bounds, ClientId, List, NoMemory, ReadFail};
+use qu_frames::{Frame, Letter, decode};
 use qu_objects::{Op, Outcome};
 use std::alloc::Global;
 use std::marker::Model;
@@ -36,6 +36,19 @@ impl From<NoMemory> for InvokeFail {
 pub struct Moved {
     pub letters: List<Letter>,
     pub ended: Option<Outcome>,
+}
+
+impl Moved {
+    /// What is made where nothing happens.
+    fn nothing(alloc: Global) -> Moved
+        ensures letters { result.letters ≡ [] }
+        ensures ended { result.ended ≡ None }
+    {
+        Moved {
+            letters: List::new(alloc),
+            ended: None,
+        }
+    }
 }
 
 /// One client. Its operations run one at a time.
@@ -122,11 +135,25 @@ impl Client {
         Ok(letters)
     }
 
-    /// Takes a frame. Without memory the client is as before.
-    pub fn step(&mut self, frame: &Frame) -> Result<Moved, NoMemory>
-        ensures state { OnOk result (self.new ≡ (client_step self.old frame.now).state) }
-        ensures letters { IfOk result (λ moved. moved.letters ≡ (client_step self.old frame.now).letters) }
-        ensures ended { IfOk result (λ moved. moved.ended ≡ (client_step self.old frame.now).ended) }
+    /// Takes the bytes of a frame; any others are ignored. Without memory the client is as before.
+    pub fn step(&mut self, text: &[u8]) -> Result<Moved, NoMemory>
+        ensures state { OnOk result (self.new ≡ (client_step self.old text.now).state) }
+        ensures letters { IfOk result (λ moved. moved.letters ≡ (client_step self.old text.now).letters) }
+        ensures ended { IfOk result (λ moved. moved.ended ≡ (client_step self.old text.now).ended) }
+        ensures err { OnErr result (self.new ≡ self.old) }
+    {
+        match decode(self.alloc, text) {
+            Ok(frame) => self.on_frame(&frame),
+            Err(ReadFail::Bad(_)) => Ok(Moved::nothing(self.alloc)),
+            Err(ReadFail::NoMemory) => Err(NoMemory),
+        }
+    }
+
+    /// Takes a frame. One that is no reply to this client is ignored.
+    fn on_frame(&mut self, frame: &Frame) -> Result<Moved, NoMemory>
+        ensures state { OnOk result (self.new ≡ (on_frame self.old frame.now).state) }
+        ensures letters { IfOk result (λ moved. moved.letters ≡ (on_frame self.old frame.now).letters) }
+        ensures ended { IfOk result (λ moved. moved.ended ≡ (on_frame self.old frame.now).ended) }
         ensures err { OnErr result (self.new ≡ self.old) }
     {
         match frame {
@@ -137,6 +164,7 @@ impl Client {
                 round,
                 verdict,
                 shown,
+                ..
             } if client.0 == self.state.me.0 => {
                 let state = shown_to(self.alloc, &self.state, *number, *round, shown.as_slice())?;
                 let Stepped {
@@ -147,10 +175,7 @@ impl Client {
                 self.state = state;
                 Ok(Moved { letters, ended })
             }
-            _ => Ok(Moved {
-                letters: List::new(self.alloc),
-                ended: None,
-            }),
+            _ => Ok(Moved::nothing(self.alloc)),
         }
     }
 
@@ -161,10 +186,7 @@ impl Client {
         ensures ended { IfOk result (λ moved. moved.ended ≡ (client_tick self.old).ended) }
         ensures err { OnErr result (self.new ≡ self.old) }
     {
-        Ok(Moved {
-            letters: List::new(self.alloc),
-            ended: None,
-        })
+        Ok(Moved::nothing(self.alloc))
     }
 
     /// The number of the next operation.

@@ -2,13 +2,13 @@ ghost use Rattle.std.specs.Prelude.{◌≡◌, IfOk, OnOk, vec_len};
 ghost use Rattle.std.specs.Option.{option_copied};
 
 use qu_base::{List, NoMemory, ObjectId};
-use qu_history::History;
+use qu_history::Sealed;
 use std::alloc::Global;
 
-/// The newest history of an object that a replica sent, and which request it answered.
+/// The newest sealed history of an object that a replica sent, and which request it answered.
 #[derive(Debug, Drop)]
 pub struct Kept {
-    pub history: History,
+    pub sealed: Sealed,
     pub number: u64,
     pub round: u8,
 }
@@ -18,10 +18,11 @@ impl Kept {
 
     /// Whether both are of one object and one replica.
     fn is_of_source(&self, other: &Kept) -> bool
-        ensures { result ≡ same_source self.now.history other.now.history }
+        ensures { result ≡ same_source self.now.sealed.history other.now.sealed.history }
     {
-        self.history.object().0 == other.history.object().0
-            && self.history.replica().0 == other.history.replica().0
+        let mine = &self.sealed.history;
+        let theirs = &other.sealed.history;
+        mine.object().0 == theirs.object().0 && mine.replica().0 == theirs.replica().0
     }
 
     /// Whether it was sent in answer to an older request.
@@ -34,9 +35,8 @@ impl Kept {
     fn copy(&self, alloc: Global) -> Result<Kept, NoMemory>
         ensures { IfOk result (λ kept. kept ≡ self.now) }
     {
-        let history = self.history.copy(alloc)?;
         Ok(Kept {
-            history,
+            sealed: self.sealed.copy(alloc)?,
             number: self.number,
             round: self.round,
         })

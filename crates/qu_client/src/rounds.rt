@@ -1,10 +1,11 @@
 ghost use Rattle.std.specs.Prelude.{◌≡◌, IfOk};
-ghost use Rattle.qu_client.specs.Rounds.{is_act, requests_from, begun_from, asked, halted, begin_full, begin_round};
+ghost use Rattle.qu_frames.specs.Forms.{frame_form};
+ghost use Rattle.qu_client.specs.Rounds.{is_act, request_of, requests_from, begun_from, asked, halted, begin_full, begin_round};
 
 use super::sets::{are_current, are_full, sets_of};
 use super::{Begun, ClientState, Phase, Work};
 use qu_base::{ClientId, List, NoMemory, Party, ReplicaId};
-use qu_frames::{Body, Frame, Letter};
+use qu_frames::{Body, Frame, Letter, blank_mac, encode};
 use qu_history::Sets;
 use qu_objects::Op;
 use std::alloc::Global;
@@ -87,21 +88,29 @@ fn requests(
 ) -> Result<List<Letter>, NoMemory>
     ensures { IfOk result (λ letters. letters ≡ requests_from 0 replicas me work.now sets.now) }
 {
+    let text = request(alloc, me, work, sets)?;
     let mut letters = List::new(alloc);
     for replica in 0..replicas {
-        let sets = sets.copy(alloc)?;
-        let body = Body::of(alloc, &work.op)?;
         letters.push(Letter {
             from: Party::Client(me),
             to: Party::Replica(ReplicaId(replica)),
-            frame: Frame::Request {
-                client: me,
-                number: work.number,
-                round: work.round,
-                sets,
-                body,
-            },
+            text: text.copy(alloc)?,
         })?;
     }
     Ok(letters)
+}
+
+/// The bytes of what is asked in a round.
+fn request(alloc: Global, me: ClientId, work: &Work, sets: &Sets) -> Result<List<u8>, NoMemory>
+    ensures { IfOk result (λ text. text ≡ frame_form.spell (request_of me work.now sets.now)) }
+{
+    let frame = Frame::Request {
+        client: me,
+        number: work.number,
+        round: work.round,
+        sets: sets.copy(alloc)?,
+        body: Body::of(alloc, &work.op)?,
+        mac: blank_mac(),
+    };
+    encode(alloc, &frame)
 }

@@ -4,7 +4,7 @@ ghost use Rattle.qu_client.specs.Rounds.{objects_of, are_objects, entries_from, 
 use super::Kept;
 use super::kept::kept_of;
 use qu_base::{Bounds, List, NoMemory, ObjectId};
-use qu_history::{History, SetOf, Sets};
+use qu_history::{Sealed, SetOf, Sets};
 use qu_objects::Op;
 use std::alloc::Global;
 
@@ -73,19 +73,19 @@ fn objects_in<T>(alloc: Global, parts: &[(ObjectId, T)]) -> Result<List<ObjectId
     Ok(objects)
 }
 
-/// The histories that are kept of an object, by rising replica.
+/// The sealed histories that are kept of an object, by rising replica.
 fn entries_of(
     alloc: Global,
     replicas: u8,
     kept: &[Kept],
     object: ObjectId,
-) -> Result<List<History>, NoMemory>
+) -> Result<List<Sealed>, NoMemory>
     ensures { IfOk result (λ entries. entries ≡ entries_from object 0 replicas kept.now) }
 {
     let mut entries = List::new(alloc);
     for replica in 0..replicas {
-        if let Some(history) = kept_of(kept, object, replica) {
-            entries.push(history.copy(alloc)?)?;
+        if let Some(sealed) = kept_of(kept, object, replica) {
+            entries.push(sealed.copy(alloc)?)?;
         }
     }
     Ok(entries)

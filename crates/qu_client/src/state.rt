@@ -5,11 +5,11 @@ use super::kept::keep_all;
 use super::{Kept, Work};
 use qu_base::{Bounds, ClientId, List, NoMemory};
 use qu_frames::Letter;
-use qu_history::History;
+use qu_history::Sealed;
 use qu_objects::Outcome;
 use std::alloc::Global;
 
-/// What a client holds: the histories that it was sent, and the operation under way.
+/// What a client holds: the sealed histories that it was sent, and the operation under way.
 #[derive(Debug, Drop)]
 pub struct ClientState {
     pub me: ClientId,
@@ -44,7 +44,7 @@ pub fn shown_to(
     state: &ClientState,
     number: u64,
     round: u8,
-    shown: &[History],
+    shown: &[Sealed],
 ) -> Result<ClientState, NoMemory>
     ensures { IfOk result (λ after. after ≡ record state.now { kept = keep_all number round shown.now state.now.kept }) }
 {

@@ -1,2 +1,5 @@
 pub mod Body
 pub mod Verdict
+pub mod Forms
+pub mod Decoding
+pub mod Blank

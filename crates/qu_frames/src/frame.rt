@@ -1,8 +1,8 @@
 ghost use Rattle.std.specs.Prelude.{◌≡◌, IfOk};
 
 use super::Verdict;
-use qu_base::{ClientId, List, NoMemory, Party, ReplicaId};
-use qu_history::{History, Sets};
+use qu_base::{ClientId, List, NoMemory, ObjectId, Party, ReplicaId};
+use qu_history::{Sealed, Sets};
 use qu_objects::{Act, Op, Query};
 use std::alloc::Global;
 
@@ -16,6 +16,16 @@ pub enum Body {
 impl Body {
     ghost use Rattle.qu_frames.specs.Body.{body_of};
 
+    /// An equal body.
+    pub fn copy(&self, alloc: Global) -> Result<Body, NoMemory>
+        ensures { IfOk result (λ body. body ≡ self.now) }
+    {
+        Ok(match self {
+            Body::Act(act) => Body::Act(act.copy(alloc)?),
+            Body::Ask(query) => Body::Ask(query.copy(alloc)?),
+        })
+    }
+
     /// The body of an operation's request.
     pub fn of(alloc: Global, op: &Op) -> Result<Body, NoMemory>
         ensures { IfOk result (λ body. body ≡ body_of op.now) }
@@ -27,7 +37,7 @@ impl Body {
     }
 }
 
-/// What one party sends to another.
+/// What one party sends to another, under an HMAC of the pair's key.
 #[derive(Debug, Drop)]
 pub enum Frame {
     /// A client's operation, by its number and round, upon the histories that the client was shown.
@@ -37,22 +47,83 @@ pub enum Frame {
         round: u8,
         sets: Sets,
         body: Body,
+        mac: [u8; 32],
     },
-    /// A replica's answer to a request, with its histories of the objects of the request's sets.
+    /// A replica's answer to a request, with its sealed histories of the objects of the request's sets.
     Reply {
         replica: ReplicaId,
         client: ClientId,
         number: u64,
         round: u8,
         verdict: Verdict,
-        shown: List<History>,
+        /// The entries of the sets whose HMAC for this replica was not right, in rising order.
+        culled: List<(ObjectId, ReplicaId)>,
+        shown: List<Sealed>,
+        mac: [u8; 32],
     },
 }
 
-/// A frame on its way.
+impl Frame {
+    /// An equal frame.
+    pub fn copy(&self, alloc: Global) -> Result<Frame, NoMemory>
+        ensures { IfOk result (λ frame. frame ≡ self.now) }
+    {
+        Ok(match self {
+            Frame::Request {
+                client,
+                number,
+                round,
+                sets,
+                body,
+                mac,
+            } => Frame::Request {
+                client: *client,
+                number: *number,
+                round: *round,
+                sets: sets.copy(alloc)?,
+                body: body.copy(alloc)?,
+                mac: *mac,
+            },
+            Frame::Reply {
+                replica,
+                client,
+                number,
+                round,
+                verdict,
+                culled,
+                shown,
+                mac,
+            } => Frame::Reply {
+                replica: *replica,
+                client: *client,
+                number: *number,
+                round: *round,
+                verdict: verdict.copy(alloc)?,
+                culled: culled.copy(alloc)?,
+                shown: Sealed::copy_all(alloc, shown.as_slice())?,
+                mac: *mac,
+            },
+        })
+    }
+}
+
+/// The bytes of a frame on their way.
 #[derive(Debug, Drop)]
 pub struct Letter {
     pub from: Party,
     pub to: Party,
-    pub frame: Frame,
+    pub text: List<u8>,
+}
+
+impl Letter {
+    /// An equal letter.
+    pub fn copy(&self, alloc: Global) -> Result<Letter, NoMemory>
+        ensures { IfOk result (λ letter. letter ≡ self.now) }
+    {
+        Ok(Letter {
+            from: self.from,
+            to: self.to,
+            text: self.text.copy(alloc)?,
+        })
+    }
 }

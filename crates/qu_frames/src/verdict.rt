@@ -8,7 +8,12 @@ use std::alloc::Global;
 /// The class of an object upon which no operation may rest.
 #[derive(Clone, Copy, Debug, PartialEq, Eq)]
 pub enum ClassCode {
+    InlineMethod,
+    Copy,
+    InlineBarrier,
     Barrier,
+    /// More histories are needed to tell.
+    Needs,
 }
 
 /// Why a replica refuses a request. Nothing changed at it.
@@ -18,14 +23,22 @@ pub enum Refusal {
     HistoryFull(ObjectId),
     /// The sets have fewer entries of this object than a quorum.
     Thin(ObjectId),
+    /// An operation upon this object needs more than the sets show.
+    Needs(ObjectId),
+    /// The histories of this object are older than those that the replica knows of.
+    Stale(ObjectId),
     /// The replica has a later candidate of this object, whose stamp is told.
     NotCurrent(ObjectId, Stamp),
     /// An operation may not rest upon this object, which is of the class told.
     NotMethod(ObjectId, ClassCode),
+    /// The client's operation with this number, told, or a later one was performed upon this object.
+    Spent(ObjectId, u64),
     /// The time of this object is spent.
     TimeSpent(ObjectId),
     /// The replica does not have this object.
     UnknownObject(ObjectId),
+    /// The sets are sound for this object: there is nothing to mend.
+    Sound(ObjectId),
 }
 
 /// What a replica answers to a request.
@@ -41,6 +54,10 @@ pub enum Verdict {
         stamps: List<(ObjectId, Stamp)>,
         answer: Answer,
     },
+    /// The act was performed before, and answered so.
+    Already(Answer),
+    /// This object was mended: the stamp of the candidate that was added.
+    Mended(ObjectId, Stamp),
     Refused(Refusal),
 }
 
@@ -68,6 +85,8 @@ impl Verdict {
                 stamps: stamps.copy(alloc)?,
                 answer: answer.copy(alloc)?,
             },
+            Verdict::Already(answer) => Verdict::Already(answer.copy(alloc)?),
+            Verdict::Mended(object, stamp) => Verdict::Mended(*object, *stamp),
             Verdict::Refused(refusal) => Verdict::Refused(*refusal),
         })
     }

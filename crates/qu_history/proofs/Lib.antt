@@ -4,3 +4,5 @@ pub mod Greatest
 pub mod Method
 pub mod SetLaws
 pub mod Forms
+pub mod Histories
+pub mod Unsealed

@@ -1,13 +1,12 @@
 -- How tests and look-ups go along the objects of some sets, and along the entries of an object.
-use Rattle.std.proofs.Common.{◌≡◌, ◌+◌, ◌<◌, ◌≤◌, ℕ, List, [], ◌∷◌, true, false, ◌&&◌, cond, eqb, leb, ltb, IsTrue, sym, ap, subst, inl, inr, ◌∙◌, drop, length, get_or, All, arith}
+use Rattle.std.proofs.Common.{◌≡◌, ◌+◌, ◌<◌, ◌≤◌, ℕ, List, [], ◌∷◌, true, false, ◌&&◌, cond, eqb, leb, ltb, IsTrue, sym, ap, subst, inl, inr, ◌∙◌, drop, length, get_or, arith}
 use Rattle.std.proofs.lemmas.Bool.{cases_Bool, and_parts, and_from, and_left, and_right, leb-true, ltb-true, lt-ltb, le-ltb, le-leb, lt-leb}
-use Rattle.std.proofs.lemmas.List.{drop_more, drop_all}
-use Rattle.std.specs.List.{AllByRecursion}
-use Rattle.std.proofs.lemmas.List.Elements.{All-from_recursion}
+use Rattle.std.proofs.lemmas.List.{drop_more, drop_all, length-map}
 use Rattle.qu_base.specs.declared.party.ObjectId.{ObjectId}
+use Rattle.qu_history.specs.declared.sealed.Sealed.{Sealed}
 use Rattle.qu_history.specs.declared.sets.SetOf.{SetOf}
 use Rattle.qu_history.specs.History.{ObjectHistory}
-use Rattle.qu_history.specs.Sets.{is_entry, are_entries, is_set, are_sets_from, are_sets, entries_of}
+use Rattle.qu_history.specs.Sets.{histories, is_entry, are_entries, is_set, are_sets_from, are_sets, entries_of}
 
 module _ (object : ObjectId) (entries : List ObjectHistory) (least index : ℕ) (so_far : are_entries object 0 entries ≡ are_entries object least (drop index entries)) where
   -- a test that has seen all entries
@@ -76,15 +75,15 @@ unfolding are_sets_from entries_of
 length_entries_of object least [] passes = omega arith
 length_entries_of object least (set ∷ later) passes =
     let parts : (is_set least set ≡ true) × (are_sets_from ((set.object).0 + 1) later ≡ true) = and_parts _ _ passes in
-    let entries : are_entries set.object 0 set.entries ≡ true = (and_parts (leb least (set.object).0 && ltb (set.object).0 64) (are_entries set.object 0 set.entries) parts.0).1 in
-    let own : length set.entries + 0 ≤ 16 = length_entries set.object 0 set.entries (omega arith) entries in
+    let entries : are_entries set.object 0 (histories set.entries) ≡ true = (and_parts (leb least (set.object).0 && ltb (set.object).0 64) (are_entries set.object 0 (histories set.entries)) parts.0).1 in
+    let own : length (histories set.entries) + 0 ≤ 16 = length_entries set.object 0 (histories set.entries) (omega arith) entries in
     let rest : length (entries_of object later) ≤ 16 = length_entries_of object ((set.object).0 + 1) later parts.1 in
     elim (cases_Bool (eqb (set.object).0 object.0)) [
       | inl found ↦
-          let here : cond (eqb (set.object).0 object.0) set.entries (entries_of object later) ≡ set.entries = ap (λ test. cond test set.entries (entries_of object later)) found in
+          let here : cond (eqb (set.object).0 object.0) (histories set.entries) (entries_of object later) ≡ (histories set.entries) = ap (λ test. cond test (histories set.entries) (entries_of object later)) found in
           subst (λ entries. length entries ≤ 16) (sym here) (omega arith)
       | inr other ↦
-          let there : cond (eqb (set.object).0 object.0) set.entries (entries_of object later) ≡ entries_of object later = ap (λ test. cond test set.entries (entries_of object later)) other in
+          let there : cond (eqb (set.object).0 object.0) (histories set.entries) (entries_of object later) ≡ entries_of object later = ap (λ test. cond test (histories set.entries) (entries_of object later)) other in
           subst (λ entries. length entries ≤ 16) (sym there) rest
     ]
 
@@ -92,25 +91,11 @@ pub few_entries : (object : ObjectId) (sets : List SetOf) → IsTrue (are_sets s
 unfolding are_sets
 few_entries object sets passes = length_entries_of object 0 sets (and_parts _ _ passes).1
 
-pub few_sets : (sets : List SetOf) → IsTrue (are_sets sets) → length sets ≤ 8
-unfolding are_sets
-few_sets sets passes =
-    let parts = and_parts (ltb 0 (length sets) && leb (length sets) 8) (are_sets_from 0 sets) passes in
-    leb-true (length sets) 8 (and_parts (ltb 0 (length sets)) (leb (length sets) 8) parts.0).1
-
-few_from : (least : ℕ) (sets : List SetOf) → are_sets_from least sets ≡ true → AllByRecursion (λ set. length set.entries ≤ 16) sets
-unfolding are_sets_from
-few_from least [] passes = tt
-few_from least (set ∷ later) passes =
-    let parts : (is_set least set ≡ true) × (are_sets_from ((set.object).0 + 1) later ≡ true) = and_parts _ _ passes in
-    let entries : are_entries set.object 0 set.entries ≡ true = (and_parts (leb least (set.object).0 && ltb (set.object).0 64) (are_entries set.object 0 set.entries) parts.0).1 in
-    let own : length set.entries + 0 ≤ 16 = length_entries set.object 0 set.entries (omega arith) entries in
-    (omega arith, few_from ((set.object).0 + 1) later parts.1)
-
--- each object of the sets has at most 16 entries
-pub few_entries_each : (sets : List SetOf) → IsTrue (are_sets sets) → All (λ set. length set.entries ≤ 16) sets
-unfolding are_sets
-few_entries_each sets passes = All-from_recursion (λ set. length set.entries ≤ 16) sets (few_from 0 sets (and_parts _ _ passes).1)
+-- and so are those that were found
+pub few_found : (found : List Sealed) (object : ObjectId) (sets : List SetOf) → histories found ≡ entries_of object sets → IsTrue (are_sets sets) → length found ≤ 16
+few_found found object sets here passes =
+    let same_length = length-map found (λ (sealed : Sealed). sealed.history) in
+    omega (arith, same_length, ap length here, few_entries object sets passes)
 
 module _ (object : ObjectId) (sets : List SetOf) (index : ℕ) (so_far : entries_of object sets ≡ entries_of object (drop index sets)) where
   -- a look-up that has seen all objects
@@ -119,14 +104,14 @@ module _ (object : ObjectId) (sets : List SetOf) (index : ℕ) (so_far : entries
   entries_of_all whole = sym (so_far ∙ ap (entries_of object) (drop_all index sets whole))
 
   module _ (set : SetOf) (within : index < length sets) (here : set ≡ get_or sets index set) where
-    next_object : entries_of object sets ≡ cond (eqb (set.object).0 object.0) set.entries (entries_of object (drop (index + 1) sets))
+    next_object : entries_of object sets ≡ cond (eqb (set.object).0 object.0) (histories set.entries) (entries_of object (drop (index + 1) sets))
     unfolding entries_of
     next_object =
         so_far ∙ ap (entries_of object) (drop_more sets index set within) ∙
         ap (λ (other : SetOf). entries_of object (other ∷ drop (index + 1) sets)) (sym here)
 
-    pub entries_of_found : eqb (set.object).0 object.0 ≡ true → set.entries ≡ entries_of object sets
-    entries_of_found found = sym (next_object ∙ ap (λ test. cond test set.entries (entries_of object (drop (index + 1) sets))) found)
+    pub entries_of_found : eqb (set.object).0 object.0 ≡ true → histories set.entries ≡ entries_of object sets
+    entries_of_found found = sym (next_object ∙ ap (λ test. cond test (histories set.entries) (entries_of object (drop (index + 1) sets))) found)
 
     pub entries_of_more : eqb (set.object).0 object.0 ≡ false → entries_of object sets ≡ entries_of object (drop (index + 1) sets)
-    entries_of_more other = next_object ∙ ap (λ test. cond test set.entries (entries_of object (drop (index + 1) sets))) other
+    entries_of_more other = next_object ∙ ap (λ test. cond test (histories set.entries) (entries_of object (drop (index + 1) sets))) other

@@ -1,15 +1,16 @@
--- The format of a history, and of what is digested of the sets of a request.
-use Rattle.std.specs.Prelude.{ℕ, ◌==◌, ◌+◌, nat_le, List, Option, None, Some}
+-- The formats of histories, of sealed histories, of the sets of a request, and of what is digested of these.
+use Rattle.std.specs.Prelude.{ℕ, Bool, ◌==◌, ◌||◌, ◌+◌, nat_le, List, Option, None, Some}
 use Rattle.std.specs.Int.{w8, w16}
 use Rattle.qu_base.specs.declared.bad_text.Why.TheVariants.{Range, Order}
 use Rattle.qu_base.specs.declared.party.ObjectId.{ObjectId}
 use Rattle.qu_base.specs.declared.party.ReplicaId.{ReplicaId}
-use Rattle.qu_base.specs.Format.{Format, number, both, tested, made, counted, object_form, replica_form}
+use Rattle.qu_base.specs.Format.{Format, number, both, tested, made, bytes, items, counted, object_form, replica_form}
 use Rattle.qu_stamp.specs.declared.stamp.Stamp.{Stamp}
 use Rattle.qu_stamp.specs.declared.candidate.Candidate.{Candidate}
 use Rattle.qu_stamp.specs.Stamp.{opening_stamp, is_below, same_stamp}
 use Rattle.qu_stamp.specs.Forms.{stamp_form, candidate_with, candidate_form}
 use Rattle.qu_history.specs.declared.history.TheConstants.{HISTORY_LIMIT}
+use Rattle.qu_history.specs.declared.sealed.Sealed.{Sealed}
 use Rattle.qu_history.specs.declared.sets.SetOf.{SetOf}
 use Rattle.qu_history.specs.declared.sets.TheConstants.{SETS_YET}
 use Rattle.qu_history.specs.History.{ObjectHistory}
@@ -39,23 +40,92 @@ history_with object_field replica_field =
 unfoldable pub history_form : Format ObjectHistory
 history_form = history_with object_form replica_form
 
--- ---- the sets of a request, as they are digested
+-- ---- sealed histories
+
+-- an HMAC for each replica: 6, 11 or 16
+abbrev pub is_mac_count : ℕ → Bool
+is_mac_count count = count == 6 || (count == 11 || count == 16)
+
+abbrev pub some_macs : ℕ → Format (List (List ℕ))
+some_macs count = items {K = Unit {0}} (λ mac. mac) (λ before. bytes 32) (λ mac. tt) tt count
+
+abbrev pub macs_form : Format (List (List ℕ))
+macs_form = counted {K = Unit {0}} (tested is_mac_count Range (number w8 0 255)) (λ mac. mac) (λ before. bytes 32) (λ mac. tt) tt
+
+-- a history of this format, and its HMACs
+abbrev pub sealed_with : Format ObjectHistory → Format Sealed
+sealed_with form =
+    made (λ fields. record { history = fields.0; macs = fields.1 }) (λ (sealed : Sealed). Some (sealed.history, sealed.macs))
+    (both form (λ history. macs_form))
+
+unfoldable pub sealed_form : Format Sealed
+sealed_form = sealed_with history_form
+
+-- ---- the sets of a request
+
+-- an object that is not below this number
+abbrev pub object_from : ℕ → Format ObjectId
+object_from least = tested (λ (object : ObjectId). nat_le least object.0) Order object_form
 
 -- the history of an entry of this object, by a replica that is not below this number
 unfoldable pub entry_form : ObjectId → ℕ → Format ObjectHistory
 entry_form object least =
     history_with (tested (λ (other : ObjectId). other.0 == object.0) Range object_form) (tested (λ (replica : ReplicaId). nat_le least replica.0) Order replica_form)
 
--- at most 16 of them, by rising replicas
-unfoldable pub entries_form : ObjectId → Format (List ObjectHistory)
-entries_form object =
-    counted (number w8 0 16) history_form.spell (entry_form object) (λ (history : ObjectHistory). (history.replica).0 + 1) 0
+abbrev pub next_replica : ObjectHistory → ℕ
+next_replica history = (history.replica).0 + 1
 
+-- with its HMACs
+unfoldable pub sealed_entry_form : ObjectId → ℕ → Format Sealed
+sealed_entry_form object least = sealed_with (entry_form object least)
+
+abbrev pub next_entry : Sealed → ℕ
+next_entry sealed = next_replica sealed.history
+
+abbrev pub some_entries : ObjectId → ℕ → ℕ → Format (List Sealed)
+some_entries object least count = items sealed_form.spell (sealed_entry_form object) next_entry least count
+
+-- at most 16 of them, by rising replicas
+unfoldable pub entries_form : ObjectId → Format (List Sealed)
+entries_form object = counted (number w8 0 16) sealed_form.spell (sealed_entry_form object) next_entry 0
+
+-- an object that is not below this number, with its entries
 unfoldable pub set_form : ℕ → Format SetOf
 set_form least =
     made (λ fields. record { object = fields.0; entries = fields.1 }) (λ (set : SetOf). Some (set.object, set.entries))
-    (both (tested (λ (object : ObjectId). nat_le least object.0) Order object_form) entries_form)
+    (both (object_from least) entries_form)
+
+abbrev pub some_sets : ℕ → ℕ → Format (List SetOf)
+some_sets least count = items (set_form 0).spell set_form (λ (set : SetOf). (set.object).0 + 1) least count
 
 -- by rising objects
 unfoldable pub sets_form : Format (List SetOf)
 sets_form = counted (number w8 1 SETS_YET) (set_form 0).spell set_form (λ (set : SetOf). (set.object).0 + 1) 0
+
+-- ---- what is digested of them: the histories without their HMACs
+
+unfoldable pub histories_form : ObjectId → Format (List ObjectHistory)
+histories_form object = counted (number w8 0 16) history_form.spell (entry_form object) next_replica 0
+
+unfoldable pub object_text_form : ℕ → Format (ObjectId × List ObjectHistory)
+object_text_form least = both (object_from least) histories_form
+
+unfoldable pub sets_text_form : Format (List (ObjectId × List ObjectHistory))
+sets_text_form = counted (number w8 1 SETS_YET) (object_text_form 0).spell object_text_form (λ set. (set.0).0 + 1) 0
+
+-- ---- what a replica shows of its histories
+
+-- a sealed history of this replica, of an object that is not below this number
+unfoldable pub shown_by : ReplicaId → ℕ → Format Sealed
+shown_by replica least =
+    sealed_with (history_with (object_from least) (tested (λ (other : ReplicaId). other.0 == replica.0) Range replica_form))
+
+abbrev pub next_object : Sealed → ℕ
+next_object sealed = ((sealed.history).object).0 + 1
+
+abbrev pub some_shown : ReplicaId → ℕ → ℕ → Format (List Sealed)
+some_shown replica least count = items sealed_form.spell (shown_by replica) next_object least count
+
+-- at most eight of them, by rising objects
+unfoldable pub shown_form : ReplicaId → Format (List Sealed)
+shown_form replica = counted (number w8 0 8) sealed_form.spell (shown_by replica) next_object 0

@@ -1,6 +1,6 @@
 -- The sets of a request: for each of its objects the histories that some replicas showed of it,
 -- and what they say together.
-use Rattle.std.specs.Prelude.{ℕ, Bool, true, not, ◌+◌, ◌==◌, ◌&&◌, nat_lt, nat_le, if◌then◌else◌, List, [], ◌∷◌, length, filter, count_by, Option, None, Some}
+use Rattle.std.specs.Prelude.{ℕ, Bool, true, not, ◌+◌, ◌==◌, ◌&&◌, nat_lt, nat_le, if◌then◌else◌, List, [], ◌∷◌, length, map, filter, count_by, Option, None, Some}
 use Rattle.std.specs.List.{flat_map}
 use Rattle.qu_base.specs.declared.party.ObjectId.{ObjectId}
 use Rattle.qu_base.specs.Thresholds.{quorum, repair}
@@ -8,8 +8,13 @@ use Rattle.qu_stamp.specs.declared.stamp.Stamp.{Stamp}
 use Rattle.qu_stamp.specs.declared.candidate.Candidate.{Candidate}
 use Rattle.qu_stamp.specs.Stamp.{opening_stamp, same_stamp}
 use Rattle.qu_stamp.specs.Candidate.{is_before}
+use Rattle.qu_history.specs.declared.sealed.Sealed.{Sealed}
 use Rattle.qu_history.specs.declared.sets.SetOf.{SetOf}
 use Rattle.qu_history.specs.History.{ObjectHistory, greatest_stamp, holds}
+
+-- the histories of some entries
+abbrev pub histories : List Sealed → List ObjectHistory
+histories entries = map (λ sealed. sealed.history) entries
 
 -- an entry of this object, by a replica below 16 that is not below this number
 abbrev pub is_entry : ObjectId → ℕ → ObjectHistory → Bool
@@ -25,7 +30,7 @@ are_entries object least (entry ∷ later) =
 -- an object below 64 that is not below this number, with its entries
 abbrev pub is_set : ℕ → SetOf → Bool
 is_set least set =
-    nat_le least (set.object).0 && nat_lt (set.object).0 64 && are_entries set.object 0 set.entries
+    nat_le least (set.object).0 && nat_lt (set.object).0 64 && are_entries set.object 0 (histories set.entries)
 
 -- objects below 64 that rise from this number on, each with its entries
 unfoldable pub are_sets_from : ℕ → List SetOf → Bool
@@ -36,10 +41,10 @@ are_sets_from least (set ∷ later) = is_set least set && are_sets_from ((set.ob
 unfoldable pub are_sets : List SetOf → Bool
 are_sets sets = nat_lt 0 (length sets) && nat_le (length sets) 8 && are_sets_from 0 sets
 
--- the entries of an object, none where it is not in the sets
+-- the histories of the entries of an object, none where it is not in the sets
 unfoldable pub entries_of : ObjectId → List SetOf → List ObjectHistory
 entries_of object [] = []
-entries_of object (set ∷ later) = if (set.object).0 == object.0 then set.entries else entries_of object later
+entries_of object (set ∷ later) = if (set.object).0 == object.0 then histories set.entries else entries_of object later
 
 -- the order of a candidate: how many entries hold it
 unfoldable pub order_of : Candidate → List ObjectHistory → ℕ

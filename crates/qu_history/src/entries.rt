@@ -1,32 +1,34 @@
 ghost use Rattle.std.specs.Prelude.{◌≡◌, ◌≤◌, length, All};
-ghost use Rattle.qu_history.specs.Sets.{order_of, latest_of, method_at};
+ghost use Rattle.qu_stamp.specs.Candidate.{same};
+ghost use Rattle.qu_history.specs.History.{last};
+ghost use Rattle.qu_history.specs.Sets.{histories, order_of, latest_of, method_at};
 ghost use Rattle.qu_history.specs.Lasts.{IsEntryUpTo, times_last, is_last_of, greatest_last, greater_of};
 
-use super::History;
+use super::Sealed;
 use qu_base::Bounds;
 use qu_stamp::{Candidate, Stamp};
 
 /// How many of the entries of an object hold the candidate.
 #[tactic(auto, unfolding(crate::specs::Sets::order_of), using(crate::proofs::Method::order_of_most))]
-pub fn order_of(entries: &[History], candidate: &Candidate) -> usize
-    ensures value { result ≡ order_of candidate.now entries.now }
+pub fn order_of(entries: &[Sealed], candidate: &Candidate) -> usize
+    ensures value { result ≡ order_of candidate.now (histories entries.now) }
     ensures most { result ≤ length entries.now }
 {
     entries
         .iter()
-        .filter(|entry| entry.holds(candidate))
+        .filter(|entry| entry.history.holds(candidate))
         .count()
 }
 
 /// The greatest stamp of the entries, the opening one where there are none.
 #[tactic(auto, using(crate::proofs::Method::latest_of_none, crate::proofs::Method::latest_of_more, crate::proofs::Method::entries_up_to))]
-pub fn latest_of(entries: &[History]) -> Stamp
-    ensures value { result ≡ latest_of entries.now }
-    ensures up_to { All (IsEntryUpTo result) entries.now }
+pub fn latest_of(entries: &[Sealed]) -> Stamp
+    ensures value { result ≡ latest_of (histories entries.now) }
+    ensures up_to { All (IsEntryUpTo result) (histories entries.now) }
 {
     let mut latest = Stamp::opening();
     for entry in entries {
-        let stamp = entry.last().stamp;
+        let stamp = entry.history.last().stamp;
         if latest.is_below(&stamp) {
             latest = stamp;
         }
@@ -39,8 +41,8 @@ pub fn latest_of(entries: &[History]) -> Stamp
 ///
 /// Since stamps rise in each entry, only last candidates have the latest stamp.
 #[tactic(auto, using(crate::proofs::Method::method_at_none, crate::proofs::Method::method_at_short, crate::proofs::Method::method_at_full))]
-pub fn method_at(entries: &[History], bounds: &Bounds) -> Option<Candidate>
-    ensures { result ≡ method_at bounds.now entries.now }
+pub fn method_at(entries: &[Sealed], bounds: &Bounds) -> Option<Candidate>
+    ensures { result ≡ method_at bounds.now (histories entries.now) }
 {
     let latest = latest_of(entries);
     let candidate = greatest_last(entries, latest, usize::from(bounds.r()))?;
@@ -51,21 +53,29 @@ pub fn method_at(entries: &[History], bounds: &Bounds) -> Option<Candidate>
 }
 
 /// How many of the entries end with the candidate.
-#[tactic(auto, unfolding(crate::specs::Lasts::times_last, qu_stamp::specs::Stamp::same_stamp))]
-fn times_last(entries: &[History], candidate: &Candidate) -> usize
-    ensures { result ≡ times_last candidate.now entries.now }
+#[tactic(auto, unfolding(crate::specs::Lasts::times_last))]
+fn times_last(entries: &[Sealed], candidate: &Candidate) -> usize
+    ensures { result ≡ times_last candidate.now (histories entries.now) }
 {
     entries
         .iter()
-        .filter(|entry| entry.last() == *candidate)
+        .filter(|entry| ends_with(entry, candidate))
         .count()
+}
+
+/// Whether the candidate is the last of the entry.
+#[tactic(auto, unfolding(qu_stamp::specs::Stamp::same_stamp))]
+fn ends_with(entry: &Sealed, candidate: &Candidate) -> bool
+    ensures { result ≡ same (last entry.now.history.candidates) candidate.now }
+{
+    entry.history.last() == *candidate
 }
 
 /// Whether the candidate has this stamp and no barrier, and at least so many of the entries end with
 /// it.
 #[tactic(auto, unfolding(qu_stamp::specs::Stamp::same_stamp))]
-fn is_last_of(entries: &[History], stamp: Stamp, least: usize, candidate: &Candidate) -> bool
-    ensures { result ≡ is_last_of entries.now stamp least candidate.now }
+fn is_last_of(entries: &[Sealed], stamp: Stamp, least: usize, candidate: &Candidate) -> bool
+    ensures { result ≡ is_last_of (histories entries.now) stamp least candidate.now }
 {
     candidate.stamp == stamp && !candidate.stamp.barrier && times_last(entries, candidate) >= least
 }
@@ -73,12 +83,12 @@ fn is_last_of(entries: &[History], stamp: Stamp, least: usize, candidate: &Candi
 /// The greatest candidate with this stamp, without barrier, with which at least so many of the
 /// entries end.
 #[tactic(auto, unfolding(crate::specs::Lasts::greatest_last), using(crate::proofs::Greatest::greatest_none, crate::proofs::Greatest::greatest_more))]
-fn greatest_last(entries: &[History], stamp: Stamp, least: usize) -> Option<Candidate>
-    ensures { result ≡ greatest_last entries.now stamp least }
+fn greatest_last(entries: &[Sealed], stamp: Stamp, least: usize) -> Option<Candidate>
+    ensures { result ≡ greatest_last (histories entries.now) stamp least }
 {
     let mut greatest = None;
     for entry in entries {
-        let candidate = entry.last();
+        let candidate = entry.history.last();
         if is_last_of(entries, stamp, least, &candidate) {
             greatest = Some(greater_of(greatest, candidate));
         }

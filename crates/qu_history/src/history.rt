@@ -183,11 +183,20 @@ impl History {
         let object = text.object()?;
         let replica = text.replica()?;
         let candidates = candidates_at(alloc, text)?;
-        Ok(History {
+        Ok(History::of(object, replica, candidates))
+    }
+
+    /// The history of these candidates.
+    pub(super) fn of(object: ObjectId, replica: ReplicaId, candidates: List<Candidate>) -> History
+        requires rising { IsTrue (is_history candidates) }
+        requires few { length candidates ≤ HISTORY_LIMIT }
+        ensures { result ≡ record { object = object; replica = replica; candidates = candidates } }
+    {
+        History {
             object,
             replica,
             candidates,
-        })
+        }
     }
 
     /// Appends the one spelling of the history. Without memory the text stays as it is.

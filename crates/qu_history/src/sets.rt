@@ -1,7 +1,7 @@
 ghost use Rattle.std.specs.Prelude.{◌≡◌, ◌≤◌, ◌↔◌, [], length, true, false, IsTrue, IsNone, IfNone, IfSome, IfOk};
-ghost use Rattle.qu_history.specs.Sets.{is_entry, are_entries, is_set, are_sets, entries_of, order_of, latest_of, method_at};
+ghost use Rattle.qu_history.specs.Sets.{is_entry, are_entries, is_set, are_sets, histories, entries_of, order_of, latest_of, method_at};
 
-use super::{History, entries};
+use super::{History, Sealed, entries};
 use qu_base::{Bounds, List, NoMemory, ObjectId};
 use qu_stamp::{Candidate, Stamp};
 use std::alloc::Global;
@@ -19,11 +19,11 @@ pub const OBJECT_IDS: u16 = 64;
 /// Replicas are counted from 0 to below this.
 pub const REPLICA_IDS: u8 = 16;
 
-/// The histories of one object that some replicas showed, at most one of each, by rising replica.
+/// The sealed histories of one object that some replicas showed, at most one of each, by rising replica.
 #[derive(Debug, Drop)]
 pub struct SetOf {
     pub object: ObjectId,
-    pub entries: List<History>,
+    pub entries: List<Sealed>,
 }
 
 impl SetOf {
@@ -31,13 +31,9 @@ impl SetOf {
     pub fn copy(&self, alloc: Global) -> Result<SetOf, NoMemory>
         ensures { IfOk result (λ set. set ≡ self.now) }
     {
-        let mut entries = List::new(alloc);
-        for entry in self.entries.as_slice() {
-            entries.push(entry.copy(alloc)?)?;
-        }
         Ok(SetOf {
             object: self.object,
-            entries,
+            entries: Sealed::copy_all(alloc, self.entries.as_slice())?,
         })
     }
 }
@@ -92,10 +88,10 @@ impl Sets {
         Ok(Sets { objects })
     }
 
-    /// The histories of an object, by rising replica; none where the object is not in the sets.
-    #[tactic(auto, using(crate::proofs::SetLaws::few_entries))]
-    pub fn find(&self, object: ObjectId) -> &[History]
-        ensures value { result.now ≡ entries_of object self.now }
+    /// The entries of an object, by rising replica; none where the object is not in the sets.
+    #[tactic(auto, using(crate::proofs::SetLaws::few_found))]
+    pub fn find(&self, object: ObjectId) -> &[Sealed]
+        ensures value { histories result.now ≡ entries_of object self.now }
         ensures few { length result.now ≤ 16 }
     {
         entries_in(self.objects.as_slice(), object)
@@ -135,9 +131,9 @@ impl Sets {
     }
 }
 
-/// The histories of an object in these sets.
-fn entries_in(objects: &[SetOf], object: ObjectId) -> &[History]
-    ensures { result.now ≡ entries_of object objects.now }
+/// The entries of an object in these sets.
+fn entries_in(objects: &[SetOf], object: ObjectId) -> &[Sealed]
+    ensures { histories result.now ≡ entries_of object objects.now }
 {
     for set in objects {
         if set.object == object {
@@ -174,15 +170,15 @@ fn is_set(least: u16, set: &SetOf) -> bool
 }
 
 /// Whether these are histories of the object by different replicas, in rising order.
-fn are_entries(object: ObjectId, entries: &[History]) -> bool
-    ensures { result ≡ are_entries object 0 entries.now }
+fn are_entries(object: ObjectId, entries: &[Sealed]) -> bool
+    ensures { result ≡ are_entries object 0 (histories entries.now) }
 {
     let mut least = 0;
     for entry in entries {
-        if !is_entry(object, least, entry) {
+        if !is_entry(object, least, &entry.history) {
             return false;
         }
-        least = entry.replica().0 + 1;
+        least = entry.history.replica().0 + 1;
     }
     true
 }

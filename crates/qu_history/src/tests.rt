@@ -1,4 +1,5 @@
 mod bytes;
+mod sealed;
 
 use super::*;
 use qu_base::{Bounds, ClientId, Digest, List, ObjectId, ReplicaId};
@@ -38,11 +39,20 @@ fn barrier() -> Candidate {
     }
 }
 
+/// The history with six HMACs, of which each byte is the number of its replica.
+fn seal(alloc: Global, history: History) -> Result<Sealed, Fail> {
+    let mut macs = List::new(alloc);
+    for replica in 0..6 {
+        macs.push([replica; 32])?;
+    }
+    Ok(Sealed { history, macs })
+}
+
 /// Puts so many histories at the end of the entries, each with these candidates above the opening
 /// one.
 fn put(
     alloc: Global,
-    entries: &mut List<History>,
+    entries: &mut List<Sealed>,
     count: u8,
     candidates: &[Candidate],
 ) -> Result<(), Fail> {
@@ -52,7 +62,7 @@ fn put(
         for candidate in candidates {
             history.add(*candidate)?;
         }
-        entries.push(history)?;
+        entries.push(seal(alloc, history)?)?;
     }
     Ok(())
 }
@@ -76,7 +86,7 @@ fn sets_with_barrier(alloc: Global, plain: u8, barred: u8) -> Result<Sets, Fail>
     one_object(alloc, entries)
 }
 
-fn one_object(alloc: Global, entries: List<History>) -> Result<Sets, Fail> {
+fn one_object(alloc: Global, entries: List<Sealed>) -> Result<Sets, Fail> {
     let mut objects = List::new(alloc);
     objects.push(SetOf {
         object: OBJECT,
@@ -149,7 +159,8 @@ fn sets_want_replicas_that_rise(rt: HostRuntime) -> Result<(), Fail> {
     for (first, second, accepted) in [(0, 1, true), (1, 1, false), (1, 0, false), (0, 16, false)] {
         let mut entries = List::new(rt.alloc());
         for replica in [first, second] {
-            entries.push(History::opening(rt.alloc(), OBJECT, ReplicaId(replica))?)?;
+            let history = History::opening(rt.alloc(), OBJECT, ReplicaId(replica))?;
+            entries.push(seal(rt.alloc(), history)?)?;
         }
         let mut objects = List::new(rt.alloc());
         objects.push(SetOf {

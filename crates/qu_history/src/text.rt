@@ -1,10 +1,10 @@
-ghost use Rattle.std.specs.Prelude.{◌≡◌, ◌≤◌, ◌++◌, length, IsTrue, OnOk, IfOk};
+ghost use Rattle.std.specs.Prelude.{◌≡◌, ◌++◌, OnOk, IfOk};
 ghost use Rattle.std.specs.List.{flat_map};
-ghost use Rattle.qu_history.specs.Sets.{are_sets};
-ghost use Rattle.qu_history.specs.Forms.{history_form, entries_form, set_form, sets_form};
-ghost use Rattle.qu_history.specs.Text.{sets_text, sets_digest};
+ghost use Rattle.qu_history.specs.Sets.{histories};
+ghost use Rattle.qu_history.specs.Forms.{history_form, object_text_form, sets_text_form};
+ghost use Rattle.qu_history.specs.Text.{unsealed, sets_text, sets_digest};
 
-use super::{History, SetOf, Sets};
+use super::{Sealed, SetOf, Sets};
 use qu_base::{Digest, NoMemory, Outbytes};
 use qu_seal::digest;
 use std::alloc::Global;
@@ -13,7 +13,7 @@ use std::alloc::Global;
 pub const SETS_TAG: u8 = 2;
 
 impl Sets {
-    /// The digest of the sets: of their objects, each with its histories.
+    /// The digest of the sets: of their objects, each with its histories. It does not depend on HMACs.
     #[tactic(auto, unfolding(crate::specs::Text::sets_digest, crate::specs::Text::sets_text))]
     pub fn digest_of(&self, alloc: Global) -> Result<Digest, NoMemory>
         ensures { IfOk result (λ digest. digest ≡ sets_digest self.now) }
@@ -25,12 +25,18 @@ impl Sets {
 }
 
 /// Appends the count of the objects, and each of them.
-#[tactic(auto, unfolding(crate::specs::Forms::sets_form), using(crate::proofs::SetLaws::few_sets, crate::proofs::SetLaws::few_entries_each))]
+#[tactic(auto, unfolding(crate::specs::Forms::sets_text_form))]
 fn append_sets(sets: &[SetOf], out: &mut Outbytes) -> Result<(), NoMemory>
-    requires { IsTrue (are_sets sets.now) }
-    ensures { OnOk result (out.new ≡ out.old ++ sets_form.spell sets.now) }
+    ensures { OnOk result (out.new ≡ out.old ++ sets_text_form.spell (unsealed sets.now)) }
 {
-    out.u8(sets.len() as u8)?;
+    out.count(sets.len())?;
+    append_each(sets, out)
+}
+
+/// Appends the objects with their histories one behind the other.
+fn append_each(sets: &[SetOf], out: &mut Outbytes) -> Result<(), NoMemory>
+    ensures { OnOk result (out.new ≡ out.old ++ flat_map (object_text_form 0).spell (unsealed sets.now)) }
+{
     for set in sets {
         append_set(set, out)?;
     }
@@ -38,22 +44,21 @@ fn append_sets(sets: &[SetOf], out: &mut Outbytes) -> Result<(), NoMemory>
 }
 
 /// Appends the object, and its histories.
-#[tactic(auto, unfolding(crate::specs::Forms::set_form, crate::specs::Forms::entries_form))]
+#[tactic(auto, unfolding(crate::specs::Forms::object_text_form, crate::specs::Forms::histories_form))]
 fn append_set(set: &SetOf, out: &mut Outbytes) -> Result<(), NoMemory>
-    requires { length set.now.entries ≤ 16 }
-    ensures { OnOk result (out.new ≡ out.old ++ (set_form 0).spell set.now) }
+    ensures { OnOk result (out.new ≡ out.old ++ (object_text_form 0).spell (set.now.object, histories set.now.entries)) }
 {
     out.u16(set.object.0)?;
-    out.u8(set.entries.len() as u8)?;
-    append_entries(set.entries.as_slice(), out)
+    out.count(set.entries.len())?;
+    append_histories(set.entries.as_slice(), out)
 }
 
 /// Appends the histories one behind the other.
-fn append_entries(entries: &[History], out: &mut Outbytes) -> Result<(), NoMemory>
-    ensures { OnOk result (out.new ≡ out.old ++ flat_map history_form.spell entries.now) }
+fn append_histories(entries: &[Sealed], out: &mut Outbytes) -> Result<(), NoMemory>
+    ensures { OnOk result (out.new ≡ out.old ++ flat_map history_form.spell (histories entries.now)) }
 {
     for entry in entries {
-        entry.write(out)?;
+        entry.history.write(out)?;
     }
     Ok(())
 }

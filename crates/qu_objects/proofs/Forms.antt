@@ -7,7 +7,7 @@ use Rattle.std.specs.Int.{w8, w64}
 use Rattle.qu_base.specs.declared.bad_text.Why.TheVariants.{Range, Order}
 use Rattle.qu_base.specs.declared.party.ObjectId.{ObjectId}
 use Rattle.qu_base.specs.Format.{object_form, Format, number, tested, made, nothing, IsExact}
-use Rattle.qu_base.proofs.Formats.{object-exact, wide8, wide64, number-exact, both-exact, tested-exact, made-exact, either-exact, nothing-exact, counted-exact, tagged-exact}
+use Rattle.qu_base.proofs.Formats.{some_is, object-exact, wide8, wide64, number-exact, both-exact, tested-exact, made-exact, either-exact, nothing-exact, counted-exact, tagged-exact}
 use Rattle.qu_objects.specs.declared.act.Method.{Method}
 use Rattle.qu_objects.specs.declared.act.Method.TheVariants.{Add, Take}
 use Rattle.qu_objects.specs.declared.query.Ask.TheVariants.{Read}
@@ -78,9 +78,6 @@ item-exact =
     (λ code item known fits. item_coded code item known)
 
 -- ---- parts
-
-some_is : {A : Type 0} {one other : A} → Some one ≡ Some other → one ≡ other
-some_is is = cc
 
 next-exact : (known : ObjectId → Bool) (before : Option ObjectId) → IsExact (next_object known before)
 next-exact known before =

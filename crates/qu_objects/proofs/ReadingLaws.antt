@@ -4,12 +4,14 @@ use Rattle.std.specs.Prelude.{IsTrue}
 use Rattle.std.proofs.lemmas.Bool.{lt-ltb}
 use Rattle.qu_base.specs.declared.party.ObjectId.{ObjectId}
 use Rattle.qu_base.specs.Front.{Front}
-use Rattle.qu_base.specs.Format.{object_form, Format, AreBytes}
+use Rattle.qu_base.specs.Format.{IsPrefixCode, object_form, Format, AreBytes}
+use Rattle.qu_base.proofs.Formats.{prefix_code}
 use Rattle.qu_base.proofs.Reading.{given_exactly}
 use Rattle.qu_objects.specs.declared.act.Method.{Method}
 use Rattle.qu_objects.specs.declared.query.Ask.{Ask}
 use Rattle.qu_objects.specs.Parts.{are_parts}
-use Rattle.qu_objects.specs.Forms.{method_form, ask_form, parts_form, act_form, query_form}
+use Rattle.qu_objects.specs.Forms.{method_form, ask_form, item_form, parts_form, act_form, query_form, answer_form}
+use Rattle.qu_objects.specs.Text.{act_text_form}
 use Rattle.qu_objects.proofs.Forms.{method-exact, ask-exact, item-exact, act-exact, query-exact, answer-exact}
 use Rattle.qu_objects.proofs.Text.{act_text-exact}
 
@@ -36,4 +38,27 @@ pub ruleset query_laws = (given_exactly, query-exact, query_in_order)
 
 pub ruleset answer_laws = (given_exactly, answer-exact)
 
-pub ruleset exact_laws = (method-exact, ask-exact, item-exact, act-exact, query-exact, answer-exact, act_text-exact)
+-- ---- each is a prefix code
+
+pub method-code : IsPrefixCode method_form
+method-code = prefix_code method_form method-exact
+
+pub ask-code : IsPrefixCode ask_form
+ask-code = prefix_code ask_form ask-exact
+
+pub item-code : IsPrefixCode item_form
+item-code = prefix_code item_form item-exact
+
+pub act-code : (known : ObjectId → Bool) → IsPrefixCode (act_form known)
+act-code known = prefix_code (act_form known) (act-exact known)
+
+pub query-code : (known : ObjectId → Bool) → IsPrefixCode (query_form known)
+query-code known = prefix_code (query_form known) (query-exact known)
+
+pub answer-code : IsPrefixCode answer_form
+answer-code = prefix_code answer_form answer-exact
+
+pub text-code : IsPrefixCode act_text_form
+text-code = prefix_code act_text_form act_text-exact
+
+pub ruleset code_laws = (method-code, ask-code, item-code, act-code, query-code, answer-code, text-code)

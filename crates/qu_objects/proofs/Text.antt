@@ -6,16 +6,13 @@ use Rattle.std.specs.Int.{w16}
 use Rattle.qu_base.specs.declared.party.ClientId.{ClientId}
 use Rattle.qu_base.specs.declared.party.ObjectId.{ObjectId}
 use Rattle.qu_base.specs.Format.{object_form, number, both, IsExact}
-use Rattle.qu_base.proofs.Formats.{wide16, number-exact, both-exact, made-exact, one_spelling}
+use Rattle.qu_base.proofs.Formats.{some_is, wide16, number-exact, both-exact, made-exact, one_spelling}
 use Rattle.qu_objects.specs.declared.act.Method.{Method}
 use Rattle.qu_objects.specs.declared.act.Method.TheVariants.{Add, Take}
 use Rattle.qu_objects.specs.Parts.{are_parts}
 use Rattle.qu_objects.specs.Forms.{word_form, method_form, act_form}
 use Rattle.qu_objects.specs.Text.{any_object, any_client, act_text_form, act_text, MethodFits, PartsFit}
 use Rattle.qu_objects.proofs.Forms.{word-exact, act-exact}
-
-some_is : {A : Type 0} {one other : A} → Some one ≡ Some other → one ≡ other
-some_is is = cc
 
 client-exact : IsExact any_client
 client-exact =

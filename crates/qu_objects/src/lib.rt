@@ -21,7 +21,7 @@ mod writing_parts;
 pub use act::{Act, BadParts, Method};
 pub use answer::{Answer, Item, OVER, UNDER};
 pub use digesting::act_digest;
-pub use formats::formats_are_exact;
+pub use formats::formats_are_codes;
 pub use kind::{Applied, KindName, Value};
 pub use limits::MOST_PARTS;
 pub use op::{Op, Outcome};

@@ -21,11 +21,11 @@ pub fn perform(alloc: Global, values: &[Value], act: &Act) -> Result<Performed, 
     match (values, act.parts().as_slice()) {
         ([value], [(_, method)]) => match value.apply(method) {
             Applied::Changed(value, item) => Ok(Performed {
-                values: one(alloc, value)?,
-                answer: Answer::Ok(one(alloc, item)?),
+                values: List::one(alloc, value)?,
+                answer: Answer::Ok(List::one(alloc, item)?),
             }),
             Applied::Refused(why) => Ok(Performed {
-                values: one(alloc, *value)?,
+                values: List::one(alloc, *value)?,
                 answer: Answer::Refused { at: 0, why },
             }),
         },
@@ -39,16 +39,7 @@ pub fn tell_all(alloc: Global, values: &[Value], query: &Query) -> Result<Answer
     ensures { IfOk result (λ answer. answer ≡ told_answer query.now values.now) }
 {
     match (values, query.parts().as_slice()) {
-        ([value], [(_, ask)]) => Ok(Answer::Ok(one(alloc, value.tell(ask))?)),
+        ([value], [(_, ask)]) => Ok(Answer::Ok(List::one(alloc, value.tell(ask))?)),
         _ => unreachable!(),
     }
-}
-
-/// The list of one item.
-fn one<T: Drop>(alloc: Global, item: T) -> Result<List<T>, NoMemory>
-    ensures { IfOk result (λ items. items ≡ item ∷ []) }
-{
-    let mut items = List::new(alloc);
-    items.push(item)?;
-    Ok(items)
 }

@@ -1,11 +1,9 @@
 //! Single operations and items as bytes, by the formats of `specs/Forms.antt`.
 ghost use Rattle.std.specs.Prelude.{◌≡◌, ◌++◌, length, take, OnOk, OnErr};
-ghost use Rattle.std.specs.Int.{w8, to_be_bytes};
-ghost use Rattle.qu_base.specs.Format.{object_form};
 ghost use Rattle.qu_objects.specs.Forms.{method_form, ask_form, item_form};
 
 use super::{Ask, Item, Method};
-use qu_base::{NoMemory, ObjectId, Outbytes};
+use qu_base::{NoMemory, Outbytes};
 
 /// Appends an update: its code, and its number as eight bytes. Without memory the text stays as it is.
 pub fn write_method(out: &mut Outbytes, method: &Method) -> Result<(), NoMemory>
@@ -54,20 +52,4 @@ pub(crate) fn put_item(out: &mut Outbytes, item: &Item) -> Result<(), NoMemory>
     let Item::Number(value) = item;
     out.u8(1)?;
     out.u64(*value)
-}
-
-/// Appends an object as two bytes.
-pub(crate) fn put_object(out: &mut Outbytes, object: ObjectId) -> Result<(), NoMemory>
-    ensures ok { OnOk result (out.new ≡ out.old ++ object_form.spell object) }
-    ensures err { OnErr result (out.new ≡ out.old) }
-{
-    out.u16(object.0)
-}
-
-/// Appends a count as its lowest byte.
-pub(crate) fn put_count(out: &mut Outbytes, count: usize) -> Result<(), NoMemory>
-    ensures ok { OnOk result (out.new ≡ out.old ++ to_be_bytes w8 count) }
-    ensures err { OnErr result (out.new ≡ out.old) }
-{
-    out.u8((count % 256) as u8)
 }

@@ -3,7 +3,7 @@ ghost use Rattle.std.specs.Prelude.{◌≡◌, ◌++◌, length, take, OnOk, OnE
 ghost use Rattle.std.specs.List.{flat_map};
 ghost use Rattle.qu_objects.specs.Forms.{item_form, answer_form};
 
-use super::writing::{put_count, put_item};
+use super::writing::put_item;
 use super::{Answer, Item};
 use qu_base::{NoMemory, Outbytes};
 
@@ -32,7 +32,7 @@ fn put_answer(out: &mut Outbytes, answer: &Answer) -> Result<(), NoMemory>
     match answer {
         Answer::Ok(items) => {
             out.u8(0)?;
-            put_count(out, items.len())?;
+            out.count(items.len())?;
             put_items(out, items.as_slice())
         }
         Answer::Refused { at, why } => {

@@ -4,7 +4,7 @@ ghost use Rattle.std.specs.List.{flat_map};
 ghost use Rattle.qu_base.specs.declared.party.ObjectId.{ObjectId as Object};
 ghost use Rattle.qu_objects.specs.Forms.{method_form, ask_form, spelled_object, act_form, query_form};
 
-use super::writing::{put_count, put_method, put_object, write_ask};
+use super::writing::{put_method, write_ask};
 use super::{Act, Ask, Method, Query};
 use qu_base::{NoMemory, ObjectId, Outbytes};
 
@@ -28,7 +28,7 @@ fn put_act(out: &mut Outbytes, act: &Act) -> Result<(), NoMemory>
     ensures err { OnErr result (take (length out.old) out.new ≡ out.old) }
 {
     let parts = act.parts().as_slice();
-    put_count(out, parts.len())?;
+    out.count(parts.len())?;
     put_method_parts(out, parts)
 }
 
@@ -39,7 +39,7 @@ fn put_method_parts(out: &mut Outbytes, parts: &[(ObjectId, Method)]) -> Result<
     ensures err { OnErr result (take (length out.old) out.new ≡ out.old) }
 {
     for part in parts {
-        put_object(out, part.0)?;
+        out.u16(part.0.0)?;
         put_method(out, &part.1)?;
     }
     Ok(())
@@ -65,7 +65,7 @@ fn put_query(out: &mut Outbytes, query: &Query) -> Result<(), NoMemory>
     ensures err { OnErr result (take (length out.old) out.new ≡ out.old) }
 {
     let parts = query.parts().as_slice();
-    put_count(out, parts.len())?;
+    out.count(parts.len())?;
     put_ask_parts(out, parts)
 }
 
@@ -76,7 +76,7 @@ fn put_ask_parts(out: &mut Outbytes, parts: &[(ObjectId, Ask)]) -> Result<(), No
     ensures err { OnErr result (take (length out.old) out.new ≡ out.old) }
 {
     for part in parts {
-        put_object(out, part.0)?;
+        out.u16(part.0.0)?;
         write_ask(out, &part.1)?;
     }
     Ok(())

@@ -7,7 +7,7 @@ use Rattle.qu_objects.specs.declared.op.Outcome.{Outcome}
 use Rattle.qu_objects.specs.declared.op.Outcome.TheVariants.{Done, GaveUp}
 use Rattle.qu_machine.specs.declared.record.Point.{Point}
 use Rattle.qu_trace.specs.declared.event.Event.{Event}
-use Rattle.qu_trace.specs.declared.event.Event.TheVariants.{Invoke, Deliver, Tick}
+use Rattle.qu_trace.specs.declared.event.Event.TheVariants.{Invoke, Deliver, Tick, Inject}
 use Rattle.qu_trace.specs.declared.trace.Entry.{Entry}
 use Rattle.qu_trace.specs.Operations.{begun_by}
 use Rattle.qu_print.specs.Words.{name_text, op_text, answer_text}
@@ -20,6 +20,7 @@ abbrev pub call_lines : List Entry → Event → List (List ℕ)
 call_lines earlier (Invoke client op) = call_line client (begun_by client earlier + 1) op ∷ []
 call_lines earlier (Deliver letter) = []
 call_lines earlier (Tick client) = []
+call_lines earlier (Inject party text) = []
 
 -- an update of a faulty client is told with its point
 abbrev pub faulty_text : Bool → Op → List ℕ

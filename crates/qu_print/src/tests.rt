@@ -22,12 +22,12 @@ fn one_operation_ends_and_one_stays_open(rt: HostRuntime) -> Result<(), Fail> {
     let mut entries = List::new(alloc);
     entries.push(entry(alloc, Event::Invoke(ClientId(1), add(alloc, 5)?), None))?;
     entries.push(entry(alloc, Event::Deliver(1), None))?;
-    let answer = Answer::Ok(one(alloc, Item::Number(5))?);
+    let answer = Answer::Ok(List::one(alloc, Item::Number(5))?);
     let ended = Some((ClientId(1), 1, Outcome::Done(answer)));
     entries.push(entry(alloc, Event::Deliver(2), ended))?;
     entries.push(entry(alloc, Event::Invoke(ClientId(2), read(alloc)?), None))?;
     let trace = trace_of(alloc, 2, entries)?;
-    let order = one(alloc, point(alloc, 2, 1, 1)?)?;
+    let order = List::one(alloc, point(alloc, 2, 1, 1)?)?;
     let text = report_text(alloc, &trace, order.as_slice())?;
     let expected = b"bounds b 1 n 6 q 5 r 3\n\
         call 1.1 add 0 5\n\
@@ -52,7 +52,7 @@ fn one_operation_is_refused_and_one_gives_up(rt: HostRuntime) -> Result<(), Fail
     let ended = Some((ClientId(1), 2, Outcome::GaveUp));
     entries.push(entry(alloc, Event::Tick(ClientId(1)), ended))?;
     let trace = trace_of(alloc, 1, entries)?;
-    let mut order = one(alloc, point(alloc, 1, 1, 1)?)?;
+    let mut order = List::one(alloc, point(alloc, 1, 1, 1)?)?;
     order.push(faulty_point(alloc, 2, 3, 9)?)?;
     let text = report_text(alloc, &trace, order.as_slice())?;
     let expected = b"bounds b 1 n 6 q 5 r 3\n\
@@ -70,14 +70,14 @@ fn one_operation_is_refused_and_one_gives_up(rt: HostRuntime) -> Result<(), Fail
 #[test]
 fn parts_and_items_are_joined(rt: HostRuntime) -> Result<(), Fail> {
     let alloc = rt.alloc();
-    let mut items = one(alloc, Item::Number(18446744073709551615))?;
+    let mut items = List::one(alloc, Item::Number(18446744073709551615))?;
     items.push(Item::Number(0))?;
     let mut text = String::new(alloc);
     put_answer(&mut text, &Answer::Ok(items))?;
     text.push_str("\n")?;
     put_answer(&mut text, &Answer::Refused { at: 1, why: UNDER })?;
     text.push_str("\n")?;
-    let parts = one(alloc, (ObjectId(3), Method::Take(20)))?;
+    let parts = List::one(alloc, (ObjectId(3), Method::Take(20)))?;
     put_op(&mut text, &Op::Act(Act::new(parts)?))?;
     assert_eq!(rt;
         text.as_str(),
@@ -128,18 +128,12 @@ fn faulty_point(alloc: Global, event: u64, client: u16, number: u64) -> Result<P
 
 /// The operation that adds to counter 0.
 fn add(alloc: Global, more: u64) -> Result<Op, Fail> {
-    let parts = one(alloc, (ObjectId(0), Method::Add(more)))?;
+    let parts = List::one(alloc, (ObjectId(0), Method::Add(more)))?;
     Ok(Op::Act(Act::new(parts)?))
 }
 
 /// The operation that reads counter 0.
 fn read(alloc: Global) -> Result<Op, Fail> {
-    let parts = one(alloc, (ObjectId(0), Ask::Read))?;
+    let parts = List::one(alloc, (ObjectId(0), Ask::Read))?;
     Ok(Op::Query(Query::new(parts)?))
-}
-
-fn one<T: Drop>(alloc: Global, item: T) -> Result<List<T>, NoMemory> {
-    let mut items = List::new(alloc);
-    items.push(item)?;
-    Ok(items)
 }

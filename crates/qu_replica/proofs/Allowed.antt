@@ -13,7 +13,7 @@ use Rattle.qu_stamp.proofs.Order.{is_below_by_time}
 use Rattle.qu_history.specs.declared.sets.SetOf.{SetOf}
 use Rattle.qu_history.specs.declared.history.TheConstants.{HISTORY_LIMIT}
 use Rattle.qu_history.specs.History.{ObjectHistory, latest}
-use Rattle.qu_history.specs.Sets.{entries_of, latest_of, method_at, if_method, object_candidate, candidates_of, greatest}
+use Rattle.qu_history.specs.Sets.{histories, entries_of, latest_of, method_at, if_method, object_candidate, candidates_of, greatest}
 use Rattle.qu_objects.specs.declared.act.Method.{Method}
 use Rattle.qu_objects.specs.declared.query.Ask.{Ask}
 use Rattle.qu_objects.specs.declared.answer.Answer.{Answer}
@@ -30,7 +30,7 @@ use Rattle.qu_replica.specs.declared.decision.Decision.{Decision}
 use Rattle.qu_replica.specs.declared.decision.Decision.TheVariants.{Answers, Waits}
 use Rattle.qu_replica.specs.State.{ReplicaState, own_candidates, own_latest}
 use Rattle.qu_replica.specs.Rows.{Asked, asked_of, refuse, base_of, shown_of, fresh_stamp, fresh_on, accepted_by, row_unknown, row_thin, row_retry, row_current, row_method, row_version, row_time, row_full, row_done, row_told, first_given, decide_act, decide_ask, decision_on}
-use Rattle.qu_replica.specs.Step.{carried_out, replica_step}
+use Rattle.qu_replica.specs.Step.{carried_out, on_frame}
 use Rattle.qu_replica.specs.Growth.{AreHistories, MayAccept, MayAcceptAll, MayDecide, has_parts, HasParts}
 use Rattle.qu_replica.proofs.Own.{accept_all-histories}
 
@@ -100,7 +100,7 @@ known_by_entries number (set ∷ sets) object none some =
           rw (← equal) (leb-false _ _ good.0)
       | inr there ↦
           known_by_entries number sets object good.1
-          (λ (empty : rest ≡ []). some (ap (λ (test : Bool). cond test set.entries rest) there ∙ empty))
+          (λ (empty : rest ≡ []). some (ap (λ (test : Bool). cond test (histories set.entries) rest) there ∙ empty))
     ]
 
 -- a stamp with the time after the latest is above all that the replica accepted
@@ -223,13 +223,13 @@ decision_on-may state asked (body.Ask []) parts = absurd (false≢true parts)
 decision_on-may state asked (body.Ask (part ∷ [])) parts = may_ask state asked part part.0
 decision_on-may state asked (body.Ask (first ∷ second ∷ later)) parts = absurd (false≢true parts)
 
-carried_out-histories : (state : ReplicaState) (client : ClientId) (number round : ℕ) (sets : List SetOf) (decision : Decision) → AreHistories state → MayDecide state decision → AreHistories (carried_out state client number round sets decision).0
+pub carried_out-histories : (state : ReplicaState) (client : ClientId) (number round : ℕ) (sets : List SetOf) (decision : Decision) → AreHistories state → MayDecide state decision → AreHistories (carried_out state client number round sets decision).0
 carried_out-histories state client number round sets (Answers verdict accepted) own may = accept_all-histories state accepted own may
 carried_out-histories state client number round sets Waits own may = own
 
 -- a step keeps the histories as they must be
-pub step-histories : (state : ReplicaState) (received : Frame) → HasParts received → AreHistories state → AreHistories (replica_step state received).0
-step-histories state (frame.Request client number round sets asks) parts own =
+pub on_frame-histories : (state : ReplicaState) (received : Frame) → HasParts received → AreHistories state → AreHistories (on_frame state received).0
+on_frame-histories state (frame.Request client number round sets asks mac) parts own =
     let asked : Asked = asked_of client number sets asks in
     carried_out-histories state client number round sets (decision_on state asked asks) own (decision_on-may state asked asks parts)
-step-histories state (frame.Reply replica client number round verdict shown) parts own = own
+on_frame-histories state (frame.Reply replica client number round verdict culled shown mac) parts own = own

@@ -35,7 +35,7 @@ accepted_one state asked object answer fresh value is_fresh = rw (is_fresh, acce
 values_one : (state : ReplicaState) (asked : Asked) (object : ObjectId) (version : ObjState) → base_version state asked object ≡ Some version → base_values state asked (object ∷ []) ≡ version.value ∷ []
 values_one state asked object version is_version = rw is_version refl
 
-stamps_one : (state : ReplicaState) (asked : Asked) (object : ObjectId) (fresh : Candidate) → fresh_on state asked object ≡ Some fresh → fresh_stamps state asked (object ∷ []) ≡ (object, fresh.stamp) ∷ []
+pub stamps_one : (state : ReplicaState) (asked : Asked) (object : ObjectId) (fresh : Candidate) → fresh_on state asked object ≡ Some fresh → fresh_stamps state asked (object ∷ []) ≡ (object, fresh.stamp) ∷ []
 stamps_one state asked object fresh is_fresh = rw is_fresh refl
 
 pub done_one : (state : ReplicaState) (asked : Asked) (parts : List (ObjectId × Method)) (object : ObjectId) (fresh : Candidate) (version : ObjState) (value : Value) (answer : Answer)

@@ -1,8 +1,9 @@
 -- A replica's state only grows.
-use Rattle.std.proofs.Common.{◌≡◌, ℕ, zero, suc, Bool, true, false, ◌&&◌, cond, List, [], ◌∷◌, ◌++◌, length, Some, refl, sym, ap, ◌∙◌, append_assoc}
+use Rattle.std.proofs.Common.{◌≡◌, ℕ, zero, suc, Bool, true, false, ◌&&◌, cond, List, [], ◌∷◌, ◌++◌, length, Some, Result, Ok, Err, refl, sym, ap, ◌∙◌, append_assoc}
 use Rattle.std.specs.Prelude.{◌==◌, slice_get}
 use Rattle.std.proofs.lemmas.List.{append-nil}
 use Rattle.std.proofs.lemmas.Option.{none-some}
+use Rattle.qu_base.specs.declared.bad_text.BadText.{BadText}
 use Rattle.qu_base.specs.declared.party.ClientId.{ClientId}
 use Rattle.qu_base.specs.declared.party.ObjectId.{ObjectId}
 use Rattle.qu_stamp.specs.declared.stamp.Stamp.{Stamp}
@@ -12,6 +13,7 @@ use Rattle.qu_history.specs.declared.sets.SetOf.{SetOf}
 use Rattle.qu_history.specs.History.{ObjectHistory}
 use Rattle.qu_objects.specs.declared.state.ObjState.{ObjState}
 use Rattle.qu_frames.specs.declared.frame.Frame.{Frame}
+use Rattle.qu_frames.specs.Decoding.{decoded}
 use Rattle.qu_frames.specs.declared.frame.Frame.TheVariants as frame
 use Rattle.qu_replica.specs.declared.versions.Stored.{Stored}
 use Rattle.qu_replica.specs.declared.decision.Accepted.{Accepted}
@@ -19,7 +21,7 @@ use Rattle.qu_replica.specs.declared.decision.Decision.{Decision}
 use Rattle.qu_replica.specs.declared.decision.Decision.TheVariants.{Answers, Waits}
 use Rattle.qu_replica.specs.State.{ReplicaState, candidates_in, own_candidates, with_candidate, accept, accept_all}
 use Rattle.qu_replica.specs.Rows.{asked_of, decision_on}
-use Rattle.qu_replica.specs.Step.{carried_out, replica_step}
+use Rattle.qu_replica.specs.Step.{carried_out, on_frame, on_decoded, replica_step}
 use Rattle.qu_replica.specs.Versions.{version_at}
 use Rattle.qu_replica.specs.Growth.{Grows}
 
@@ -80,15 +82,25 @@ accept_all-grows state (first ∷ later) =
 pub accept_all-me : (state : ReplicaState) (accepted : List Accepted) → (accept_all state accepted).me ≡ state.me
 accept_all-me state accepted = (accept_all-grows state accepted).me
 
-carried_out-grows : (state : ReplicaState) (client : ClientId) (number round : ℕ) (sets : List SetOf) (decision : Decision) → Grows state (carried_out state client number round sets decision).0
+pub accept_all-bounds : (state : ReplicaState) (accepted : List Accepted) → (accept_all state accepted).bounds ≡ state.bounds
+accept_all-bounds state accepted = (accept_all-grows state accepted).bounds
+
+pub carried_out-grows : (state : ReplicaState) (client : ClientId) (number round : ℕ) (sets : List SetOf) (decision : Decision) → Grows state (carried_out state client number round sets decision).0
 carried_out-grows state client number round sets (Answers verdict accepted) = accept_all-grows state accepted
 carried_out-grows state client number round sets Waits = grows-self state
 
 -- a step forgets nothing
-pub step-grows : (state : ReplicaState) (frame : Frame) → Grows state (replica_step state frame).0
-step-grows state (frame.Request client number round sets body) =
+pub on_frame-grows : (state : ReplicaState) (frame : Frame) → Grows state (on_frame state frame).0
+on_frame-grows state (frame.Request client number round sets body mac) =
     carried_out-grows state client number round sets (decision_on state (asked_of client number sets body) body)
-step-grows state (frame.Reply replica client number round verdict shown) = grows-self state
+on_frame-grows state (frame.Reply replica client number round verdict culled shown mac) = grows-self state
+
+on_decoded-grows : (state : ReplicaState) (found : Result Frame BadText) → Grows state (on_decoded state found).0
+on_decoded-grows state (Ok frame) = on_frame-grows state frame
+on_decoded-grows state (Err bad) = grows-self state
+
+pub step-grows : (state : ReplicaState) (text : List ℕ) → Grows state (replica_step state text).0
+step-grows state text = on_decoded-grows state (decoded text)
 
 -- a version stays
 pub version_at-append : (object : ObjectId) (stamp : Stamp) (versions more : List Stored) (state : ObjState) → version_at object stamp versions ≡ Some state → version_at object stamp (versions ++ more) ≡ Some state

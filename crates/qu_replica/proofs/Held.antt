@@ -22,7 +22,7 @@ held_in_time candidates held in_time is_held =
       | inr within ↦ omega arith
     ]
 
-own_in_time : (state : ReplicaState) (object : ObjectId) (held : Candidate) → AreHistories state → holds held (own_candidates state object) ≡ true → held.stamp.time ≤ LAST_TIME
+pub own_in_time : (state : ReplicaState) (object : ObjectId) (held : Candidate) → AreHistories state → holds held (own_candidates state object) ≡ true → held.stamp.time ≤ LAST_TIME
 own_in_time state object held own is_held =
     elim (slice_get state.histories object.0) as (λ (found : Option ObjectHistory). slice_get state.histories object.0 ≡ found → holds held (candidates_in found) ≡ true → held.stamp.time ≤ LAST_TIME) [
       | None ↦ λ _ holds_it. absurd (false≢true holds_it)
@@ -39,7 +39,7 @@ fresh_not_held state asked object base own spent =
       | inr not_held ↦ not_held
     ]
 
-abbrev is_held_by : ReplicaState → ObjectId → Option Candidate → Bool
+abbrev pub is_held_by : ReplicaState → ObjectId → Option Candidate → Bool
 is_held_by state object None = false
 is_held_by state object (Some fresh) = holds fresh (own_candidates state object)
 

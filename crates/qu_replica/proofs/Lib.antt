@@ -8,3 +8,9 @@ pub mod Carried
 pub mod Accepting
 pub mod Showing
 pub mod Stepped
+pub mod Decoded
+pub mod FitStamps
+pub mod FitVerdicts
+pub mod FitState
+pub mod FitDecisions
+pub mod FitSteps

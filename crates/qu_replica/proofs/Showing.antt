@@ -1,9 +1,11 @@
--- The histories shown of the first sets, and of one more.
-use Rattle.std.proofs.Common.{◌≡◌, ℕ, zero, suc, ◌+◌, ◌<◌, List, [], ◌∷◌, ◌++◌, length, take, get_or, Option, None, Some, refl, sym, ap, ◌∙◌, arith, add-one}
+-- The histories shown of the first sets, and of one more; and the same sealed.
+use Rattle.std.proofs.Common.{◌≡◌, ℕ, zero, suc, ◌+◌, ◌<◌, List, [], ◌∷◌, ◌++◌, length, map, take, get_or, Option, None, Some, refl, sym, ap, ◌∙◌, arith, add-one}
 use Rattle.std.specs.List.{cons_option}
+use Rattle.std.proofs.lemmas.List.{map-append}
 use Rattle.std.specs.Prelude.{slice_get}
 use Rattle.qu_history.specs.declared.sets.SetOf.{SetOf}
 use Rattle.qu_history.specs.History.{ObjectHistory}
+use Rattle.qu_frames.specs.Blank.{sealed}
 use Rattle.qu_replica.specs.State.{ReplicaState}
 use Rattle.qu_replica.specs.Step.{shown}
 
@@ -30,12 +32,21 @@ shown_suc state (first ∷ sets) (suc index) set within here =
     ap (λ (later : List ObjectHistory). cons_option (slice_get state.histories (first.object).0) later) (shown_suc state sets index set inner here) ∙
     before (slice_get state.histories (first.object).0) (slice_get state.histories (set.object).0) (shown state (take index sets))
 
-pub shown_some : (state : ReplicaState) (sets : List SetOf) (index : ℕ) (set : SetOf) (history : ObjectHistory) → index < length sets → set ≡ get_or sets index set → Some history ≡ slice_get state.histories (set.object).0 → shown state (take (index + 1) sets) ≡ shown state (take index sets) ++ history ∷ []
+shown_some : (state : ReplicaState) (sets : List SetOf) (index : ℕ) (set : SetOf) (history : ObjectHistory) → index < length sets → set ≡ get_or sets index set → Some history ≡ slice_get state.histories (set.object).0 → shown state (take (index + 1) sets) ≡ shown state (take index sets) ++ history ∷ []
 shown_some state sets index set history within here found = rw add-one (shown_suc state sets index set within here ∙ ap (λ (it : Option ObjectHistory). after it (shown state (take index sets))) (sym found))
 
-pub shown_none : (state : ReplicaState) (sets : List SetOf) (index : ℕ) (set : SetOf) → index < length sets → set ≡ get_or sets index set → None ≡ slice_get state.histories (set.object).0 → shown state (take (index + 1) sets) ≡ shown state (take index sets)
+shown_none : (state : ReplicaState) (sets : List SetOf) (index : ℕ) (set : SetOf) → index < length sets → set ≡ get_or sets index set → None ≡ slice_get state.histories (set.object).0 → shown state (take (index + 1) sets) ≡ shown state (take index sets)
 shown_none state sets index set within here found = rw add-one (shown_suc state sets index set within here ∙ ap (λ (it : Option ObjectHistory). after it (shown state (take index sets))) (sym found))
 
-pub shown_first : (state : ReplicaState) → shown state [] ≡ []
+-- the sealed histories
+
+pub sealed_some : (bounds : ℕ) (state : ReplicaState) (sets : List SetOf) (index : ℕ) (set : SetOf) (history : ObjectHistory) → index < length sets → set ≡ get_or sets index set → Some history ≡ slice_get state.histories (set.object).0 → map (sealed bounds) (shown state (take (index + 1) sets)) ≡ map (sealed bounds) (shown state (take index sets)) ++ sealed bounds history ∷ []
+sealed_some bounds state sets index set history within here found =
+    ap (map (sealed bounds)) (shown_some state sets index set history within here found) ∙ map-append (sealed bounds) (shown state (take index sets)) (history ∷ [])
+
+pub sealed_none : (bounds : ℕ) (state : ReplicaState) (sets : List SetOf) (index : ℕ) (set : SetOf) → index < length sets → set ≡ get_or sets index set → None ≡ slice_get state.histories (set.object).0 → map (sealed bounds) (shown state (take (index + 1) sets)) ≡ map (sealed bounds) (shown state (take index sets))
+sealed_none bounds state sets index set within here found = ap (map (sealed bounds)) (shown_none state sets index set within here found)
+
+pub sealed_first : (bounds : ℕ) (state : ReplicaState) → map (sealed bounds) (shown state []) ≡ []
 unfolding shown
-shown_first state = refl
+sealed_first bounds state = refl

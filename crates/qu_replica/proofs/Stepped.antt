@@ -1,17 +1,39 @@
--- A replica after a step that may have failed.
-use Rattle.std.proofs.Common.{◌≡◌, Result, Ok, Err, subst, sym}
+-- A replica once it carried out a decision, which may have failed, and what a text makes of it.
+use Rattle.std.proofs.Common.{◌≡◌, ℕ, List, [], Result, Ok, Err, subst, sym, ap}
 use Rattle.std.specs.Prelude.{OnOk, OnErr}
+use Rattle.qu_base.specs.declared.bad_text.BadText.{BadText}
+use Rattle.qu_base.specs.declared.party.ClientId.{ClientId}
+use Rattle.qu_history.specs.declared.sets.SetOf.{SetOf}
 use Rattle.qu_frames.specs.declared.frame.Frame.{Frame}
+use Rattle.qu_frames.specs.Decoding.{decoded}
+use Rattle.qu_replica.specs.declared.decision.Decision.{Decision}
 use Rattle.qu_replica.specs.State.{ReplicaState}
-use Rattle.qu_replica.specs.Step.{replica_step}
-use Rattle.qu_replica.specs.Growth.{AreHistories, HasParts, Grows}
-use Rattle.qu_replica.proofs.Growth.{grows-self, step-grows}
-use Rattle.qu_replica.proofs.Allowed.{step-histories}
+use Rattle.qu_replica.specs.Step.{carried_out, on_frame, on_decoded, replica_step}
+use Rattle.qu_replica.specs.Growth.{AreHistories, MayDecide, Grows}
+use Rattle.qu_replica.proofs.Growth.{grows-self, carried_out-grows}
+use Rattle.qu_replica.proofs.Allowed.{carried_out-histories}
 
-pub histories_stepped : {X E : Type 0} (result : Result X E) (old new : ReplicaState) (received : Frame) → OnOk result (new ≡ (replica_step old received).0) → OnErr result (new ≡ old) → HasParts received → AreHistories old → AreHistories new
-histories_stepped (Ok letters) old new received ok err parts own = subst AreHistories (sym ok) (step-histories old received parts own)
-histories_stepped (Err error) old new received ok err parts own = subst AreHistories (sym err) own
+module _ {X E : Type 0} (result : Result X E) (old new : ReplicaState) (client : ClientId) (number round : ℕ) (sets : List SetOf) (decision : Decision) where
+  pub histories_stepped : OnOk result (new ≡ (carried_out old client number round sets decision).0) → OnErr result (new ≡ old) → MayDecide old decision → AreHistories old → AreHistories new
+  histories_stepped ok err may own =
+      elim result as (λ (it : Result X E). OnOk it (new ≡ (carried_out old client number round sets decision).0) → OnErr it (new ≡ old) → AreHistories new) [
+        | Ok made ↦ λ is same. subst AreHistories (sym is) (carried_out-histories old client number round sets decision own may)
+        | Err error ↦ λ is same. subst AreHistories (sym same) own
+      ] ok err
 
-pub grows_stepped : {X E : Type 0} (result : Result X E) (old new : ReplicaState) (received : Frame) → OnOk result (new ≡ (replica_step old received).0) → OnErr result (new ≡ old) → Grows old new
-grows_stepped (Ok letters) old new received ok err = subst (Grows old) (sym ok) (step-grows old received)
-grows_stepped (Err error) old new received ok err = subst (Grows old) (sym err) (grows-self old)
+  pub grows_stepped : OnOk result (new ≡ (carried_out old client number round sets decision).0) → OnErr result (new ≡ old) → Grows old new
+  grows_stepped ok err =
+      elim result as (λ (it : Result X E). OnOk it (new ≡ (carried_out old client number round sets decision).0) → OnErr it (new ≡ old) → Grows old new) [
+        | Ok made ↦ λ is same. subst (Grows old) (sym is) (carried_out-grows old client number round sets decision)
+        | Err error ↦ λ is same. subst (Grows old) (sym same) (grows-self old)
+      ] ok err
+
+-- a text with a frame is handled as the frame
+pub step_of_frame : (state : ReplicaState) (text : List ℕ) (frame : Frame) → decoded text ≡ Ok frame → replica_step state text ≡ on_frame state frame
+step_of_frame state text frame is = ap (on_decoded state) is
+
+-- a text without one is ignored
+pub step_of_none : (state : ReplicaState) (text : List ℕ) (bad : BadText) → decoded text ≡ Err bad → replica_step state text ≡ (state, [])
+step_of_none state text bad is = ap (on_decoded state) is
+
+pub ruleset step_laws = (step_of_frame, step_of_none, grows-self)

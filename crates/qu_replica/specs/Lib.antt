@@ -3,3 +3,4 @@ pub mod State
 pub mod Rows
 pub mod Step
 pub mod Growth
+pub mod Fits

@@ -1,6 +1,7 @@
--- The replica's step: a function from its state and a frame to a state and letters.
-use Rattle.std.specs.Prelude.{ℕ, List, [], ◌∷◌, slice_get}
+-- The replica's step: a function from its state and a text to a state and letters.
+use Rattle.std.specs.Prelude.{ℕ, List, [], ◌∷◌, map, slice_get, Result, Ok, Err}
 use Rattle.std.specs.List.{filter_map}
+use Rattle.qu_base.specs.declared.bad_text.BadText.{BadText}
 use Rattle.qu_base.specs.declared.party.Party.TheVariants as party
 use Rattle.qu_base.specs.declared.party.ClientId.{ClientId}
 use Rattle.qu_history.specs.declared.sets.SetOf.{SetOf}
@@ -9,6 +10,9 @@ use Rattle.qu_frames.specs.declared.frame.Frame.{Frame}
 use Rattle.qu_frames.specs.declared.frame.Frame.TheVariants as frame
 use Rattle.qu_frames.specs.declared.frame.Letter.{Letter}
 use Rattle.qu_frames.specs.declared.verdict.Verdict.{Verdict}
+use Rattle.qu_frames.specs.Blank.{blank_mac, sealed}
+use Rattle.qu_frames.specs.Forms.{frame_form}
+use Rattle.qu_frames.specs.Decoding.{decoded}
 use Rattle.qu_replica.specs.declared.decision.Decision.{Decision}
 use Rattle.qu_replica.specs.declared.decision.Decision.TheVariants.{Answers, Waits}
 use Rattle.qu_replica.specs.State.{ReplicaState, accept_all}
@@ -18,11 +22,17 @@ use Rattle.qu_replica.specs.Rows.{asked_of, decision_on}
 unfoldable pub shown : ReplicaState → List SetOf → List ObjectHistory
 shown state sets = filter_map (λ set. slice_get state.histories (set.object).0) sets
 
+-- the frame that answers a request: the histories are sealed, and no entry is culled
+abbrev pub answer_frame : ReplicaState → ClientId → ℕ → ℕ → List SetOf → Verdict → Frame
+answer_frame state client number round sets verdict =
+    frame.Reply state.me client number round verdict [] (map (sealed state.bounds) (shown state sets)) blank_mac
+
+-- the letter that carries it
 abbrev pub reply : ReplicaState → ClientId → ℕ → ℕ → List SetOf → Verdict → Letter
 reply state client number round sets verdict = record {
   from = party.Replica state.me;
   to = party.Client client;
-  frame = frame.Reply state.me client number round verdict (shown state sets);
+  text = frame_form.spell (answer_frame state client number round sets verdict);
 }
 
 abbrev pub carried_out : ReplicaState → ClientId → ℕ → ℕ → List SetOf → Decision → ReplicaState × List Letter
@@ -31,7 +41,15 @@ carried_out state client number round sets (Answers verdict accepted) =
 carried_out state client number round sets Waits = (state, [])
 
 -- a frame that is no request is ignored
-abbrev pub replica_step : ReplicaState → Frame → ReplicaState × List Letter
-replica_step state (frame.Request client number round sets body) =
+abbrev pub on_frame : ReplicaState → Frame → ReplicaState × List Letter
+on_frame state (frame.Request client number round sets body mac) =
     carried_out state client number round sets (decision_on state (asked_of client number sets body) body)
-replica_step state (frame.Reply replica client number round verdict shown) = (state, [])
+on_frame state (frame.Reply replica client number round verdict culled shown mac) = (state, [])
+
+abbrev pub on_decoded : ReplicaState → Result Frame BadText → ReplicaState × List Letter
+on_decoded state (Ok frame) = on_frame state frame
+on_decoded state (Err bad) = (state, [])
+
+-- a text that is not decoded is ignored
+abbrev pub replica_step : ReplicaState → List ℕ → ReplicaState × List Letter
+replica_step state text = on_decoded state (decoded text)

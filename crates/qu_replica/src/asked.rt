@@ -1,7 +1,6 @@
-ghost use Rattle.std.specs.Prelude.{◌≡◌, IfOk, IsTrue};
+ghost use Rattle.std.specs.Prelude.{◌≡◌, IfOk};
 ghost use Rattle.qu_history.specs.Sets.{latest_of};
 ghost use Rattle.qu_replica.specs.Rows.{shown_of, act_asked, asked_of};
-ghost use Rattle.qu_replica.specs.Growth.{has_parts};
 
 use qu_base::{ClientId, Digest, NoMemory, ObjectId};
 use qu_frames::Body;
@@ -40,10 +39,8 @@ impl<'a> Asked<'a> {
         sets: &'a Sets,
         body: &Body,
     ) -> Result<Asked<'a>, NoMemory>
-        ensures value { IfOk result (λ asked. asked ≡ asked_of client number sets.now body.now) }
-        ensures parts { IsTrue (has_parts body.now) }
+        ensures { IfOk result (λ asked. asked ≡ asked_of client number sets.now body.now) }
     {
-        has_parts(body);
         Ok(Asked {
             client,
             number,
@@ -77,20 +74,5 @@ fn act_asked(
     match body {
         Body::Act(act) => Ok(Some(act_digest(alloc, client, number, act)?)),
         Body::Ask(_) => Ok(None),
-    }
-}
-
-/// A request has parts. The types of acts and queries keep this; here it is told, and nothing is
-/// computed.
-fn has_parts(body: &Body)
-    ensures { IsTrue (has_parts body.now) }
-{
-    match body {
-        Body::Act(act) => {
-            act.parts();
-        }
-        Body::Ask(query) => {
-            query.parts();
-        }
     }
 }

@@ -36,12 +36,3 @@ pub(crate) fn refuse(alloc: Global, why: Refusal) -> Decision
         accepted: List::new(alloc),
     }
 }
-
-/// The list of one item.
-pub(crate) fn one<T: Drop>(alloc: Global, item: T) -> Result<List<T>, NoMemory>
-    ensures { IfOk result (λ items. items ≡ item ∷ []) }
-{
-    let mut items = List::new(alloc);
-    items.push(item)?;
-    Ok(items)
-}

@@ -2,7 +2,7 @@ ghost use Rattle.std.specs.Prelude.{◌≡◌, ◌≤◌, length, slice_get, IfO
 ghost use Rattle.std.specs.Option.{option_copied};
 ghost use Rattle.qu_replica.specs.State.{opening_state};
 ghost use Rattle.qu_replica.specs.Versions.{version_at};
-ghost use Rattle.qu_replica.specs.Step.{replica_step};
+ghost use Rattle.qu_replica.specs.Step.{on_frame, replica_step};
 ghost use Rattle.qu_replica.specs.Growth.{AreHistories, HasParts, Grows};
 
 mod acts;
@@ -14,8 +14,8 @@ mod rows;
 
 use crate::asked::Asked;
 use crate::versions::{self, Stored};
-use qu_base::{Bounds, List, NoMemory, ObjectId, ReplicaId};
-use qu_frames::{Frame, Letter};
+use qu_base::{Bounds, List, NoMemory, ObjectId, ReadFail, ReplicaId};
+use qu_frames::{Frame, Letter, decode};
 use qu_history::History;
 use qu_objects::{KindName, ObjState};
 use qu_stamp::Stamp;
@@ -88,17 +88,32 @@ impl Replica {
         versions::version_at(self.versions.as_slice(), object, stamp)
     }
 
-    /// Handles a frame, and gives the letters that answer it: one to a request that it decides, none
-    /// to one whose version it lacks, and none to a reply. Without memory it stays as it is.
-    pub fn step(&mut self, frame: &Frame) -> Result<List<Letter>, NoMemory>
-        ensures state { OnOk result (self.new ≡ (replica_step self.old frame.now).0) }
-        ensures letters { IfOk result (λ letters. letters ≡ (replica_step self.old frame.now).1) }
+    /// Handles a text, and gives the letters that answer it: one to a request that it decides, none
+    /// to one whose version it lacks, to a reply, and to a text that is no frame. Without memory it
+    /// stays as it is.
+    #[tactic(auto, using(crate::proofs::Stepped::step_laws))]
+    pub fn step(&mut self, text: &[u8]) -> Result<List<Letter>, NoMemory>
+        ensures state { OnOk result (self.new ≡ (replica_step self.old text.now).0) }
+        ensures letters { IfOk result (λ letters. letters ≡ (replica_step self.old text.now).1) }
         ensures err { OnErr result (self.new ≡ self.old) }
-        ensures parts { HasParts frame.now }
         ensures histories { AreHistories self.new }
         ensures grows { Grows self.old self.new }
     {
-        let no_letters = List::new(self.alloc);
+        match decode(self.alloc, text) {
+            Ok(frame) => self.on_frame(&frame),
+            Err(ReadFail::Bad(_)) => Ok(List::new(self.alloc)),
+            Err(ReadFail::NoMemory) => Err(NoMemory),
+        }
+    }
+
+    /// Handles a frame. Without memory it stays as it is.
+    fn on_frame(&mut self, frame: &Frame) -> Result<List<Letter>, NoMemory>
+        ensures state { OnOk result (self.new ≡ (on_frame self.old frame.now).0) }
+        ensures letters { IfOk result (λ letters. letters ≡ (on_frame self.old frame.now).1) }
+        ensures err { OnErr result (self.new ≡ self.old) }
+        ensures histories { AreHistories self.new }
+        ensures grows { Grows self.old self.new }
+    {
         match frame {
             Frame::Request {
                 client,
@@ -106,12 +121,13 @@ impl Replica {
                 round,
                 sets,
                 body,
+                ..
             } => {
                 let asked = Asked::new(self.alloc, *client, *number, sets, body)?;
                 let decision = self.decide(&asked, body)?;
                 self.carry_out(&asked, *round, decision)
             }
-            Frame::Reply { .. } => Ok(no_letters),
+            Frame::Reply { .. } => Ok(List::new(self.alloc)),
         }
     }
 }

@@ -1,6 +1,8 @@
+mod bytes;
+
 use super::*;
 use qu_base::{Bounds, ClientId, List, NoMemory, ObjectId, ReplicaId};
-use qu_frames::{Body, ClassCode, Frame, Refusal, Verdict};
+use qu_frames::{Body, ClassCode, Frame, Refusal, Verdict, blank_mac, decode, encode, seal};
 use qu_history::{History, SetOf, Sets};
 use qu_objects::{Act, Answer, Ask, Item, KindName, Method, Query, Value, act_digest};
 use qu_stamp::{Candidate, Stamp};
@@ -13,7 +15,7 @@ const COUNTER: ObjectId = ObjectId(0);
 const NUMBER: u64 = 7;
 
 /// Replica 0 of 6, with one counter.
-fn replica(alloc: Global) -> Result<Replica, Fail> {
+fn counter_replica(alloc: Global) -> Result<Replica, Fail> {
     let bounds = Bounds::new(1)?;
     Ok(Replica::start(alloc, ReplicaId(0), bounds, &[KindName::Counter])?)
 }
@@ -31,6 +33,7 @@ fn updated_sets(
     updated: u8,
     replicas: u8,
 ) -> Result<Sets, Fail> {
+    let bounds = Bounds::new(1)?;
     let mut entries = List::new(alloc);
     for replica in 0..replicas {
         let mut entry = History::opening(alloc, object, ReplicaId(replica))?;
@@ -40,21 +43,21 @@ fn updated_sets(
                 prior: Stamp::opening(),
             })?;
         }
-        entries.push(entry)?;
+        entries.push(seal(alloc, entry, bounds)?)?;
     }
     let mut objects = List::new(alloc);
     objects.push(SetOf { object, entries })?;
     Ok(Sets::new(objects).ok_or("the sets are refused")?)
 }
 
-fn five_more(alloc: Global) -> Result<Act, Fail> {
+fn five_more(alloc: Global, object: ObjectId) -> Result<Act, Fail> {
     let mut parts = List::new(alloc);
-    parts.push((COUNTER, Method::Add(5)))?;
+    parts.push((object, Method::Add(5)))?;
     Ok(Act::new(parts)?)
 }
 
 fn add_five(alloc: Global) -> Result<Body, Fail> {
-    Ok(Body::Act(five_more(alloc)?))
+    Ok(Body::Act(five_more(alloc, COUNTER)?))
 }
 
 fn read(alloc: Global) -> Result<Body, Fail> {
@@ -65,7 +68,7 @@ fn read(alloc: Global) -> Result<Body, Fail> {
 
 /// The stamp of client 1's update upon the opening candidate that five replicas show.
 fn first(alloc: Global) -> Result<Stamp, Fail> {
-    let act = act_digest(alloc, ClientId(1), NUMBER, &five_more(alloc)?)?;
+    let act = act_digest(alloc, ClientId(1), NUMBER, &five_more(alloc, COUNTER)?)?;
     let set = sets(alloc, COUNTER, 5)?.digest_of(alloc)?;
     Ok(Stamp {
         time: 1,
@@ -76,6 +79,19 @@ fn first(alloc: Global) -> Result<Stamp, Fail> {
     })
 }
 
+/// The text of a request in its first round.
+fn request(alloc: Global, client: ClientId, sets: Sets, body: Body) -> Result<List<u8>, Fail> {
+    let frame = Frame::Request {
+        client,
+        number: NUMBER,
+        round: 1,
+        sets,
+        body,
+        mac: blank_mac(),
+    };
+    Ok(encode(alloc, &frame)?)
+}
+
 /// The verdict of the one reply, and how many candidates each shown history has.
 fn told(
     alloc: Global,
@@ -84,25 +100,20 @@ fn told(
     sets: Sets,
     body: Body,
 ) -> Result<(Verdict, List<usize>), Fail> {
-    let letters = replica.step(&Frame::Request {
-        client,
-        number: NUMBER,
-        round: 0,
-        sets,
-        body,
-    })?;
-    match letters.as_slice() {
-        [letter] => match &letter.frame {
-            Frame::Reply { verdict, shown, .. } => {
-                let mut lengths = List::new(alloc);
-                for history in shown.as_slice() {
-                    lengths.push(history.len())?;
-                }
-                Ok((verdict.copy(alloc)?, lengths))
+    let text = request(alloc, client, sets, body)?;
+    let letters = replica.step(text.as_slice())?;
+    let [letter] = letters.as_slice() else {
+        return Err("not one letter is sent")?;
+    };
+    match decode(alloc, letter.text.as_slice()) {
+        Ok(Frame::Reply { verdict, shown, .. }) => {
+            let mut lengths = List::new(alloc);
+            for sealed in shown.as_slice() {
+                lengths.push(sealed.history.len())?;
             }
-            Frame::Request { .. } => Err("a request is sent")?,
-        },
-        _ => Err("not one letter is sent")?,
+            Ok((verdict, lengths))
+        }
+        Ok(Frame::Request { .. }) | Err(_) => Err("no reply is sent")?,
     }
 }
 
@@ -120,7 +131,7 @@ fn five(alloc: Global) -> Result<Answer, NoMemory> {
 
 #[test]
 fn thin_sets_are_refused(rt: HostRuntime) -> Result<(), Fail> {
-    let mut replica = replica(rt.alloc())?;
+    let mut replica = counter_replica(rt.alloc())?;
     let (verdict, shown) = told(
         rt.alloc(),
         &mut replica,
@@ -136,7 +147,7 @@ fn thin_sets_are_refused(rt: HostRuntime) -> Result<(), Fail> {
 
 #[test]
 fn an_act_is_done_once(rt: HostRuntime) -> Result<(), Fail> {
-    let mut replica = replica(rt.alloc())?;
+    let mut replica = counter_replica(rt.alloc())?;
     let first = first(rt.alloc())?;
     let done = Verdict::Done {
         stamps: stamped(rt.alloc(), first)?,
@@ -172,7 +183,7 @@ fn an_act_is_done_once(rt: HostRuntime) -> Result<(), Fail> {
 
 #[test]
 fn an_act_upon_other_sets_is_no_retry(rt: HostRuntime) -> Result<(), Fail> {
-    let mut replica = replica(rt.alloc())?;
+    let mut replica = counter_replica(rt.alloc())?;
     let first = first(rt.alloc())?;
     told(
         rt.alloc(),
@@ -198,7 +209,7 @@ fn an_act_upon_other_sets_is_no_retry(rt: HostRuntime) -> Result<(), Fail> {
 
 #[test]
 fn a_query_is_told_what_a_quorum_holds(rt: HostRuntime) -> Result<(), Fail> {
-    let mut replica = replica(rt.alloc())?;
+    let mut replica = counter_replica(rt.alloc())?;
     let first = first(rt.alloc())?;
     told(
         rt.alloc(),
@@ -236,14 +247,14 @@ fn a_query_is_told_what_a_quorum_holds(rt: HostRuntime) -> Result<(), Fail> {
 
 #[test]
 fn an_unknown_object_is_refused(rt: HostRuntime) -> Result<(), Fail> {
-    let mut replica = replica(rt.alloc())?;
+    let mut replica = counter_replica(rt.alloc())?;
     let unknown = ObjectId(1);
     let (verdict, shown) = told(
         rt.alloc(),
         &mut replica,
         ClientId(1),
         sets(rt.alloc(), unknown, 5)?,
-        add_five(rt.alloc())?,
+        Body::Act(five_more(rt.alloc(), unknown)?),
     )?;
     assert_eq!(rt; verdict, Verdict::Refused(Refusal::UnknownObject(unknown)));
     assert!(rt; shown.is_empty());

@@ -29,7 +29,7 @@ use Rattle.qu_replica.specs.declared.decision.Decision.{Decision}
 use Rattle.qu_replica.specs.declared.decision.Decision.TheVariants.{Answers, Waits}
 use Rattle.qu_replica.specs.State.{ReplicaState, candidates_in, own_candidates, own_latest, with_candidate, accept, accept_all}
 use Rattle.qu_replica.specs.Rows.{Asked, asked_of, refuse, shown_of, base_of, base_version, fresh_stamp, fresh_on, row_unknown, row_thin, row_retry, row_current, row_method, row_version, row_time, row_full, row_done, row_told, first_given, decide_act, decide_ask, decision_on}
-use Rattle.qu_replica.specs.Step.{carried_out, replica_step}
+use Rattle.qu_replica.specs.Step.{carried_out, on_frame}
 use Rattle.qu_replica.specs.Versions.{version_at}
 use Rattle.qu_replica.specs.Growth.{MayAccept, MayAcceptAll, MayDecide, HasParts}
 use Rattle.qu_replica.proofs.Accepting.{other_history}
@@ -209,11 +209,11 @@ pub stays : (state new : ReplicaState) (accepted : List Accepted) → new ≡ ac
 unfolding accept_all
 stays state new accepted is_new none = is_new ∙ ap (accept_all state) none
 
-moves : (state new : ReplicaState) (client : ClientId) (number round : ℕ) (sets : List SetOf) (part : ObjectId × Method) (accepted : List Accepted)
+moves : (state new : ReplicaState) (client : ClientId) (number round : ℕ) (sets : List SetOf) (mac : List ℕ) (part : ObjectId × Method) (accepted : List Accepted)
     → MayAcceptAll state accepted → MakesOne state (asked_of client number sets (body.Act (part ∷ []))) part accepted → new ≡ accept_all state accepted
-    → AcceptsAlone state new (frame.Request client number round sets (body.Act (part ∷ [])))
+    → AcceptsAlone state new (frame.Request client number round sets (body.Act (part ∷ [])) mac)
 unfolding accept_all
-moves state new client number round sets part accepted may made is_new =
+moves state new client number round sets mac part accepted may made is_new =
     let one : Accepted = record { object = part.0; candidate = made.candidate; state = made.version } in
     let is_one : new ≡ accept state one = is_new ∙ ap (accept_all state) made.alone in
     let may_one : MayAccept state one = subst (MayAcceptAll state) made.alone may in
@@ -225,6 +225,7 @@ moves state new client number round sets part accepted may made is_new =
         round = round;
         sets = sets;
         method = part.1;
+        mac = mac;
         is_request = refl;
         candidate = made.candidate;
         added = ap (λ (it : ReplicaState). own_candidates it part.0) is_one ∙ candidates_after (part.0).0 made.candidate state.histories may_one.known;
@@ -238,9 +239,9 @@ moves state new client number round sets part accepted may made is_new =
           ap candidates_in (other_history (part.0).0 other.0 made.candidate state.histories apart);
     }
 
-act_moves : (state : ReplicaState) (client : ClientId) (number round : ℕ) (sets : List SetOf) (part : ObjectId × Method) → HasParts (frame.Request client number round sets (body.Act (part ∷ [])))
-    → ((replica_step state (frame.Request client number round sets (body.Act (part ∷ [])))).0 ≡ state) ⊎ AcceptsAlone state (replica_step state (frame.Request client number round sets (body.Act (part ∷ [])))).0 (frame.Request client number round sets (body.Act (part ∷ [])))
-act_moves state client number round sets part parts =
+act_moves : (state : ReplicaState) (client : ClientId) (number round : ℕ) (sets : List SetOf) (mac : List ℕ) (part : ObjectId × Method) → HasParts (frame.Request client number round sets (body.Act (part ∷ [])) mac)
+    → ((on_frame state (frame.Request client number round sets (body.Act (part ∷ [])) mac)).0 ≡ state) ⊎ AcceptsAlone state (on_frame state (frame.Request client number round sets (body.Act (part ∷ [])) mac)).0 (frame.Request client number round sets (body.Act (part ∷ [])) mac)
+act_moves state client number round sets mac part parts =
     let asked : Asked = asked_of client number sets (body.Act (part ∷ [])) in
     let decision : Decision = decide_act state asked (part ∷ []) (part.0 ∷ []) in
     let new : ReplicaState = (carried_out state client number round sets decision).0 in
@@ -248,19 +249,19 @@ act_moves state client number round sets part parts =
     elim (act_accepts state asked part) [
       | inl none ↦ inl (stays state new (accepted_in decision) is_new none)
       | inr made ↦
-          inr (moves state new client number round sets part (accepted_in decision) (may_accept state decision (decision_on-may state asked (body.Act (part ∷ [])) parts)) made is_new)
+          inr (moves state new client number round sets mac part (accepted_in decision) (may_accept state decision (decision_on-may state asked (body.Act (part ∷ [])) parts)) made is_new)
     ]
 
 -- a step leaves a replica as it is, or adds one candidate for which there are grounds
-pub step_moves : (state : ReplicaState) (received : Frame) → HasParts received → ((replica_step state received).0 ≡ state) ⊎ AcceptsAlone state (replica_step state received).0 received
-step_moves state (frame.Request client number round sets (body.Act [])) parts = absurd (false≢true parts)
-step_moves state (frame.Request client number round sets (body.Act (part ∷ []))) parts = act_moves state client number round sets part parts
-step_moves state (frame.Request client number round sets (body.Act (first ∷ second ∷ later))) parts = absurd (false≢true parts)
-step_moves state (frame.Request client number round sets (body.Ask asks)) parts =
+pub step_moves : (state : ReplicaState) (received : Frame) → HasParts received → ((on_frame state received).0 ≡ state) ⊎ AcceptsAlone state (on_frame state received).0 received
+step_moves state (frame.Request client number round sets (body.Act []) mac) parts = absurd (false≢true parts)
+step_moves state (frame.Request client number round sets (body.Act (part ∷ [])) mac) parts = act_moves state client number round sets mac part parts
+step_moves state (frame.Request client number round sets (body.Act (first ∷ second ∷ later)) mac) parts = absurd (false≢true parts)
+step_moves state (frame.Request client number round sets (body.Ask asks) mac) parts =
     let asked : Asked = asked_of client number sets (body.Ask asks) in
     let decision : Decision = decision_on state asked (body.Ask asks) in
     inl (stays state (carried_out state client number round sets decision).0 (accepted_in decision) (carried state client number round sets decision) (ask_accepts state asked asks _))
-step_moves state (frame.Reply replica client number round verdict shown) parts = inl refl
+step_moves state (frame.Reply replica client number round verdict culled shown mac) parts = inl refl
 
 -- the same of one object
 pub accepts_on : (old new : ReplicaState) (received : Frame) → AcceptsAlone old new received → (object : ObjectId) → (own_candidates new object ≡ own_candidates old object) ⊎ AcceptsOne old new received object
@@ -273,9 +274,9 @@ accepts_on old new received alone object =
       | inr apart ↦ inl (alone.others object apart)
     ]
 
-pub step_accepts : (state : ReplicaState) (received : Frame) → HasParts received → (object : ObjectId) → (own_candidates (replica_step state received).0 object ≡ own_candidates state object) ⊎ AcceptsOne state (replica_step state received).0 received object
+pub step_accepts : (state : ReplicaState) (received : Frame) → HasParts received → (object : ObjectId) → (own_candidates (on_frame state received).0 object ≡ own_candidates state object) ⊎ AcceptsOne state (on_frame state received).0 received object
 step_accepts state received parts object =
     elim (step_moves state received parts) [
       | inl same ↦ inl (ap (λ (it : ReplicaState). own_candidates it object) same)
-      | inr alone ↦ accepts_on state (replica_step state received).0 received alone object
+      | inr alone ↦ accepts_on state (on_frame state received).0 received alone object
     ]

@@ -12,7 +12,7 @@ use Rattle.qu_base.specs.Thresholds.{replicas, quorum}
 use Rattle.qu_stamp.specs.declared.candidate.Candidate.{Candidate}
 use Rattle.qu_history.specs.declared.sets.SetOf.{SetOf}
 use Rattle.qu_history.specs.History.{ObjectHistory, holds}
-use Rattle.qu_history.specs.Sets.{entries_of, order_of, method_at}
+use Rattle.qu_history.specs.Sets.{histories, entries_of, order_of, method_at}
 use Rattle.qu_objects.specs.declared.kind.KindName.{KindName}
 use Rattle.qu_frames.specs.declared.frame.Body.{Body}
 use Rattle.qu_replica.specs.State.{ReplicaState, candidates_in}
@@ -30,6 +30,7 @@ use Rattle.qu_safety.proofs.Each.{zip_found}
 use Rattle.qu_safety.proofs.WorldGrowth.{AcceptsMore, HasMore, has_more, world_after-none, world_after-grows, counted-more}
 use Rattle.qu_safety.proofs.Grounds.{is_base}
 use Rattle.qu_safety.proofs.Small.{same_object}
+use Rattle.qu_history.specs.declared.sealed.Sealed.{Sealed}
 
 -- ---- a run's replicas are as many as its bounds say
 
@@ -78,20 +79,21 @@ record IsKept (trace : Trace) (count : ℕ) (object : ObjectId) (replica : ℕ) 
   object_is : history.object ≡ object
   replica_is : (history.replica).0 ≡ replica
 
-kept_was : (trace : Trace) (count : ℕ) (object : ObjectId) (replica : ℕ) (kept : List Kept) (history : ObjectHistory) → AllByRecursion (λ (it : Kept). WasHeld trace count it.history) kept → kept_of object replica kept ≡ Some history → IsKept trace count object replica history
+kept_was : (trace : Trace) (count : ℕ) (object : ObjectId) (replica : ℕ) (kept : List Kept) (sealed : Sealed) → AllByRecursion (λ (it : Kept). WasHeld trace count (it.sealed).history) kept → kept_of object replica kept ≡ Some sealed → IsKept trace count object replica sealed.history
 unfolding kept_of
-kept_was trace count object replica [] history held found = absurd (none-some history found)
-kept_was trace count object replica (first ∷ later) history held found =
-    let test : Bool = ((first.history).object).0 == object.0 && ((first.history).replica).0 == replica in
+kept_was trace count object replica [] sealed held found = absurd (none-some sealed found)
+kept_was trace count object replica (first ∷ later) sealed held found =
+    let own : ObjectHistory = (first.sealed).history in
+    let test : Bool = (own.object).0 == object.0 && (own.replica).0 == replica in
     elim (cases_Bool test) [
       | inl here ↦
-          let same : first.history ≡ history = same_Some _ _ (sym (ap (λ (b : Bool). cond b (Some first.history) (kept_of object replica later)) here) ∙ found) in
-          let parts : ((((first.history).object).0 == object.0) ≡ true) × ((((first.history).replica).0 == replica) ≡ true) = and_parts _ _ here in
-          subst (IsKept trace count object replica) same
-          (record { was = held.0; object_is = same_object (first.history).object object parts.0; replica_is = eqb-true _ _ parts.1 })
+          let same : first.sealed ≡ sealed = same_Some _ _ (sym (ap (λ (b : Bool). cond b (Some first.sealed) (kept_of object replica later)) here) ∙ found) in
+          let parts : (((own.object).0 == object.0) ≡ true) × (((own.replica).0 == replica) ≡ true) = and_parts _ _ here in
+          subst (λ (it : Sealed). IsKept trace count object replica it.history) same
+          (record { was = held.0; object_is = same_object own.object object parts.0; replica_is = eqb-true _ _ parts.1 })
       | inr other ↦
-          kept_was trace count object replica later history held.1
-          (sym (ap (λ (b : Bool). cond b (Some first.history) (kept_of object replica later)) other) ∙ found)
+          kept_was trace count object replica later sealed held.1
+          (sym (ap (λ (b : Bool). cond b (Some first.sealed) (kept_of object replica later)) other) ∙ found)
     ]
 
 -- ---- as many accepted as show it
@@ -99,32 +101,33 @@ kept_was trace count object replica (first ∷ later) history held found =
 -- what is kept of each of these replicas, from this number on, tells what it accepted
 abbrev TellOf : ObjectId → Candidate → List Kept → ℕ → List ReplicaState → Type 0
 TellOf object candidate kept number states =
-    (place : ℕ) (state : ReplicaState) (history : ObjectHistory) → slice_get states place ≡ Some state → kept_of object (number + place) kept ≡ Some history → holds candidate history.candidates ≡ true → accepts object candidate state ≡ true
+    (place : ℕ) (state : ReplicaState) (sealed : Sealed) → slice_get states place ≡ Some state → kept_of object (number + place) kept ≡ Some sealed → holds candidate (sealed.history).candidates ≡ true → accepts object candidate state ≡ true
 
 tell_later : (object : ObjectId) (candidate : Candidate) (kept : List Kept) (number : ℕ) (state : ReplicaState) (later : List ReplicaState) → TellOf object candidate kept number (state ∷ later) → TellOf object candidate kept (number + 1) later
-tell_later object candidate kept number state later tell = λ place other history is_other is_kept held.
+tell_later object candidate kept number state later tell = λ place other sealed is_other is_kept held.
     let sum : number + suc place ≡ (number + 1) + place = omega arith in
-    tell (suc place) other history is_other (ap (λ (at : ℕ). kept_of object at kept) sum ∙ is_kept) held
+    tell (suc place) other sealed is_other (ap (λ (at : ℕ). kept_of object at kept) sum ∙ is_kept) held
 
-abbrev entries_with : Option ObjectHistory → List ObjectHistory → List ObjectHistory
+abbrev entries_with : Option Sealed → List Sealed → List Sealed
 entries_with None later = later
-entries_with (Some history) later = history ∷ later
+entries_with (Some sealed) later = sealed ∷ later
 
-order_with : (candidate : Candidate) (found : Option ObjectHistory) (entries : List ObjectHistory) (state : Bool) (most : ℕ) → order_of candidate entries ≤ most → ((history : ObjectHistory) → found ≡ Some history → holds candidate history.candidates ≡ true → state ≡ true) → order_of candidate (entries_with found entries) ≤ cond state 1 0 + most
+order_with : (candidate : Candidate) (found : Option Sealed) (entries : List Sealed) (state : Bool) (most : ℕ) → order_of candidate (histories entries) ≤ most → ((sealed : Sealed) → found ≡ Some sealed → holds candidate (sealed.history).candidates ≡ true → state ≡ true) → order_of candidate (histories (entries_with found entries)) ≤ cond state 1 0 + most
 unfolding order_of
 order_with candidate None entries state most less tells = omega arith
-order_with candidate (Some history) entries state most less tells =
-    let here : cond (holds candidate history.candidates) 1 0 ≤ cond state 1 0 = counted-more (holds candidate history.candidates) state (tells history refl) in
-    let sum : count_by (λ (it : ObjectHistory). holds candidate it.candidates) (history ∷ entries) ≡ cond (holds candidate history.candidates) 1 0 + count_by (λ (it : ObjectHistory). holds candidate it.candidates) entries =
-    sum_by-cons (λ (it : ObjectHistory). cond (holds candidate it.candidates) 1 0) history entries in
+order_with candidate (Some sealed) entries state most less tells =
+    let history : ObjectHistory = sealed.history in
+    let here : cond (holds candidate history.candidates) 1 0 ≤ cond state 1 0 = counted-more (holds candidate history.candidates) state (tells sealed refl) in
+    let sum : count_by (λ (it : ObjectHistory). holds candidate it.candidates) (history ∷ histories entries) ≡ cond (holds candidate history.candidates) 1 0 + count_by (λ (it : ObjectHistory). holds candidate it.candidates) (histories entries) =
+    sum_by-cons (λ (it : ObjectHistory). cond (holds candidate it.candidates) 1 0) history (histories entries) in
     rw sum (omega arith)
 
 entries_next : (object : ObjectId) (number count : ℕ) (kept : List Kept) → entries_from object number (suc count) kept ≡ entries_with (kept_of object number kept) (entries_from object (number + 1) count kept)
 unfolding entries_from
 entries_next object number count kept =
-    elim (kept_of object number kept) as (λ (found : Option ObjectHistory). elim found [ None ↦ entries_from object (number + 1) count kept | Some history ↦ history ∷ entries_from object (number + 1) count kept ] ≡ entries_with found (entries_from object (number + 1) count kept)) [
+    elim (kept_of object number kept) as (λ (found : Option Sealed). elim found [ None ↦ entries_from object (number + 1) count kept | Some sealed ↦ sealed ∷ entries_from object (number + 1) count kept ] ≡ entries_with found (entries_from object (number + 1) count kept)) [
       | None ↦ refl
-      | Some history ↦ refl
+      | Some sealed ↦ refl
     ]
 
 order_of-none : (candidate : Candidate) → order_of candidate [] ≡ 0
@@ -135,31 +138,31 @@ entries_none : (object : ObjectId) (number : ℕ) (kept : List Kept) → entries
 unfolding entries_from
 entries_none object number kept = refl
 
-order_of-from : (object : ObjectId) (candidate : Candidate) (kept : List Kept) (number count : ℕ) (states : List ReplicaState) → length states ≡ count → TellOf object candidate kept number states → order_of candidate (entries_from object number count kept) ≤ count_by (accepts object candidate) states
+order_of-from : (object : ObjectId) (candidate : Candidate) (kept : List Kept) (number count : ℕ) (states : List ReplicaState) → length states ≡ count → TellOf object candidate kept number states → order_of candidate (histories (entries_from object number count kept)) ≤ count_by (accepts object candidate) states
 order_of-from object candidate kept number zero states all tell =
-    let none : order_of candidate (entries_from object number 0 kept) ≡ 0 = ap (order_of candidate) (entries_none object number kept) ∙ order_of-none candidate in
+    let none : order_of candidate (histories (entries_from object number 0 kept)) ≡ 0 = ap (λ (it : List Sealed). order_of candidate (histories it)) (entries_none object number kept) ∙ order_of-none candidate in
     omega arith
 order_of-from object candidate kept number (suc count) [] all tell = absurd (omega arith)
 order_of-from object candidate kept number (suc count) (state ∷ later) all tell =
-    let rest : order_of candidate (entries_from object (number + 1) count kept) ≤ count_by (accepts object candidate) later =
+    let rest : order_of candidate (histories (entries_from object (number + 1) count kept)) ≤ count_by (accepts object candidate) later =
     order_of-from object candidate kept (number + 1) count later (omega arith) (tell_later object candidate kept number state later tell) in
     let sum : count_by (accepts object candidate) (state ∷ later) ≡ cond (accepts object candidate state) 1 0 + count_by (accepts object candidate) later =
     sum_by-cons (λ (it : ReplicaState). cond (accepts object candidate it) 1 0) state later in
-    let here : order_of candidate (entries_with (kept_of object number kept) (entries_from object (number + 1) count kept)) ≤ cond (accepts object candidate state) 1 0 + count_by (accepts object candidate) later =
+    let here : order_of candidate (histories (entries_with (kept_of object number kept) (entries_from object (number + 1) count kept))) ≤ cond (accepts object candidate state) 1 0 + count_by (accepts object candidate) later =
     order_with candidate (kept_of object number kept) (entries_from object (number + 1) count kept) (accepts object candidate state) (count_by (accepts object candidate) later) rest
-    (λ history is held. tell 0 state history refl (ap (λ (at : ℕ). kept_of object at kept) (add-zero number) ∙ is) held) in
+    (λ sealed is held. tell 0 state sealed refl (ap (λ (at : ℕ). kept_of object at kept) (add-zero number) ∙ is) held) in
     rw (entries_next object number count kept, sum) here
 
 -- ---- the entries of an object in the sets
 
-entries_of-cases : (bounds : ℕ) (kept : List Kept) (object : ObjectId) (objects : List ObjectId) → (entries_of object (map (λ it. set_of bounds kept it) objects) ≡ []) ⊎ (entries_of object (map (λ it. set_of bounds kept it) objects) ≡ entries_from object 0 (replicas bounds) kept)
+entries_of-cases : (bounds : ℕ) (kept : List Kept) (object : ObjectId) (objects : List ObjectId) → (entries_of object (map (λ it. set_of bounds kept it) objects) ≡ []) ⊎ (entries_of object (map (λ it. set_of bounds kept it) objects) ≡ histories (entries_from object 0 (replicas bounds) kept))
 unfolding entries_of
 entries_of-cases bounds kept object [] = inl refl
 entries_of-cases bounds kept object (first ∷ later) =
-    let own : List ObjectHistory = entries_from first 0 (replicas bounds) kept in
+    let own : List ObjectHistory = histories (entries_from first 0 (replicas bounds) kept) in
     let others : List ObjectHistory = entries_of object (map (λ it. set_of bounds kept it) later) in
     elim (cases_Bool (first.0 == object.0)) [
-      | inl here ↦ inr (ap (λ (b : Bool). cond b own others) here ∙ ap (λ (it : ObjectId). entries_from it 0 (replicas bounds) kept) (same_object first object here))
+      | inl here ↦ inr (ap (λ (b : Bool). cond b own others) here ∙ ap (λ (it : ObjectId). histories (entries_from it 0 (replicas bounds) kept)) (same_object first object here))
       | inr other ↦
           let skips : cond (first.0 == object.0) own others ≡ others = ap (λ (b : Bool). cond b own others) other in
           elim (entries_of-cases bounds kept object later) [
@@ -175,13 +178,14 @@ shown_by_acceptors trace is_run count within sets body of_kept object candidate 
     let bounds : ℕ = trace.setup.bounds in
     let kept : List Kept = of_kept.kept in
     let tell : TellOf object candidate kept 0 (world_after trace count).replicas =
-    λ place state history is_state found held.
+    λ place state sealed is_state found held.
+    let history : ObjectHistory = sealed.history in
     let is_kept : IsKept trace count object place history =
-    kept_was trace count object place kept history of_kept.held (ap (λ (at : ℕ). kept_of object at kept) (sym (zero-add place)) ∙ found) in
+    kept_was trace count object place kept sealed of_kept.held (ap (λ (at : ℕ). kept_of object at kept) (sym (zero-add place)) ∙ found) in
     let accepted : accepts history.object candidate state ≡ true =
     still_accepts trace count history candidate state is_kept.was (ap (λ (at : ℕ). slice_get (world_after trace count).replicas at) is_kept.replica_is ∙ is_state) held in
     subst (λ (it : ObjectId). accepts it candidate state ≡ true) is_kept.object_is accepted in
-    let most : order_of candidate (entries_from object 0 (replicas bounds) kept) ≤ count_by (accepts object candidate) (world_after trace count).replicas =
+    let most : order_of candidate (histories (entries_from object 0 (replicas bounds) kept)) ≤ count_by (accepts object candidate) (world_after trace count).replicas =
     order_of-from object candidate kept 0 (replicas bounds) (world_after trace count).replicas (all_replicas trace count) tell in
     let entries_are : entries_of object sets ≡ entries_of object (sets_of bounds kept of_kept.op) = ap (entries_of object) of_kept.sets_are in
     elim (entries_of-cases bounds kept object (objects_of of_kept.op)) [
@@ -189,7 +193,7 @@ shown_by_acceptors trace is_run count within sets body of_kept object candidate 
           let zero_is : order_of candidate (entries_of object sets) ≡ 0 = ap (order_of candidate) (entries_are ∙ none) ∙ order_of-none candidate in
           omega arith
       | inr own ↦
-          let same : order_of candidate (entries_of object sets) ≡ order_of candidate (entries_from object 0 (replicas bounds) kept) = ap (order_of candidate) (entries_are ∙ own) in
+          let same : order_of candidate (entries_of object sets) ≡ order_of candidate (histories (entries_from object 0 (replicas bounds) kept)) = ap (order_of candidate) (entries_are ∙ own) in
           omega arith
     ]
 

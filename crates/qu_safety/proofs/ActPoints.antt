@@ -24,7 +24,7 @@ use Rattle.qu_safety.proofs.OneAct.{ActsAreOne}
 use Rattle.qu_safety.specs.Digested.{IsMadeFor}
 use Rattle.qu_safety.specs.Decided.{is_established, IsDecided, TookEffect}
 use Rattle.qu_safety.specs.Order.{world_after, DecidesAt, effect_of, IsPoint}
-use Rattle.qu_safety.specs.Views.{HaveParts}
+use Rattle.qu_safety.specs.Views.{ArePlain}
 use Rattle.qu_safety.proofs.ChainLaws.{setting, laws, established_of}
 use Rattle.qu_safety.proofs.CompletedActs.{CompletedAct, completed_act}
 use Rattle.qu_safety.proofs.Established.{Established, is_established_by, acceptor, accepted_by_established, established_by_decided}
@@ -38,7 +38,7 @@ pub record StandsBefore (trace : Trace) (operation : OpRecord) (reply : ℕ) : T
   pub stands : Stands operation point
   pub before : point.event < reply
 
-module _ (trace : Trace) (is_run : IsRun trace) (have : HaveParts trace.entries) (one_act : ActsAreOne trace) where
+module _ (trace : Trace) (is_run : IsRun trace) (have : ArePlain trace.entries) (one_act : ActsAreOne trace) where
   -- no replica begins with a candidate that has a time
   not_at_first : (object : ObjectId) (candidate : Candidate) → 1 ≤ (candidate.stamp).time → is_established (world_after trace 0) object candidate ≡ false
   unfolding setting
@@ -101,7 +101,7 @@ module _ (trace : Trace) (is_run : IsRun trace) (have : HaveParts trace.entries)
         (is_established_by trace is_run have end object candidate established)
 
 -- a completed act has a point before its reply
-pub act_has_point : (trace : Trace) → IsRun trace → HaveParts trace.entries → ActsAreOne trace → (operation : OpRecord) → Contains (operations_of trace.entries) operation → (reply : ℕ) (answer : Answer) → operation.reply ≡ Some (reply, outcome.Done answer)
+pub act_has_point : (trace : Trace) → IsRun trace → ArePlain trace.entries → ActsAreOne trace → (operation : OpRecord) → Contains (operations_of trace.entries) operation → (reply : ℕ) (answer : Answer) → operation.reply ≡ Some (reply, outcome.Done answer)
     → (act : List (ObjectId × Method)) → operation.op ≡ op.Act act → StandsBefore trace operation reply
 act_has_point trace is_run have one_act operation among reply answer replied act is_act =
     let done : CompletedAct trace operation reply answer = completed_act trace is_run have operation among reply answer replied act is_act in

@@ -23,15 +23,15 @@ use Rattle.qu_objects.specs.Text.{act_digest}
 use Rattle.qu_objects.specs.declared.act.Method.{Method}
 use Rattle.qu_safety.specs.Completions.{Replied, RepliedAt, IsCompleted}
 use Rattle.qu_safety.specs.Quorums.{ToldFrom, QueryOfQuorum, IsOfQuorum, CompletesByQuorums}
-use Rattle.qu_safety.specs.Views.{HaveParts}
+use Rattle.qu_safety.specs.Views.{ArePlain}
 use Rattle.qu_safety.proofs.CompletedActs.{CompletedAct, completed_act, same_parts}
-use Rattle.qu_safety.proofs.CompletedQueries.{IsTold, told_by_fit, Tells, tells_by_reply, same_stamped}
+use Rattle.qu_safety.proofs.CompletedQueries.{IsTold, told_by_fit, ToldBefore, tells_by_reply, same_stamped}
 use Rattle.qu_safety.proofs.KnownRuns.{completion}
 use Rattle.qu_safety.proofs.Small.{some_member, some_quorum}
 
-module _ (trace : Trace) (is_run : IsRun trace) (have : HaveParts trace.entries) where
+module _ (trace : Trace) (is_run : IsRun trace) (have : ArePlain trace.entries) where
   told_from : (operation : OpRecord) (reply round : ℕ) (object : ObjectId) (stamp : Stamp) (answer : Answer) (stamps : List (ObjectId × Stamp)) → stamps ≡ (object, stamp) ∷ []
-      → (replica : ℕ) → Tells trace operation.client operation.number round (reply - 1) stamps answer replica → ToldFrom trace operation reply round object stamp answer replica
+      → (replica : ℕ) → ToldBefore trace operation.client operation.number round (reply - 1) stamps answer replica → ToldFrom trace operation reply round object stamp answer replica
   told_from operation reply round object stamp answer stamps are replica tells =
       let same : (object ≡ tells.object) × (stamp ≡ ((tells.tells).base).stamp) = same_stamped object tells.object stamp ((tells.tells).base).stamp (sym are ∙ (tells.tells).stamps_are) in
       record {
@@ -48,7 +48,7 @@ module _ (trace : Trace) (is_run : IsRun trace) (have : HaveParts trace.entries)
   query_of_quorum : (operation : OpRecord) (reply : ℕ) (answer : Answer) → IsCompleted trace operation reply answer → (query : List (ObjectId × Ask)) → operation.op ≡ op.Query query → QueryOfQuorum trace operation reply answer
   query_of_quorum operation reply answer done query is =
       let told : IsTold done.verdict answer = told_by_fit query done.verdict answer (ap (λ (it : Op). fitting it done.verdict) (sym is) ∙ done.fits) in
-      let P : ℕ → Type 0 = Tells trace operation.client operation.number done.round (reply - 1) told.stamps answer in
+      let P : ℕ → Type 0 = ToldBefore trace operation.client operation.number done.round (reply - 1) told.stamps answer in
       let all : All P done.members =
       All-weaker (Replied trace (reply - 1) operation.client operation.number done.round done.verdict) P
       (tells_by_reply trace is_run have operation.client operation.number done.round (reply - 1) done.verdict answer told) done.members done.replied in
@@ -80,7 +80,7 @@ module _ (trace : Trace) (is_run : IsRun trace) (have : HaveParts trace.entries)
         accepted = done.by_quorum;
       }
   of_quorum operation reply answer among completes (op.Query query) is =
-      query_of_quorum operation reply answer (completion trace is_run operation among reply answer completes) query is
+      query_of_quorum operation reply answer (completion trace is_run have operation among reply answer completes) query is
 
   pub completes_by_quorums : CompletesByQuorums trace
   completes_by_quorums operation reply answer among completes = of_quorum operation reply answer among completes operation.op refl

@@ -20,7 +20,7 @@ use Rattle.qu_world.specs.Run.{IsRun}
 use Rattle.qu_world.specs.State.{WorldState}
 use Rattle.qu_safety.specs.Decided.{accepts, is_established}
 use Rattle.qu_safety.specs.Order.{world_after}
-use Rattle.qu_safety.specs.Views.{HaveParts, IsOfKept}
+use Rattle.qu_safety.specs.Views.{ArePlain, IsOfKept}
 use Rattle.qu_safety.specs.Grounds.{AcceptsOne, IsDelivered}
 use Rattle.qu_safety.specs.Chained.{is_attested}
 use Rattle.qu_safety.proofs.Accepting.{opening_alone, Acceptance, acceptance, added_is}
@@ -29,6 +29,7 @@ use Rattle.qu_safety.proofs.Grounds.{above_held, base_not_below}
 use Rattle.qu_safety.proofs.Views.{view_of_request}
 use Rattle.qu_safety.proofs.WorldGrowth.{AcceptsMore, has_more, world_after-none, world_after-grows}
 use Rattle.qu_safety.proofs.OpeningReplicas.{bounds_are}
+use Rattle.qu_safety.proofs.Carrying.{asks_so}
 
 -- what the replicas of a run accept over time; all of them are correct, and no candidate is a barrier
 unfoldable pub setting : Trace → Setting
@@ -90,7 +91,7 @@ more_at object candidate (old ∷ olds) [] place more accepted = absurd more
 more_at object candidate (old ∷ olds) (new ∷ news) zero more accepted = more.0 object candidate accepted
 more_at object candidate (old ∷ olds) (new ∷ news) (suc place) more accepted = more_at object candidate olds news place more.1 accepted
 
-module _ (trace : Trace) (is_run : IsRun trace) (have : HaveParts trace.entries) where
+module _ (trace : Trace) (is_run : IsRun trace) (have : ArePlain trace.entries) where
   pub accepted_of : (time : ℕ) (object : ObjectId) (place : ℕ) (candidate : Candidate) → IsNew (setting trace) time object place candidate → Acceptance trace time object place candidate
   unfolding setting
   accepted_of time object place candidate new = acceptance trace is_run have time new.step object place candidate new.after new.before
@@ -100,10 +101,11 @@ module _ (trace : Trace) (is_run : IsRun trace) (have : HaveParts trace.entries)
       → quorum trace.setup.bounds ≤ count_by (accepts object ((accepted.delivered).accepts).grounds.base) (world_after trace time).replicas
   base_shown time object place candidate within accepted =
       let delivered : IsDelivered (world_after trace time) accepted.event place accepted.old accepted.new object = accepted.delivered in
-      let one : AcceptsOne accepted.old accepted.new (delivered.letter).frame object = delivered.accepts in
+      let one : AcceptsOne accepted.old accepted.new delivered.carried object = delivered.accepts in
       let below : time ≤ length trace.entries = omega arith in
       let view : IsOfKept trace time one.sets (body.Act ((object, one.method) ∷ [])) =
-      view_of_request trace is_run have time below delivered.number delivered.letter delivered.is_letter one.client one.number one.round one.sets (body.Act ((object, one.method) ∷ [])) one.is_request in
+      view_of_request trace is_run have time below delivered.number delivered.letter delivered.is_letter one.client one.number one.round one.sets (body.Act ((object, one.method) ∷ []))
+      (asks_so delivered.letter delivered.carried one.client one.number one.round one.sets (body.Act ((object, one.method) ∷ [])) one.mac delivered.carries one.is_request) in
       method_is_shown trace is_run time below one.sets (body.Act ((object, one.method) ∷ [])) view object (one.grounds).base
       (ap (λ (bounds : ℕ). method_at bounds (entries_of object one.sets)) (sym (bounds_are trace time place accepted.old accepted.is_old)) ∙ (one.grounds).method)
 
@@ -135,7 +137,7 @@ module _ (trace : Trace) (is_run : IsRun trace) (have : HaveParts trace.entries)
   unfolding setting
   alone time object place candidate other new second =
       let accepted : Acceptance trace time object place candidate = accepted_of time object place candidate new in
-      let one : AcceptsOne accepted.old accepted.new ((accepted.delivered).letter).frame object = (accepted.delivered).accepts in
+      let one : AcceptsOne accepted.old accepted.new (accepted.delivered).carried object = (accepted.delivered).accepts in
       let after : accepts object other accepted.new ≡ true = sym (test_at-here (accepts object other) (world_after trace (suc time)).replicas place accepted.new accepted.is_new) ∙ second.after in
       let before : accepts object other accepted.old ≡ false = sym (test_at-here (accepts object other) (world_after trace time).replicas place accepted.old accepted.is_old) ∙ second.before in
       sym accepted.candidate_is ∙ added_is accepted.old accepted.new object one.candidate other one.added after before
@@ -144,7 +146,7 @@ module _ (trace : Trace) (is_run : IsRun trace) (have : HaveParts trace.entries)
   unfolding setting quorum repair
   linked time object place candidate new =
       let accepted : Acceptance trace time object place candidate = accepted_of time object place candidate new in
-      let one : AcceptsOne accepted.old accepted.new ((accepted.delivered).letter).frame object = (accepted.delivered).accepts in
+      let one : AcceptsOne accepted.old accepted.new (accepted.delivered).carried object = (accepted.delivered).accepts in
       let shown : quorum trace.setup.bounds ≤ count_by (accepts object (one.grounds).base) (world_after trace time).replicas = base_shown time object place candidate new.step accepted in
       let counted : acceptors (setting trace) time object (one.grounds).base ≡ count_by (accepts object (one.grounds).base) (world_after trace time).replicas = acceptors_are trace time object (one.grounds).base in
       record {

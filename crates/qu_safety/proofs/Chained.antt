@@ -20,7 +20,7 @@ use Rattle.qu_replica.specs.State.{ReplicaState}
 use Rattle.qu_trace.specs.declared.trace.Trace.{Trace}
 use Rattle.qu_world.specs.Run.{IsRun}
 use Rattle.qu_safety.specs.Decided.{accepts, is_accepted}
-use Rattle.qu_safety.specs.Views.{HaveParts}
+use Rattle.qu_safety.specs.Views.{ArePlain}
 use Rattle.qu_safety.specs.Grounds.{AcceptsOne}
 use Rattle.qu_safety.specs.Chained.{IsAncestor, last_world, IsChained}
 use Rattle.qu_safety.proofs.Accepting.{Acceptance}
@@ -51,7 +51,7 @@ accepted_somewhere object candidate (state ∷ later) some =
           record { place = suc found.place; within = omega arith; accepted = found.accepted }
     ]
 
-module _ (trace : Trace) (is_run : IsRun trace) (have : HaveParts trace.entries) where
+module _ (trace : Trace) (is_run : IsRun trace) (have : ArePlain trace.entries) where
   -- the step at which a candidate was accepted that a replica has by then
   pub record Origin (end : ℕ) (object : ObjectId) (place : ℕ) (candidate : Candidate) : Type 0 where
     pub time : ℕ
@@ -82,7 +82,7 @@ module _ (trace : Trace) (is_run : IsRun trace) (have : HaveParts trace.entries)
   comes_after end object place candidate origin =
       let time : ℕ = origin.time in
       let accepted : Acceptance trace time object place candidate = accepted_of trace is_run have time object place candidate origin.new in
-      let one : AcceptsOne accepted.old accepted.new ((accepted.delivered).letter).frame object = (accepted.delivered).accepts in
+      let one : AcceptsOne accepted.old accepted.new (accepted.delivered).carried object = (accepted.delivered).accepts in
       let within : time < length trace.entries = (origin.new).step in
       let shown : quorum trace.setup.bounds ≤ _ = base_shown trace is_run have time object place candidate within accepted in
       let counted = acceptors_are trace time object (one.grounds).base in

@@ -31,7 +31,7 @@ use Rattle.qu_safety.specs.Grounds.{AcceptsOne, IsDelivered}
 use Rattle.qu_safety.specs.Invocations.{IsRequestOf}
 use Rattle.qu_safety.specs.Order.{world_after, DecidesAt, effect_of, IsPoint}
 use Rattle.qu_safety.specs.Values.{HasVersion}
-use Rattle.qu_safety.specs.Views.{HaveParts}
+use Rattle.qu_safety.specs.Views.{ArePlain}
 use Rattle.qu_safety.proofs.Accepting.{Acceptance}
 use Rattle.qu_safety.proofs.ChainLaws.{setting, established_of, accepted_of, laws}
 use Rattle.qu_safety.proofs.Established.{Established, is_established_by, established_by_decided, accepted_by_established, Establishes, establishes}
@@ -41,6 +41,7 @@ use Rattle.qu_safety.proofs.Marking.{run_has, found_within}
 use Rattle.qu_safety.proofs.OneCandidate.{one_candidate}
 use Rattle.qu_safety.proofs.StoredValues.{version_held}
 use Rattle.qu_safety.proofs.Values.{Known, IsUpdated, version_cases}
+use Rattle.qu_safety.proofs.Carrying.{asks_so}
 
 pub how_updated : (trace : Trace) (object : ObjectId) (candidate : Candidate) (version : ObjState) → HasVersion trace object candidate version → (candidate ≡ opening) ⊎ IsUpdated trace object candidate version
 how_updated trace object candidate version has =
@@ -53,7 +54,7 @@ pub held_within : (candidate : Candidate) (histories : List ObjectHistory) (plac
 held_within candidate histories place None is holding = absurd (false≢true holding)
 held_within candidate histories place (Some history) is holding = slice_get_within histories place history is
 
-module _ (trace : Trace) (is_run : IsRun trace) (have : HaveParts trace.entries) (known : Known trace) (one_act : ActsAreOne trace) where
+module _ (trace : Trace) (is_run : IsRun trace) (have : ArePlain trace.entries) (known : Known trace) (one_act : ActsAreOne trace) where
   pub established_cases : (time : ℕ) (object : ObjectId) (candidate : Candidate) → Established trace is_run have time object candidate ⊎ ¬ (Established trace is_run have time object candidate)
   established_cases time object candidate = elim (cases_Bool (is_established (world_after trace time) object candidate)) [
     | inl is ↦ inl (established_of trace time object candidate is)
@@ -78,9 +79,10 @@ module _ (trace : Trace) (is_run : IsRun trace) (have : HaveParts trace.entries)
   change_by time within object place candidate new =
       let accepted : Acceptance trace time object place candidate = accepted_of trace is_run have time object place candidate new in
       let delivered : IsDelivered (world_after trace time) accepted.event place accepted.old accepted.new object = accepted.delivered in
-      let one : AcceptsOne accepted.old accepted.new (delivered.letter).frame object = delivered.accepts in
+      let one : AcceptsOne accepted.old accepted.new delivered.carried object = delivered.accepts in
       let request : IsRequestOf trace time one.client one.number (body.Act ((object, one.method) ∷ [])) =
-      request_of trace is_run time (omega arith) delivered.number delivered.letter delivered.is_letter one.client one.number one.round one.sets (body.Act ((object, one.method) ∷ [])) one.is_request in
+      request_of trace is_run have time (omega arith) delivered.number delivered.letter delivered.is_letter one.client one.number one.round one.sets (body.Act ((object, one.method) ∷ []))
+      (asks_so delivered.letter delivered.carried one.client one.number one.round one.sets (body.Act ((object, one.method) ∷ [])) one.mac delivered.carries one.is_request) in
       let holding : holds candidate (own_candidates accepted.new object) ≡ true =
       sym (test_at-here (accepts object candidate) (world_after trace (suc time)).replicas place accepted.new accepted.is_new) ∙ new.after in
       let stored = version_held trace known is_run have (suc time) (omega arith) place accepted.new accepted.is_new object candidate holding in

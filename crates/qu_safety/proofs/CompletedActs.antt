@@ -20,7 +20,6 @@ use Rattle.qu_objects.specs.declared.op.Op.{Op}
 use Rattle.qu_objects.specs.declared.op.Op.TheVariants as op
 use Rattle.qu_objects.specs.declared.op.Outcome.TheVariants as outcome
 use Rattle.qu_objects.specs.declared.state.ObjState.{ObjState}
-use Rattle.qu_frames.specs.declared.frame.Frame.TheVariants as frame
 use Rattle.qu_frames.specs.declared.verdict.Verdict.{Verdict}
 use Rattle.qu_frames.specs.declared.verdict.Verdict.TheVariants as verdict
 use Rattle.qu_frames.specs.Body.{body_of}
@@ -42,7 +41,7 @@ use Rattle.qu_safety.specs.Invocations.{IsRequestOf}
 use Rattle.qu_safety.specs.Order.{world_after}
 use Rattle.qu_safety.specs.Replies.{TellsDone, IsReplyTo}
 use Rattle.qu_safety.specs.Values.{HasVersion}
-use Rattle.qu_safety.specs.Views.{HaveParts}
+use Rattle.qu_safety.specs.Views.{ArePlain}
 use Rattle.qu_safety.proofs.Chained.{somewhere_accepted}
 use Rattle.qu_safety.proofs.ChainLaws.{setting, acceptors_are, laws}
 use Rattle.qu_safety.proofs.Endings.{EndsAt, operation_ends}
@@ -56,6 +55,7 @@ use Rattle.qu_safety.proofs.StoredValues.{version_is}
 use Rattle.qu_safety.proofs.Verdicts.{IsDone, fits_act, equal_done}
 use Rattle.qu_safety.proofs.WorldGrowth.{has_more, world_after-grows, is_accepted-more}
 use Rattle.qu_safety.proofs.Small.{some_member, some_quorum}
+use Rattle.qu_safety.proofs.Carrying.{tells_as}
 
 -- what a completed act rests on: its candidate, established in the world before the event of the reply
 pub record CompletedAct (trace : Trace) (operation : OpRecord) (reply : ℕ) (answer : Answer) : Type 0 where
@@ -101,7 +101,7 @@ record HasCandidate (trace : Trace) (operation : OpRecord) (answer : Answer) (st
   has : HasVersion trace object candidate version
   answer_is : answer ≡ version.answer
 
-module _ (trace : Trace) (is_run : IsRun trace) (have : HaveParts trace.entries) (operation : OpRecord) (among : Contains (operations_of trace.entries) operation) (answer : Answer) (stamps : List (ObjectId × Stamp)) where
+module _ (trace : Trace) (is_run : IsRun trace) (have : ArePlain trace.entries) (operation : OpRecord) (among : Contains (operations_of trace.entries) operation) (answer : Answer) (stamps : List (ObjectId × Stamp)) where
   abbrev Has : ℕ → ℕ → Type 0
   Has time replica = HasCandidate trace operation answer stamps time replica
 
@@ -112,7 +112,7 @@ module _ (trace : Trace) (is_run : IsRun trace) (have : HaveParts trace.entries)
       let done : TellsDone reply.new operation.client (act_digest operation.client operation.number ((asks.object, asks.method) ∷ [])) asks.object stamps answer =
       done_in_run trace is_run have at below replica operation.client operation.number round stamps answer reply in
       let request : IsRequestOf trace at operation.client operation.number reply.body =
-      request_of trace is_run at (omega arith) reply.asked reply.letter reply.is_letter operation.client operation.number round reply.sets reply.body reply.is_request in
+      request_of trace is_run have at (omega arith) reply.asked reply.letter reply.is_letter operation.client operation.number round reply.sets reply.body reply.is_request in
       let same : request.operation ≡ operation =
       recorded_op trace request.operation operation request.of_trace among (ap (λ (it : ClientId). it.0) request.of_client) request.of_number in
       record {
@@ -152,7 +152,7 @@ module _ (trace : Trace) (is_run : IsRun trace) (have : HaveParts trace.entries)
       let told : sent.told ≡ verdict.Done stamps answer = equal_done sent.told stamps answer (ap (same_verdict sent.told) (sym is_done) ∙ sent.same) in
       let reply : IsReplyTo trace at replica operation.client operation.number round (verdict.Done stamps answer) =
       reply_sent trace is_run have at below sent.entry sent.is_entry sent.letter sent.sent (record { 0 = replica }) operation.client operation.number round (verdict.Done stamps answer) sent.shown
-      (sent.is_reply ∙ ap (λ (it : Verdict). frame.Reply (record { 0 = replica }) operation.client operation.number round it sent.shown) told) in
+      (tells_as sent.letter (record { 0 = replica }) operation.client operation.client operation.number operation.number round round sent.told (verdict.Done stamps answer) sent.shown refl refl refl told sent.is_reply) in
       has_later (at + 1) before (omega arith) replica (has_by_reply at below replica round reply)
 
   -- ---- they all have one
@@ -213,10 +213,10 @@ module _ (trace : Trace) (is_run : IsRun trace) (have : HaveParts trace.entries)
       }
 
 -- of every completed act
-pub completed_act : (trace : Trace) → IsRun trace → HaveParts trace.entries → (operation : OpRecord) → Contains (operations_of trace.entries) operation → (reply : ℕ) (answer : Answer) → operation.reply ≡ Some (reply, outcome.Done answer)
+pub completed_act : (trace : Trace) → IsRun trace → ArePlain trace.entries → (operation : OpRecord) → Contains (operations_of trace.entries) operation → (reply : ℕ) (answer : Answer) → operation.reply ≡ Some (reply, outcome.Done answer)
     → (act : List (ObjectId × Method)) → operation.op ≡ op.Act act → CompletedAct trace operation reply answer
 completed_act trace is_run have operation among reply answer replied act is_act =
-    let done : IsCompleted trace operation reply answer = completion trace is_run operation among reply answer replied in
+    let done : IsCompleted trace operation reply answer = completion trace is_run have operation among reply answer replied in
     let given : IsDone done.verdict answer = fits_act act done.verdict answer (ap (λ (it : Op). fitting it done.verdict) (sym is_act) ∙ done.fits) in
     let ends : EndsAt trace.entries 1 operation.client operation.number reply (outcome.Done answer) = operation_ends trace.entries operation among reply (outcome.Done answer) replied in
     let at : reply ≡ 1 + ends.index = ends.is_at in

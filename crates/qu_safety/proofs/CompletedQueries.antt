@@ -14,7 +14,7 @@ use Rattle.qu_stamp.specs.declared.stamp.Stamp.{Stamp}
 use Rattle.qu_stamp.specs.declared.candidate.Candidate.{Candidate}
 use Rattle.qu_stamp.specs.Stamp.{is_below}
 use Rattle.qu_history.specs.declared.sets.SetOf.{SetOf}
-use Rattle.qu_history.specs.History.{ObjectHistory, holds}
+use Rattle.qu_history.specs.History.{holds}
 use Rattle.qu_history.specs.Sets.{entries_of, method_at}
 use Rattle.qu_chain.specs.Count.{count, test_at}
 use Rattle.qu_chain.proofs.Ancestors.{accepted-later}
@@ -28,8 +28,6 @@ use Rattle.qu_objects.specs.declared.state.ObjState.{ObjState}
 use Rattle.qu_objects.specs.Perform.{told_answer}
 use Rattle.qu_frames.specs.declared.frame.Body.{Body}
 use Rattle.qu_frames.specs.declared.frame.Body.TheVariants as body
-use Rattle.qu_frames.specs.declared.frame.Frame.{Frame}
-use Rattle.qu_frames.specs.declared.frame.Frame.TheVariants as frame
 use Rattle.qu_frames.specs.declared.frame.Letter.{Letter}
 use Rattle.qu_frames.specs.declared.verdict.Verdict.{Verdict}
 use Rattle.qu_frames.specs.declared.verdict.Verdict.TheVariants as verdict
@@ -50,11 +48,11 @@ use Rattle.qu_safety.specs.Chained.{last_world}
 use Rattle.qu_safety.specs.Completions.{Replied, RepliedAt, IsCompleted}
 use Rattle.qu_safety.specs.Decided.{accepts, is_accepted}
 use Rattle.qu_safety.specs.Invocations.{IsRequestOf}
-use Rattle.qu_safety.specs.Order.{world_after, answers, sends_answer, answers_at, AnswersFirst, query_effect, effect_of, IsPoint}
+use Rattle.qu_safety.specs.Order.{is_answer, world_after, answers, sends_answer, answers_at, AnswersFirst, query_effect, effect_of, IsPoint}
 use Rattle.qu_safety.specs.Points.{point_at}
 use Rattle.qu_safety.specs.Replies.{IsReplyTo, TellsQuery}
 use Rattle.qu_safety.specs.Values.{HasVersion}
-use Rattle.qu_safety.specs.Views.{HaveParts, IsOfKept}
+use Rattle.qu_safety.specs.Views.{ArePlain, IsOfKept}
 use Rattle.qu_safety.proofs.Acceptors.{method_is_shown}
 use Rattle.qu_safety.proofs.Chained.{somewhere_accepted}
 use Rattle.qu_safety.proofs.ChainLaws.{setting, acceptors_are, laws}
@@ -73,6 +71,8 @@ use Rattle.qu_safety.proofs.WorldGrowth.{has_more, world_after-grows, is_accepte
 use Rattle.qu_safety.proofs.Small.{some_member, some_quorum}
 use Rattle.qu_safety.proofs.OpeningReplicas.{bounds_are}
 use Rattle.qu_safety.proofs.PointRequests.{IsReplyIn, reply_in}
+use Rattle.qu_safety.specs.Carried.{Asks, Tells}
+use Rattle.qu_history.specs.declared.sealed.Sealed.{Sealed}
 
 -- ---- what the theorem is given of the run
 
@@ -87,7 +87,7 @@ AsksAlike trace =
     (count : ℕ) → count ≤ length trace.entries → (first second : ℕ) (a b : Letter)
     → letter_of (world_after trace count) first ≡ Some a → letter_of (world_after trace count) second ≡ Some b
     → (client : ClientId) (number round : ℕ) (sets others : List SetOf) (asked other : Body)
-    → a.frame ≡ frame.Request client number round sets asked → b.frame ≡ frame.Request client number round others other
+    → Asks a client number round sets asked → Asks b client number round others other
     → (sets ≡ others) × (asked ≡ other)
 
 -- ---- the first number that passes a test
@@ -123,9 +123,9 @@ first_true test (suc most) passed =
 -- ---- the letters that answer a round
 
 -- a reply answers its round
-reply_answers : (client : ClientId) (number round : ℕ) (letter : Letter) (replica : ReplicaId) (told : Verdict) (shown : List ObjectHistory) → letter.frame ≡ frame.Reply replica client number round told shown → answers client number round letter ≡ true
+reply_answers : (client : ClientId) (number round : ℕ) (letter : Letter) (replica : ReplicaId) (told : Verdict) (shown : List Sealed) → Tells letter replica client number round told shown → answers client number round letter ≡ true
 reply_answers client number round letter replica told shown is =
-    ap (λ (it : Frame). answers client number round (record letter { frame = it })) is ∙
+    ap (is_answer client number round) is.carries ∙
     and_from _ _ (eq-eqb client.0 client.0 refl) (and_from _ _ (eq-eqb number number refl) (eq-eqb round round refl))
 
 -- some replica answered the round at the event of this entry
@@ -135,12 +135,12 @@ record IsAnsweredAt (trace : Trace) (client : ClientId) (number round at : ℕ) 
   told : Verdict
   reply : IsReplyTo trace at replica client number round told
 
-answered_with : (trace : Trace) → IsRun trace → HaveParts trace.entries → (client : ClientId) (number round at : ℕ) (found : Option Entry) → slice_get trace.entries at ≡ found → sends_answer client number round found ≡ true → IsAnsweredAt trace client number round at
+answered_with : (trace : Trace) → IsRun trace → ArePlain trace.entries → (client : ClientId) (number round at : ℕ) (found : Option Entry) → slice_get trace.entries at ≡ found → sends_answer client number round found ≡ true → IsAnsweredAt trace client number round at
 answered_with trace is_run have client number round at None is passed = absurd (false≢true passed)
 answered_with trace is_run have client number round at (Some entry) is passed =
     let any : Any (λ (letter : Letter). answers client number round letter ≡ true) entry.letters = Any-from_list_any (answers client number round) entry.letters passed in
     let letter : Letter = any.1 in
-    let answer : IsReplyIn client number round letter = reply_in client number round letter letter.frame refl any.4 in
+    let answer : IsReplyIn client number round letter = reply_in client number round letter any.4 in
     let below : at < length trace.entries = slice_get_within trace.entries at entry is in
     record {
       below = below;
@@ -149,7 +149,7 @@ answered_with trace is_run have client number round at (Some entry) is passed =
       reply = reply_sent trace is_run have at below entry is letter (any.0, any.2, any.3) answer.replica client number round answer.verdict answer.shown answer.is_reply;
     }
 
-answered_at : (trace : Trace) → IsRun trace → HaveParts trace.entries → (client : ClientId) (number round at : ℕ) → answers_at trace client number round (suc at) ≡ true → IsAnsweredAt trace client number round at
+answered_at : (trace : Trace) → IsRun trace → ArePlain trace.entries → (client : ClientId) (number round at : ℕ) → answers_at trace client number round (suc at) ≡ true → IsAnsweredAt trace client number round at
 answered_at trace is_run have client number round at passed =
     answered_with trace is_run have client number round at (slice_get trace.entries at) refl passed
 
@@ -168,10 +168,12 @@ pub record IsTold (given : Verdict) (answer : Answer) : Type 0 where
 pub told_by_fit : (query : List (ObjectId × Ask)) (given : Verdict) (answer : Answer) → fitting (op.Query query) given ≡ Some answer → IsTold given answer
 told_by_fit query (verdict.Done stamps other) answer fits = absurd (none-some answer fits)
 told_by_fit query (verdict.Told stamps other) answer fits = record { stamps = stamps; is_told = ap (verdict.Told stamps) (same_Some other answer fits) }
+told_by_fit query (verdict.Already other) answer fits = absurd (none-some answer fits)
+told_by_fit query (verdict.Mended object stamp) answer fits = absurd (none-some answer fits)
 told_by_fit query (verdict.Refused refusal) answer fits = absurd (none-some answer fits)
 
 -- the replica told this answer, before an event, from a base and with nothing above it
-pub record Tells (trace : Trace) (client : ClientId) (number round before : ℕ) (stamps : List (ObjectId × Stamp)) (answer : Answer) (replica : ℕ) : Type 0 where
+pub record ToldBefore (trace : Trace) (client : ClientId) (number round before : ℕ) (stamps : List (ObjectId × Stamp)) (answer : Answer) (replica : ℕ) : Type 0 where
   pub at : ℕ
   pub earlier : at < before
   pub below : at < length trace.entries
@@ -183,7 +185,7 @@ pub record Tells (trace : Trace) (client : ClientId) (number round before : ℕ)
   pub is_ask : reply.body ≡ body.Ask ((object, ask) ∷ [])
   pub tells : TellsQuery reply.old reply.sets object ask stamps answer
 
-pub tells_by_reply : (trace : Trace) → IsRun trace → HaveParts trace.entries → (client : ClientId) (number round before : ℕ) (given : Verdict) (answer : Answer) (told : IsTold given answer) (replica : ℕ) → Replied trace before client number round given replica → Tells trace client number round before told.stamps answer replica
+pub tells_by_reply : (trace : Trace) → IsRun trace → ArePlain trace.entries → (client : ClientId) (number round before : ℕ) (given : Verdict) (answer : Answer) (told : IsTold given answer) (replica : ℕ) → Replied trace before client number round given replica → ToldBefore trace client number round before told.stamps answer replica
 tells_by_reply trace is_run have client number round before given answer told replica replied =
     let at : ℕ = replied.at in
     let it = replied.replied in
@@ -232,7 +234,7 @@ asks_in (body.Ask parts) = parts
 
 -- ---- the point of the query
 
-module _ (trace : Trace) (is_run : IsRun trace) (have : HaveParts trace.entries) where
+module _ (trace : Trace) (is_run : IsRun trace) (have : ArePlain trace.entries) where
   -- where the query took effect, and the greatest candidate established before, whose value it answers
   pub record CompletedQuery (operation : OpRecord) (reply : ℕ) (answer : Answer) : Type 0 where
     pub object : ObjectId
@@ -266,7 +268,7 @@ module _ (trace : Trace) (is_run : IsRun trace) (have : HaveParts trace.entries)
 
   module _ (client : ClientId) (number round before : ℕ) (stamps : List (ObjectId × Stamp)) (answer : Answer) (time : ℕ) where
     abbrev Member : ℕ → Type 0
-    Member = Tells trace client number round before stamps answer
+    Member = ToldBefore trace client number round before stamps answer
 
     -- a member that accepted the candidate by then
     record Meets (object : ObjectId) (other : Candidate) : Type 0 where
@@ -389,7 +391,7 @@ module _ (trace : Trace) (is_run : IsRun trace) (have : HaveParts trace.entries)
         let round : ℕ = done.round in
         let told : IsTold done.verdict answer = told_by_fit query done.verdict answer (ap (λ (it : Op). fitting it done.verdict) (sym is_query) ∙ done.fits) in
         let stamps : List (ObjectId × Stamp) = told.stamps in
-        let P : ℕ → Type 0 = Tells trace client number round (reply - 1) stamps answer in
+        let P : ℕ → Type 0 = ToldBefore trace client number round (reply - 1) stamps answer in
         let enough : quorum trace.setup.bounds ≤ length done.members = done.enough in
         let all : All P done.members =
         All-weaker (Replied trace (reply - 1) client number round done.verdict) P

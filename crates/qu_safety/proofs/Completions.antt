@@ -1,5 +1,5 @@
 -- A completed operation was answered by a quorum.
-use Rattle.std.proofs.Common.{◌≡◌, ◌≢◌, ℕ, suc, ◌+◌, ◌-◌, ◌<◌, ◌≤◌, Bool, true, eqb, List, [], ◌∷◌, length, map, filter, get_or, None, Some, refl, sym, ap, subst, ◌∙◌, arith, slice_get, All, AllPairs, Contains}
+use Rattle.std.proofs.Common.{◌≡◌, ◌≢◌, ℕ, suc, ◌+◌, ◌-◌, ◌<◌, ◌≤◌, Bool, true, eqb, List, [], ◌∷◌, length, map, filter, get_or, None, Some, refl, sym, ap, subst, ◌∙◌, arith, slice_get, All, AllPairs, Contains, Ok}
 use Rattle.std.proofs.lemmas.Bool.{and_parts, eqb-true, cond_both}
 use Rattle.std.proofs.lemmas.List.{length-map, get_or-map}
 use Rattle.std.proofs.lemmas.List.Elements.{All-nil, All-cons, All-head, All-tail, All-map}
@@ -13,6 +13,7 @@ use Rattle.qu_objects.specs.declared.answer.Answer.{Answer}
 use Rattle.qu_objects.specs.declared.op.Op.{Op}
 use Rattle.qu_objects.specs.declared.op.Outcome.TheVariants as outcome
 use Rattle.qu_frames.specs.declared.frame.Frame.{Frame}
+use Rattle.qu_frames.specs.declared.frame.Frame.TheVariants as frame
 use Rattle.qu_frames.specs.declared.frame.Letter.{Letter}
 use Rattle.qu_frames.specs.declared.verdict.Verdict.{Verdict}
 use Rattle.qu_frames.specs.Verdict.{same_verdict}
@@ -28,14 +29,17 @@ use Rattle.qu_trace.specs.declared.trace.Trace.{Trace}
 use Rattle.qu_trace.specs.Operations.{outcome_in, operations_of}
 use Rattle.qu_world.specs.State.{numbered, letter_of}
 use Rattle.qu_world.specs.Run.{IsRun}
-use Rattle.qu_safety.specs.Order.{world_after, round_of, delivered_round}
+use Rattle.qu_safety.specs.Order.{world_after, round_in, round_of, delivered_round}
 use Rattle.qu_safety.specs.Completions.{Replied, IsCompleted}
 use Rattle.qu_safety.proofs.Recording.{entry_cases}
 use Rattle.qu_safety.proofs.Replies.{sent_before, letter_stays}
 use Rattle.qu_safety.proofs.Counted.{Answered, AreDifferent, Counts, counts_world, work_answered, with_answered, different_more}
-use Rattle.qu_safety.proofs.Endings.{EndsAt, operation_ends, EndedBy, ended_so, Completes, completes}
+use Rattle.qu_safety.proofs.Endings.{TextCompletes, EndsAt, operation_ends, EndedBy, ended_so, Completes, completes}
 use Rattle.qu_safety.proofs.OnceSent.{sound_work}
 use Rattle.qu_safety.proofs.Small.{same_clients}
+use Rattle.qu_safety.specs.Carried.{Carries}
+use Rattle.qu_frames.specs.Decoding.{decoded}
+use Rattle.qu_safety.specs.Views.{ArePlain}
 
 -- ---- what the theorem is given of the records of operations
 
@@ -122,9 +126,8 @@ agreeing_within trace before client number round verdict replies all =
 -- ---- the event that completed
 
 -- a delivered reply gives its round
-reply_round : (letter : Letter) (received : Frame) (round : ℕ) → letter.frame ≡ received → round_of (Some (record letter { frame = received })) ≡ Some round → round_of (Some letter) ≡ Some round
-reply_round letter received round is gives =
-    ap (λ (it : Frame). round_of (Some (record letter { frame = it }))) is ∙ gives
+reply_round : (letter : Letter) (received : Frame) (round : ℕ) → Carries letter received → round_in (Ok received) ≡ Some round → round_of (Some letter) ≡ Some round
+reply_round letter received round is gives = ap round_in is ∙ gives
 
 -- a verdict that counts is of the round under way
 counting_round : (work : Work) (replica : ReplicaId) (number round : ℕ) → counts work replica number round ≡ true → round ≡ work.round
@@ -135,15 +138,15 @@ counting_round work replica number round counting =
     eqb-true round work.round third.0
 
 -- the letter at this event completed the operation that its client had under way
-by_letter : (trace : Trace) → IsRun trace → WorkIsRecorded trace → IsOneRecord trace → (operation : OpRecord) → Contains (operations_of trace.entries) operation → (index : ℕ) (answer : Answer)
+by_letter : (trace : Trace) → IsRun trace → ArePlain trace.entries → WorkIsRecorded trace → IsOneRecord trace → (operation : OpRecord) → Contains (operations_of trace.entries) operation → (index : ℕ) (answer : Answer)
     → (number : ℕ) (letter : Letter) (client : ClientId) (state : ClientState) (made : Entry)
     → made.event ≡ Deliver number → slice_get trace.entries index ≡ Some made
     → letter_of (world_after trace index) number ≡ Some letter → numbered (world_after trace index).clients client.0 ≡ Some state
-    → EndedBy operation.client client operation.number state.work (client_step state letter.frame).ended (outcome.Done answer)
-    → Completes state letter.frame answer → IsCompleted trace operation (suc index) answer
-by_letter trace is recorded one operation among index answer number letter client state made event is_entry sent found ended done =
+    → EndedBy operation.client client operation.number state.work (client_step state letter.text).ended (outcome.Done answer)
+    → (carried : Frame) → Carries letter carried → Completes state carried answer → IsCompleted trace operation (suc index) answer
+by_letter trace is have recorded one operation among index answer number letter client state made event is_entry sent found ended carried carries done =
     let below : index < length trace.entries = slice_get_within trace.entries index made is_entry in
-    let holds : Counts trace index client.0 state = counts_world trace is index (omega arith) client.0 state found in
+    let holds : Counts trace index client.0 state = counts_world trace is have index (omega arith) client.0 state found in
     let work : Work = done.work in
     let replies : List Counted = (with_verdict work done.replica done.verdict).replies in
     let me : state.me ≡ operation.client = same_clients state.me client holds.me ∙ ended.is_me in
@@ -154,8 +157,8 @@ by_letter trace is recorded one operation among index answer number letter clien
     one record_there.operation operation record_there.of_trace among (record_there.of_client ∙ ended.is_me) (record_there.of_number ∙ of_number) in
     let of_op : operation.op ≡ work.op = ap (λ (it : OpRecord). it.op) (sym same_record) ∙ record_there.of_op in
     let answered : All (Answered trace index state.me work.number work.round) replies =
-    with_answered trace is index letter state.me work done.replica done.number done.round done.verdict done.shown
-    (sent_before trace is index (omega arith) number letter sent) done.is_reply done.counting
+    with_answered trace is have index letter state.me work done.replica done.number done.round done.verdict done.shown
+    (sent_before trace is index (omega arith) number letter sent) (record { culled = done.culled; mac = done.mac; carries = carries ∙ ap Ok done.is_reply }) done.counting
     (work_answered trace index state.me state.work work done.under_way holds.answered) in
     let answered_me : All (Answered trace index operation.client work.number work.round) replies =
     subst (λ (it : ClientId). All (Answered trace index it work.number work.round) replies) me answered in
@@ -172,7 +175,7 @@ by_letter trace is recorded one operation among index answer number letter clien
           ap (delivered_round trace) is_entry ∙
           ap (λ it. delivered_round trace (Some (record made { event = it }))) event ∙
           ap round_of (letter_stays trace is index (omega arith) number letter sent) ∙
-          reply_round letter _ work.round done.is_reply (ap (λ (it : ℕ). Some it) (counting_round work done.replica done.number done.round done.counting));
+          reply_round letter (frame.Reply done.replica state.me done.number done.round done.verdict done.culled done.shown done.mac) work.round (carries ∙ ap Ok done.is_reply) (ap (λ (it : ℕ). Some it) (counting_round work done.replica done.number done.round done.counting));
       members = agreeing done.verdict replies;
       different = agreeing_different done.verdict replies different;
       enough =
@@ -189,29 +192,30 @@ no_end_of_invocation : (state : ClientState) (op : Op) → (client_invoke state 
 no_end_of_invocation state op = invoke_cases state op (λ stepped. stepped.ended ≡ None) (λ acted. refl) refl
 
 -- the entry that records the end was made by a letter
-by_entry : (trace : Trace) → IsRun trace → WorkIsRecorded trace → IsOneRecord trace → (operation : OpRecord) → Contains (operations_of trace.entries) operation → (index : ℕ) (answer : Answer) (entry : Entry) → slice_get trace.entries index ≡ Some entry → outcome_in operation.client operation.number entry.ended ≡ Some (outcome.Done answer) → IsCompleted trace operation (suc index) answer
-by_entry trace is recorded one operation among index answer entry is_entry =
+by_entry : (trace : Trace) → IsRun trace → ArePlain trace.entries → WorkIsRecorded trace → IsOneRecord trace → (operation : OpRecord) → Contains (operations_of trace.entries) operation → (index : ℕ) (answer : Answer) (entry : Entry) → slice_get trace.entries index ≡ Some entry → outcome_in operation.client operation.number entry.ended ≡ Some (outcome.Done answer) → IsCompleted trace operation (suc index) answer
+by_entry trace is have recorded one operation among index answer entry is_entry =
     let how = outcome.Done answer in
     let Q : Entry → Type 0 = λ made. slice_get trace.entries index ≡ Some made → outcome_in operation.client operation.number made.ended ≡ Some how → IsCompleted trace operation (suc index) answer in
-    entry_cases trace is index entry is_entry Q
+    entry_cases trace is have index entry is_entry Q
     (λ event there ends. absurd (none-some how ends))
-    (λ event me received state found there ends. absurd (none-some how ends))
+    (λ number letter me state sent found there ends. absurd (none-some how ends))
     (λ client op state found there ends.
     let ended : EndedBy operation.client client operation.number state.work (client_invoke state op).ended how = ended_so operation.client client operation.number state.work (client_invoke state op).ended how ends in
     absurd (none-some how (sym (no_end_of_invocation state op) ∙ ended.is_end)))
     (λ number letter client state sent found there ends.
-    let ended : EndedBy operation.client client operation.number state.work (client_step state letter.frame).ended how = ended_so operation.client client operation.number state.work (client_step state letter.frame).ended how ends in
-    by_letter trace is recorded one operation among index answer number letter client state _ refl there sent found ended (completes state letter.frame answer ended.is_end))
+    let ended : EndedBy operation.client client operation.number state.work (client_step state letter.text).ended how = ended_so operation.client client operation.number state.work (client_step state letter.text).ended how ends in
+    let text : TextCompletes state (decoded letter.text) answer = completes state letter.text answer ended.is_end in
+    by_letter trace is have recorded one operation among index answer number letter client state _ refl there sent found ended text.carried text.is_frame text.completes)
     (λ client state found there ends.
     let ended : EndedBy operation.client client operation.number state.work (client_tick state).ended how = ended_so operation.client client operation.number state.work (client_tick state).ended how ends in
     absurd (none-some how ended.is_end))
     is_entry
 
 -- a completed operation was answered by a quorum of different replicas with one verdict, in one round
-pub completed : (trace : Trace) → IsRun trace → WorkIsRecorded trace → IsOneRecord trace → (operation : OpRecord) → Contains (operations_of trace.entries) operation → (event : ℕ) (answer : Answer) → operation.reply ≡ Some (event, outcome.Done answer) → IsCompleted trace operation event answer
-completed trace is recorded one operation among event answer replied =
+pub completed : (trace : Trace) → IsRun trace → ArePlain trace.entries → WorkIsRecorded trace → IsOneRecord trace → (operation : OpRecord) → Contains (operations_of trace.entries) operation → (event : ℕ) (answer : Answer) → operation.reply ≡ Some (event, outcome.Done answer) → IsCompleted trace operation event answer
+completed trace is have recorded one operation among event answer replied =
     let ends : EndsAt trace.entries 1 operation.client operation.number event (outcome.Done answer) = operation_ends trace.entries operation among event (outcome.Done answer) replied in
     let at : event ≡ 1 + ends.index = ends.is_at in
     let place : suc ends.index ≡ event = omega arith in
     subst (λ (it : ℕ). IsCompleted trace operation it answer) place
-    (by_entry trace is recorded one operation among ends.index answer ends.entry ends.is_entry ends.is_end)
+    (by_entry trace is have recorded one operation among ends.index answer ends.entry ends.is_entry ends.is_end)

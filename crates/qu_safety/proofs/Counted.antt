@@ -1,5 +1,5 @@
 -- The verdicts that a client counts were sent by replicas, to the round that is under way.
-use Rattle.std.proofs.Common.{◌≡◌, ◌≢◌, ℕ, zero, suc, ◌+◌, ◌<◌, ◌≤◌, true, false, eqb, List, length, get_or, Option, None, Some, IfSome, refl, sym, ap, subst, ◌∙◌, arith, inl, inr, add-one, slice_get, All, AllPairs, Contains}
+use Rattle.std.proofs.Common.{◌≡◌, ◌≢◌, ℕ, zero, suc, ◌+◌, ◌<◌, ◌≤◌, true, false, eqb, List, length, get_or, Option, None, Some, IfSome, refl, sym, ap, subst, ◌∙◌, arith, inl, inr, add-one, slice_get, All, AllPairs, Contains, Result, Ok, Err}
 use Rattle.std.specs.List.{list_any}
 use Rattle.std.proofs.lemmas.Bool.{both_ways, not-true, and_parts, eqb-true, eq-eqb, cond_both}
 use Rattle.std.proofs.lemmas.List.Elements.{All-nil, All-push, All-weaker, All-contains}
@@ -9,7 +9,6 @@ use Rattle.std.proofs.lemmas.Option.{none-some}
 use Rattle.qu_base.specs.declared.party.ClientId.{ClientId}
 use Rattle.qu_base.specs.declared.party.ReplicaId.{ReplicaId}
 use Rattle.qu_base.specs.Thresholds.{replicas}
-use Rattle.qu_history.specs.History.{ObjectHistory}
 use Rattle.qu_objects.specs.declared.op.Op.{Op}
 use Rattle.qu_frames.specs.declared.frame.Frame.{Frame}
 use Rattle.qu_frames.specs.declared.frame.Frame.TheVariants as frame
@@ -20,7 +19,7 @@ use Rattle.qu_client.specs.declared.state.Stepped.{Stepped}
 use Rattle.qu_client.specs.declared.work.Counted.{Counted}
 use Rattle.qu_client.specs.declared.work.Work.{Work}
 use Rattle.qu_client.specs.State.{opening_state, keep_all}
-use Rattle.qu_client.specs.Step.{is_asking, counts, client_step, client_invoke, client_tick}
+use Rattle.qu_client.specs.Step.{is_asking, counts, on_frame, on_decoded, client_step, client_invoke, client_tick}
 use Rattle.qu_client.specs.Sound.{IsSound}
 use Rattle.qu_client.proofs.Cases.{with_verdict, counted_cases, invoke_cases}
 use Rattle.qu_client.proofs.Laws.{client_step-me, client_step-bounds, client_invoke-me, client_invoke-bounds, IsSound-opening, IsSound-step, IsSound-invoke}
@@ -35,8 +34,14 @@ use Rattle.qu_safety.proofs.WorldGrowth.{world_after-none, world_after-next}
 use Rattle.qu_safety.proofs.Recording.{world_cases}
 use Rattle.qu_safety.proofs.Replies.{RepliesWithin, replies_within, SentBefore, sent_before}
 use Rattle.qu_safety.proofs.OneRequest.{opening_client}
+use Rattle.qu_safety.proofs.Carrying.{tells_as}
 use Rattle.qu_safety.proofs.Small.{same_clients, some_entry}
-use Rattle.qu_safety.proofs.Each.{with_cases}
+use Rattle.qu_safety.proofs.Each.{with_cases, each_at}
+use Rattle.qu_safety.specs.Carried.{Tells, Carries}
+use Rattle.qu_frames.specs.Decoding.{decoded}
+use Rattle.qu_safety.specs.Views.{IsPlain, ArePlain}
+use Rattle.qu_history.specs.declared.sealed.Sealed.{Sealed}
+use Rattle.qu_base.specs.declared.bad_text.BadText.{BadText}
 
 -- the verdict was sent by its replica to this round, before the event of the entry with this index
 pub record Answered (trace : Trace) (before : ℕ) (client : ClientId) (number round : ℕ) (counted : Counted) : Type 0 where
@@ -46,8 +51,8 @@ pub record Answered (trace : Trace) (before : ℕ) (client : ClientId) (number r
   pub is_entry : slice_get trace.entries at ≡ Some entry
   pub letter : Letter
   pub sent : Contains entry.letters letter
-  pub shown : List ObjectHistory
-  pub is_reply : letter.frame ≡ frame.Reply counted.replica client number round counted.verdict shown
+  pub shown : List Sealed
+  pub is_reply : Tells letter counted.replica client number round counted.verdict shown
   pub within : (counted.replica).0 < replicas trace.setup.bounds
 
 answered_more : (trace : Trace) (before : ℕ) (client : ClientId) (number round : ℕ) (counted : Counted) → Answered trace before client number round counted → Answered trace (before + 1) client number round counted
@@ -64,10 +69,10 @@ answered_more trace before client number round counted answered = record {
 }
 
 -- a delivered reply was sent so
-pub answered_by : (trace : Trace) → IsRun trace → (before : ℕ) (letter : Letter) (client : ClientId) (number round : ℕ) (counted : Counted) (shown : List ObjectHistory) → SentBefore trace before letter → letter.frame ≡ frame.Reply counted.replica client number round counted.verdict shown → Answered trace before client number round counted
-answered_by trace is before letter client number round counted shown sent is_reply =
+pub answered_by : (trace : Trace) → IsRun trace → ArePlain trace.entries → (before : ℕ) (letter : Letter) (client : ClientId) (number round : ℕ) (counted : Counted) (shown : List Sealed) → SentBefore trace before letter → Tells letter counted.replica client number round counted.verdict shown → Answered trace before client number round counted
+answered_by trace is have before letter client number round counted shown sent is_reply =
     let entry : Entry = sent.there.entry in
-    let replies : All (RepliesWithin (replicas trace.setup.bounds)) entry.letters = replies_within trace is sent.at entry sent.there.is_entry in
+    let replies : All (RepliesWithin (replicas trace.setup.bounds)) entry.letters = replies_within trace is have sent.at entry sent.there.is_entry in
     let from : RepliesWithin (replicas trace.setup.bounds) letter = All-contains (RepliesWithin (replicas trace.setup.bounds)) entry.letters letter replies sent.there.sent in
     record {
       at = sent.at;
@@ -102,38 +107,45 @@ pub work_answered : (trace : Trace) (before : ℕ) (client : ClientId) (found : 
 work_answered trace before client found work is are = subst (WorkAnswered trace before client) is are
 
 -- the verdicts with one more that counts
-pub with_answered : (trace : Trace) → IsRun trace → (before : ℕ) (letter : Letter) (client : ClientId) (work : Work) (replica : ReplicaId) (number round : ℕ) (verdict : Verdict) (shown : List ObjectHistory) → SentBefore trace before letter → letter.frame ≡ frame.Reply replica client number round verdict shown → counts work replica number round ≡ true → AreAnswered trace before client work → AreAnswered trace before client (with_verdict work replica verdict)
-with_answered trace is before letter client work replica number round verdict shown sent is_reply counting are =
+pub with_answered : (trace : Trace) → IsRun trace → ArePlain trace.entries → (before : ℕ) (letter : Letter) (client : ClientId) (work : Work) (replica : ReplicaId) (number round : ℕ) (verdict : Verdict) (shown : List Sealed) → SentBefore trace before letter → Tells letter replica client number round verdict shown → counts work replica number round ≡ true → AreAnswered trace before client work → AreAnswered trace before client (with_verdict work replica verdict)
+with_answered trace is have before letter client work replica number round verdict shown sent is_reply counting are =
     let first = and_parts (is_asking work.phase) _ counting in
     let second = and_parts (eqb number work.number) _ first.1 in
     let third = and_parts (eqb round work.round) _ second.1 in
     let numbers : number ≡ work.number = eqb-true number work.number second.0 in
     let rounds : round ≡ work.round = eqb-true round work.round third.0 in
-    let this : letter.frame ≡ frame.Reply replica client work.number work.round verdict shown =
-    is_reply ∙ ap (λ (it : ℕ). frame.Reply replica client it round verdict shown) numbers ∙ ap (λ (it : ℕ). frame.Reply replica client work.number it verdict shown) rounds in
+    let this : Tells letter replica client work.number work.round verdict shown =
+    tells_as letter replica client client number work.number round work.round verdict verdict shown refl numbers rounds refl is_reply in
     All-push (Answered trace before client work.number work.round) work.replies (record { replica = replica; verdict = verdict }) are
-    (answered_by trace is before letter client work.number work.round (record { replica = replica; verdict = verdict }) shown sent this)
+    (answered_by trace is have before letter client work.number work.round (record { replica = replica; verdict = verdict }) shown sent this)
 
 -- what a delivered letter makes of them
-answered_step : (trace : Trace) → IsRun trace → (before : ℕ) (letter : Letter) (state : ClientState) → SentBefore trace before letter → WorkAnswered trace before state.me state.work → (received : Frame) → letter.frame ≡ received → WorkAnswered trace (before + 1) state.me (client_step state received).state.work
-answered_step trace is before letter state sent are (frame.Request client number round sets body) is_frame = work_more trace before state.me state.work are
-answered_step trace is before letter state sent are (frame.Reply replica client number round verdict shown) is_frame =
+answered_frame : (trace : Trace) → IsRun trace → ArePlain trace.entries → (before : ℕ) (letter : Letter) (state : ClientState) → SentBefore trace before letter → WorkAnswered trace before state.me state.work → (received : Frame) → Carries letter received → WorkAnswered trace (before + 1) state.me (on_frame state received).state.work
+answered_frame trace is have before letter state sent are (frame.Request client number round sets body mac) is_frame = work_more trace before state.me state.work are
+answered_frame trace is have before letter state sent are (frame.Reply replica client number round verdict culled shown mac) is_frame =
     let P : Stepped → Type 0 = λ stepped. WorkAnswered trace (before + 1) state.me stepped.state.work in
     let same : WorkAnswered trace (before + 1) state.me state.work = work_more trace before state.me state.work are in
     cond_both (eqb client.0 (state.me).0) _ _ P
     (λ mine.
-    let is_reply : letter.frame ≡ frame.Reply replica state.me number round verdict shown =
-    is_frame ∙ ap (λ (it : ClientId). frame.Reply replica it number round verdict shown) (same_clients client state.me (eqb-true client.0 (state.me).0 mine)) in
+    let is_reply : Tells letter replica state.me number round verdict shown =
+    tells_as letter replica client state.me number number round round verdict verdict shown (same_clients client state.me (eqb-true client.0 (state.me).0 mine)) refl refl refl (record { culled = culled; mac = mac; carries = is_frame }) in
     counted_cases (record state { kept = keep_all number round shown state.kept }) replica number round verdict P
     same
     (λ work under_way counting.
     are_more trace before state.me (with_verdict work replica verdict)
-    (with_answered trace is before letter state.me work replica number round verdict shown sent is_reply counting (work_answered trace before state.me state.work work under_way are)))
+    (with_answered trace is have before letter state.me work replica number round verdict shown sent is_reply counting (work_answered trace before state.me state.work work under_way are)))
     (λ work answer under_way counting fits enough. tt)
     (λ work under_way counting last. tt)
     (λ work acted under_way counting below. All-nil (Answered trace (before + 1) state.me work.number (work.round + 1)))
     (λ work under_way counting below. All-nil (Answered trace (before + 1) state.me work.number (work.round + 1))))
     (λ other. same)
+
+answered_decoded : (trace : Trace) → IsRun trace → ArePlain trace.entries → (before : ℕ) (letter : Letter) (state : ClientState) → SentBefore trace before letter → WorkAnswered trace before state.me state.work → (read : Result Frame BadText) → decoded letter.text ≡ read → WorkAnswered trace (before + 1) state.me (on_decoded state read).state.work
+answered_decoded trace is have before letter state sent are (Ok received) carries = answered_frame trace is have before letter state sent are received carries
+answered_decoded trace is have before letter state sent are (Err bad) carries = work_more trace before state.me state.work are
+
+answered_step : (trace : Trace) → IsRun trace → ArePlain trace.entries → (before : ℕ) (letter : Letter) (state : ClientState) → SentBefore trace before letter → WorkAnswered trace before state.me state.work → WorkAnswered trace (before + 1) state.me (client_step state letter.text).state.work
+answered_step trace is have before letter state sent are = answered_decoded trace is have before letter state sent are (decoded letter.text) refl
 
 answered_invoke : (trace : Trace) (before : ℕ) (state : ClientState) (op : Op) → WorkAnswered trace before state.me (client_invoke state op).state.work
 answered_invoke trace before state op =
@@ -176,13 +188,13 @@ counts_with : (trace : Trace) (before number : ℕ) (clients : List ClientState)
 counts_with trace before number clients new each here =
     each_with (Counts trace (before + 1)) clients number new (λ other state found. counts_more trace before other state (each other state found)) here
 
-counts_step : (trace : Trace) → IsRun trace → (before : ℕ) → before ≤ length trace.entries → Each (Counts trace before) (world_after trace before).clients → (event : Event) → Each (Counts trace (before + 1)) (world_step (world_after trace before) event).clients
-counts_step trace is before within each event =
+counts_step : (trace : Trace) → IsRun trace → ArePlain trace.entries → (before : ℕ) → before ≤ length trace.entries → Each (Counts trace before) (world_after trace before).clients → (event : Event) → IsPlain event → Each (Counts trace (before + 1)) (world_step (world_after trace before) event).clients
+counts_step trace is have before within each event plain =
     let clients : List ClientState = (world_after trace before).clients in
     let stay : Each (Counts trace (before + 1)) clients = λ number state found. counts_more trace before number state (each number state found) in
     world_cases (world_after trace before) (λ (new : WorldState). Each (Counts trace (before + 1)) new.clients)
     (λ event. stay)
-    (λ event me received state found. stay)
+    (λ number letter me state sent found. stay)
     (λ client op state found.
     let holds : Counts trace before client.0 state = each client.0 state found in
     counts_with trace before client.0 clients (client_invoke state op).state each
@@ -190,14 +202,14 @@ counts_step trace is before within each event =
     (IsSound-invoke state op) (answered_invoke trace (before + 1) state op) holds))
     (λ number letter client state sent found.
     let holds : Counts trace before client.0 state = each client.0 state found in
-    counts_with trace before client.0 clients (client_step state letter.frame).state each
-    (counts_moved trace before client.0 state (client_step state letter.frame).state (client_step-me state letter.frame) (client_step-bounds state letter.frame)
-    (IsSound-step state letter.frame holds.sound)
-    (answered_step trace is before letter state (sent_before trace is before within number letter sent) holds.answered letter.frame refl) holds))
+    counts_with trace before client.0 clients (client_step state letter.text).state each
+    (counts_moved trace before client.0 state (client_step state letter.text).state (client_step-me state letter.text) (client_step-bounds state letter.text)
+    (IsSound-step state letter.text holds.sound)
+    (answered_step trace is have before letter state (sent_before trace is before within number letter sent) holds.answered) holds))
     (λ client state found.
     counts_with trace before client.0 clients (client_tick state).state each
     (counts_more trace before client.0 state (each client.0 state found)))
-    event
+    event plain
 
 counts_opening : (trace : Trace) → Each (Counts trace 0) (opening_world trace.setup).clients
 counts_opening trace zero state found = absurd (none-some state found)
@@ -208,15 +220,15 @@ counts_opening trace (suc place) state found =
     subst (Counts trace 0 (suc place)) (sym opens) holds
 
 -- in every world of a run each client counts only what was sent to it
-pub counts_world : (trace : Trace) → IsRun trace → (count : ℕ) → count ≤ length trace.entries → Each (Counts trace count) (world_after trace count).clients
-counts_world trace is zero within =
+pub counts_world : (trace : Trace) → IsRun trace → ArePlain trace.entries → (count : ℕ) → count ≤ length trace.entries → Each (Counts trace count) (world_after trace count).clients
+counts_world trace is have zero within =
     subst (λ (world : WorldState). Each (Counts trace 0) world.clients) (sym (world_after-none trace)) (counts_opening trace)
-counts_world trace is (suc count) within =
-    let before : Each (Counts trace count) (world_after trace count).clients = counts_world trace is count (omega arith) in
+counts_world trace is have (suc count) within =
+    let before : Each (Counts trace count) (world_after trace count).clients = counts_world trace is have count (omega arith) in
     let default : Entry = some_entry trace.entries (omega arith) in
     let after : Each (Counts trace (count + 1)) (world_after trace (count + 1)).clients =
     subst (λ (world : WorldState). Each (Counts trace (count + 1)) world.clients) (sym (world_after-next trace count default (omega arith)))
-    (counts_step trace is count (omega arith) before (get_or trace.entries count default).event) in
+    (counts_step trace is have count (omega arith) before (get_or trace.entries count default).event (each_at (λ (entry : Entry). IsPlain entry.event) trace.entries count default have (omega arith))) in
     subst (λ (it : ℕ). Each (Counts trace it) (world_after trace it).clients) (add-one count) after
 
 -- ---- the verdicts that count are of different replicas

@@ -8,7 +8,7 @@ use Rattle.qu_base.specs.declared.party.ClientId.{ClientId}
 use Rattle.qu_objects.specs.declared.op.Op.{Op}
 use Rattle.qu_machine.specs.declared.record.OpRecord.{OpRecord}
 use Rattle.qu_trace.specs.declared.event.Event.{Event}
-use Rattle.qu_trace.specs.declared.event.Event.TheVariants.{Invoke, Deliver, Tick}
+use Rattle.qu_trace.specs.declared.event.Event.TheVariants.{Invoke, Deliver, Tick, Inject}
 use Rattle.qu_trace.specs.declared.trace.Entry.{Entry}
 use Rattle.qu_trace.specs.Operations.{invokes, begun_by, record_of, begins_at, operations_from, operations_of}
 use Rattle.qu_safety.specs.Points.{AreApart}
@@ -72,6 +72,7 @@ operations_begin earlier later entry at (Invoke client op) operations is are = r
 }
 operations_begin earlier later entry at (Deliver letter) operations is are = operations_next earlier entry operations are
 operations_begin earlier later entry at (Tick client) operations is are = operations_next earlier entry operations are
+operations_begin earlier later entry at (Inject to text) operations is are = operations_next earlier entry operations are
 
 are_operations : (earlier : List Entry) (at : ℕ) (later : List Entry) → AreOperations earlier (operations_from earlier at later)
 unfolding operations_from

@@ -1,12 +1,11 @@
 -- Where the end of an operation is recorded, and what step of its client made it.
-use Rattle.std.proofs.Common.{◌≡◌, ℕ, suc, ◌+◌, ◌≤◌, true, eqb, ◌&&◌, List, [], ◌∷◌, ◌++◌, Option, None, Some, refl, ap, ◌∙◌, arith, slice_get, All, Contains}
+use Rattle.std.proofs.Common.{◌≡◌, ℕ, suc, ◌+◌, ◌≤◌, true, eqb, ◌&&◌, List, [], ◌∷◌, ◌++◌, Option, None, Some, refl, ap, ◌∙◌, arith, slice_get, All, Contains, Result, Ok, Err}
 use Rattle.std.proofs.lemmas.Bool.{and_parts, eqb-true, cond_both}
 use Rattle.std.proofs.lemmas.List.Elements.{All-nil, All-cons, All-append, All-weaker, All-contains}
 use Rattle.std.proofs.lemmas.Option.{none-some, some_pair_parts, cond_some}
 use Rattle.qu_base.specs.declared.party.ClientId.{ClientId}
 use Rattle.qu_base.specs.declared.party.ReplicaId.{ReplicaId}
 use Rattle.qu_base.specs.Thresholds.{quorum}
-use Rattle.qu_history.specs.History.{ObjectHistory}
 use Rattle.qu_objects.specs.declared.answer.Answer.{Answer}
 use Rattle.qu_objects.specs.declared.op.Outcome.{Outcome}
 use Rattle.qu_objects.specs.declared.op.Outcome.TheVariants as outcome
@@ -17,15 +16,19 @@ use Rattle.qu_client.specs.declared.state.ClientState.{ClientState}
 use Rattle.qu_client.specs.declared.state.Stepped.{Stepped}
 use Rattle.qu_client.specs.declared.work.Work.{Work}
 use Rattle.qu_client.specs.State.{keep_all}
-use Rattle.qu_client.specs.Step.{fitting, identical, counts, client_step}
+use Rattle.qu_client.specs.Step.{fitting, identical, counts, on_frame, on_decoded, client_step}
 use Rattle.qu_client.proofs.Cases.{with_verdict, counted_cases}
 use Rattle.qu_machine.specs.declared.record.OpRecord.{OpRecord}
 use Rattle.qu_trace.specs.declared.event.Event.{Event}
-use Rattle.qu_trace.specs.declared.event.Event.TheVariants.{Invoke, Deliver, Tick}
+use Rattle.qu_trace.specs.declared.event.Event.TheVariants.{Invoke, Deliver, Tick, Inject}
 use Rattle.qu_trace.specs.declared.trace.Entry.{Entry}
 use Rattle.qu_trace.specs.Operations.{outcome_in, first_end, end_from, begins_at, begun_by, operations_from, operations_of}
 use Rattle.qu_world.specs.Step.{ended_by}
 use Rattle.qu_safety.proofs.Small.{same_clients}
+use Rattle.qu_frames.specs.Decoding.{decoded}
+use Rattle.qu_history.specs.declared.sealed.Sealed.{Sealed}
+use Rattle.qu_base.specs.declared.bad_text.BadText.{BadText}
+use Rattle.qu_base.specs.declared.party.ObjectId.{ObjectId}
 
 -- ---- where the end is recorded
 
@@ -75,6 +78,7 @@ begins_end (Invoke client op) at earlier entries =
     All-cons (Ends entries at) _ [] (λ event how is. end_at client (begun_by client earlier + 1) at entries event how is) (All-nil (Ends entries at))
 begins_end (Deliver letter) at earlier entries = All-nil (Ends entries at)
 begins_end (Tick client) at earlier entries = All-nil (Ends entries at)
+begins_end (Inject to text) at earlier entries = All-nil (Ends entries at)
 
 operations_end : (earlier : List Entry) (at : ℕ) (entries : List Entry) → All (Ends entries at) (operations_from earlier at entries)
 unfolding operations_from
@@ -124,8 +128,10 @@ pub record Completes (state : ClientState) (received : Frame) (answer : Answer) 
   pub number : ℕ
   pub round : ℕ
   pub verdict : Verdict
-  pub shown : List ObjectHistory
-  pub is_reply : received ≡ frame.Reply replica state.me number round verdict shown
+  pub culled : List (ObjectId × ReplicaId)
+  pub shown : List Sealed
+  pub mac : List ℕ
+  pub is_reply : received ≡ frame.Reply replica state.me number round verdict culled shown mac
   pub work : Work
   pub under_way : state.work ≡ Some work
   pub counting : counts work replica number round ≡ true
@@ -138,10 +144,10 @@ same_answer first second same = cc
 gave_up : (answer : Answer) → Some outcome.GaveUp ≡ Some (outcome.Done answer) → ⊥
 gave_up answer same = cc
 
-pub completes : (state : ClientState) (received : Frame) (answer : Answer) → (client_step state received).ended ≡ Some (outcome.Done answer) → Completes state received answer
-completes state (frame.Request client number round sets body) answer ended = absurd (none-some (outcome.Done answer) ended)
-completes state (frame.Reply replica client number round verdict shown) answer ends =
-    let P : Stepped → Type 0 = λ stepped. stepped.ended ≡ Some (outcome.Done answer) → Completes state (frame.Reply replica client number round verdict shown) answer in
+pub frame_completes : (state : ClientState) (received : Frame) (answer : Answer) → (on_frame state received).ended ≡ Some (outcome.Done answer) → Completes state received answer
+frame_completes state (frame.Request client number round sets body mac) answer ended = absurd (none-some (outcome.Done answer) ended)
+frame_completes state (frame.Reply replica client number round verdict culled shown mac) answer ends =
+    let P : Stepped → Type 0 = λ stepped. stepped.ended ≡ Some (outcome.Done answer) → Completes state (frame.Reply replica client number round verdict culled shown mac) answer in
     cond_both (eqb client.0 (state.me).0) _ _ P
     (λ mine.
     counted_cases (record state { kept = keep_all number round shown state.kept }) replica number round verdict P
@@ -152,8 +158,10 @@ completes state (frame.Reply replica client number round verdict shown) answer e
       number = number;
       round = round;
       verdict = verdict;
+      culled = culled;
       shown = shown;
-      is_reply = ap (λ (it : ClientId). frame.Reply replica it number round verdict shown) (same_clients client state.me (eqb-true client.0 (state.me).0 mine));
+      mac = mac;
+      is_reply = ap (λ (it : ClientId). frame.Reply replica it number round verdict culled shown mac) (same_clients client state.me (eqb-true client.0 (state.me).0 mine));
       work = work;
       under_way = under_way;
       counting = counting;
@@ -165,3 +173,16 @@ completes state (frame.Reply replica client number round verdict shown) answer e
     (λ work under_way counting below ended. absurd (none-some (outcome.Done answer) ended)))
     (λ other ended. absurd (none-some (outcome.Done answer) ended))
     ends
+
+-- the text is that of such a frame
+pub record TextCompletes (state : ClientState) (read : Result Frame BadText) (answer : Answer) : Type 0 where
+  pub carried : Frame
+  pub is_frame : read ≡ Ok carried
+  pub completes : Completes state carried answer
+
+decoded_completes : (state : ClientState) (read : Result Frame BadText) (answer : Answer) → (on_decoded state read).ended ≡ Some (outcome.Done answer) → TextCompletes state read answer
+decoded_completes state (Ok received) answer ends = record { carried = received; is_frame = refl; completes = frame_completes state received answer ends }
+decoded_completes state (Err bad) answer ends = absurd (none-some (outcome.Done answer) ends)
+
+pub completes : (state : ClientState) (text : List ℕ) (answer : Answer) → (client_step state text).ended ≡ Some (outcome.Done answer) → TextCompletes state (decoded text) answer
+completes state text answer ends = decoded_completes state (decoded text) answer ends

@@ -20,7 +20,7 @@ use Rattle.qu_trace.specs.declared.trace.Trace.{Trace}
 use Rattle.qu_world.specs.Run.{IsRun}
 use Rattle.qu_safety.specs.Decided.{accepts, is_accepted, is_established, IsDecided}
 use Rattle.qu_safety.specs.Order.{world_after}
-use Rattle.qu_safety.specs.Views.{HaveParts}
+use Rattle.qu_safety.specs.Views.{ArePlain}
 use Rattle.qu_safety.specs.Grounds.{AcceptsOne}
 use Rattle.qu_safety.specs.Chained.{last_world}
 use Rattle.qu_safety.proofs.Accepting.{Acceptance}
@@ -55,7 +55,7 @@ unfolding count
 gained zero more fewer below = absurd (omega arith)
 gained (suc n) more fewer below = gained_by n more fewer (more n) (fewer n) refl refl below (gained n more fewer)
 
-module _ (trace : Trace) (is_run : IsRun trace) (have : HaveParts trace.entries) where
+module _ (trace : Trace) (is_run : IsRun trace) (have : ArePlain trace.entries) where
   -- established after so many events
   abbrev pub Established : ℕ → ObjectId → Candidate → Type 0
   Established time object candidate = IsEstablished (setting trace) time object candidate
@@ -104,7 +104,7 @@ module _ (trace : Trace) (is_run : IsRun trace) (have : HaveParts trace.entries)
   unfolding setting
   rests time object place candidate new =
       let accepted : Acceptance trace time object place candidate = accepted_of trace is_run have time object place candidate new in
-      let one : AcceptsOne accepted.old accepted.new ((accepted.delivered).letter).frame object = (accepted.delivered).accepts in
+      let one : AcceptsOne accepted.old accepted.new (accepted.delivered).carried object = (accepted.delivered).accepts in
       let shown : quorum trace.setup.bounds ≤ _ = base_shown trace is_run have time object place candidate new.step accepted in
       let counted = acceptors_are trace time object (one.grounds).base in
       record {

@@ -20,7 +20,7 @@ use Rattle.qu_frames.specs.declared.verdict.Refusal.TheVariants as refusal
 use Rattle.qu_replica.specs.declared.decision.Decision.{Decision}
 use Rattle.qu_replica.specs.State.{ReplicaState, own_candidates}
 use Rattle.qu_replica.specs.Rows.{Asked, asked_of, refuse, row_unknown, row_thin, first_given, objects_of, decide_act}
-use Rattle.qu_replica.specs.Step.{carried_out, replica_step}
+use Rattle.qu_replica.specs.Step.{carried_out, on_frame, on_decoded, replica_step}
 use Rattle.qu_client.specs.Rounds.{are_full}
 use Rattle.qu_trace.specs.declared.event.Event.{Event}
 use Rattle.qu_trace.specs.declared.event.Event.TheVariants.{Deliver}
@@ -85,8 +85,8 @@ not_added candidates candidate same =
     let equal : length candidates ≡ length (candidates ++ candidate ∷ []) = ap length same in
     omega arith
 
-act_step_upon : (state : ReplicaState) (client : ClientId) (number round : ℕ) (sets : List SetOf) (parts : List (ObjectId × Method)) (object : ObjectId) (candidate : Candidate) → own_candidates (replica_step state (frame.Request client number round sets (body.Act parts))).0 object ≡ own_candidates state object ++ candidate ∷ [] → IsUpon state sets
-act_step_upon state client number round sets parts object candidate added =
+act_step_upon : (state : ReplicaState) (client : ClientId) (number round : ℕ) (sets : List SetOf) (parts : List (ObjectId × Method)) (mac : List ℕ) (object : ObjectId) (candidate : Candidate) → own_candidates (on_frame state (frame.Request client number round sets (body.Act parts) mac)).0 object ≡ own_candidates state object ++ candidate ∷ [] → IsUpon state sets
+act_step_upon state client number round sets parts mac object candidate added =
     let asked : Asked = asked_of client number sets (body.Act parts) in
     let decision : Decision = decide_act state asked parts (objects_of parts) in
     elim (act_upon state asked parts (objects_of parts)) [
@@ -96,30 +96,31 @@ act_step_upon state client number round sets parts object candidate added =
       | inr upon ↦ upon
     ]
 
-upon_by : (old new : ReplicaState) (taken : Frame) (object : ObjectId) (accepts : AcceptsOne old new taken object) → (replica_step old taken).0 ≡ new → IsUpon old accepts.sets
+upon_by : (old new : ReplicaState) (taken : Frame) (object : ObjectId) (accepts : AcceptsOne old new taken object) → (on_frame old taken).0 ≡ new → IsUpon old accepts.sets
 upon_by old new taken object accepts is =
-    act_step_upon old accepts.client accepts.number accepts.round accepts.sets ((object, accepts.method) ∷ []) object accepts.candidate
-    (ap (λ (it : Frame). own_candidates (replica_step old it).0 object) (sym accepts.is_request) ∙ ap (λ (it : ReplicaState). own_candidates it object) is ∙ accepts.added)
+    act_step_upon old accepts.client accepts.number accepts.round accepts.sets ((object, accepts.method) ∷ []) accepts.mac object accepts.candidate
+    (ap (λ (it : Frame). own_candidates (on_frame old it).0 object) (sym accepts.is_request) ∙ ap (λ (it : ReplicaState). own_candidates it object) is ∙ accepts.added)
 
 -- ---- the same in a run
 
 -- the replica that took the letter stepped
-delivered_to : (world : WorldState) (event : Event) (place : ℕ) (old new : ReplicaState) (object : ObjectId) (happened : IsDelivered world event place old new object) → slice_get world.replicas place ≡ Some old → slice_get (world_step world event).replicas place ≡ Some new → (replica_step old (happened.letter).frame).0 ≡ new
+delivered_to : (world : WorldState) (event : Event) (place : ℕ) (old new : ReplicaState) (object : ObjectId) (happened : IsDelivered world event place old new object) → slice_get world.replicas place ≡ Some old → slice_get (world_step world event).replicas place ≡ Some new → (on_frame old happened.carried).0 ≡ new
 delivered_to world event place old new object happened is_old is_new =
     let letter : Letter = happened.letter in
     let deliver : Event = Deliver happened.number in
-    let stepped : ReplicaState = (replica_step old letter.frame).0 in
-    let is : world_step world event ≡ at_replica world deliver (record { 0 = place }) letter.frame (Some old) =
+    let stepped : ReplicaState = (replica_step old letter.text).0 in
+    let is : world_step world event ≡ at_replica world deliver (record { 0 = place }) letter.text (Some old) =
     ap (world_step world) happened.is_deliver ∙
     ap (delivered world deliver) happened.is_letter ∙
-    ap (λ (to : Party). received world deliver to letter.frame) happened.to ∙
-    ap (at_replica world deliver (record { 0 = place }) letter.frame) is_old in
+    ap (λ (to : Party). received world deliver to letter.text) happened.to ∙
+    ap (at_replica world deliver (record { 0 = place }) letter.text) is_old in
+    ap (λ it. (on_decoded old it).0) (sym happened.carries) ∙
     same_Some stepped new (sym (set_here world.replicas place old stepped is_old) ∙ ap (λ (it : WorldState). slice_get it.replicas place) (sym is) ∙ is_new)
 
 -- a letter that made a replica accept a candidate shows such sets
 pub delivered_upon : (world : WorldState) (event : Event) (place : ℕ) (old new : ReplicaState) (object : ObjectId) (happened : IsDelivered world event place old new object) → slice_get world.replicas place ≡ Some old → slice_get (world_step world event).replicas place ≡ Some new → IsUpon old (happened.accepts).sets
 delivered_upon world event place old new object happened is_old is_new =
-    upon_by old new (happened.letter).frame object happened.accepts (delivered_to world event place old new object happened is_old is_new)
+    upon_by old new happened.carried object happened.accepts (delivered_to world event place old new object happened is_old is_new)
 
 pub accepted_upon_full : (trace : Trace) (count : ℕ) (object : ObjectId) (candidate : Candidate) (origin : Origin trace count object candidate) → are_full trace.setup.bounds ((origin.delivered).accepts).sets ≡ true
 accepted_upon_full trace count object candidate origin =

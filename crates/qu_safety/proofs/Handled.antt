@@ -1,5 +1,5 @@
 -- What a replica accepts it handled, and it was made for that act; and a request that was handled was sent.
-use Rattle.std.proofs.Common.{◌≡◌, ℕ, suc, ◌<◌, ◌≤◌, Bool, true, false, not, cond, List, [], ◌∷◌, length, Option, get_or, None, Some, refl, sym, ap, subst, ◌∙◌, arith, add-one}
+use Rattle.std.proofs.Common.{◌≡◌, ℕ, suc, ◌<◌, ◌≤◌, Bool, true, false, not, cond, List, [], ◌∷◌, length, Option, get_or, None, Some, refl, sym, ap, subst, ◌∙◌, arith, add-one, Result, Ok, Err}
 use Rattle.std.specs.Prelude.{slice_get, nat_le, nat_lt, Contains}
 use Rattle.std.specs.List.{list_all}
 use Rattle.std.proofs.lemmas.Bool.{and_parts, and_from, lt-ltb}
@@ -24,7 +24,7 @@ use Rattle.qu_frames.specs.declared.frame.Letter.{Letter}
 use Rattle.qu_replica.specs.Rows.{asked_of, fresh_stamp}
 use Rattle.qu_replica.specs.State.{ReplicaState}
 use Rattle.qu_trace.specs.declared.event.Event.{Event}
-use Rattle.qu_trace.specs.declared.event.Event.TheVariants.{Invoke, Deliver, Tick}
+use Rattle.qu_trace.specs.declared.event.Event.TheVariants.{Invoke, Deliver, Tick, Inject}
 use Rattle.qu_trace.specs.declared.trace.Entry.{Entry}
 use Rattle.qu_trace.specs.declared.trace.Setup.{Setup}
 use Rattle.qu_trace.specs.declared.trace.Trace.{Trace}
@@ -32,7 +32,7 @@ use Rattle.qu_trace.specs.Letters.{letters_of}
 use Rattle.qu_world.specs.State.{WorldState, numbered, letter_of}
 use Rattle.qu_world.specs.Step.{world_step}
 use Rattle.qu_world.specs.Run.{IsRun}
-use Rattle.qu_safety.specs.Digested.{Request, is_known, request_in, request_to, request_by, handled_by, IsHandled, IsMadeFor}
+use Rattle.qu_safety.specs.Digested.{Request, is_known, request_in, request_read, request_to, request_by, handled_by, IsHandled, IsMadeFor}
 use Rattle.qu_safety.specs.Grounds.{AcceptsOne, IsDelivered}
 use Rattle.qu_safety.specs.Invocations.{IsRequestOf}
 use Rattle.qu_safety.specs.Order.{world_after}
@@ -44,6 +44,12 @@ use Rattle.qu_safety.proofs.Marking.{run_has, found_within}
 use Rattle.qu_safety.proofs.Recording.{entries_after}
 use Rattle.qu_safety.proofs.Replies.{letter_stays}
 use Rattle.qu_safety.proofs.WorldGrowth.{world_after-next}
+use Rattle.qu_safety.specs.Carried.{Asks}
+use Rattle.qu_frames.specs.Decoding.{decoded}
+use Rattle.qu_safety.specs.Views.{IsPlain, ArePlain}
+use Rattle.qu_base.specs.declared.bad_text.BadText.{BadText}
+use Rattle.qu_safety.proofs.Carrying.{asks_so}
+use Rattle.qu_safety.proofs.Each.{each_at}
 
 -- ---- what is accepted was handled
 
@@ -57,41 +63,63 @@ all_known setup size few (set ∷ sets) had =
     and_from _ _ (one_known size (set.object).0 (length setup.kinds) few parts.0) (all_known setup size few sets parts.1)
 
 -- a replica handles a request that shows it objects that it has
-pub handled_upon : (trace : Trace) → IsRun trace → (time : ℕ) → time < length trace.entries → (entry : Entry) → Contains trace.entries entry → (asked : ℕ) → entry.event ≡ Deliver asked
+pub request_handled : (trace : Trace) → IsRun trace → (time : ℕ) → time < length trace.entries → (event : Event) → (asked : ℕ) → event ≡ Deliver asked
     → (place : ℕ) (old : ReplicaState) → slice_get (world_after trace time).replicas place ≡ Some old
     → (letter : Letter) → letter_of (world_after trace time) asked ≡ Some letter → letter.to ≡ party.Replica (record { 0 = place })
-    → (client : ClientId) (number round : ℕ) (sets : List SetOf) (parts : List (ObjectId × Method)) → letter.frame ≡ frame.Request client number round sets (body.Act parts) → are_had old sets ≡ true
-    → IsHandled trace client number parts
-handled_upon trace is_run time within entry of_trace asked is_deliver place old is_old letter is_letter to client number round sets parts is_request had =
+    → (request : Request) (round : ℕ) → Asks letter request.client request.number round request.sets request.body → are_had old request.sets ≡ true
+    → handled_by trace event ≡ Some request
+request_handled trace is_run time within event asked is_deliver place old is_old letter is_letter to request round is_request had =
     let few : length old.histories ≤ length trace.setup.kinds = found_within (length trace.setup.kinds) (world_after trace time).replicas place old (run_has trace time) is_old in
-    let known : list_all (is_known trace.setup) sets ≡ true = all_known trace.setup (length old.histories) few sets had in
+    let known : list_all (is_known trace.setup) request.sets ≡ true = all_known trace.setup (length old.histories) few request.sets had in
     let there : place < length (world_after trace time).replicas = slice_get_within (world_after trace time).replicas place old is_old in
     let all : length (world_after trace time).replicas ≡ replicas trace.setup.bounds = all_replicas trace time in
     let among : nat_lt place (replicas trace.setup.bounds) ≡ true = lt-ltb _ _ (omega (arith, there, all)) in
     let found : numbered (letters_of trace.entries) asked ≡ Some letter = letter_stays trace is_run time (omega arith) asked letter is_letter in
-    let request : Request = record { client = client; number = number; sets = sets; body = body.Act parts } in
-    record {
-      entry = entry;
-      of_trace = of_trace;
-      sets = sets;
-      handled =
-          ap (handled_by trace) is_deliver ∙
-          ap (request_by trace.setup) found ∙
-          ap (request_to trace.setup letter.frame) to ∙
-          ap (λ (test : Bool). cond test (request_in trace.setup letter.frame) None) among ∙
-          ap (request_in trace.setup) is_request ∙
-          ap (λ (test : Bool). cond test (Some request) None) known;
-    }
+    ap (handled_by trace) is_deliver ∙
+    ap (request_by trace.setup) found ∙
+    ap (request_to trace.setup letter.text) to ∙
+    ap (λ (test : Bool). cond test (request_read trace.setup (decoded letter.text)) None) among ∙
+    ap (request_read trace.setup) is_request.carries ∙
+    ap (λ (test : Bool). cond test (Some request) None) known
 
--- a replica handled the request upon which it accepts a candidate
+pub handled_upon : (trace : Trace) → IsRun trace → (time : ℕ) → time < length trace.entries → (entry : Entry) → Contains trace.entries entry → (asked : ℕ) → entry.event ≡ Deliver asked
+    → (place : ℕ) (old : ReplicaState) → slice_get (world_after trace time).replicas place ≡ Some old
+    → (letter : Letter) → letter_of (world_after trace time) asked ≡ Some letter → letter.to ≡ party.Replica (record { 0 = place })
+    → (client : ClientId) (number round : ℕ) (sets : List SetOf) (parts : List (ObjectId × Method)) → Asks letter client number round sets (body.Act parts) → are_had old sets ≡ true
+    → IsHandled trace client number parts
+handled_upon trace is_run time within entry of_trace asked is_deliver place old is_old letter is_letter to client number round sets parts is_request had = record {
+  entry = entry;
+  of_trace = of_trace;
+  sets = sets;
+  handled =
+      request_handled trace is_run time within entry.event asked is_deliver place old is_old letter is_letter to
+      (record { client = client; number = number; sets = sets; body = body.Act parts }) round is_request had;
+}
+
+-- the request upon which a replica accepts a candidate
+abbrev pub request_upon : (old new : ReplicaState) (received : Frame) (object : ObjectId) → AcceptsOne old new received object → Request
+request_upon old new received object one = record { client = one.client; number = one.number; sets = one.sets; body = body.Act ((object, one.method) ∷ []) }
+
+-- a replica handled it
+pub upon_handled : (trace : Trace) → IsRun trace → (time : ℕ) → time < length trace.entries → (event : Event) → (place : ℕ) (old new : ReplicaState)
+    → slice_get (world_after trace time).replicas place ≡ Some old → slice_get (world_step (world_after trace time) event).replicas place ≡ Some new → (object : ObjectId) (delivered : IsDelivered (world_after trace time) event place old new object)
+    → handled_by trace event ≡ Some (request_upon old new delivered.carried object delivered.accepts)
+upon_handled trace is_run time within event place old new is_old is_new object delivered =
+    let one : AcceptsOne old new delivered.carried object = delivered.accepts in
+    let upon : IsUpon old one.sets = delivered_upon (world_after trace time) event place old new object delivered is_old is_new in
+    request_handled trace is_run time within event delivered.number delivered.is_deliver place old is_old delivered.letter delivered.is_letter delivered.to
+    (request_upon old new delivered.carried object one) one.round
+    (asks_so delivered.letter delivered.carried one.client one.number one.round one.sets (body.Act ((object, one.method) ∷ [])) one.mac delivered.carries one.is_request) upon.had
+
 pub handled : (trace : Trace) → IsRun trace → (time : ℕ) → time < length trace.entries → (entry : Entry) → Contains trace.entries entry → (event : Event) → event ≡ entry.event → (place : ℕ) (old new : ReplicaState)
     → slice_get (world_after trace time).replicas place ≡ Some old → slice_get (world_step (world_after trace time) event).replicas place ≡ Some new → (object : ObjectId) (delivered : IsDelivered (world_after trace time) event place old new object)
     → IsHandled trace (delivered.accepts).client (delivered.accepts).number ((object, (delivered.accepts).method) ∷ [])
-handled trace is_run time within entry of_trace event event_is place old new is_old is_new object delivered =
-    let one : AcceptsOne old new (delivered.letter).frame object = delivered.accepts in
-    let upon : IsUpon old one.sets = delivered_upon (world_after trace time) event place old new object delivered is_old is_new in
-    handled_upon trace is_run time within entry of_trace delivered.number (sym event_is ∙ delivered.is_deliver) place old is_old delivered.letter delivered.is_letter delivered.to
-    one.client one.number one.round one.sets ((object, one.method) ∷ []) one.is_request upon.had
+handled trace is_run time within entry of_trace event event_is place old new is_old is_new object delivered = record {
+  entry = entry;
+  of_trace = of_trace;
+  sets = (delivered.accepts).sets;
+  handled = ap (handled_by trace) (sym event_is) ∙ upon_handled trace is_run time within event place old new is_old is_new object delivered;
+}
 
 -- ---- for which act a candidate was made
 
@@ -112,7 +140,7 @@ accepted_made trace is_run time within object place candidate accepted =
     ap (world_step (world_after trace time)) accepted.event_is ∙ sym (world_after-next trace time some_entry within) ∙ ap (world_after trace) (add-one time) in
     let is_new : slice_get (world_step (world_after trace time) accepted.event).replicas place ≡ Some accepted.new =
     ap (λ (it : WorldState). slice_get it.replicas place) next ∙ accepted.is_new in
-    made_for trace accepted.old accepted.new ((accepted.delivered).letter).frame object (accepted.delivered).accepts candidate accepted.candidate_is
+    made_for trace accepted.old accepted.new (accepted.delivered).carried object (accepted.delivered).accepts candidate accepted.candidate_is
     (handled trace is_run time within entry (Contains-get_or trace.entries time some_entry within) accepted.event accepted.event_is place accepted.old accepted.new accepted.is_old is_new object accepted.delivered)
 
 -- so it was made for the operation that the request is one of
@@ -134,39 +162,53 @@ pub record IsSent (trace : Trace) (request : Request) : Type 0 where
   pub letter : Letter
   pub is_letter : numbered (letters_of trace.entries) number ≡ Some letter
   pub round : ℕ
-  pub is_request : letter.frame ≡ frame.Request request.client request.number round request.sets request.body
+  pub is_request : Asks letter request.client request.number round request.sets request.body
 
-carried : (setup : Setup) (sent : Frame) (request : Request) → request_in setup sent ≡ Some request → (round : ℕ) × (sent ≡ frame.Request request.client request.number round request.sets request.body)
-carried setup (frame.Request client number round sets asked) request is =
+carried : (setup : Setup) (sent : Frame) (request : Request) → request_in setup sent ≡ Some request → (round : ℕ) × (mac : List ℕ) × (sent ≡ frame.Request request.client request.number round request.sets request.body mac)
+carried setup (frame.Request client number round sets asked mac) request is =
     let it : Request = record { client = client; number = number; sets = sets; body = asked } in
     let same : it ≡ request = (cond_some (list_all (is_known setup) sets) it request is).1 in
-    (round, ap (λ (one : Request). frame.Request one.client one.number round one.sets one.body) same)
-carried setup (frame.Reply replica client number round verdict shown) request is = absurd (none-some request is)
+    (round, mac, ap (λ (one : Request). frame.Request one.client one.number round one.sets one.body mac) same)
+carried setup (frame.Reply replica client number round verdict culled shown mac) request is = absurd (none-some request is)
 
-carried_to : (setup : Setup) (sent : Frame) (to : Party) (request : Request) → request_to setup sent to ≡ Some request → request_in setup sent ≡ Some request
-carried_to setup sent (party.Replica me) request is = cond_given (nat_lt me.0 (replicas setup.bounds)) (request_in setup sent) request is
-carried_to setup sent (party.Client me) request is = absurd (none-some request is)
+carried_to : (setup : Setup) (text : List ℕ) (to : Party) (request : Request) → request_to setup text to ≡ Some request → request_read setup (decoded text) ≡ Some request
+carried_to setup text (party.Replica me) request is = cond_given (nat_lt me.0 (replicas setup.bounds)) (request_read setup (decoded text)) request is
+carried_to setup text (party.Client me) request is = absurd (none-some request is)
+
+-- a frame was decoded that is this request
+carried_so : (setup : Setup) (letter : Letter) (read : Result Frame BadText) (request : Request) → decoded letter.text ≡ read → request_read setup read ≡ Some request
+    → (round : ℕ) × Asks letter request.client request.number round request.sets request.body
+carried_so setup letter (Ok sent) request carries is =
+    let it = carried setup sent request is in
+    (it.0, asks_so letter sent request.client request.number it.0 request.sets request.body it.1 carries it.2)
+carried_so setup letter (Err bad) request carries is = absurd (none-some request is)
 
 sent_by : (trace : Trace) (number : ℕ) (found : Option Letter) (request : Request) → numbered (letters_of trace.entries) number ≡ found → request_by trace.setup found ≡ Some request → IsSent trace request
 sent_by trace number None request found is = absurd (none-some request is)
 sent_by trace number (Some letter) request found is =
-    let it = carried trace.setup letter.frame request (carried_to trace.setup letter.frame letter.to request is) in
+    let it = carried_so trace.setup letter (decoded letter.text) request refl (carried_to trace.setup letter.text letter.to request is) in
     record { number = number; letter = letter; is_letter = found; round = it.0; is_request = it.1 }
 
-pub sent : (trace : Trace) (event : Event) (request : Request) → handled_by trace event ≡ Some request → IsSent trace request
-sent trace (Invoke client op) request is = absurd (none-some request is)
-sent trace (Deliver number) request is = sent_by trace number (numbered (letters_of trace.entries) number) request refl is
-sent trace (Tick client) request is = absurd (none-some request is)
+pub sent : (trace : Trace) (event : Event) → IsPlain event → (request : Request) → handled_by trace event ≡ Some request → IsSent trace request
+sent trace (Invoke client op) plain request is = absurd (none-some request is)
+sent trace (Deliver number) plain request is = sent_by trace number (numbered (letters_of trace.entries) number) request refl is
+sent trace (Tick client) plain request is = absurd (none-some request is)
+sent trace (Inject to text) plain request is = absurd plain
+
+-- each entry of a plain trace is plain
+pub plain_among : (entries : List Entry) (entry : Entry) → ArePlain entries → Contains entries entry → IsPlain entry.event
+plain_among entries entry plain among =
+    subst (λ (it : Entry). IsPlain it.event) among.2 (each_at (λ (it : Entry). IsPlain it.event) entries among.0 entry plain among.1)
 
 -- so it is one of an operation
-pub asked_by : (trace : Trace) → IsRun trace → (request : Request) → IsSent trace request → IsRequestOf trace (length trace.entries) request.client request.number request.body
-asked_by trace is_run request it =
+pub asked_by : (trace : Trace) → IsRun trace → ArePlain trace.entries → (request : Request) → IsSent trace request → IsRequestOf trace (length trace.entries) request.client request.number request.body
+asked_by trace is_run have request it =
     let last : ℕ = length trace.entries in
     let all : (world_after trace last).entries ≡ trace.entries = entries_after trace is_run last (omega arith) ∙ take_all last trace.entries (omega arith) in
-    request_of trace is_run last (omega arith) it.number it.letter (ap (λ (entries : List Entry). numbered (letters_of entries) it.number) all ∙ it.is_letter)
+    request_of trace is_run have last (omega arith) it.number it.letter (ap (λ (entries : List Entry). numbered (letters_of entries) it.number) all ∙ it.is_letter)
     request.client request.number it.round request.sets request.body it.is_request
 
-pub asked_by_handled : (trace : Trace) → IsRun trace → (client : ClientId) (number : ℕ) (parts : List (ObjectId × Method)) → IsHandled trace client number parts → IsRequestOf trace (length trace.entries) client number (body.Act parts)
-asked_by_handled trace is_run client number parts it =
+pub asked_by_handled : (trace : Trace) → IsRun trace → ArePlain trace.entries → (client : ClientId) (number : ℕ) (parts : List (ObjectId × Method)) → IsHandled trace client number parts → IsRequestOf trace (length trace.entries) client number (body.Act parts)
+asked_by_handled trace is_run have client number parts it =
     let request : Request = record { client = client; number = number; sets = it.sets; body = body.Act parts } in
-    asked_by trace is_run request (sent trace (it.entry).event request it.handled)
+    asked_by trace is_run have request (sent trace (it.entry).event (plain_among trace.entries it.entry have it.of_trace) request it.handled)

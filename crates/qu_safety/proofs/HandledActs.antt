@@ -1,6 +1,6 @@
--- The acts that replicas handled, as they are listed: by client and number, which in a run belong to one operation.
-use Rattle.std.proofs.Common.{◌≡◌, ℕ, Bool, true, List, [], ◌∷◌, length, Option, None, Some, refl, ap, ◌∙◌, arith, inl, inr}
-use Rattle.std.specs.Prelude.{◌==◌, Contains}
+-- The acts that replicas handled, as they are listed: each with its client and its number.
+use Rattle.std.proofs.Common.{◌≡◌, ℕ, Bool, true, List, [], ◌∷◌, Option, None, Some, refl, ap, ◌∙◌, arith, inl, inr}
+use Rattle.std.specs.Prelude.{◌==◌, ◌&&◌, Contains}
 use Rattle.std.specs.List.{list_any, filter_map, cons_option}
 use Rattle.std.proofs.lemmas.Bool.{false≢true, or_cases, or_left, or_right, and_parts, and_from, eq-eqb, eqb-true}
 use Rattle.std.proofs.lemmas.List.Elements.{Contains-append_cases, Contains-append_left, Contains-append_right, Contains-push}
@@ -9,21 +9,15 @@ use Rattle.qu_base.specs.declared.party.ClientId.{ClientId}
 use Rattle.qu_base.specs.declared.party.ObjectId.{ObjectId}
 use Rattle.qu_history.specs.declared.sets.SetOf.{SetOf}
 use Rattle.qu_objects.specs.declared.act.Method.{Method}
-use Rattle.qu_objects.specs.declared.op.Op.{Op}
 use Rattle.qu_objects.specs.declared.op.Op.TheVariants as op
+use Rattle.qu_machine.specs.PointTests.{same_op}
+use Rattle.qu_machine.proofs.Equalities.{decides_op}
 use Rattle.qu_frames.specs.declared.frame.Body.{Body}
 use Rattle.qu_frames.specs.declared.frame.Body.TheVariants as body
-use Rattle.qu_frames.specs.Body.{body_of}
-use Rattle.qu_machine.specs.declared.record.OpRecord.{OpRecord}
 use Rattle.qu_trace.specs.declared.trace.Trace.{Trace}
-use Rattle.qu_trace.specs.Operations.{operations_of}
-use Rattle.qu_world.specs.Run.{IsRun}
 use Rattle.qu_safety.specs.Digested.{Request, handled_by, IsHandled}
-use Rattle.qu_safety.specs.Invocations.{IsRequestOf}
-use Rattle.qu_safety.specs.Points.{act_asked, act_in, act_at, handled_acts, is_act}
-use Rattle.qu_safety.proofs.Handled.{sent, asked_by}
+use Rattle.qu_safety.specs.Points.{NamedAct, act_asked, act_in, act_at, handled_acts, is_act}
 use Rattle.qu_safety.proofs.OneAct.{only_one}
-use Rattle.qu_safety.proofs.Recorded.{recorded_op}
 use Rattle.qu_safety.proofs.Small.{same_clients}
 
 -- ---- lists
@@ -69,54 +63,53 @@ given_passing f test (first ∷ later) some = given_by f test first later (given
 
 -- ---- acts
 
+equal_parts : (parts others : List (ObjectId × Method)) → same_op (op.Act parts) (op.Act others) ≡ true → parts ≡ others
+equal_parts parts others same =
+    let acts : op.Act parts ≡ op.Act others = (decides_op (op.Act parts) (op.Act others)).0 same in
+    cc
+
+parts-self : (parts : List (ObjectId × Method)) → same_op (op.Act parts) (op.Act parts) ≡ true
+parts-self parts = (decides_op (op.Act parts) (op.Act parts)).1 refl
+
 -- an act that was handled is listed
-pub handled_among : (trace : Trace) (client : ClientId) (number : ℕ) (parts : List (ObjectId × Method)) → IsHandled trace client number parts → list_any (is_act client number) (handled_acts trace) ≡ true
+pub handled_among : (trace : Trace) (client : ClientId) (number : ℕ) (parts : List (ObjectId × Method)) → IsHandled trace client number parts → list_any (is_act client number parts) (handled_acts trace) ≡ true
 unfolding handled_acts
 handled_among trace client number parts it =
-    any_given (act_at trace) (is_act client number) trace.entries it.entry (client, number) it.of_trace
-    (ap act_in it.handled) (and_from _ _ (eq-eqb client.0 client.0 refl) (eq-eqb number number refl))
+    any_given (act_at trace) (is_act client number parts) trace.entries it.entry (client, number, parts) it.of_trace
+    (ap act_in it.handled) (and_from _ _ (eq-eqb client.0 client.0 refl) (and_from _ _ (eq-eqb number number refl) (parts-self parts)))
 
--- a request of an act with this client and number
-record IsActAsked (found : Option Request) (act : ClientId × ℕ) : Type 0 where
+-- a request of this act
+record IsActAsked (found : Option Request) (act : NamedAct) : Type 0 where
   sets : List SetOf
-  parts : List (ObjectId × Method)
-  is : found ≡ Some (record { client = act.0; number = act.1; sets = sets; body = body.Act parts })
+  is : found ≡ Some (record { client = act.0; number = act.1; sets = sets; body = body.Act act.2 })
 
-act_asked_is : (client : ClientId) (number : ℕ) (sets : List SetOf) (asks : Body) (act : ClientId × ℕ) → act_asked client number asks ≡ Some act → IsActAsked (Some (record { client = client; number = number; sets = sets; body = asks })) act
+act_asked_is : (client : ClientId) (number : ℕ) (sets : List SetOf) (asks : Body) (act : NamedAct) → act_asked client number asks ≡ Some act → IsActAsked (Some (record { client = client; number = number; sets = sets; body = asks })) act
 act_asked_is client number sets (body.Act parts) act is =
-    let same : (client, number) ≡ act = same_Some _ act is in
-    record { sets = sets; parts = parts; is = ap (λ (it : ClientId × ℕ). Some (asked it)) same }
+    let same : (client, number, parts) ≡ act = same_Some _ act is in
+    record { sets = sets; is = ap (λ (it : NamedAct). Some (asked it)) same }
   where
-    asked : ClientId × ℕ → Request
-    asked it = record { client = it.0; number = it.1; sets = sets; body = body.Act parts }
+    asked : NamedAct → Request
+    asked it = record { client = it.0; number = it.1; sets = sets; body = body.Act it.2 }
 act_asked_is client number sets (body.Ask parts) act is = absurd (none-some act is)
 
-act_in_is : (found : Option Request) (act : ClientId × ℕ) → act_in found ≡ Some act → IsActAsked found act
+act_in_is : (found : Option Request) (act : NamedAct) → act_in found ≡ Some act → IsActAsked found act
 act_in_is None act is = absurd (none-some act is)
 act_in_is (Some request) act is = act_asked_is request.client request.number request.sets request.body act is
 
-parts_of : (parts others : List (ObjectId × Method)) (what : Op) → body.Act others ≡ body_of what → what ≡ op.Act parts → others ≡ parts
-parts_of parts others (op.Act act) asks is = cc
-parts_of parts others (op.Query query) asks is = absurd cc
-
--- where an act with the client and the number of an operation is listed, the operation was handled
-pub among_handled : (trace : Trace) → IsRun trace → (operation : OpRecord) → Contains (operations_of trace.entries) operation → (parts : List (ObjectId × Method)) → operation.op ≡ op.Act parts
-    → list_any (is_act operation.client operation.number) (handled_acts trace) ≡ true → IsHandled trace operation.client operation.number parts
+-- an act that is listed was handled
+pub among_handled : (trace : Trace) (client : ClientId) (number : ℕ) (parts : List (ObjectId × Method)) → list_any (is_act client number parts) (handled_acts trace) ≡ true → IsHandled trace client number parts
 unfolding handled_acts
-among_handled trace is_run operation among parts is_op some =
-    let it : GivesPassing (act_at trace) (is_act operation.client operation.number) trace.entries = given_passing (act_at trace) (is_act operation.client operation.number) trace.entries some in
+among_handled trace client number parts some =
+    let it : GivesPassing (act_at trace) (is_act client number parts) trace.entries = given_passing (act_at trace) (is_act client number parts) trace.entries some in
     let asked : IsActAsked (handled_by trace (it.item).event) it.given = act_in_is (handled_by trace (it.item).event) it.given it.gives in
-    let equal : ((((it.given).0).0 == (operation.client).0) ≡ true) × (((it.given).1 == operation.number) ≡ true) = and_parts _ _ it.passes in
-    let client : (it.given).0 ≡ operation.client = same_clients (it.given).0 operation.client (eqb-true _ _ equal.0) in
-    let number : (it.given).1 ≡ operation.number = eqb-true _ _ equal.1 in
-    let request : Request = record { client = (it.given).0; number = (it.given).1; sets = asked.sets; body = body.Act asked.parts } in
-    let of : IsRequestOf trace (length trace.entries) (it.given).0 (it.given).1 (body.Act asked.parts) = asked_by trace is_run request (sent trace (it.item).event request asked.is) in
-    let same : of.operation ≡ operation =
-    recorded_op trace of.operation operation of.of_trace among (ap (λ (who : ClientId). who.0) (of.of_client ∙ client)) (of.of_number ∙ number) in
-    let others : asked.parts ≡ parts = parts_of parts asked.parts operation.op (of.asks ∙ ap (λ (one : OpRecord). body_of one.op) same) is_op in
+    let equal : ((((it.given).0).0 == client.0) ≡ true) × ((((it.given).1 == number) && same_op (op.Act (it.given).2) (op.Act parts)) ≡ true) = and_parts _ _ it.passes in
+    let more : (((it.given).1 == number) ≡ true) × (same_op (op.Act (it.given).2) (op.Act parts) ≡ true) = and_parts _ _ equal.1 in
+    let clients : (it.given).0 ≡ client = same_clients (it.given).0 client (eqb-true _ _ equal.0) in
+    let numbers : (it.given).1 ≡ number = eqb-true _ _ more.0 in
+    let acts : (it.given).2 ≡ parts = equal_parts (it.given).2 parts more.1 in
     record {
       entry = it.item;
       of_trace = it.of_list;
       sets = asked.sets;
-      handled = asked.is ∙ (λ i. Some (record { client = client i; number = number i; sets = asked.sets; body = body.Act (others i) }));
+      handled = asked.is ∙ (λ i. Some (record { client = clients i; number = numbers i; sets = asked.sets; body = body.Act (acts i) }));
     }

@@ -31,6 +31,8 @@ use Rattle.qu_safety.proofs.Acceptance.{accepts_on}
 use Rattle.qu_safety.proofs.Grounds.{above_held}
 use Rattle.qu_safety.proofs.Happenings.{event_moves}
 use Rattle.qu_safety.proofs.Performed.{version_of_accepted}
+use Rattle.qu_safety.specs.Carried.{Carries}
+use Rattle.qu_safety.specs.Views.{IsPlain}
 
 -- the replica holds a candidate with this stamp
 pub record HoldsUnder (state : ReplicaState) (object : ObjectId) (stamp : Stamp) : Type 0 where
@@ -124,12 +126,13 @@ still_of_held old new received alone are = record {
 
 pub event_of_held : (world : WorldState) (event : Event) (place : ℕ) (old new : ReplicaState)
     → slice_get world.replicas place ≡ Some old → slice_get (world_step world event).replicas place ≡ Some new
-    → ((number : ℕ) (letter : Letter) → letter_of world number ≡ Some letter → HasParts letter.frame)
+    → ((number : ℕ) (letter : Letter) → letter_of world number ≡ Some letter → (carried : Frame) → Carries letter carried → HasParts carried)
+    → IsPlain event
     → AreOfHeld old → AreOfHeld new
-event_of_held world event place old new is_old is_new parts are =
-    elim (event_moves world event place old new is_old is_new parts) [
+event_of_held world event place old new is_old is_new parts plain are =
+    elim (event_moves world event place old new is_old is_new parts plain) [
       | inl same ↦ subst AreOfHeld (sym same) are
-      | inr moved ↦ still_of_held old new (moved.letter).frame moved.accepts are
+      | inr moved ↦ still_of_held old new moved.carried moved.accepts are
     ]
 
 -- ---- what follows

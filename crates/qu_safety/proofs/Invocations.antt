@@ -13,7 +13,6 @@ use Rattle.qu_history.specs.declared.sets.SetOf.{SetOf}
 use Rattle.qu_objects.specs.declared.op.Op.{Op}
 use Rattle.qu_objects.specs.declared.op.Op.TheVariants as op
 use Rattle.qu_frames.specs.declared.frame.Body.{Body}
-use Rattle.qu_frames.specs.declared.frame.Frame.{Frame}
 use Rattle.qu_frames.specs.declared.frame.Frame.TheVariants as frame
 use Rattle.qu_frames.specs.declared.frame.Letter.{Letter}
 use Rattle.qu_frames.specs.Body.{body_of}
@@ -26,7 +25,7 @@ use Rattle.qu_client.specs.State.{opening_state}
 use Rattle.qu_client.specs.Step.{client_step, client_invoke, client_tick}
 use Rattle.qu_client.specs.Sound.{last_number}
 use Rattle.qu_trace.specs.declared.event.Event.{Event}
-use Rattle.qu_trace.specs.declared.event.Event.TheVariants.{Invoke, Deliver, Tick}
+use Rattle.qu_trace.specs.declared.event.Event.TheVariants.{Invoke, Deliver, Tick, Inject}
 use Rattle.qu_trace.specs.declared.trace.Entry.{Entry}
 use Rattle.qu_trace.specs.declared.trace.Trace.{Trace}
 use Rattle.qu_trace.specs.Letters.{letters_of}
@@ -39,9 +38,13 @@ use Rattle.qu_safety.specs.Order.{world_after}
 use Rattle.qu_safety.specs.Invocations.{IsRequestOf}
 use Rattle.qu_safety.proofs.WorldGrowth.{world_after-next, world_after-none}
 use Rattle.qu_safety.proofs.Beginning.{operation_begun, begun_one, begun_same, happens, IsFree, may_invoke}
-use Rattle.qu_safety.proofs.Requesting.{IsOfOperation, IsAsked, asked_later, replica_asked, IsUnderWay, IsAtWork, IsClientAt, client_later, client_steps, client_step-asked, client_begins, client_begins-asked}
+use Rattle.qu_safety.proofs.Requesting.{IsAsked, asked_later, replica_asked, IsUnderWay, IsAtWork, IsClientAt, client_later, client_steps, client_step-asked, client_begins, client_begins-asked}
 use Rattle.qu_safety.proofs.Small.{some_entry, same_clients, letters_of-push}
-use Rattle.qu_safety.proofs.Each.{with_cases}
+use Rattle.qu_safety.proofs.Each.{with_cases, each_at}
+use Rattle.qu_safety.specs.Carried.{Asks}
+use Rattle.qu_safety.specs.Views.{IsPlain, ArePlain}
+use Rattle.qu_safety.proofs.Carrying.{AsksFit, IsFitStep, numbered_here}
+use Rattle.qu_safety.proofs.Fitting.{fit_step}
 
 letters_next : (trace : Trace) (count : ℕ) (entries : List Entry) (entry : Entry) → All (IsAsked trace count) (letters_of entries) → All (IsAsked trace (count + 1)) entry.letters → All (IsAsked trace (count + 1)) (letters_of (entries ++ entry ∷ []))
 letters_next trace count entries entry old new =
@@ -89,44 +92,46 @@ module _ (trace : Trace) (count : ℕ) (world : WorldState) (shown : IsShown tra
     }
 
     client_shown : (me : ClientId) (move : ClientState → Stepped) (found : Option ClientState) → numbered world.clients me.0 ≡ found
-        → ((state : ClientState) → IsClientAt trace (count + 1) (begun_at trace (count + 1) me.0) me.0 state → IsClientAt trace (count + 1) (begun_at trace (count + 1) me.0) me.0 (move state).state × All (IsAsked trace (count + 1)) (move state).letters)
-        → IsShown trace (count + 1) (at_client world event me move found)
-    client_shown me move None is moved = idle_shown
-    client_shown me move (Some state) is moved =
+        → ((state : ClientState) → IsClientAt trace (count + 1) (begun_at trace (count + 1) me.0) me.0 state → AsksFit (move state).state → IsClientAt trace (count + 1) (begun_at trace (count + 1) me.0) me.0 (move state).state × All (IsAsked trace (count + 1)) (move state).letters)
+        → IsFitStep world (at_client world event me move found) → IsShown trace (count + 1) (at_client world event me move found)
+    client_shown me move None is moved fits = idle_shown
+    client_shown me move (Some state) is moved fits =
         let before : IsClientAt trace (count + 1) (begun_at trace (count + 1) me.0) me.0 state = stays_shown me.0 state (quiet me.0) is in
+        let fit : AsksFit (move state).state = fits.asks me.0 (move state).state (numbered_here world.clients me.0 state (move state).state is) in
         record {
-          clients = moves_shown me (move state).state (λ number other. quiet number) (moved state before).0;
-          letters = letters_next trace count world.entries (record { event = event; letters = (move state).letters; ended = ended_by me state.work (move state).ended }) shown.letters (moved state before).1;
+          clients = moves_shown me (move state).state (λ number other. quiet number) (moved state before fit).0;
+          letters = letters_next trace count world.entries (record { event = event; letters = (move state).letters; ended = ended_by me state.work (move state).ended }) shown.letters (moved state before fit).1;
         }
 
-    replica_shown : (me : ReplicaId) (sent : Frame) (found : Option ReplicaState) → IsShown trace (count + 1) (at_replica world event me sent found)
-    replica_shown me sent None = idle_shown
-    replica_shown me sent (Some state) = record {
+    replica_shown : (me : ReplicaId) (text : List ℕ) (found : Option ReplicaState) → IsShown trace (count + 1) (at_replica world event me text found)
+    replica_shown me text None = idle_shown
+    replica_shown me text (Some state) = record {
       clients = λ number held found. stays_shown number held (quiet number) found;
-      letters = letters_next trace count world.entries (record { event = event; letters = (replica_step state sent).1; ended = None }) shown.letters (replica_asked trace (count + 1) state sent);
+      letters = letters_next trace count world.entries (record { event = event; letters = (replica_step state text).1; ended = None }) shown.letters (replica_asked trace (count + 1) state text);
     }
 
-    received_shown : (to : Party) (sent : Frame) → IsShown trace (count + 1) (received world event to sent)
-    received_shown (party.Replica me) sent = replica_shown me sent (slice_get world.replicas me.0)
-    received_shown (party.Client me) sent =
-        client_shown me (λ (state : ClientState). client_step state sent) (numbered world.clients me.0) refl
-        (λ state is. (client_steps trace (count + 1) (begun_at trace (count + 1) me.0) me.0 state sent is, client_step-asked trace (count + 1) (begun_at trace (count + 1) me.0) me.0 state sent is))
+    received_shown : (to : Party) (text : List ℕ) → IsFitStep world (received world event to text) → IsShown trace (count + 1) (received world event to text)
+    received_shown (party.Replica me) text fits = replica_shown me text (slice_get world.replicas me.0)
+    received_shown (party.Client me) text fits =
+        client_shown me (λ (state : ClientState). client_step state text) (numbered world.clients me.0) refl
+        (λ state is fit. (client_steps trace (count + 1) (begun_at trace (count + 1) me.0) me.0 state text is fit, client_step-asked trace (count + 1) (begun_at trace (count + 1) me.0) me.0 state text is fit))
+        fits
 
-    delivered_shown : (letter : Option Letter) → IsShown trace (count + 1) (delivered world event letter)
-    delivered_shown None = idle_shown
-    delivered_shown (Some letter) = received_shown letter.to letter.frame
+    delivered_shown : (letter : Option Letter) → IsFitStep world (delivered world event letter) → IsShown trace (count + 1) (delivered world event letter)
+    delivered_shown None fits = idle_shown
+    delivered_shown (Some letter) fits = received_shown letter.to letter.text fits
 
-    ticked_shown : (me : ClientId) → IsShown trace (count + 1) (at_client world event me client_tick (numbered world.clients me.0))
-    ticked_shown me =
-        client_shown me client_tick (numbered world.clients me.0) refl (λ state is. (is, All-nil (IsAsked trace (count + 1))))
+    ticked_shown : (me : ClientId) → IsFitStep world (at_client world event me client_tick (numbered world.clients me.0)) → IsShown trace (count + 1) (at_client world event me client_tick (numbered world.clients me.0))
+    ticked_shown me fits =
+        client_shown me client_tick (numbered world.clients me.0) refl (λ state is fit. (is, All-nil (IsAsked trace (count + 1)))) fits
 
   -- an event at which a client begins an operation
   invoked_shown : (client : ClientId) (what : Op) → IsFree world.clients client
       → ((number : ℕ) → number ≢ client.0 → begun_at trace (count + 1) number ≡ begun_at trace count number)
       → begun_at trace (count + 1) client.0 ≡ begun_at trace count client.0 + 1
       → IsRequestOf trace (count + 1) client (begun_at trace count client.0 + 1) (body_of what)
-      → IsShown trace (count + 1) (world_step world (Invoke client what))
-  invoked_shown client what free quiet one request =
+      → IsFitStep world (world_step world (Invoke client what)) → IsShown trace (count + 1) (world_step world (Invoke client what))
+  invoked_shown client what free quiet one request fits =
       let state : ClientState = free.state in
       let begun : ℕ = begun_at trace count client.0 in
       let before : IsClientAt trace count begun client.0 state = shown.clients client.0 state free.found in
@@ -134,22 +139,25 @@ module _ (trace : Trace) (count : ℕ) (world : WorldState) (shown : IsShown tra
       subst (λ (work : Option Work). IsAtWork trace count begun state.me state.last_request work) free.free before.at_work in
       let asks : IsRequestOf trace (count + 1) state.me (begun + 1) (body_of what) =
       subst (λ (me : ClientId). IsRequestOf trace (count + 1) me (begun + 1) (body_of what)) (same_clients client state.me (sym before.named)) request in
+      let fit : AsksFit (client_invoke state what).state =
+      (subst (λ (found : Option ClientState). IsFitStep world (at_client world (Invoke client what) client (λ (it : ClientState). client_invoke it what) found)) free.found fits).asks client.0 (client_invoke state what).state
+      (numbered_here world.clients client.0 state (client_invoke state what).state free.found) in
       let begins : IsClientAt trace (count + 1) (begun_at trace (count + 1) client.0) client.0 (client_invoke state what).state =
       subst (λ (many : ℕ). IsClientAt trace (count + 1) many client.0 (client_invoke state what).state) (sym one)
-      (client_begins trace (count + 1) begun state what last asks client.0 before.named) in
+      (client_begins trace (count + 1) begun state what last asks client.0 before.named fit) in
       subst (λ (found : Option ClientState). IsShown trace (count + 1) (at_client world (Invoke client what) client (λ (it : ClientState). client_invoke it what) found)) (sym free.found)
       (record {
         clients = moves_shown client (client_invoke state what).state quiet begins;
         letters =
             letters_next trace count world.entries
             (record { event = Invoke client what; letters = (client_invoke state what).letters; ended = ended_by client state.work (client_invoke state what).ended })
-            shown.letters (client_begins-asked trace (count + 1) begun state what last asks);
+            shown.letters (client_begins-asked trace (count + 1) begun state what last asks fit);
       })
 
   -- the next event of the trace
   module _ (default : Entry) (below : count < length trace.entries) where
-    event_shown : (event : Event) → (get_or trace.entries count default).event ≡ event → refusal_of world event ≡ None → IsShown trace (count + 1) (world_step world event)
-    event_shown (Invoke client what) is may =
+    event_shown : (event : Event) → (get_or trace.entries count default).event ≡ event → refusal_of world event ≡ None → IsPlain event → IsFitStep world (world_step world event) → IsShown trace (count + 1) (world_step world event)
+    event_shown (Invoke client what) is may plain fits =
         invoked_shown client what (may_invoke world client what may)
         (λ number other. begun_same trace.entries count default (record { 0 = number }) below (ap (invokes (record { 0 = number })) is ∙ ne_eqb number client.0 other))
         (begun_one trace.entries count default client what below is)
@@ -161,10 +169,12 @@ module _ (trace : Trace) (count : ℕ) (world : WorldState) (shown : IsShown tra
           asks = refl;
           begun = omega arith;
         })
-    event_shown (Deliver number) is may =
-        delivered_shown (Deliver number) (λ it. begun_same trace.entries count default (record { 0 = it }) below (ap (invokes (record { 0 = it })) is)) (letter_of world number)
-    event_shown (Tick client) is may =
-        ticked_shown (Tick client) (λ it. begun_same trace.entries count default (record { 0 = it }) below (ap (invokes (record { 0 = it })) is)) client
+        fits
+    event_shown (Deliver number) is may plain fits =
+        delivered_shown (Deliver number) (λ it. begun_same trace.entries count default (record { 0 = it }) below (ap (invokes (record { 0 = it })) is)) (letter_of world number) fits
+    event_shown (Inject to text) is may plain fits = absurd plain
+    event_shown (Tick client) is may plain fits =
+        ticked_shown (Tick client) (λ it. begun_same trace.entries count default (record { 0 = it }) below (ap (invokes (record { 0 = it })) is)) client fits
 
 -- ---- runs
 
@@ -187,13 +197,15 @@ opening_shown : (trace : Trace) → IsShown trace 0 (opening_world trace.setup)
 unfolding letters_of
 opening_shown trace = record { clients = opening_client trace; letters = All-nil (IsAsked trace 0) }
 
-world_shown : (trace : Trace) → IsRun trace → (count : ℕ) → count ≤ length trace.entries → IsShown trace count (world_after trace count)
-world_shown trace is zero within = subst (IsShown trace 0) (sym (world_after-none trace)) (opening_shown trace)
-world_shown trace is (suc count) within =
+world_shown : (trace : Trace) → IsRun trace → ArePlain trace.entries → (count : ℕ) → count ≤ length trace.entries → IsShown trace count (world_after trace count)
+world_shown trace is have zero within = subst (IsShown trace 0) (sym (world_after-none trace)) (opening_shown trace)
+world_shown trace is have (suc count) within =
     let default : Entry = some_entry trace.entries (omega arith) in
-    let before : IsShown trace count (world_after trace count) = world_shown trace is count (omega arith) in
+    let before : IsShown trace count (world_after trace count) = world_shown trace is have count (omega arith) in
     let after : IsShown trace (count + 1) (world_step (world_after trace count) (get_or trace.entries count default).event) =
-    event_shown trace count (world_after trace count) before default (omega arith) (get_or trace.entries count default).event refl (happens trace is count default (omega arith)) in
+    event_shown trace count (world_after trace count) before default (omega arith) (get_or trace.entries count default).event refl (happens trace is count default (omega arith))
+    (each_at (λ (entry : Entry). IsPlain entry.event) trace.entries count default have (omega arith))
+    (subst (IsFitStep (world_after trace count)) (world_after-next trace count default (omega arith)) (fit_step trace is have count (omega arith))) in
     subst (λ (many : ℕ). IsShown trace many (world_after trace many)) (add-one count)
     (subst (IsShown trace (count + 1)) (sym (world_after-next trace count default (omega arith))) after)
 
@@ -206,18 +218,18 @@ numbered_asked trace count zero letters letter all found = absurd cc
 numbered_asked trace count (suc index) letters letter all found = asked_by trace count letters index letter all found
 
 -- each request that was sent is one of an operation, which began before
-pub request_of : (trace : Trace) → IsRun trace → (count : ℕ) → count ≤ length trace.entries → (number : ℕ) (letter : Letter) → letter_of (world_after trace count) number ≡ Some letter
-    → (client : ClientId) (asked round : ℕ) (sets : List SetOf) (body : Body) → letter.frame ≡ frame.Request client asked round sets body → IsRequestOf trace count client asked body
-request_of trace is count within number letter found client asked round sets body request =
-    let shown : IsShown trace count (world_after trace count) = world_shown trace is count within in
+pub request_of : (trace : Trace) → IsRun trace → ArePlain trace.entries → (count : ℕ) → count ≤ length trace.entries → (number : ℕ) (letter : Letter) → letter_of (world_after trace count) number ≡ Some letter
+    → (client : ClientId) (asked round : ℕ) (sets : List SetOf) (body : Body) → Asks letter client asked round sets body → IsRequestOf trace count client asked body
+request_of trace is have count within number letter found client asked round sets body request =
+    let shown : IsShown trace count (world_after trace count) = world_shown trace is have count within in
     let sent : IsAsked trace count letter = numbered_asked trace count number (letters_of (world_after trace count).entries) letter shown.letters found in
-    subst (IsOfOperation trace count) request sent.asked
+    sent.asked (frame.Request client asked round sets body request.mac) request.carries
 
 -- and so is the work of each client
-pub work_of : (trace : Trace) → IsRun trace → (count : ℕ) → count ≤ length trace.entries → (client : ClientId) (state : ClientState) → numbered (world_after trace count).clients client.0 ≡ Some state
+pub work_of : (trace : Trace) → IsRun trace → ArePlain trace.entries → (count : ℕ) → count ≤ length trace.entries → (client : ClientId) (state : ClientState) → numbered (world_after trace count).clients client.0 ≡ Some state
     → (work : Work) → state.work ≡ Some work → IsRequestOf trace count client work.number (body_of work.op)
-work_of trace is count within client state found work working =
-    let shown : IsShown trace count (world_after trace count) = world_shown trace is count within in
+work_of trace is have count within client state found work working =
+    let shown : IsShown trace count (world_after trace count) = world_shown trace is have count within in
     let at : IsClientAt trace count (begun_at trace count client.0) client.0 state = shown.clients client.0 state found in
     let under_way : IsUnderWay trace count (begun_at trace count client.0) state.me work =
     subst (λ (held : Option Work). IsAtWork trace count (begun_at trace count client.0) state.me state.last_request held) working at.at_work in

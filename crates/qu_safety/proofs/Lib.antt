@@ -1,11 +1,16 @@
 pub mod Small
 pub mod Steps
 pub mod WorldGrowth
+pub mod Carrying
+pub mod FitRequests
+pub mod FitClients
+pub mod Fitting
 pub mod Places
 pub mod Settling
 pub mod Beyond
 pub mod Marking
 pub mod Firsts
+pub mod AnsweredRounds
 pub mod Taking
 pub mod Sorted
 pub mod Distinct
@@ -48,6 +53,7 @@ pub mod OneRequest
 pub mod LaterLetters
 pub mod FullSets
 pub mod OneCandidate
+pub mod Named
 pub mod Tops
 pub mod Changes
 pub mod Folding
@@ -65,10 +71,11 @@ pub mod CompletedActs
 pub mod ActPoints
 pub mod SerialOrder
 pub mod PartsLaws
+pub mod Plain
 pub mod InTurn
 pub mod ByQuorums
 pub mod Handled
 pub mod HandledActs
 pub mod OneAct
 pub mod Ranges
-pub mod ActLists
+pub mod Filtered

@@ -43,7 +43,7 @@ use Rattle.qu_safety.specs.Digested.{IsMadeFor}
 use Rattle.qu_safety.specs.Decided.{accepts, IsDecided, TookEffect}
 use Rattle.qu_safety.specs.Order.{world_after, DecidesAt, effect_of, IsPoint, IsPrintedOrder}
 use Rattle.qu_safety.specs.Values.{HasVersion}
-use Rattle.qu_safety.specs.Views.{HaveParts}
+use Rattle.qu_safety.specs.Views.{ArePlain}
 use Rattle.qu_safety.proofs.Accepting.{opening_alone}
 use Rattle.qu_safety.proofs.ChainLaws.{setting, acceptors_are, laws}
 use Rattle.qu_safety.proofs.Changes.{established_cases, Change, change, how_updated, point_of, is_point}
@@ -83,7 +83,7 @@ all_accept object number (suc count) bounds kinds below =
     sum_by-cons (counted object) (opening_state (record { 0 = number }) bounds kinds) (opening_replicas (number + 1) count bounds kinds) in
     omega (arith, here, there, whole)
 
-module _ (trace : Trace) (is_run : IsRun trace) (have : HaveParts trace.entries) (known : Known trace) (one_act : ActsAreOne trace) where
+module _ (trace : Trace) (is_run : IsRun trace) (have : ArePlain trace.entries) (known : Known trace) (one_act : ActsAreOne trace) where
   -- the value of an object after so many events
   pub record ValueAt (time : ℕ) (object : ObjectId) (values : List Value) : Type 0 where
     pub candidate : Candidate

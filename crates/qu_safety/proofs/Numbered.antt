@@ -9,14 +9,14 @@ use Rattle.qu_base.specs.declared.party.ObjectId.{ObjectId}
 use Rattle.qu_stamp.specs.declared.candidate.Candidate.{Candidate}
 use Rattle.qu_machine.specs.declared.record.OpRecord.{OpRecord}
 use Rattle.qu_trace.specs.declared.event.Event.{Event}
-use Rattle.qu_trace.specs.declared.event.Event.TheVariants.{Invoke, Deliver, Tick}
+use Rattle.qu_trace.specs.declared.event.Event.TheVariants.{Invoke, Deliver, Tick, Inject}
 use Rattle.qu_trace.specs.declared.trace.Entry.{Entry}
 use Rattle.qu_trace.specs.declared.trace.Trace.{Trace}
 use Rattle.qu_trace.specs.Operations.{record_of, begins_at, operations_from, operations_of}
 use Rattle.qu_world.specs.Run.{IsRun}
 use Rattle.qu_safety.specs.Chained.{last_world}
 use Rattle.qu_safety.specs.Decided.{is_accepted}
-use Rattle.qu_safety.specs.Views.{HaveParts}
+use Rattle.qu_safety.specs.Views.{ArePlain}
 use Rattle.qu_safety.proofs.Chained.{accepted_in_the_end}
 
 abbrev IsNumbered : OpRecord → Type 0
@@ -26,6 +26,7 @@ begins_numbered : (event : Event) (at : ℕ) (earlier later : List Entry) (opera
 begins_numbered (Invoke client op) at earlier later operations all = All-cons IsNumbered (record_of client op at earlier later) operations (omega arith) all
 begins_numbered (Deliver letter) at earlier later operations all = all
 begins_numbered (Tick client) at earlier later operations all = all
+begins_numbered (Inject to text) at earlier later operations all = all
 
 all_numbered : (earlier : List Entry) (at : ℕ) (later : List Entry) → All IsNumbered (operations_from earlier at later)
 unfolding operations_from
@@ -38,7 +39,7 @@ operation_numbered entries operation among =
     subst IsNumbered among.2 (all_numbered [] 1 entries among.0 operation among.1)
 
 -- an accepted candidate with an act is not the opening one, so it comes after its base
-pub act_late : (trace : Trace) → IsRun trace → HaveParts trace.entries → (object : ObjectId) (candidate : Candidate) → is_accepted (last_world trace) object candidate ≡ true → (act : Digest) → (candidate.stamp).act ≡ Some act → 1 ≤ (candidate.stamp).time
+pub act_late : (trace : Trace) → IsRun trace → ArePlain trace.entries → (object : ObjectId) (candidate : Candidate) → is_accepted (last_world trace) object candidate ≡ true → (act : Digest) → (candidate.stamp).act ≡ Some act → 1 ≤ (candidate.stamp).time
 act_late trace is_run have object candidate accepted act of_act =
     elim (accepted_in_the_end trace is_run have object candidate accepted) [
       | inl is ↦ absurd (none-some act (sym (ap (λ (it : Candidate). (it.stamp).act) is) ∙ of_act))

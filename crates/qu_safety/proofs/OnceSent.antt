@@ -1,6 +1,6 @@
 -- A client sends an act upon full sets at most once: it remembers that it did, and no later operation has
 -- the same number.
-use Rattle.std.proofs.Common.{◌≡◌, ◌⊎◌, ℕ, zero, suc, ◌+◌, ◌≤◌, Bool, true, false, not, ◌&&◌, leb, List, [], ◌∷◌, Option, None, Some, IfSome, refl, sym, ap, subst, ◌∙◌, arith, inl, inr}
+use Rattle.std.proofs.Common.{◌≡◌, ◌⊎◌, ℕ, zero, suc, ◌+◌, ◌≤◌, Bool, true, false, not, ◌&&◌, leb, List, [], ◌∷◌, Option, None, Some, IfSome, refl, sym, ap, subst, ◌∙◌, arith, inl, inr, Result, Ok, Err}
 use Rattle.std.specs.Prelude.{slice_get}
 use Rattle.std.proofs.lemmas.Bool.{false≢true, cond_both, and_parts}
 use Rattle.std.proofs.lemmas.Option.{none-some, same_Some}
@@ -22,6 +22,8 @@ use Rattle.qu_frames.specs.declared.frame.Frame.TheVariants as frame
 use Rattle.qu_frames.specs.declared.frame.Letter.{Letter}
 use Rattle.qu_frames.specs.declared.verdict.Verdict.{Verdict}
 use Rattle.qu_frames.specs.Body.{body_of}
+use Rattle.qu_frames.specs.Blank.{blank_mac}
+use Rattle.qu_safety.proofs.Carrying.{asks_as, AsksFit, carried_is}
 use Rattle.qu_client.specs.declared.kept.Kept.{Kept}
 use Rattle.qu_client.specs.declared.state.ClientState.{ClientState}
 use Rattle.qu_client.specs.declared.state.Stepped.{Stepped}
@@ -29,10 +31,14 @@ use Rattle.qu_client.specs.declared.work.Phase.TheVariants.{Asking, Halted}
 use Rattle.qu_client.specs.declared.work.TheConstants.{LAST_ROUND}
 use Rattle.qu_client.specs.declared.work.Work.{Work}
 use Rattle.qu_client.specs.State.{keep_all}
-use Rattle.qu_client.specs.Rounds.{is_act, sets_of, are_full, are_current, requests_from, asked, halted, begin_full, begin_round}
-use Rattle.qu_client.specs.Step.{stays, goes_on, ends, fitting, identical, is_hopeless, next_round, judged, is_asking, counts, counted_in, client_step, client_invoke, next_number, first_work}
+use Rattle.qu_client.specs.Rounds.{is_act, sets_of, are_full, are_current, request_of, requests_from, asked, halted, begin_full, begin_round}
+use Rattle.qu_client.specs.Step.{stays, goes_on, ends, fitting, identical, is_hopeless, next_round, judged, is_asking, counts, counted_in, on_frame, on_decoded, client_step, client_invoke, next_number, first_work}
 use Rattle.qu_client.specs.Sound.{IsSoundWork, IsSound, last_number}
 use Rattle.qu_client.proofs.Cases.{with_verdict}
+use Rattle.qu_safety.specs.Carried.{Asks}
+use Rattle.qu_frames.specs.Decoding.{decoded}
+use Rattle.qu_frames.specs.Forms.{frame_form}
+use Rattle.qu_base.specs.declared.bad_text.BadText.{BadText}
 
 -- the item stands somewhere in the list
 abbrev pub StandsIn : {X : Type 0} → List X → X → Type 0
@@ -44,7 +50,7 @@ none_stands item stands = none-some item stands.1
 -- the letter asks for an act upon full sets
 pub record IsFullAct (bounds : ℕ) (client : ClientId) (number : ℕ) (sets : List SetOf) (parts : List (ObjectId × Method)) (letter : Letter) : Type 0 where
   pub round : ℕ
-  pub is_request : letter.frame ≡ frame.Request client number round sets (body.Act parts)
+  pub is_request : Asks letter client number round sets (body.Act parts)
   pub full : are_full bounds sets ≡ true
 
 -- none of these letters asks for this act upon full sets, unless the client remembers one
@@ -55,7 +61,7 @@ IsUnasked Sent bounds client number acted =
 -- the requests of this client among the letters are of operations up to this one
 abbrev pub AreUpTo : (Letter → Type 0) → ClientId → ℕ → Type 0
 AreUpTo Sent client most =
-    (letter : Letter) → Sent letter → (number round : ℕ) (sets : List SetOf) (asked : Body) → letter.frame ≡ frame.Request client number round sets asked → number ≤ most
+    (letter : Letter) → Sent letter → (number round : ℕ) (sets : List SetOf) (asked : Body) → Asks letter client number round sets asked → number ≤ most
 
 -- what a client knows of the letters that were sent
 pub record IsOnce (Sent : Letter → Type 0) (bounds : ℕ) (state : ClientState) : Type 0 where
@@ -74,8 +80,12 @@ OrNew Sent new letter = Sent letter ⊎ StandsIn new letter
 -- after the step too, whose requests are the client's own
 pub record IsOnceStep (Sent : Letter → Type 0) (bounds : ℕ) (me : ClientId) (stepped : Stepped) : Type 0 where
   pub state : IsOnce (OrNew Sent stepped.letters) bounds stepped.state
-  pub own : (letter : Letter) → StandsIn stepped.letters letter → (client : ClientId) (number round : ℕ) (sets : List SetOf) (asked : Body) → letter.frame ≡ frame.Request client number round sets asked → client ≡ me
+  pub own : (letter : Letter) → StandsIn stepped.letters letter → (client : ClientId) (number round : ℕ) (sets : List SetOf) (asked : Body) → Asks letter client number round sets asked → client ≡ me
   pub alike : AreAlike Sent bounds → AreAlike (OrNew Sent stepped.letters) bounds
+
+-- the same, where what the client then asks for fits
+abbrev pub IsOnceIf : (Letter → Type 0) → ℕ → ClientId → Stepped → Type 0
+IsOnceIf Sent bounds me stepped = AsksFit stepped.state → IsOnceStep Sent bounds me stepped
 
 -- ---- requests
 
@@ -85,8 +95,8 @@ pub record IsSameRequest (client other : ClientId) (number second : ℕ) (sets o
   pub sets_are : sets ≡ others
   pub body_is : asked ≡ besides
 
-pub same_request : (client other : ClientId) (number second round turn : ℕ) (sets others : List SetOf) (asked besides : Body) → frame.Request client number round sets asked ≡ frame.Request other second turn others besides → IsSameRequest client other number second sets others asked besides
-same_request client other number second round turn sets others asked besides same = record { client_is = cc; number_is = cc; sets_are = cc; body_is = cc }
+pub same_request : (client other : ClientId) (number second round turn : ℕ) (sets others : List SetOf) (asked besides : Body) (mac seal : List ℕ) → frame.Request client number round sets asked mac ≡ frame.Request other second turn others besides seal → IsSameRequest client other number second sets others asked besides
+same_request client other number second round turn sets others asked besides mac seal same = record { client_is = cc; number_is = cc; sets_are = cc; body_is = cc }
 
 pub same_act : (parts more : List (ObjectId × Method)) → body.Act parts ≡ body.Act more → parts ≡ more
 same_act parts more same = cc
@@ -100,16 +110,16 @@ not_acted true true is first = absurd (false≢true first)
 not_acted true false is first = refl
 not_acted false acted is first = absurd (false≢true is)
 
--- the letters of a round all have one frame
-request_at : (first : Letter) (later : List Letter) (sent : Frame) (letter : Letter) (place : ℕ) → slice_get (first ∷ later) place ≡ Some letter → first.frame ≡ sent → (StandsIn later letter → letter.frame ≡ sent) → letter.frame ≡ sent
-request_at first later sent letter zero found here there = ap (λ (it : Letter). it.frame) (sym (same_Some first letter found)) ∙ here
+-- the letters of a round all have one text
+request_at : (first : Letter) (later : List Letter) (sent : List ℕ) (letter : Letter) (place : ℕ) → slice_get (first ∷ later) place ≡ Some letter → first.text ≡ sent → (StandsIn later letter → letter.text ≡ sent) → letter.text ≡ sent
+request_at first later sent letter zero found here there = ap (λ (it : Letter). it.text) (sym (same_Some first letter found)) ∙ here
 request_at first later sent letter (suc place) found here there = there (place, found)
 
-pub request_is : (replica count : ℕ) (me : ClientId) (work : Work) (sets : List SetOf) (letter : Letter) → StandsIn (requests_from replica count me work sets) letter → letter.frame ≡ frame.Request me work.number work.round sets (body_of work.op)
+pub request_is : (replica count : ℕ) (me : ClientId) (work : Work) (sets : List SetOf) (letter : Letter) → StandsIn (requests_from replica count me work sets) letter → letter.text ≡ frame_form.spell (request_of me work sets)
 unfolding requests_from
 request_is replica zero me work sets letter stands = absurd (none_stands letter stands)
 request_is replica (suc count) me work sets letter stands =
-    request_at _ (requests_from (replica + 1) count me work sets) (frame.Request me work.number work.round sets (body_of work.op)) letter stands.0 stands.1 refl (request_is (replica + 1) count me work sets letter)
+    request_at _ (requests_from (replica + 1) count me work sets) (frame_form.spell (request_of me work sets)) letter stands.0 stands.1 refl (request_is (replica + 1) count me work sets letter)
 
 -- ---- steps that send nothing
 
@@ -141,25 +151,25 @@ module _ (Sent : Letter → Type 0) (bounds : ℕ) (state : ClientState) (work :
   unasked_as : (now found : Work) → Some now ≡ Some found → IsUnasked Sent bounds state.me now.number now.acted → IsUnasked Sent bounds state.me found.number found.acted
   unasked_as now found same before = subst (λ (it : Work). IsUnasked Sent bounds state.me it.number it.acted) (same_Some now found same) before
 
-  waits_once : IsOnceStep Sent bounds state.me (stays (record state { work = Some work }))
-  waits_once = quiet Sent bounds state.me (record state { work = Some work }) None (record {
+  waits_once : IsOnceIf Sent bounds state.me (stays (record state { work = Some work }))
+  waits_once fits = quiet Sent bounds state.me (record state { work = Some work }) None (record {
     up_to = up_to;
     unasked = λ found is. unasked_as work found is unasked;
   })
 
-  halted_once : IsOnceStep Sent bounds state.me (goes_on (halted state work))
-  halted_once = quiet Sent bounds state.me (halted state work).0 None (record {
+  halted_once : IsOnceIf Sent bounds state.me (goes_on (halted state work))
+  halted_once fits = quiet Sent bounds state.me (halted state work).0 None (record {
     up_to = up_to;
     unasked = λ found is. unasked_as (record work { phase = Halted; replies = [] }) found is unasked;
   })
 
-  ended_once : (end : Outcome) → IsOnceStep Sent bounds state.me (ends state end)
-  ended_once end = quiet Sent bounds state.me (record state { work = None }) (Some end) (record {
+  ended_once : (end : Outcome) → IsOnceIf Sent bounds state.me (ends state end)
+  ended_once end fits = quiet Sent bounds state.me (record state { work = None }) (Some end) (record {
     up_to = up_to;
     unasked = λ found is. absurd (none-some found is);
   })
 
-  module _ (acted : Bool) (sets : List SetOf) where
+  module _ (acted : Bool) (sets : List SetOf) (fits : frame_form.Fits (request_of state.me work sets)) where
     abbrev now : Work
     now = record work { acted = acted }
 
@@ -170,12 +180,10 @@ module _ (Sent : Letter → Type 0) (bounds : ℕ) (state : ClientState) (work :
     abbrev IsApart : Type 0
     IsApart = (parts : List (ObjectId × Method)) → are_full bounds sets ≡ true → body_of work.op ≡ body.Act parts → (letter : Letter) → Sent letter → (others : List SetOf) (more : List (ObjectId × Method)) → IsFullAct bounds state.me work.number others more letter → ⊥
 
-    new_request : (letter : Letter) → StandsIn letters letter → letter.frame ≡ frame.Request state.me work.number work.round sets (body_of work.op)
-    new_request letter new = request_is 0 (replicas state.bounds) state.me now sets letter new
-
-    new_is : (letter : Letter) → StandsIn letters letter → (client : ClientId) (number round : ℕ) (others : List SetOf) (asks : Body) → letter.frame ≡ frame.Request client number round others asks → IsSameRequest client state.me number work.number others sets asks (body_of work.op)
+    new_is : (letter : Letter) → StandsIn letters letter → (client : ClientId) (number round : ℕ) (others : List SetOf) (asks : Body) → Asks letter client number round others asks → IsSameRequest client state.me number work.number others sets asks (body_of work.op)
     new_is letter new client number round others asks is =
-        same_request client state.me number work.number round work.round others sets asks (body_of work.op) (sym is ∙ new_request letter new)
+        same_request client state.me number work.number round work.round others sets asks (body_of work.op) is.mac blank_mac
+        (carried_is letter (request_of state.me work sets) (frame.Request client number round others asks is.mac) fits (request_is 0 (replicas state.bounds) state.me now sets letter new) is.carries)
 
     new_apart : IsApart → (old letter : Letter) → Sent old → StandsIn letters letter → (client : ClientId) (number : ℕ) (others besides : List SetOf) (parts more : List (ObjectId × Method)) → IsFullAct bounds client number others parts old → IsFullAct bounds client number besides more letter → ⊥
     new_apart apart old letter sent new client number others besides parts more one two =
@@ -183,7 +191,7 @@ module _ (Sent : Letter → Type 0) (bounds : ℕ) (state : ClientState) (work :
         let full : are_full bounds sets ≡ true = ap (are_full bounds) (sym same.sets_are) ∙ two.full in
         apart more full (sym same.body_is) old sent others parts (record {
           round = one.round;
-          is_request = one.is_request ∙ ap (λ (it : ClientId). frame.Request it number one.round others (body.Act parts)) same.client_is ∙ ap (λ (it : ℕ). frame.Request state.me it one.round others (body.Act parts)) same.number_is;
+          is_request = asks_as old client state.me number work.number one.round one.round others (body.Act parts) (body.Act parts) same.client_is same.number_is refl refl one.is_request;
           full = one.full;
         })
 
@@ -221,74 +229,81 @@ module _ (Sent : Letter → Type 0) (bounds : ℕ) (state : ClientState) (work :
     }
 
   -- the sets are thin, and so is each new request
-  thin_once : (sets : List SetOf) → are_full bounds sets ≡ false → IsOnceStep Sent bounds state.me (goes_on (asked state work sets))
-  thin_once sets thin =
-      asked_once work.acted sets
+  thin_once : (sets : List SetOf) → frame_form.Fits (request_of state.me work sets) → are_full bounds sets ≡ false → IsOnceStep Sent bounds state.me (goes_on (asked state work sets))
+  thin_once sets fits thin =
+      asked_once work.acted sets fits
       (λ parts full. absurd (false≢true (sym thin ∙ full)))
       (λ acted letter sent others parts is. elim sent [
         | inl before ↦ unasked acted letter before others parts is
         | inr new ↦
-            let same : IsSameRequest state.me state.me work.number work.number others sets (body.Act parts) (body_of work.op) = new_is work.acted sets letter new state.me work.number is.round others (body.Act parts) is.is_request in
+            let same : IsSameRequest state.me state.me work.number work.number others sets (body.Act parts) (body_of work.op) = new_is work.acted sets fits letter new state.me work.number is.round others (body.Act parts) is.is_request in
             false≢true (sym thin ∙ ap (are_full bounds) (sym same.sets_are) ∙ is.full)
       ])
 
   -- the sets are full, and the client remembers that it asked
-  full_once : (sets : List SetOf) → not (is_act work.op && work.acted) ≡ true → IsOnceStep Sent bounds state.me (goes_on (asked state (record work { acted = true }) sets))
-  full_once sets first =
-      asked_once true sets
+  full_once : (sets : List SetOf) → frame_form.Fits (request_of state.me work sets) → not (is_act work.op && work.acted) ≡ true → IsOnceStep Sent bounds state.me (goes_on (asked state (record work { acted = true }) sets))
+  full_once sets fits first =
+      asked_once true sets fits
       (λ parts full is. unasked (not_acted (is_act work.op) work.acted (act_of work.op parts is) first))
       (λ acted. absurd (false≢true (sym acted)))
 
-  begin_once : IsOnceStep Sent bounds state.me (goes_on (begin_round state work))
+  begin_once : IsOnceIf Sent bounds state.me (goes_on (begin_round state work))
   begin_once =
       let sets : List SetOf = sets_of state.bounds state.kept work.op in
-      cond_both (are_full state.bounds sets) (begin_full state work sets) (asked state work sets) (λ begun. IsOnceStep Sent bounds state.me (goes_on begun))
-      (λ full. cond_both (are_current state.bounds sets && not (is_act work.op && work.acted)) _ _ (λ begun. IsOnceStep Sent bounds state.me (goes_on begun))
-      (λ may. full_once sets (and_parts (are_current state.bounds sets) _ may).1)
+      cond_both (are_full state.bounds sets) (begin_full state work sets) (asked state work sets) (λ begun. IsOnceIf Sent bounds state.me (goes_on begun))
+      (λ full. cond_both (are_current state.bounds sets && not (is_act work.op && work.acted)) _ _ (λ begun. IsOnceIf Sent bounds state.me (goes_on begun))
+      (λ may fits. full_once sets (fits _ refl) (and_parts (are_current state.bounds sets) _ may).1)
       (λ _. halted_once))
-      (λ thin. thin_once sets (ap (λ (size : ℕ). are_full size sets) (sym is_bounds) ∙ thin))
+      (λ thin fits. thin_once sets (fits _ refl) (ap (λ (size : ℕ). are_full size sets) (sym is_bounds) ∙ thin))
 
 -- ---- what a client is sent
 
 module _ (Sent : Letter → Type 0) (bounds : ℕ) (state : ClientState) (is_bounds : state.bounds ≡ bounds) (up_to : AreUpTo Sent state.me (last_number state.last_request)) where
-  next_once : (work : Work) → last_number state.last_request ≤ work.number → IsUnasked Sent bounds state.me work.number work.acted → IsOnceStep Sent bounds state.me (next_round state work)
+  next_once : (work : Work) → last_number state.last_request ≤ work.number → IsUnasked Sent bounds state.me work.number work.acted → IsOnceIf Sent bounds state.me (next_round state work)
   next_once work order unasked =
-      cond_both (leb LAST_ROUND work.round) _ _ (IsOnceStep Sent bounds state.me)
+      cond_both (leb LAST_ROUND work.round) _ _ (IsOnceIf Sent bounds state.me)
       (λ _. ended_once Sent bounds state work is_bounds up_to order unasked outcome.GaveUp)
       (λ _. begin_once Sent bounds state (record work { round = work.round + 1 }) is_bounds up_to order unasked)
 
-  judged_once : (work : Work) (verdict : Verdict) (found : Option Answer) → last_number state.last_request ≤ work.number → IsUnasked Sent bounds state.me work.number work.acted → IsOnceStep Sent bounds state.me (judged state work verdict found)
+  judged_once : (work : Work) (verdict : Verdict) (found : Option Answer) → last_number state.last_request ≤ work.number → IsUnasked Sent bounds state.me work.number work.acted → IsOnceIf Sent bounds state.me (judged state work verdict found)
   judged_once work verdict None order unasked =
-      cond_both (is_hopeless state.bounds work.op work.replies) _ _ (IsOnceStep Sent bounds state.me)
+      cond_both (is_hopeless state.bounds work.op work.replies) _ _ (IsOnceIf Sent bounds state.me)
       (λ _. next_once work order unasked)
       (λ _. waits_once Sent bounds state work is_bounds up_to order unasked)
   judged_once work verdict (Some answer) order unasked =
-      cond_both (leb (quorum state.bounds) (identical verdict work.replies)) _ _ (IsOnceStep Sent bounds state.me)
+      cond_both (leb (quorum state.bounds) (identical verdict work.replies)) _ _ (IsOnceIf Sent bounds state.me)
       (λ _. ended_once Sent bounds state work is_bounds up_to order unasked (outcome.Done answer))
-      (λ _. cond_both (is_hopeless state.bounds work.op work.replies) _ _ (IsOnceStep Sent bounds state.me)
+      (λ _. cond_both (is_hopeless state.bounds work.op work.replies) _ _ (IsOnceIf Sent bounds state.me)
       (λ _. next_once work order unasked)
       (λ _. waits_once Sent bounds state work is_bounds up_to order unasked))
 
 pub sound_work : (state : ClientState) (work : Work) → IsSound state → state.work ≡ Some work → IsSoundWork state.last_request work
 sound_work state work sound is = subst (λ (found : Option Work). IfSome found (IsSoundWork state.last_request)) is sound
 
-counted_once : (Sent : Letter → Type 0) (bounds : ℕ) (state : ClientState) (found : Option Work) (replica : ReplicaId) (number round : ℕ) (verdict : Verdict) → state.work ≡ found → state.bounds ≡ bounds → IsSound state → IsOnce Sent bounds state → IsOnceStep Sent bounds state.me (counted_in state found replica number round verdict)
-counted_once Sent bounds state None replica number round verdict is is_bounds sound once = quiet Sent bounds state.me state None once
+counted_once : (Sent : Letter → Type 0) (bounds : ℕ) (state : ClientState) (found : Option Work) (replica : ReplicaId) (number round : ℕ) (verdict : Verdict) → state.work ≡ found → state.bounds ≡ bounds → IsSound state → IsOnce Sent bounds state → IsOnceIf Sent bounds state.me (counted_in state found replica number round verdict)
+counted_once Sent bounds state None replica number round verdict is is_bounds sound once = λ fits. quiet Sent bounds state.me state None once
 counted_once Sent bounds state (Some work) replica number round verdict is is_bounds sound once =
-    cond_both (counts work replica number round) _ _ (IsOnceStep Sent bounds state.me)
+    cond_both (counts work replica number round) _ _ (IsOnceIf Sent bounds state.me)
     (λ counting.
     let asking : is_asking work.phase ≡ true = (and_parts (is_asking work.phase) _ counting).0 in
     let last : last_number state.last_request ≡ work.number = ap last_number ((sound_work state work sound is).asked asking) in
     judged_once Sent bounds state is_bounds once.up_to (with_verdict work replica verdict) verdict (fitting work.op verdict) (omega arith) (once.unasked work is))
-    (λ _. quiet Sent bounds state.me state None once)
+    (λ _ fits. quiet Sent bounds state.me state None once)
 
-pub client_step-once : (Sent : Letter → Type 0) (bounds : ℕ) (state : ClientState) (received : Frame) → state.bounds ≡ bounds → IsSound state → IsOnce Sent bounds state → IsOnceStep Sent bounds state.me (client_step state received)
-client_step-once Sent bounds state (frame.Request client number round sets asks) is_bounds sound once = quiet Sent bounds state.me state None once
-client_step-once Sent bounds state (frame.Reply replica client number round verdict shown) is_bounds sound once =
+frame-once : (Sent : Letter → Type 0) (bounds : ℕ) (state : ClientState) (received : Frame) → state.bounds ≡ bounds → IsSound state → IsOnce Sent bounds state → IsOnceIf Sent bounds state.me (on_frame state received)
+frame-once Sent bounds state (frame.Request client number round sets asks mac) is_bounds sound once = λ fits. quiet Sent bounds state.me state None once
+frame-once Sent bounds state (frame.Reply replica client number round verdict culled shown mac) is_bounds sound once =
     let kept : List Kept = keep_all number round shown state.kept in
-    cond_both _ _ _ (IsOnceStep Sent bounds state.me)
+    cond_both _ _ _ (IsOnceIf Sent bounds state.me)
     (λ _. counted_once Sent bounds (record state { kept = kept }) state.work replica number round verdict refl is_bounds sound (record { up_to = once.up_to; unasked = once.unasked }))
-    (λ _. quiet Sent bounds state.me state None once)
+    (λ _ fits. quiet Sent bounds state.me state None once)
+
+decoded-once : (Sent : Letter → Type 0) (bounds : ℕ) (state : ClientState) (read : Result Frame BadText) → state.bounds ≡ bounds → IsSound state → IsOnce Sent bounds state → IsOnceIf Sent bounds state.me (on_decoded state read)
+decoded-once Sent bounds state (Ok received) is_bounds sound once = frame-once Sent bounds state received is_bounds sound once
+decoded-once Sent bounds state (Err bad) is_bounds sound once = λ fits. quiet Sent bounds state.me state None once
+
+pub client_step-once : (Sent : Letter → Type 0) (bounds : ℕ) (state : ClientState) (text : List ℕ) → state.bounds ≡ bounds → IsSound state → IsOnce Sent bounds state → IsOnceIf Sent bounds state.me (client_step state text)
+client_step-once Sent bounds state text = decoded-once Sent bounds state (decoded text)
 
 pub client_tick-once : (Sent : Letter → Type 0) (bounds : ℕ) (state : ClientState) → IsOnce Sent bounds state → IsOnceStep Sent bounds state.me (stays state)
 client_tick-once Sent bounds state once = quiet Sent bounds state.me state None once
@@ -298,7 +313,7 @@ next_is None = refl
 next_is (Some last) = refl
 
 -- the number of an operation that begins was not used before
-pub client_invoke-once : (Sent : Letter → Type 0) (bounds : ℕ) (state : ClientState) (operation : Op) → state.bounds ≡ bounds → IsOnce Sent bounds state → IsOnceStep Sent bounds state.me (client_invoke state operation)
+pub client_invoke-once : (Sent : Letter → Type 0) (bounds : ℕ) (state : ClientState) (operation : Op) → state.bounds ≡ bounds → IsOnce Sent bounds state → IsOnceIf Sent bounds state.me (client_invoke state operation)
 client_invoke-once Sent bounds state operation is_bounds once =
     let next : next_number state.last_request ≡ last_number state.last_request + 1 = next_is state.last_request in
     begin_once Sent bounds state (first_work operation (next_number state.last_request)) is_bounds once.up_to (omega arith)
@@ -308,7 +323,7 @@ client_invoke-once Sent bounds state operation is_bounds once =
 
 -- ---- letters of others
 
-pub once_more : (Sent New : Letter → Type 0) (bounds : ℕ) (state : ClientState) → ((letter : Letter) → New letter → (client : ClientId) (number round : ℕ) (sets : List SetOf) (asks : Body) → letter.frame ≡ frame.Request client number round sets asks → client ≡ state.me → ⊥) → IsOnce Sent bounds state → IsOnce (λ letter. Sent letter ⊎ New letter) bounds state
+pub once_more : (Sent New : Letter → Type 0) (bounds : ℕ) (state : ClientState) → ((letter : Letter) → New letter → (client : ClientId) (number round : ℕ) (sets : List SetOf) (asks : Body) → Asks letter client number round sets asks → client ≡ state.me → ⊥) → IsOnce Sent bounds state → IsOnce (λ letter. Sent letter ⊎ New letter) bounds state
 once_more Sent New bounds state foreign once = record {
   up_to = λ letter sent number round sets asks is. elim sent [
     | inl before ↦ once.up_to letter before number round sets asks is

@@ -22,7 +22,7 @@ use Rattle.qu_trace.specs.declared.trace.Trace.{Trace}
 use Rattle.qu_world.specs.Run.{IsRun}
 use Rattle.qu_safety.specs.Digested.{Request, handled_by, IsHandled, IsMadeFor, Text, texts_of, digested, NoCollision}
 use Rattle.qu_safety.specs.Invocations.{IsRequestOf}
-use Rattle.qu_safety.specs.Views.{HasOpParts, HaveParts}
+use Rattle.qu_safety.specs.Views.{HasOpParts, ArePlain}
 use Rattle.qu_safety.proofs.Handled.{asked_by_handled}
 use Rattle.qu_safety.proofs.Ranges.{Fits, operation_fits}
 
@@ -35,7 +35,7 @@ only_one first it held =
       | inr same ↦ same
     ]
 
-contains_mapped : {X Y : Type 0} (f : X → List Y) (items : List X) (item : X) (it : Y) → Contains items item → Contains (f item) it → Contains (flat_map f items) it
+pub contains_mapped : {X Y : Type 0} (f : X → List Y) (items : List X) (item : X) (it : Y) → Contains items item → Contains (f item) it → Contains (flat_map f items) it
 contains_mapped f [] item it held inside = absurd (omega (arith, held.1))
 contains_mapped f (first ∷ later) item it held inside =
     subst (λ all. Contains all it) (sym (flat_map-cons f first later))
@@ -67,9 +67,9 @@ pub act_by : (parts : List (ObjectId × Method)) (what : Op) → body.Act parts 
 act_by parts (op.Act act) same = cc
 act_by parts (op.Query query) same = absurd (cc)
 
-fit : (trace : Trace) → IsRun trace → HaveParts trace.entries → (client : ClientId) (number : ℕ) (parts : List (ObjectId × Method)) → IsHandled trace client number parts → IsFit client number parts
+fit : (trace : Trace) → IsRun trace → ArePlain trace.entries → (client : ClientId) (number : ℕ) (parts : List (ObjectId × Method)) → IsHandled trace client number parts → IsFit client number parts
 fit trace is_run have client number parts it =
-    let request : IsRequestOf trace (length trace.entries) client number (body.Act parts) = asked_by_handled trace is_run client number parts it in
+    let request : IsRequestOf trace (length trace.entries) client number (body.Act parts) = asked_by_handled trace is_run have client number parts it in
     let fits : Fits request.operation = operation_fits trace is_run have request.operation request.of_trace in
     record {
       client = subst (λ (who : ClientId). who.0 < 2 ^ 16) request.of_client fits.client;
@@ -89,7 +89,7 @@ abbrev pub ActsAreOne : Trace → Type 0
 ActsAreOne trace = (client other : ClientId) (number turn : ℕ) (parts others : List (ObjectId × Method))
     → IsHandled trace client number parts → IsHandled trace other turn others → act_digest client number parts ≡ act_digest other turn others → (client ≡ other) × (number ≡ turn) × (parts ≡ others)
 
-pub acts_are_one : (trace : Trace) → IsRun trace → HaveParts trace.entries → NoCollision trace → ActsAreOne trace
+pub acts_are_one : (trace : Trace) → IsRun trace → ArePlain trace.entries → NoCollision trace → ActsAreOne trace
 acts_are_one trace is_run have no_collision client other number turn parts others one two same =
     let first : IsFit client number parts = fit trace is_run have client number parts one in
     let second : IsFit other turn others = fit trace is_run have other turn others two in

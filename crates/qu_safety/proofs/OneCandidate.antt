@@ -15,7 +15,6 @@ use Rattle.qu_history.specs.Sets.{entries_of, method_at}
 use Rattle.qu_objects.specs.declared.act.Method.{Method}
 use Rattle.qu_objects.specs.Text.{act_digest}
 use Rattle.qu_frames.specs.declared.frame.Body.TheVariants as body
-use Rattle.qu_frames.specs.declared.frame.Frame.TheVariants as frame
 use Rattle.qu_frames.specs.declared.frame.Letter.{Letter}
 use Rattle.qu_replica.specs.Rows.{asked_of, fresh_stamp}
 use Rattle.qu_replica.specs.State.{ReplicaState}
@@ -28,7 +27,7 @@ use Rattle.qu_safety.specs.Decided.{accepts, is_accepted}
 use Rattle.qu_safety.specs.Digested.{IsHandled, IsMadeFor}
 use Rattle.qu_safety.specs.Grounds.{IsGround, AcceptsOne}
 use Rattle.qu_safety.specs.Origins.{Origin}
-use Rattle.qu_safety.specs.Views.{HaveParts}
+use Rattle.qu_safety.specs.Views.{ArePlain}
 use Rattle.qu_safety.proofs.FullSets.{accepted_upon_full}
 use Rattle.qu_safety.proofs.Handled.{handled, made_for}
 use Rattle.qu_safety.proofs.LaterLetters.{letter_later}
@@ -37,6 +36,8 @@ use Rattle.qu_safety.proofs.OneRequest.{one_full_request}
 use Rattle.qu_safety.proofs.OpeningReplicas.{bounds_are}
 use Rattle.qu_safety.proofs.Origins.{origin}
 use Rattle.qu_safety.proofs.Values.{same_candidate}
+use Rattle.qu_safety.specs.Carried.{Asks}
+use Rattle.qu_safety.proofs.Carrying.{asks_so, asks_as}
 
 -- ---- where an accepted candidate came from
 
@@ -55,12 +56,16 @@ not_opening : (trace : Trace) (count : ℕ) (object : ObjectId) (candidate : Can
 not_opening trace count object candidate act of_act (inl begins) = absurd (none-some act (sym (ap (λ (it : Candidate). (it.stamp).act) begins) ∙ of_act))
 not_opening trace count object candidate act of_act (inr came) = came
 
--- an accepted candidate with an act has an origin
-pub accepted_origin : (trace : Trace) → IsRun trace → HaveParts trace.entries → (object : ObjectId) (candidate : Candidate) → IsTrue (is_accepted (last_world trace) object candidate) → (act : Digest) → (candidate.stamp).act ≡ Some act → Origin trace (length trace.entries) object candidate
-accepted_origin trace is_run have object candidate accepted act of_act =
+-- an accepted candidate is the opening one, or has an origin
+pub accepted_from : (trace : Trace) → IsRun trace → ArePlain trace.entries → (object : ObjectId) (candidate : Candidate) → IsTrue (is_accepted (last_world trace) object candidate) → (candidate ≡ opening) ⊎ Origin trace (length trace.entries) object candidate
+accepted_from trace is_run have object candidate accepted =
     let found : (place : ℕ) × (state : ReplicaState) × (slice_get (last_world trace).replicas place ≡ Some state) × (accepts object candidate state ≡ true) = any_place (accepts object candidate) (last_world trace).replicas accepted in
-    not_opening trace (length trace.entries) object candidate act of_act
-    (origin trace is_run have (length trace.entries) (omega arith) found.0 found.1 found.2 object candidate found.3)
+    origin trace is_run have (length trace.entries) (omega arith) found.0 found.1 found.2 object candidate found.3
+
+-- with an act it has an origin
+pub accepted_origin : (trace : Trace) → IsRun trace → ArePlain trace.entries → (object : ObjectId) (candidate : Candidate) → IsTrue (is_accepted (last_world trace) object candidate) → (act : Digest) → (candidate.stamp).act ≡ Some act → Origin trace (length trace.entries) object candidate
+accepted_origin trace is_run have object candidate accepted act of_act =
+    not_opening trace (length trace.entries) object candidate act of_act (accepted_from trace is_run have object candidate accepted)
 
 -- ---- of one request
 
@@ -85,7 +90,7 @@ record IsAsked (trace : Trace) (object : ObjectId) (candidate : Candidate) : Typ
   round : ℕ
   sets : List SetOf
   method : Method
-  is_request : letter.frame ≡ frame.Request client number round sets (body.Act ((object, method) ∷ []))
+  is_request : Asks letter client number round sets (body.Act ((object, method) ∷ []))
   full : are_full trace.setup.bounds sets ≡ true
   stamp : candidate.stamp ≡ stamp_made object client number sets ((object, method) ∷ [])
   made : IsMadeFor trace candidate client number ((object, method) ∷ [])
@@ -95,7 +100,7 @@ record IsAsked (trace : Trace) (object : ObjectId) (candidate : Candidate) : Typ
 
 asked_by : (trace : Trace) → IsRun trace → (object : ObjectId) (candidate : Candidate) → Origin trace (length trace.entries) object candidate → IsAsked trace object candidate
 asked_by trace is_run object candidate came =
-    let one : AcceptsOne came.old came.new ((came.delivered).letter).frame object = (came.delivered).accepts in
+    let one : AcceptsOne came.old came.new (came.delivered).carried object = (came.delivered).accepts in
     let why : IsGround came.old (asked_of one.client one.number one.sets (body.Act ((object, one.method) ∷ []))) object one.candidate = one.grounds in
     let before : came.past < length trace.entries = came.earlier in
     let was : IsHandled trace one.client one.number ((object, one.method) ∷ []) =
@@ -110,10 +115,10 @@ asked_by trace is_run object candidate came =
       round = one.round;
       sets = one.sets;
       method = one.method;
-      is_request = one.is_request;
+      is_request = asks_so (came.delivered).letter (came.delivered).carried one.client one.number one.round one.sets (body.Act ((object, one.method) ∷ [])) one.mac (came.delivered).carries one.is_request;
       full = accepted_upon_full trace (length trace.entries) object candidate came;
       stamp = ap (λ (it : Candidate). it.stamp) (sym came.is_candidate) ∙ why.stamp;
-      made = made_for trace came.old came.new ((came.delivered).letter).frame object one candidate came.is_candidate was;
+      made = made_for trace came.old came.new (came.delivered).carried object one candidate came.is_candidate was;
       base = why.base;
       is_base = ap (λ (size : ℕ). method_at size (entries_of object one.sets)) (sym (bounds_are trace came.past came.place came.old came.is_old)) ∙ why.method;
       prior = ap (λ (it : Candidate). it.prior) (sym came.is_candidate) ∙ why.prior;
@@ -130,7 +135,7 @@ one_made trace object other first second one two clients numbers sets parts =
     (one.prior ∙ ap (λ (it : Candidate). it.stamp) bases ∙ sym two.prior)
 
 -- what was accepted with one act digest is one candidate of one object
-pub one_candidate : (trace : Trace) → IsRun trace → HaveParts trace.entries → ActsAreOne trace → (object other : ObjectId) (first second : Candidate) → IsTrue (is_accepted (last_world trace) object first) → IsTrue (is_accepted (last_world trace) other second)
+pub one_candidate : (trace : Trace) → IsRun trace → ArePlain trace.entries → ActsAreOne trace → (object other : ObjectId) (first second : Candidate) → IsTrue (is_accepted (last_world trace) object first) → IsTrue (is_accepted (last_world trace) other second)
     → (act : Digest) → (first.stamp).act ≡ Some act → (second.stamp).act ≡ Some act → (object ≡ other) × (first ≡ second)
 one_candidate trace is_run have one_act object other first second accepted besides act of_first of_second =
     let one : IsAsked trace object first = asked_by trace is_run object first (accepted_origin trace is_run have object first accepted act of_first) in
@@ -138,9 +143,9 @@ one_candidate trace is_run have one_act object other first second accepted besid
     let digests : act_digest one.client one.number (acts_on object one.method) ≡ act_digest two.client two.number (acts_on other two.method) =
     same_Some _ _ (sym (one.made).of_act ∙ of_first ∙ sym of_second ∙ (two.made).of_act) in
     let acts = one_act one.client two.client one.number two.number (acts_on object one.method) (acts_on other two.method) (one.made).handled (two.made).handled digests in
-    let is_second : (two.letter).frame ≡ frame.Request one.client one.number two.round two.sets (body.Act ((other, two.method) ∷ [])) =
-    two.is_request ∙ sym (λ i. frame.Request (acts.0 i) (acts.1 i) two.round two.sets (body.Act ((other, two.method) ∷ []))) in
+    let is_second : Asks (two.letter) one.client one.number two.round two.sets (body.Act ((other, two.method) ∷ [])) =
+    asks_as two.letter two.client one.client two.number one.number two.round two.round two.sets (body.Act ((other, two.method) ∷ [])) (body.Act ((other, two.method) ∷ [])) (sym acts.0) (sym acts.1) refl refl two.is_request in
     let same : (one.sets ≡ two.sets) × (acts_on object one.method ≡ acts_on other two.method) =
-    one_full_request trace is_run (length trace.entries) (omega arith) one.at two.at one.letter two.letter one.is_letter two.is_letter
+    one_full_request trace is_run have (length trace.entries) (omega arith) one.at two.at one.letter two.letter one.is_letter two.is_letter
     one.client one.number one.round two.round one.sets two.sets ((object, one.method) ∷ []) ((other, two.method) ∷ []) one.is_request is_second one.full two.full in
     (ap (first_of_parts object) acts.2, one_made trace object other first second one two acts.0 acts.1 same.0 acts.2)

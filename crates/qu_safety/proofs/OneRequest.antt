@@ -1,5 +1,5 @@
 -- In every run the requests of one act upon full sets are one: they have the same sets and parts.
-use Rattle.std.proofs.Common.{◌≡◌, ◌⊎◌, ℕ, zero, suc, ◌+◌, ◌<◌, ◌≤◌, true, List, [], ◌∷◌, ◌++◌, length, get_or, Option, None, Some, refl, sym, ap, subst, ◌∙◌, arith, add-one, add-zero, inl, inr}
+use Rattle.std.proofs.Common.{◌≡◌, ◌⊎◌, ℕ, zero, suc, ◌+◌, ◌<◌, ◌≤◌, true, List, [], ◌∷◌, ◌++◌, length, get_or, Option, None, Some, refl, sym, ap, subst, ◌∙◌, arith, add-one, add-zero, inl, inr, Result, Ok, Err, map}
 use Rattle.std.specs.Prelude.{slice_get}
 use Rattle.std.proofs.lemmas.Option.{none-some, same_Some}
 use Rattle.qu_base.specs.declared.party.ClientId.{ClientId}
@@ -8,18 +8,18 @@ use Rattle.qu_base.specs.declared.party.Party.{Party}
 use Rattle.qu_base.specs.declared.party.Party.TheVariants as party
 use Rattle.qu_base.specs.declared.party.ReplicaId.{ReplicaId}
 use Rattle.qu_history.specs.declared.sets.SetOf.{SetOf}
-use Rattle.qu_history.specs.History.{ObjectHistory}
 use Rattle.qu_objects.specs.declared.act.Method.{Method}
 use Rattle.qu_frames.specs.declared.frame.Body.{Body}
 use Rattle.qu_frames.specs.declared.frame.Body.TheVariants as body
 use Rattle.qu_frames.specs.declared.frame.Frame.{Frame}
 use Rattle.qu_frames.specs.declared.frame.Frame.TheVariants as frame
 use Rattle.qu_frames.specs.declared.frame.Letter.{Letter}
-use Rattle.qu_frames.specs.declared.verdict.Verdict.{Verdict}
 use Rattle.qu_replica.specs.declared.decision.Decision.{Decision}
 use Rattle.qu_replica.specs.declared.decision.Decision.TheVariants.{Answers, Waits}
 use Rattle.qu_replica.specs.State.{ReplicaState, accept_all}
 use Rattle.qu_replica.specs.Rows.{asked_of, decision_on}
+use Rattle.qu_frames.specs.Blank.{blank_mac, sealed}
+use Rattle.qu_replica.specs.Step as replica
 use Rattle.qu_replica.specs.Step.{shown, reply, carried_out, replica_step}
 use Rattle.qu_client.specs.declared.state.ClientState.{ClientState}
 use Rattle.qu_client.specs.declared.state.Stepped.{Stepped}
@@ -29,7 +29,7 @@ use Rattle.qu_client.specs.Step.{client_invoke, client_step, client_tick}
 use Rattle.qu_client.specs.Sound.{IsSound}
 use Rattle.qu_client.proofs.Laws.{client_step-me, client_step-bounds, client_invoke-me, client_invoke-bounds, IsSound-step, IsSound-invoke}
 use Rattle.qu_trace.specs.declared.event.Event.{Event}
-use Rattle.qu_trace.specs.declared.event.Event.TheVariants.{Invoke, Deliver, Tick}
+use Rattle.qu_trace.specs.declared.event.Event.TheVariants.{Invoke, Deliver, Tick, Inject}
 use Rattle.qu_trace.specs.declared.trace.Entry.{Entry}
 use Rattle.qu_trace.specs.declared.trace.Setup.{Setup}
 use Rattle.qu_trace.specs.declared.trace.Trace.{Trace}
@@ -38,10 +38,16 @@ use Rattle.qu_world.specs.State.{WorldState, opening_world, opening_clients, num
 use Rattle.qu_world.specs.Step.{world_step, unchanged, at_replica, at_client, received, delivered}
 use Rattle.qu_world.specs.Run.{IsRun}
 use Rattle.qu_safety.specs.Order.{world_after}
-use Rattle.qu_safety.proofs.Each.{with_cases}
+use Rattle.qu_safety.proofs.Each.{with_cases, each_at}
 use Rattle.qu_safety.proofs.WorldGrowth.{world_after-none, world_after-next}
 use Rattle.qu_safety.proofs.OnceSent.{StandsIn, none_stands, IsOnce, AreAlike, OrNew, IsOnceStep, client_step-once, client_tick-once, client_invoke-once, once_more, once_of}
 use Rattle.qu_safety.proofs.Small.{some_entry, letters_of-push}
+use Rattle.qu_safety.specs.Carried.{Asks}
+use Rattle.qu_frames.specs.Decoding.{decoded}
+use Rattle.qu_safety.specs.Views.{IsPlain, ArePlain}
+use Rattle.qu_base.specs.declared.bad_text.BadText.{BadText}
+use Rattle.qu_safety.proofs.Carrying.{AsksFit, IsFitStep, numbered_here, no_request}
+use Rattle.qu_safety.proofs.Fitting.{fit_step}
 
 -- ---- places
 
@@ -95,7 +101,7 @@ are_once_of Less Sent bounds clients fewer before = record {
 }
 
 -- letters that ask for nothing change nothing
-replied : (Sent New : Letter → Type 0) (bounds : ℕ) (clients : List ClientState) → ((letter : Letter) → New letter → (client : ClientId) (number round : ℕ) (sets : List SetOf) (asks : Body) → letter.frame ≡ frame.Request client number round sets asks → ⊥) → AreOnce Sent bounds clients → AreOnce (λ letter. Sent letter ⊎ New letter) bounds clients
+replied : (Sent New : Letter → Type 0) (bounds : ℕ) (clients : List ClientState) → ((letter : Letter) → New letter → (client : ClientId) (number round : ℕ) (sets : List SetOf) (asks : Body) → Asks letter client number round sets asks → ⊥) → AreOnce Sent bounds clients → AreOnce (λ letter. Sent letter ⊎ New letter) bounds clients
 replied Sent New bounds clients none before = record {
   clients_are = before.clients_are;
   once = λ number state is.
@@ -135,23 +141,28 @@ moved Sent bounds clients me state stepped was before step is_client = record {
 -- ---- a step of the world
 
 -- a replica asks for nothing
-answer_at : (answer letter : Letter) (place : ℕ) → slice_get (answer ∷ []) place ≡ Some letter → ((client : ClientId) (number round : ℕ) (sets : List SetOf) (asks : Body) → answer.frame ≡ frame.Request client number round sets asks → ⊥) → (client : ClientId) (number round : ℕ) (sets : List SetOf) (asks : Body) → letter.frame ≡ frame.Request client number round sets asks → ⊥
-answer_at answer letter zero found none = subst (λ (it : Letter). (client : ClientId) (number round : ℕ) (sets : List SetOf) (asks : Body) → it.frame ≡ frame.Request client number round sets asks → ⊥) (same_Some answer letter found) none
+answer_at : (answer letter : Letter) (place : ℕ) → slice_get (answer ∷ []) place ≡ Some letter → ((client : ClientId) (number round : ℕ) (sets : List SetOf) (asks : Body) → Asks answer client number round sets asks → ⊥) → (client : ClientId) (number round : ℕ) (sets : List SetOf) (asks : Body) → Asks letter client number round sets asks → ⊥
+answer_at answer letter zero found none = subst (λ (it : Letter). (client : ClientId) (number round : ℕ) (sets : List SetOf) (asks : Body) → Asks it client number round sets asks → ⊥) (same_Some answer letter found) none
 answer_at answer letter (suc place) found none = absurd (none-some letter found)
 
-reply_asks : (replica : ReplicaId) (client other : ClientId) (number round asked turn : ℕ) (verdict : Verdict) (shown : List ObjectHistory) (sets : List SetOf) (asks : Body) → frame.Reply replica client number round verdict shown ≡ frame.Request other asked turn sets asks → ⊥
-reply_asks replica client other number round asked turn verdict shown sets asks same = cc
-
-answered : (state : ReplicaState) (client : ClientId) (number round : ℕ) (sets : List SetOf) (decision : Decision) (letter : Letter) → StandsIn (carried_out state client number round sets decision).1 letter → (other : ClientId) (asked turn : ℕ) (others : List SetOf) (asks : Body) → letter.frame ≡ frame.Request other asked turn others asks → ⊥
+answered : (state : ReplicaState) (client : ClientId) (number round : ℕ) (sets : List SetOf) (decision : Decision) (letter : Letter) → StandsIn (carried_out state client number round sets decision).1 letter → (other : ClientId) (asked turn : ℕ) (others : List SetOf) (asks : Body) → Asks letter other asked turn others asks → ⊥
 answered state client number round sets Waits letter stands = absurd (none_stands letter stands)
 answered state client number round sets (Answers verdict accepted) letter stands =
     answer_at (reply (accept_all state accepted) client number round sets verdict) letter stands.0 stands.1
-    (λ other asked turn others asks. reply_asks (accept_all state accepted).me client other number round asked turn verdict (shown (accept_all state accepted) sets) others asks)
+    (let new : ReplicaState = accept_all state accepted in
+    no_request (reply new client number round sets verdict) new.me client number round verdict [] (map (sealed new.bounds) (shown new sets)) blank_mac refl)
 
-pub replica_asks : (state : ReplicaState) (sent : Frame) (letter : Letter) → StandsIn (replica_step state sent).1 letter → (client : ClientId) (number round : ℕ) (sets : List SetOf) (asks : Body) → letter.frame ≡ frame.Request client number round sets asks → ⊥
-replica_asks state (frame.Request client number round sets asks) letter stands =
+frame_asks : (state : ReplicaState) (sent : Frame) (letter : Letter) → StandsIn (replica.on_frame state sent).1 letter → (client : ClientId) (number round : ℕ) (sets : List SetOf) (asks : Body) → Asks letter client number round sets asks → ⊥
+frame_asks state (frame.Request client number round sets asks mac) letter stands =
     answered state client number round sets (decision_on state (asked_of client number sets asks) asks) letter stands
-replica_asks state (frame.Reply replica client number round verdict shown) letter stands = absurd (none_stands letter stands)
+frame_asks state (frame.Reply replica client number round verdict culled shown mac) letter stands = absurd (none_stands letter stands)
+
+decoded_asks : (state : ReplicaState) (read : Result Frame BadText) (letter : Letter) → StandsIn (replica.on_decoded state read).1 letter → (client : ClientId) (number round : ℕ) (sets : List SetOf) (asks : Body) → Asks letter client number round sets asks → ⊥
+decoded_asks state (Ok sent) letter stands = frame_asks state sent letter stands
+decoded_asks state (Err bad) letter stands = absurd (none_stands letter stands)
+
+pub replica_asks : (state : ReplicaState) (text : List ℕ) (letter : Letter) → StandsIn (replica_step state text).1 letter → (client : ClientId) (number round : ℕ) (sets : List SetOf) (asks : Body) → Asks letter client number round sets asks → ⊥
+replica_asks state text letter stands = decoded_asks state (decoded text) letter stands
 
 module _ (bounds : ℕ) where
   unchanged-once : (world : WorldState) (event : Event) → IsOnceWorld bounds world → IsOnceWorld bounds (unchanged world event)
@@ -159,59 +170,61 @@ module _ (bounds : ℕ) where
       are_once_of _ _ bounds world.clients (letters_either world.entries (record { event = event; letters = []; ended = None }))
       (replied (StandsIn (letters_of world.entries)) (StandsIn []) bounds world.clients (λ letter new. absurd (none_stands letter new)) before)
 
-  at_replica-once : (world : WorldState) (event : Event) (me : ReplicaId) (sent : Frame) (found : Option ReplicaState) → IsOnceWorld bounds world → IsOnceWorld bounds (at_replica world event me sent found)
-  at_replica-once world event me sent None before = unchanged-once world event before
-  at_replica-once world event me sent (Some state) before =
-      are_once_of _ _ bounds world.clients (letters_either world.entries (record { event = event; letters = (replica_step state sent).1; ended = None }))
-      (replied (StandsIn (letters_of world.entries)) (StandsIn (replica_step state sent).1) bounds world.clients (replica_asks state sent) before)
+  at_replica-once : (world : WorldState) (event : Event) (me : ReplicaId) (text : List ℕ) (found : Option ReplicaState) → IsOnceWorld bounds world → IsOnceWorld bounds (at_replica world event me text found)
+  at_replica-once world event me text None before = unchanged-once world event before
+  at_replica-once world event me text (Some state) before =
+      are_once_of _ _ bounds world.clients (letters_either world.entries (record { event = event; letters = (replica_step state text).1; ended = None }))
+      (replied (StandsIn (letters_of world.entries)) (StandsIn (replica_step state text).1) bounds world.clients (replica_asks state text) before)
 
   -- a move of a client that keeps what it knows
   abbrev MovesOnce : (Letter → Type 0) → (ClientState → Stepped) → Type 0
   MovesOnce Sent move =
-      (number : ℕ) (state : ClientState) → IsClientAt bounds number state → IsOnce Sent bounds state → IsOnceStep Sent bounds state.me (move state) × IsClientAt bounds number (move state).state
+      (number : ℕ) (state : ClientState) → IsClientAt bounds number state → IsOnce Sent bounds state → AsksFit (move state).state → IsOnceStep Sent bounds state.me (move state) × IsClientAt bounds number (move state).state
 
-  at_client-once : (world : WorldState) (event : Event) (me : ClientId) (move : ClientState → Stepped) (found : Option ClientState) → numbered world.clients me.0 ≡ found → MovesOnce (StandsIn (letters_of world.entries)) move → IsOnceWorld bounds world → IsOnceWorld bounds (at_client world event me move found)
-  at_client-once world event me move None is moves before = unchanged-once world event before
-  at_client-once world event me move (Some state) is moves before =
+  at_client-once : (world : WorldState) (event : Event) (me : ClientId) (move : ClientState → Stepped) (found : Option ClientState) → numbered world.clients me.0 ≡ found → MovesOnce (StandsIn (letters_of world.entries)) move → IsFitStep world (at_client world event me move found) → IsOnceWorld bounds world → IsOnceWorld bounds (at_client world event me move found)
+  at_client-once world event me move None is moves fits before = unchanged-once world event before
+  at_client-once world event me move (Some state) is moves fits before =
       let Sent : Letter → Type 0 = StandsIn (letters_of world.entries) in
-      let step : IsOnceStep Sent bounds state.me (move state) × IsClientAt bounds me.0 (move state).state = moves me.0 state (before.clients_are me.0 state is) (before.once me.0 state is) in
+      let step : IsOnceStep Sent bounds state.me (move state) × IsClientAt bounds me.0 (move state).state = moves me.0 state (before.clients_are me.0 state is) (before.once me.0 state is)
+      (fits.asks me.0 (move state).state (numbered_here world.clients me.0 state (move state).state is)) in
       are_once_of _ _ bounds (with_numbered world.clients me.0 (move state).state) (letters_either world.entries _)
       (moved Sent bounds world.clients me state (move state) is before step.0 step.1)
 
-  step_moves : (Sent : Letter → Type 0) (sent : Frame) → MovesOnce Sent (λ (state : ClientState). client_step state sent)
-  step_moves Sent sent number state at once = (
-    client_step-once Sent bounds state sent at.bounds_are at.sound once,
+  step_moves : (Sent : Letter → Type 0) (text : List ℕ) → MovesOnce Sent (λ (state : ClientState). client_step state text)
+  step_moves Sent text number state at once fits = (
+    client_step-once Sent bounds state text at.bounds_are at.sound once fits,
     record {
-      me = ap (λ (it : ClientId). it.0) (client_step-me state sent) ∙ at.me;
-      bounds_are = client_step-bounds state sent ∙ at.bounds_are;
-      sound = IsSound-step state sent at.sound;
+      me = ap (λ (it : ClientId). it.0) (client_step-me state text) ∙ at.me;
+      bounds_are = client_step-bounds state text ∙ at.bounds_are;
+      sound = IsSound-step state text at.sound;
     },
   )
 
-  received-once : (world : WorldState) (event : Event) (to : Party) (sent : Frame) → IsOnceWorld bounds world → IsOnceWorld bounds (received world event to sent)
-  received-once world event (party.Replica me) sent before = at_replica-once world event me sent (slice_get world.replicas me.0) before
-  received-once world event (party.Client me) sent before =
-      at_client-once world event me (λ (state : ClientState). client_step state sent) (numbered world.clients me.0) refl (step_moves (StandsIn (letters_of world.entries)) sent) before
+  received-once : (world : WorldState) (event : Event) (to : Party) (text : List ℕ) → IsFitStep world (received world event to text) → IsOnceWorld bounds world → IsOnceWorld bounds (received world event to text)
+  received-once world event (party.Replica me) text fits before = at_replica-once world event me text (slice_get world.replicas me.0) before
+  received-once world event (party.Client me) text fits before =
+      at_client-once world event me (λ (state : ClientState). client_step state text) (numbered world.clients me.0) refl (step_moves (StandsIn (letters_of world.entries)) text) fits before
 
-  delivered-once : (world : WorldState) (event : Event) (letter : Option Letter) → IsOnceWorld bounds world → IsOnceWorld bounds (delivered world event letter)
-  delivered-once world event None before = unchanged-once world event before
-  delivered-once world event (Some letter) before = received-once world event letter.to letter.frame before
+  delivered-once : (world : WorldState) (event : Event) (letter : Option Letter) → IsFitStep world (delivered world event letter) → IsOnceWorld bounds world → IsOnceWorld bounds (delivered world event letter)
+  delivered-once world event None fits before = unchanged-once world event before
+  delivered-once world event (Some letter) fits before = received-once world event letter.to letter.text fits before
 
-  world_step-once : (world : WorldState) (event : Event) → IsOnceWorld bounds world → IsOnceWorld bounds (world_step world event)
-  world_step-once world (Invoke client operation) before =
+  world_step-once : (world : WorldState) (event : Event) → IsPlain event → IsFitStep world (world_step world event) → IsOnceWorld bounds world → IsOnceWorld bounds (world_step world event)
+  world_step-once world (Invoke client operation) plain fits before =
       at_client-once world (Invoke client operation) client (λ (state : ClientState). client_invoke state operation) (numbered world.clients client.0) refl
-      (λ number state at once. (
-        client_invoke-once (StandsIn (letters_of world.entries)) bounds state operation at.bounds_are once,
+      (λ number state at once fit. (
+        client_invoke-once (StandsIn (letters_of world.entries)) bounds state operation at.bounds_are once fit,
         record {
           me = ap (λ (it : ClientId). it.0) (client_invoke-me state operation) ∙ at.me;
           bounds_are = client_invoke-bounds state operation ∙ at.bounds_are;
           sound = IsSound-invoke state operation;
         },
-      )) before
-  world_step-once world (Deliver number) before = delivered-once world (Deliver number) (letter_of world number) before
-  world_step-once world (Tick client) before =
+      )) fits before
+  world_step-once world (Deliver number) plain fits before = delivered-once world (Deliver number) (letter_of world number) fits before
+  world_step-once world (Inject to text) plain fits before = absurd plain
+  world_step-once world (Tick client) plain fits before =
       at_client-once world (Tick client) client client_tick (numbered world.clients client.0) refl
-      (λ number state at once. (client_tick-once (StandsIn (letters_of world.entries)) bounds state once, at)) before
+      (λ number state at once fit. (client_tick-once (StandsIn (letters_of world.entries)) bounds state once, at)) fits before
 
 -- ---- all worlds of a run
 
@@ -249,23 +262,24 @@ opening_world-once setup = record {
   alike = λ first second one. absurd (none_stands first one);
 }
 
-once_next : (trace : Trace) (count : ℕ) → count < length trace.entries → IsOnceWorld trace.setup.bounds (world_after trace count) → IsOnceWorld trace.setup.bounds (world_after trace (count + 1))
-once_next trace count below before =
+once_next : (trace : Trace) → IsRun trace → ArePlain trace.entries → (count : ℕ) → count < length trace.entries → IsOnceWorld trace.setup.bounds (world_after trace count) → IsOnceWorld trace.setup.bounds (world_after trace (count + 1))
+once_next trace is_run have count below before =
     let default : Entry = some_entry trace.entries (omega arith) in
     let event : Event = (get_or trace.entries count default).event in
     subst (IsOnceWorld trace.setup.bounds) (sym (world_after-next trace count default below))
-    (world_step-once trace.setup.bounds (world_after trace count) event before)
+    (world_step-once trace.setup.bounds (world_after trace count) event (each_at (λ (entry : Entry). IsPlain entry.event) trace.entries count default have below)
+    (subst (IsFitStep (world_after trace count)) (world_after-next trace count default below) (fit_step trace is_run have count below)) before)
 
-pub once_world : (trace : Trace) (count : ℕ) → count ≤ length trace.entries → IsOnceWorld trace.setup.bounds (world_after trace count)
-once_world trace zero within = subst (IsOnceWorld trace.setup.bounds) (sym (world_after-none trace)) (opening_world-once trace.setup)
-once_world trace (suc count) within =
+pub once_world : (trace : Trace) → IsRun trace → ArePlain trace.entries → (count : ℕ) → count ≤ length trace.entries → IsOnceWorld trace.setup.bounds (world_after trace count)
+once_world trace is_run have zero within = subst (IsOnceWorld trace.setup.bounds) (sym (world_after-none trace)) (opening_world-once trace.setup)
+once_world trace is_run have (suc count) within =
     subst (λ (at : ℕ). IsOnceWorld trace.setup.bounds (world_after trace at)) (add-one count)
-    (once_next trace count (omega arith) (once_world trace count (omega arith)))
+    (once_next trace is_run have count (omega arith) (once_world trace is_run have count (omega arith)))
 
 -- two requests of one act upon full sets have the same sets and parts
-pub one_full_request : (trace : Trace) → IsRun trace → (count : ℕ) → count ≤ length trace.entries → (first second : ℕ) (a b : Letter) → letter_of (world_after trace count) first ≡ Some a → letter_of (world_after trace count) second ≡ Some b → (client : ClientId) (number : ℕ) (round turn : ℕ) (sets others : List SetOf) (parts more : List (ObjectId × Method)) → a.frame ≡ frame.Request client number round sets (body.Act parts) → b.frame ≡ frame.Request client number turn others (body.Act more) → are_full trace.setup.bounds sets ≡ true → are_full trace.setup.bounds others ≡ true → (sets ≡ others) × (parts ≡ more)
-one_full_request trace is_run count within first second a b one two client number round turn sets others parts more is_a is_b full_a full_b =
-    (once_world trace count within).alike a b
+pub one_full_request : (trace : Trace) → IsRun trace → ArePlain trace.entries → (count : ℕ) → count ≤ length trace.entries → (first second : ℕ) (a b : Letter) → letter_of (world_after trace count) first ≡ Some a → letter_of (world_after trace count) second ≡ Some b → (client : ClientId) (number : ℕ) (round turn : ℕ) (sets others : List SetOf) (parts more : List (ObjectId × Method)) → Asks a client number round sets (body.Act parts) → Asks b client number turn others (body.Act more) → are_full trace.setup.bounds sets ≡ true → are_full trace.setup.bounds others ≡ true → (sets ≡ others) × (parts ≡ more)
+one_full_request trace is_run have count within first second a b one two client number round turn sets others parts more is_a is_b full_a full_b =
+    (once_world trace is_run have count within).alike a b
     (numbered_stands (letters_of (world_after trace count).entries) first a one) (numbered_stands (letters_of (world_after trace count).entries) second b two)
     client number sets others parts more
     (record { round = round; is_request = is_a; full = full_a }) (record { round = turn; is_request = is_b; full = full_b })

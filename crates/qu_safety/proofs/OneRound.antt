@@ -9,8 +9,6 @@ use Rattle.qu_base.specs.declared.party.Party.TheVariants as party
 use Rattle.qu_base.specs.declared.party.ReplicaId.{ReplicaId}
 use Rattle.qu_history.specs.declared.sets.SetOf.{SetOf}
 use Rattle.qu_frames.specs.declared.frame.Body.{Body}
-use Rattle.qu_frames.specs.declared.frame.Frame.{Frame}
-use Rattle.qu_frames.specs.declared.frame.Frame.TheVariants as frame
 use Rattle.qu_frames.specs.declared.frame.Letter.{Letter}
 use Rattle.qu_replica.specs.State.{ReplicaState}
 use Rattle.qu_replica.specs.Step.{replica_step}
@@ -19,7 +17,7 @@ use Rattle.qu_client.specs.declared.state.Stepped.{Stepped}
 use Rattle.qu_client.specs.State.{opening_state}
 use Rattle.qu_client.specs.Step.{client_invoke, client_step, client_tick}
 use Rattle.qu_trace.specs.declared.event.Event.{Event}
-use Rattle.qu_trace.specs.declared.event.Event.TheVariants.{Invoke, Deliver, Tick}
+use Rattle.qu_trace.specs.declared.event.Event.TheVariants.{Invoke, Deliver, Tick, Inject}
 use Rattle.qu_trace.specs.declared.trace.Entry.{Entry}
 use Rattle.qu_trace.specs.declared.trace.Setup.{Setup}
 use Rattle.qu_trace.specs.declared.trace.Trace.{Trace}
@@ -33,6 +31,11 @@ use Rattle.qu_safety.proofs.OnceSent.{StandsIn, none_stands, IsOnce, OrNew, IsOn
 use Rattle.qu_safety.proofs.OneRequest.{numbered_stands, letters_either, numbered_found, IsClientAt, AreOnce, replica_asks, opening_clients-at, once_world}
 use Rattle.qu_safety.proofs.RoundSent.{AreOneRound, AreWithin, IsRoundStep, client_step-round, client_tick-round, client_invoke-round, within_more, within_of}
 use Rattle.qu_safety.proofs.Small.{some_entry}
+use Rattle.qu_safety.specs.Carried.{Asks}
+use Rattle.qu_safety.specs.Views.{IsPlain, ArePlain}
+use Rattle.qu_safety.proofs.Carrying.{AsksFit, IsFitStep, numbered_here}
+use Rattle.qu_safety.proofs.Fitting.{fit_step}
+use Rattle.qu_safety.proofs.Each.{each_at}
 
 -- ---- what holds of all clients and letters
 
@@ -50,7 +53,7 @@ are_rounds_of Less Sent clients fewer before = record {
 }
 
 -- letters that ask for nothing change nothing
-replied : (Sent New : Letter → Type 0) (clients : List ClientState) → ((letter : Letter) → New letter → (client : ClientId) (number round : ℕ) (sets : List SetOf) (asks : Body) → letter.frame ≡ frame.Request client number round sets asks → ⊥) → AreRounds Sent clients → AreRounds (λ letter. Sent letter ⊎ New letter) clients
+replied : (Sent New : Letter → Type 0) (clients : List ClientState) → ((letter : Letter) → New letter → (client : ClientId) (number round : ℕ) (sets : List SetOf) (asks : Body) → Asks letter client number round sets asks → ⊥) → AreRounds Sent clients → AreRounds (λ letter. Sent letter ⊎ New letter) clients
 replied Sent New clients none before = record {
   within = λ number state is.
       within_more Sent New state (λ letter new client asked round sets asks request same. none letter new client asked round sets asks request) (before.within number state is);
@@ -88,11 +91,11 @@ unchanged-round world event before =
     are_rounds_of _ _ world.clients (letters_either world.entries (record { event = event; letters = []; ended = None }))
     (replied (StandsIn (letters_of world.entries)) (StandsIn []) world.clients (λ letter new. absurd (none_stands letter new)) before)
 
-at_replica-round : (world : WorldState) (event : Event) (me : ReplicaId) (sent : Frame) (found : Option ReplicaState) → IsRoundWorld world → IsRoundWorld (at_replica world event me sent found)
-at_replica-round world event me sent None before = unchanged-round world event before
-at_replica-round world event me sent (Some state) before =
-    are_rounds_of _ _ world.clients (letters_either world.entries (record { event = event; letters = (replica_step state sent).1; ended = None }))
-    (replied (StandsIn (letters_of world.entries)) (StandsIn (replica_step state sent).1) world.clients (replica_asks state sent) before)
+at_replica-round : (world : WorldState) (event : Event) (me : ReplicaId) (text : List ℕ) (found : Option ReplicaState) → IsRoundWorld world → IsRoundWorld (at_replica world event me text found)
+at_replica-round world event me text None before = unchanged-round world event before
+at_replica-round world event me text (Some state) before =
+    are_rounds_of _ _ world.clients (letters_either world.entries (record { event = event; letters = (replica_step state text).1; ended = None }))
+    (replied (StandsIn (letters_of world.entries)) (StandsIn (replica_step state text).1) world.clients (replica_asks state text) before)
 
 module _ (bounds : ℕ) (world : WorldState) (once : AreOnce (StandsIn (letters_of world.entries)) bounds world.clients) (before : IsRoundWorld world) where
   abbrev Sent : Letter → Type 0
@@ -101,33 +104,35 @@ module _ (bounds : ℕ) (world : WorldState) (once : AreOnce (StandsIn (letters_
   -- a move of a client that keeps this
   abbrev MovesRound : (ClientState → Stepped) → Type 0
   MovesRound move =
-      (number : ℕ) (state : ClientState) → IsClientAt bounds number state → IsOnce Sent bounds state → AreWithin Sent state → IsOnceStep Sent bounds state.me (move state) × IsRoundStep Sent (move state)
+      (number : ℕ) (state : ClientState) → IsClientAt bounds number state → IsOnce Sent bounds state → AreWithin Sent state → AsksFit (move state).state → IsOnceStep Sent bounds state.me (move state) × IsRoundStep Sent (move state)
 
-  at_client-round : (event : Event) (me : ClientId) (move : ClientState → Stepped) (found : Option ClientState) → numbered world.clients me.0 ≡ found → MovesRound move → IsRoundWorld (at_client world event me move found)
-  at_client-round event me move None is moves = unchanged-round world event before
-  at_client-round event me move (Some state) is moves =
-      let step : IsOnceStep Sent bounds state.me (move state) × IsRoundStep Sent (move state) = moves me.0 state (once.clients_are me.0 state is) (once.once me.0 state is) (before.within me.0 state is) in
+  at_client-round : (event : Event) (me : ClientId) (move : ClientState → Stepped) (found : Option ClientState) → numbered world.clients me.0 ≡ found → MovesRound move → IsFitStep world (at_client world event me move found) → IsRoundWorld (at_client world event me move found)
+  at_client-round event me move None is moves fits = unchanged-round world event before
+  at_client-round event me move (Some state) is moves fits =
+      let step : IsOnceStep Sent bounds state.me (move state) × IsRoundStep Sent (move state) = moves me.0 state (once.clients_are me.0 state is) (once.once me.0 state is) (before.within me.0 state is)
+      (fits.asks me.0 (move state).state (numbered_here world.clients me.0 state (move state).state is)) in
       are_rounds_of _ _ (with_numbered world.clients me.0 (move state).state) (letters_either world.entries _)
       (moved Sent bounds world.clients me state (move state) is once before step.0 step.1)
 
-  received-round : (event : Event) (to : Party) (sent : Frame) → IsRoundWorld (received world event to sent)
-  received-round event (party.Replica me) sent = at_replica-round world event me sent (slice_get world.replicas me.0) before
-  received-round event (party.Client me) sent =
-      at_client-round event me (λ (state : ClientState). client_step state sent) (numbered world.clients me.0) refl
-      (λ number state at known within. (client_step-once Sent bounds state sent at.bounds_are at.sound known, client_step-round Sent state sent within))
+  received-round : (event : Event) (to : Party) (text : List ℕ) → IsFitStep world (received world event to text) → IsRoundWorld (received world event to text)
+  received-round event (party.Replica me) text fits = at_replica-round world event me text (slice_get world.replicas me.0) before
+  received-round event (party.Client me) text fits =
+      at_client-round event me (λ (state : ClientState). client_step state text) (numbered world.clients me.0) refl
+      (λ number state at known within fit. (client_step-once Sent bounds state text at.bounds_are at.sound known fit, client_step-round Sent state text within fit)) fits
 
-  delivered-round : (event : Event) (letter : Option Letter) → IsRoundWorld (delivered world event letter)
-  delivered-round event None = unchanged-round world event before
-  delivered-round event (Some letter) = received-round event letter.to letter.frame
+  delivered-round : (event : Event) (letter : Option Letter) → IsFitStep world (delivered world event letter) → IsRoundWorld (delivered world event letter)
+  delivered-round event None fits = unchanged-round world event before
+  delivered-round event (Some letter) fits = received-round event letter.to letter.text fits
 
-  world_step-round : (event : Event) → IsRoundWorld (world_step world event)
-  world_step-round (Invoke client operation) =
+  world_step-round : (event : Event) → IsPlain event → IsFitStep world (world_step world event) → IsRoundWorld (world_step world event)
+  world_step-round (Invoke client operation) plain fits =
       at_client-round (Invoke client operation) client (λ (state : ClientState). client_invoke state operation) (numbered world.clients client.0) refl
-      (λ number state at known within. (client_invoke-once Sent bounds state operation at.bounds_are known, client_invoke-round Sent state operation known.up_to))
-  world_step-round (Deliver number) = delivered-round (Deliver number) (letter_of world number)
-  world_step-round (Tick client) =
+      (λ number state at known within fit. (client_invoke-once Sent bounds state operation at.bounds_are known fit, client_invoke-round Sent state operation known.up_to fit)) fits
+  world_step-round (Deliver number) plain fits = delivered-round (Deliver number) (letter_of world number) fits
+  world_step-round (Inject to text) plain fits = absurd plain
+  world_step-round (Tick client) plain fits =
       at_client-round (Tick client) client client_tick (numbered world.clients client.0) refl
-      (λ number state at known within. (client_tick-once Sent bounds state known, client_tick-round Sent state within))
+      (λ number state at known within fit. (client_tick-once Sent bounds state known, client_tick-round Sent state within)) fits
 
 -- ---- all worlds of a run
 
@@ -142,22 +147,24 @@ opening_world-round setup = record {
   alike = λ first second one. absurd (none_stands first one);
 }
 
-round_next : (trace : Trace) (count : ℕ) → count < length trace.entries → IsRoundWorld (world_after trace count) → IsRoundWorld (world_after trace (count + 1))
-round_next trace count below before =
+round_next : (trace : Trace) → IsRun trace → ArePlain trace.entries → (count : ℕ) → count < length trace.entries → IsRoundWorld (world_after trace count) → IsRoundWorld (world_after trace (count + 1))
+round_next trace is_run have count below before =
     let default : Entry = some_entry trace.entries (omega arith) in
     let event : Event = (get_or trace.entries count default).event in
     subst IsRoundWorld (sym (world_after-next trace count default below))
-    (world_step-round trace.setup.bounds (world_after trace count) (once_world trace count (omega arith)) before event)
+    (world_step-round trace.setup.bounds (world_after trace count) (once_world trace is_run have count (omega arith)) before event
+    (each_at (λ (entry : Entry). IsPlain entry.event) trace.entries count default have below)
+    (subst (IsFitStep (world_after trace count)) (world_after-next trace count default below) (fit_step trace is_run have count below)))
 
-round_world : (trace : Trace) (count : ℕ) → count ≤ length trace.entries → IsRoundWorld (world_after trace count)
-round_world trace zero within = subst IsRoundWorld (sym (world_after-none trace)) (opening_world-round trace.setup)
-round_world trace (suc count) within =
+round_world : (trace : Trace) → IsRun trace → ArePlain trace.entries → (count : ℕ) → count ≤ length trace.entries → IsRoundWorld (world_after trace count)
+round_world trace is_run have zero within = subst IsRoundWorld (sym (world_after-none trace)) (opening_world-round trace.setup)
+round_world trace is_run have (suc count) within =
     subst (λ (at : ℕ). IsRoundWorld (world_after trace at)) (add-one count)
-    (round_next trace count (omega arith) (round_world trace count (omega arith)))
+    (round_next trace is_run have count (omega arith) (round_world trace is_run have count (omega arith)))
 
 -- two requests of one operation and round have the same sets and body
-pub one_round_request : (trace : Trace) → IsRun trace → (count : ℕ) → count ≤ length trace.entries → (first second : ℕ) (a b : Letter) → letter_of (world_after trace count) first ≡ Some a → letter_of (world_after trace count) second ≡ Some b → (client : ClientId) (number round : ℕ) (sets others : List SetOf) (asked other : Body) → a.frame ≡ frame.Request client number round sets asked → b.frame ≡ frame.Request client number round others other → (sets ≡ others) × (asked ≡ other)
-one_round_request trace is_run count within first second a b one two client number round sets others asked other is_a is_b =
-    (round_world trace count within).alike a b
+pub one_round_request : (trace : Trace) → IsRun trace → ArePlain trace.entries → (count : ℕ) → count ≤ length trace.entries → (first second : ℕ) (a b : Letter) → letter_of (world_after trace count) first ≡ Some a → letter_of (world_after trace count) second ≡ Some b → (client : ClientId) (number round : ℕ) (sets others : List SetOf) (asked other : Body) → Asks a client number round sets asked → Asks b client number round others other → (sets ≡ others) × (asked ≡ other)
+one_round_request trace is_run have count within first second a b one two client number round sets others asked other is_a is_b =
+    (round_world trace is_run have count within).alike a b
     (numbered_stands (letters_of (world_after trace count).entries) first a one) (numbered_stands (letters_of (world_after trace count).entries) second b two)
     client number round sets others asked other is_a is_b

@@ -1,9 +1,10 @@
 -- The history at each place of a replica is its own, of the object with that number. So a history
 -- that a replica has is found where its own names point.
-use Rattle.std.proofs.Common.{◌≡◌, ℕ, zero, suc, ◌+◌, List, [], ◌∷◌, ◌++◌, Option, Some, refl, sym, ap, subst, ◌∙◌, arith, inl, inr, add-zero, zero-add}
+use Rattle.std.proofs.Common.{◌≡◌, ℕ, zero, suc, ◌+◌, List, [], ◌∷◌, ◌++◌, Option, Some, Result, Ok, Err, refl, sym, ap, subst, ◌∙◌, arith, inl, inr, add-zero, zero-add}
 use Rattle.std.specs.Prelude.{slice_get, slice_set}
 use Rattle.std.specs.Option.{option_and_then}
 use Rattle.std.proofs.lemmas.Option.{none-some, same_Some}
+use Rattle.qu_base.specs.declared.bad_text.BadText.{BadText}
 use Rattle.qu_base.specs.declared.party.ClientId.{ClientId}
 use Rattle.qu_base.specs.declared.party.ObjectId.{ObjectId}
 use Rattle.qu_base.specs.declared.party.ReplicaId.{ReplicaId}
@@ -13,12 +14,13 @@ use Rattle.qu_history.specs.History.{ObjectHistory}
 use Rattle.qu_objects.specs.declared.kind.KindName.{KindName}
 use Rattle.qu_frames.specs.declared.frame.Frame.{Frame}
 use Rattle.qu_frames.specs.declared.frame.Frame.TheVariants as frame
+use Rattle.qu_frames.specs.Decoding.{decoded}
 use Rattle.qu_replica.specs.declared.decision.Accepted.{Accepted}
 use Rattle.qu_replica.specs.declared.decision.Decision.{Decision}
 use Rattle.qu_replica.specs.declared.decision.Decision.TheVariants.{Answers, Waits}
 use Rattle.qu_replica.specs.State.{ReplicaState, with_candidate, accept, accept_all, opening_state}
 use Rattle.qu_replica.specs.Rows.{asked_of, decision_on}
-use Rattle.qu_replica.specs.Step.{carried_out, replica_step}
+use Rattle.qu_replica.specs.Step.{carried_out, on_frame, on_decoded, replica_step}
 use Rattle.qu_replica.proofs.Own.{IsOwn, own_history, opening-histories}
 use Rattle.qu_world.specs.State.{WorldState, opening_replicas, history_at}
 use Rattle.qu_safety.proofs.Each.{set_cases}
@@ -86,10 +88,17 @@ carried_out-in_place : (place : ℕ) (state : ReplicaState) (client : ClientId) 
 carried_out-in_place place state client number round sets (Answers verdict accepted) in_place = accept_all-in_place place state accepted in_place
 carried_out-in_place place state client number round sets Waits in_place = in_place
 
-pub step-in_place : (place : ℕ) (state : ReplicaState) (received : Frame) → IsInPlace place state → IsInPlace place (replica_step state received).0
-step-in_place place state (frame.Request client number round sets body) in_place =
+frame-in_place : (place : ℕ) (state : ReplicaState) (received : Frame) → IsInPlace place state → IsInPlace place (on_frame state received).0
+frame-in_place place state (frame.Request client number round sets body mac) in_place =
     carried_out-in_place place state client number round sets (decision_on state (asked_of client number sets body) body) in_place
-step-in_place place state (frame.Reply replica client number round verdict shown) in_place = in_place
+frame-in_place place state (frame.Reply replica client number round verdict culled shown mac) in_place = in_place
+
+decoded-in_place : (place : ℕ) (state : ReplicaState) (read : Result Frame BadText) → IsInPlace place state → IsInPlace place (on_decoded state read).0
+decoded-in_place place state (Ok received) in_place = frame-in_place place state received in_place
+decoded-in_place place state (Err bad) in_place = in_place
+
+pub step-in_place : (place : ℕ) (state : ReplicaState) (text : List ℕ) → IsInPlace place state → IsInPlace place (replica_step state text).0
+step-in_place place state text in_place = decoded-in_place place state (decoded text) in_place
 
 -- ---- all replicas of a world
 

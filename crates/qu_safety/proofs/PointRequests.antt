@@ -1,5 +1,5 @@
 -- The event of a point delivers a request of the point's operation.
-use Rattle.std.proofs.Common.{◌≡◌, ℕ, zero, suc, ◌<◌, ◌≤◌, true, List, [], ◌∷◌, length, get_or, Option, None, Some, refl, sym, ap, subst, ◌∙◌, arith}
+use Rattle.std.proofs.Common.{◌≡◌, ℕ, zero, suc, ◌<◌, ◌≤◌, true, List, [], ◌∷◌, length, get_or, Option, None, Some, refl, sym, ap, subst, ◌∙◌, arith, Result, Ok, Err}
 use Rattle.std.specs.Prelude.{◌==◌, ◌&&◌, slice_get, Contains}
 use Rattle.std.proofs.lemmas.Bool.{false≢true, and_parts, eqb-true}
 use Rattle.std.proofs.lemmas.Option.{none-some, same_Some, slice_get_within, get_or_from_slice_get}
@@ -9,7 +9,6 @@ use Rattle.qu_base.specs.declared.party.ObjectId.{ObjectId}
 use Rattle.qu_stamp.specs.declared.candidate.Candidate.{Candidate}
 use Rattle.qu_stamp.specs.Candidate.{opening}
 use Rattle.qu_history.specs.declared.sets.SetOf.{SetOf}
-use Rattle.qu_history.specs.History.{ObjectHistory}
 use Rattle.qu_objects.specs.declared.op.Op.{Op}
 use Rattle.qu_objects.specs.declared.op.Op.TheVariants as op
 use Rattle.qu_objects.specs.declared.op.Outcome.{Outcome}
@@ -40,9 +39,9 @@ use Rattle.qu_safety.specs.Digested.{IsMadeFor}
 use Rattle.qu_safety.specs.Decided.{accepts, IsDecided, TookEffect}
 use Rattle.qu_safety.specs.Grounds.{AcceptsOne, IsDelivered}
 use Rattle.qu_safety.specs.Invocations.{IsRequestOf}
-use Rattle.qu_safety.specs.Order.{world_after, DecidesAt, AnswersFirst, answers, sends_answer, completed_effect, query_effect, effect_of, IsPoint}
+use Rattle.qu_safety.specs.Order.{world_after, DecidesAt, AnswersFirst, is_answer, answers, sends_answer, completed_effect, query_effect, effect_of, IsPoint}
 use Rattle.qu_safety.specs.Replies.{IsReplyTo}
-use Rattle.qu_safety.specs.Views.{HaveParts}
+use Rattle.qu_safety.specs.Views.{ArePlain}
 use Rattle.qu_safety.proofs.Accepting.{some_entry, opening_alone, Acceptance}
 use Rattle.qu_safety.proofs.Chained.{AcceptedAt, accepted_somewhere}
 use Rattle.qu_safety.proofs.ChainLaws.{accepted_of}
@@ -52,7 +51,12 @@ use Rattle.qu_safety.proofs.Recorded.{recorded_op}
 use Rattle.qu_safety.proofs.Replying.{reply_sent}
 use Rattle.qu_safety.proofs.Taking.{effect_once}
 use Rattle.qu_safety.proofs.WorldGrowth.{accepted_by_decided}
+use Rattle.qu_safety.proofs.Carrying.{asks_as, tells_as, asks_so, one_carried}
 use Rattle.qu_safety.proofs.Small.{same_clients, same_deliver, same_point}
+use Rattle.qu_safety.specs.Carried.{Asks, Tells}
+use Rattle.qu_frames.specs.Decoding.{decoded}
+use Rattle.qu_history.specs.declared.sealed.Sealed.{Sealed}
+use Rattle.qu_base.specs.declared.bad_text.BadText.{BadText}
 
 -- ---- answers
 
@@ -60,20 +64,24 @@ use Rattle.qu_safety.proofs.Small.{same_clients, same_deliver, same_point}
 pub record IsReplyIn (client : ClientId) (number round : ℕ) (letter : Letter) : Type 0 where
   pub replica : ReplicaId
   pub verdict : Verdict
-  pub shown : List ObjectHistory
-  pub is_reply : letter.frame ≡ frame.Reply replica client number round verdict shown
+  pub shown : List Sealed
+  pub is_reply : Tells letter replica client number round verdict shown
 
-reply_is : (letter : Letter) (replica : ReplicaId) (other client : ClientId) (replied number turn round : ℕ) (verdict : Verdict) (shown : List ObjectHistory)
-    → letter.frame ≡ frame.Reply replica other replied turn verdict shown → other ≡ client → replied ≡ number → turn ≡ round → IsReplyIn client number round letter
+reply_is : (letter : Letter) (replica : ReplicaId) (other client : ClientId) (replied number turn round : ℕ) (verdict : Verdict) (shown : List Sealed)
+    → Tells letter replica other replied turn verdict shown → other ≡ client → replied ≡ number → turn ≡ round → IsReplyIn client number round letter
 reply_is letter replica other client replied number turn round verdict shown is same_client same_number same_round =
-    record { replica = replica; verdict = verdict; shown = shown; is_reply = is ∙ (λ i. frame.Reply replica (same_client i) (same_number i) (same_round i) verdict shown) }
+    record { replica = replica; verdict = verdict; shown = shown; is_reply = tells_as letter replica other client replied number turn round verdict verdict shown same_client same_number same_round refl is }
 
-pub reply_in : (client : ClientId) (number round : ℕ) (letter : Letter) (sent : Frame) → letter.frame ≡ sent → answers client number round (record { from = letter.from; to = letter.to; frame = sent }) ≡ true → IsReplyIn client number round letter
-reply_in client number round letter (frame.Request other asked turn sets asks) is answer = absurd (false≢true answer)
-reply_in client number round letter (frame.Reply replica other replied turn verdict shown) is answer =
+reply_in_read : (client : ClientId) (number round : ℕ) (letter : Letter) (read : Result Frame BadText) → decoded letter.text ≡ read → is_answer client number round read ≡ true → IsReplyIn client number round letter
+reply_in_read client number round letter (Err bad) is answer = absurd (false≢true answer)
+reply_in_read client number round letter (Ok (frame.Request other asked turn sets asks mac)) is answer = absurd (false≢true answer)
+reply_in_read client number round letter (Ok (frame.Reply replica other replied turn verdict culled shown mac)) is answer =
     let parts : ((other.0 == client.0) ≡ true) × ((replied == number && turn == round) ≡ true) = and_parts _ _ answer in
     let more : ((replied == number) ≡ true) × ((turn == round) ≡ true) = and_parts _ _ parts.1 in
-    reply_is letter replica other client replied number turn round verdict shown is (same_clients other client (eqb-true _ _ parts.0)) (eqb-true _ _ more.0) (eqb-true _ _ more.1)
+    reply_is letter replica other client replied number turn round verdict shown (record { culled = culled; mac = mac; carries = is }) (same_clients other client (eqb-true _ _ parts.0)) (eqb-true _ _ more.0) (eqb-true _ _ more.1)
+
+pub reply_in : (client : ClientId) (number round : ℕ) (letter : Letter) → answers client number round letter ≡ true → IsReplyIn client number round letter
+reply_in client number round letter answer = reply_in_read client number round letter (decoded letter.text) refl answer
 
 -- ---- what an event delivers
 
@@ -87,13 +95,13 @@ record IsAskedAt (trace : Trace) (time : ℕ) (client : ClientId) (number : ℕ)
   round : ℕ
   sets : List SetOf
   asks : Body
-  is_request : letter.frame ≡ frame.Request client number round sets asks
+  is_request : Asks letter client number round sets asks
 
 -- the event with this number does
 abbrev IsAskedBy : Trace → ℕ → ClientId → ℕ → Type 0
 IsAskedBy trace event client number = (time : ℕ) × (event ≡ suc time) × IsAskedAt trace time client number
 
-module _ (trace : Trace) (is_run : IsRun trace) (have : HaveParts trace.entries) (one_act : ActsAreOne trace) where
+module _ (trace : Trace) (is_run : IsRun trace) (have : ArePlain trace.entries) (one_act : ActsAreOne trace) where
   -- before the first event no operation has taken effect: what is accepted then has no act
   not_at_first : (client : ClientId) (act : Digest) → TookEffect (world_after trace 0) client act → ⊥
   not_at_first client act took =
@@ -108,7 +116,7 @@ module _ (trace : Trace) (is_run : IsRun trace) (have : HaveParts trace.entries)
       → IsAskedAt trace time client number
   asked_by_acceptance time object place candidate client number parts within accepted made =
       let delivered : IsDelivered (world_after trace time) accepted.event place accepted.old accepted.new object = accepted.delivered in
-      let one : AcceptsOne accepted.old accepted.new (delivered.letter).frame object = delivered.accepts in
+      let one : AcceptsOne accepted.old accepted.new delivered.carried object = delivered.accepts in
       let same = one_made_for trace one_act candidate one.client client one.number number ((object, one.method) ∷ []) parts (accepted_made trace is_run time within object place candidate accepted) made in
       let same_client : one.client ≡ client = same.0 in
       let same_number : one.number ≡ number = same.1 in
@@ -121,7 +129,9 @@ module _ (trace : Trace) (is_run : IsRun trace) (have : HaveParts trace.entries)
         round = one.round;
         sets = one.sets;
         asks = body.Act ((object, one.method) ∷ []);
-        is_request = one.is_request ∙ (λ i. frame.Request (same_client i) (same_number i) one.round one.sets (body.Act ((object, one.method) ∷ [])));
+        is_request =
+            asks_as delivered.letter one.client client one.number number one.round one.round one.sets (body.Act ((object, one.method) ∷ [])) (body.Act ((object, one.method) ∷ [])) same_client same_number refl refl
+            (asks_so delivered.letter delivered.carried one.client one.number one.round one.sets (body.Act ((object, one.method) ∷ [])) one.mac delivered.carries one.is_request);
       }
 
   -- an update takes effect where a candidate of it is established
@@ -165,7 +175,7 @@ module _ (trace : Trace) (is_run : IsRun trace) (have : HaveParts trace.entries)
   sends_asked client number round time None is sends = absurd (false≢true sends)
   sends_asked client number round time (Some entry) is sends =
       let one : Passes (answers client number round) entry.letters = passes_from_any (answers client number round) entry.letters sends in
-      let it : IsReplyIn client number round one.found = reply_in client number round one.found (one.found).frame refl one.passes in
+      let it : IsReplyIn client number round one.found = reply_in client number round one.found one.passes in
       asked_by_reply time (it.replica).0 client number round it.verdict
       (reply_sent trace is_run have time (slice_get_within trace.entries time entry is) entry is one.found one.of_list it.replica client number round it.verdict it.shown it.is_reply)
 
@@ -196,18 +206,18 @@ pub record PointRequest (trace : Trace) (time : ℕ) (point : Point) : Type 0 wh
   pub is_letter : letter_of (world_after trace time) asked ≡ Some letter
   pub round : ℕ
   pub sets : List SetOf
-  pub is_request : letter.frame ≡ frame.Request point.client point.number round sets (body_of point.op)
+  pub is_request : Asks letter point.client point.number round sets (body_of point.op)
 
 -- what asks for an operation of the trace asks for what it does, and after it began
 record AsksFor (operation : OpRecord) (time : ℕ) (asks : Body) : Type 0 where
   same : asks ≡ body_of operation.op
   begun : operation.invoked ≤ time
 
-asks_for : (trace : Trace) → IsRun trace → (time : ℕ) (operation : OpRecord) → Contains (operations_of trace.entries) operation → (asked : IsAskedAt trace time operation.client operation.number) → AsksFor operation time asked.asks
-asks_for trace is_run time operation of_trace asked =
+asks_for : (trace : Trace) → IsRun trace → ArePlain trace.entries → (time : ℕ) (operation : OpRecord) → Contains (operations_of trace.entries) operation → (asked : IsAskedAt trace time operation.client operation.number) → AsksFor operation time asked.asks
+asks_for trace is_run have time operation of_trace asked =
     let within : time < length trace.entries = asked.within in
     let request : IsRequestOf trace time operation.client operation.number asked.asks =
-    request_of trace is_run time (omega arith) asked.asked asked.letter asked.is_letter operation.client operation.number asked.round asked.sets asked.asks asked.is_request in
+    request_of trace is_run have time (omega arith) asked.asked asked.letter asked.is_letter operation.client operation.number asked.round asked.sets asked.asks asked.is_request in
     let same : request.operation ≡ operation =
     recorded_op trace request.operation operation request.of_trace of_trace (ap (λ (it : ClientId). it.0) request.of_client) request.of_number in
     record {
@@ -215,7 +225,7 @@ asks_for trace is_run time operation of_trace asked =
       begun = subst (λ (it : OpRecord). it.invoked ≤ time) same request.begun;
     }
 
-module _ (trace : Trace) (is_run : IsRun trace) (have : HaveParts trace.entries) (one_act : ActsAreOne trace) where
+module _ (trace : Trace) (is_run : IsRun trace) (have : ArePlain trace.entries) (one_act : ActsAreOne trace) where
   asked_of_point : (point : Point) → (is : IsPoint trace point) → IsAskedBy trace point.event is.operation.client is.operation.number
   asked_of_point point is = effect_asked trace is_run have one_act is.operation point.event is.operation.op is.effect
 
@@ -223,7 +233,7 @@ module _ (trace : Trace) (is_run : IsRun trace) (have : HaveParts trace.entries)
   point_request point is =
       let by : IsAskedBy trace point.event is.operation.client is.operation.number = asked_of_point point is in
       let asked : IsAskedAt trace by.0 is.operation.client is.operation.number = by.2 in
-      let same : asked.asks ≡ body_of point.op = (asks_for trace is_run by.0 is.operation is.of_trace asked).same ∙ ap body_of is.op in (
+      let same : asked.asks ≡ body_of point.op = (asks_for trace is_run have by.0 is.operation is.of_trace asked).same ∙ ap body_of is.op in (
         by.0,
         by.1,
         record {
@@ -234,7 +244,7 @@ module _ (trace : Trace) (is_run : IsRun trace) (have : HaveParts trace.entries)
           is_letter = asked.is_letter;
           round = asked.round;
           sets = asked.sets;
-          is_request = asked.is_request ∙ (λ i. frame.Request (is.client i) (is.number i) asked.round asked.sets (same i));
+          is_request = asks_as asked.letter (is.operation).client point.client (is.operation).number point.number asked.round asked.round asked.sets asked.asks (body_of point.op) is.client is.number refl same asked.is_request;
         },
       )
 
@@ -243,7 +253,7 @@ module _ (trace : Trace) (is_run : IsRun trace) (have : HaveParts trace.entries)
   begun_before point is =
       let by : IsAskedBy trace point.event is.operation.client is.operation.number = asked_of_point point is in
       let event : point.event ≡ suc by.0 = by.1 in
-      let begun : is.operation.invoked ≤ by.0 = (asks_for trace is_run by.0 is.operation is.of_trace by.2).begun in
+      let begun : is.operation.invoked ≤ by.0 = (asks_for trace is_run have by.0 is.operation is.of_trace by.2).begun in
       omega arith
 
   -- a point is at an event of the trace
@@ -270,18 +280,23 @@ one_point trace first second one two same_client same_number =
     (sym one.op ∙ ap (λ (it : OpRecord). it.op) same ∙ two.op)
     (sym one.correct ∙ two.correct)
 
-same_request : (first second : ClientId) (asked number turn round : ℕ) (sets shown : List SetOf) (asks told : Body) → frame.Request first asked turn sets asks ≡ frame.Request second number round shown told → (first ≡ second) × (asked ≡ number)
-same_request first second asked number turn round sets shown asks told same = (cc, cc)
+same_frame : (first second : ClientId) (asked number turn round : ℕ) (sets shown : List SetOf) (asks told : Body) (mac seal : List ℕ) → frame.Request first asked turn sets asks mac ≡ frame.Request second number round shown told seal → (first ≡ second) × (asked ≡ number)
+same_frame first second asked number turn round sets shown asks told mac seal same = (cc, cc)
 
-module _ (trace : Trace) (is_run : IsRun trace) (have : HaveParts trace.entries) (one_act : ActsAreOne trace) where
+same_request : (letter : Letter) (first second : ClientId) (asked number turn round : ℕ) (sets shown : List SetOf) (asks told : Body) → Asks letter first asked turn sets asks → Asks letter second number round shown told → (first ≡ second) × (asked ≡ number)
+same_request letter first second asked number turn round sets shown asks told one two =
+    same_frame first second asked number turn round sets shown asks told one.mac two.mac
+    (one_carried letter (frame.Request first asked turn sets asks one.mac) (frame.Request second number round shown told two.mac) one.carries two.carries)
+
+module _ (trace : Trace) (is_run : IsRun trace) (have : ArePlain trace.entries) (one_act : ActsAreOne trace) where
   -- one event delivers one letter
   apart_at : (time : ℕ) (first second : Point) → PointRequest trace time first → PointRequest trace time second → (first.client ≡ second.client) × (first.number ≡ second.number)
   apart_at time first second one two =
       let asked : one.asked ≡ two.asked = same_deliver one.asked two.asked (sym one.is_deliver ∙ two.is_deliver) in
       let letter : one.letter ≡ two.letter =
       same_Some one.letter two.letter (sym one.is_letter ∙ ap (λ (it : ℕ). letter_of (world_after trace time) it) asked ∙ two.is_letter) in
-      same_request first.client second.client first.number second.number one.round two.round one.sets two.sets (body_of first.op) (body_of second.op)
-      (sym one.is_request ∙ ap (λ (it : Letter). it.frame) letter ∙ two.is_request)
+      same_request two.letter first.client second.client first.number second.number one.round two.round one.sets two.sets (body_of first.op) (body_of second.op)
+      (subst (λ (it : Letter). Asks it first.client first.number one.round one.sets (body_of first.op)) letter one.is_request) two.is_request
 
   -- points differ in their events
   pub points_apart : (first second : Point) → IsPoint trace first → IsPoint trace second → first.event ≡ second.event → first ≡ second

@@ -11,7 +11,7 @@ use Rattle.qu_frames.specs.declared.frame.Letter.{Letter}
 use Rattle.qu_client.specs.declared.state.ClientState.{ClientState}
 use Rattle.qu_machine.specs.declared.record.OpRecord.{OpRecord}
 use Rattle.qu_trace.specs.declared.event.Event.{Event}
-use Rattle.qu_trace.specs.declared.event.Event.TheVariants.{Invoke, Deliver, Tick}
+use Rattle.qu_trace.specs.declared.event.Event.TheVariants.{Invoke, Deliver, Tick, Inject}
 use Rattle.qu_trace.specs.declared.trace.Entry.{Entry}
 use Rattle.qu_trace.specs.declared.trace.Trace.{Trace}
 use Rattle.qu_trace.specs.Operations.{begun_by, invokes, record_of, begins_at, operations_from, operations_of}
@@ -21,10 +21,11 @@ use Rattle.qu_world.specs.Refusals.{refused_tick, refused_delivery, refused_invo
 use Rattle.qu_world.specs.Run.{IsRun}
 use Rattle.qu_world.proofs.RunLaws.{below_limit, idle_by}
 use Rattle.qu_safety.specs.Order.{world_after}
-use Rattle.qu_safety.specs.Views.{HasOpParts, HasEventParts, HaveParts}
+use Rattle.qu_safety.specs.Views.{HasOpParts, IsPlain, ArePlain}
 use Rattle.qu_safety.proofs.Beginning.{happens}
 use Rattle.qu_safety.proofs.Entries.{length_after}
 use Rattle.qu_safety.proofs.Small.{some_entry}
+use Rattle.qu_safety.proofs.Each.{each_at}
 
 -- ---- how many events there are
 
@@ -40,17 +41,18 @@ few_ticked : (entries : List Entry) (who : Party) (found : Option ClientState) �
 few_ticked entries who None may = absurd cc
 few_ticked entries who (Some state) may = below_limit entries may
 
-few_before : (world : WorldState) (event : Event) → refusal_of world event ≡ None → length world.entries < EVENT_LIMIT
-few_before world (Invoke client op) may = few_invoked world.entries _ (numbered world.clients client.0) may
-few_before world (Deliver number) may = few_delivered world.entries number (letter_of world number) may
-few_before world (Tick client) may = few_ticked world.entries _ (numbered world.clients client.0) may
+few_before : (world : WorldState) (event : Event) → IsPlain event → refusal_of world event ≡ None → length world.entries < EVENT_LIMIT
+few_before world (Invoke client op) plain may = few_invoked world.entries _ (numbered world.clients client.0) may
+few_before world (Deliver number) plain may = few_delivered world.entries number (letter_of world number) may
+few_before world (Inject to text) plain may = absurd plain
+few_before world (Tick client) plain may = few_ticked world.entries _ (numbered world.clients client.0) may
 
-few_by : (trace : Trace) → IsRun trace → (count : ℕ) → length trace.entries ≡ count → count ≤ EVENT_LIMIT
-few_by trace is_run zero all = omega arith
-few_by trace is_run (suc last) all =
+pub few_by : (trace : Trace) → IsRun trace → ArePlain trace.entries → (count : ℕ) → length trace.entries ≡ count → count ≤ EVENT_LIMIT
+few_by trace is_run have zero all = omega arith
+few_by trace is_run have (suc last) all =
     let default : Entry = some_entry trace.entries (omega arith) in
     let few : length (world_after trace last).entries < EVENT_LIMIT =
-    few_before (world_after trace last) (get_or trace.entries last default).event (happens trace is_run last default (omega arith)) in
+    few_before (world_after trace last) (get_or trace.entries last default).event (each_at (λ (entry : Entry). IsPlain entry.event) trace.entries last default have (omega arith)) (happens trace is_run last default (omega arith)) in
     let counted : length (world_after trace last).entries ≡ last = length_after trace last (omega arith) in
     omega (arith, few, counted)
 
@@ -65,15 +67,16 @@ begun_few : (client : ClientId) (entries : List Entry) → begun_by client entri
 unfolding begun_by
 begun_few client entries = count_by-le-length (λ entry. invokes client entry.event) entries
 
-begins_in_range : (most : ℕ) (event : Event) (at : ℕ) (earlier later : List Entry) (operations : List OpRecord) → HasEventParts event → length earlier + 1 ≤ most → All (IsInRange most) operations
+begins_in_range : (most : ℕ) (event : Event) (at : ℕ) (earlier later : List Entry) (operations : List OpRecord) → IsPlain event → length earlier + 1 ≤ most → All (IsInRange most) operations
     → All (IsInRange most) (begins_at event at earlier later ++ operations)
 begins_in_range most (Invoke client op) at earlier later operations parts few all =
     let begun : begun_by client earlier ≤ length earlier = begun_few client earlier in
     All-cons (IsInRange most) (record_of client op at earlier later) operations (record { client = parts.0; number = omega arith; parts = parts.1 }) all
 begins_in_range most (Deliver letter) at earlier later operations parts few all = all
 begins_in_range most (Tick client) at earlier later operations parts few all = all
+begins_in_range most (Inject to text) at earlier later operations parts few all = all
 
-all_in_range : (most : ℕ) (earlier : List Entry) (at : ℕ) (later : List Entry) → HaveParts later → length earlier + length later ≤ most → All (IsInRange most) (operations_from earlier at later)
+all_in_range : (most : ℕ) (earlier : List Entry) (at : ℕ) (later : List Entry) → ArePlain later → length earlier + length later ≤ most → All (IsInRange most) (operations_from earlier at later)
 unfolding operations_from
 all_in_range most earlier at [] have few = All-nil (IsInRange most)
 all_in_range most earlier at (entry ∷ later) have few =
@@ -87,10 +90,10 @@ pub record Fits (operation : OpRecord) : Type 0 where
   pub number : operation.number < 2 ^ 64
   pub parts : HasOpParts operation.op
 
-pub operation_fits : (trace : Trace) → IsRun trace → HaveParts trace.entries → (operation : OpRecord) → Contains (operations_of trace.entries) operation → Fits operation
+pub operation_fits : (trace : Trace) → IsRun trace → ArePlain trace.entries → (operation : OpRecord) → Contains (operations_of trace.entries) operation → Fits operation
 operation_fits trace is_run have operation among =
     let most : ℕ = length trace.entries in
-    let few : most ≤ EVENT_LIMIT = few_by trace is_run most refl in
+    let few : most ≤ EVENT_LIMIT = few_by trace is_run have most refl in
     let it : IsInRange most operation = subst (IsInRange most) among.2 (all_in_range most [] 1 trace.entries have (omega arith) among.0 operation among.1) in
     let within : operation.number ≤ most = it.number in
     record { client = it.client; number = omega (arith, few, within); parts = it.parts }

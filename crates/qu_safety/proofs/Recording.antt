@@ -7,14 +7,13 @@ use Rattle.qu_base.specs.declared.party.Party.{Party}
 use Rattle.qu_base.specs.declared.party.Party.TheVariants as party
 use Rattle.qu_base.specs.declared.party.ReplicaId.{ReplicaId}
 use Rattle.qu_objects.specs.declared.op.Op.{Op}
-use Rattle.qu_frames.specs.declared.frame.Frame.{Frame}
 use Rattle.qu_frames.specs.declared.frame.Letter.{Letter}
 use Rattle.qu_replica.specs.State.{ReplicaState}
 use Rattle.qu_replica.specs.Step.{replica_step}
 use Rattle.qu_client.specs.declared.state.ClientState.{ClientState}
 use Rattle.qu_client.specs.Step.{client_invoke, client_step, client_tick}
 use Rattle.qu_trace.specs.declared.event.Event.{Event}
-use Rattle.qu_trace.specs.declared.event.Event.TheVariants.{Invoke, Deliver, Tick}
+use Rattle.qu_trace.specs.declared.event.Event.TheVariants.{Invoke, Deliver, Tick, Inject}
 use Rattle.qu_trace.specs.declared.trace.Entry.{Entry}
 use Rattle.qu_trace.specs.declared.trace.Trace.{Trace}
 use Rattle.qu_world.specs.State.{WorldState, opening_world, numbered, letter_of}
@@ -23,25 +22,27 @@ use Rattle.qu_world.specs.Run.{run_from, events_of, IsRun}
 use Rattle.qu_world.proofs.RunLaws.{step_records}
 use Rattle.qu_safety.specs.Order.{world_after}
 use Rattle.qu_safety.proofs.WorldGrowth.{world_after-next}
+use Rattle.qu_safety.specs.Views.{IsPlain, ArePlain}
+use Rattle.qu_safety.proofs.Each.{each_at}
 
 -- ---- what a step of a world may be
 
 -- whatever holds of each of these holds of the step
 module _ (world : WorldState) (P : WorldState → Type 0)
     (nothing : (event : Event) → P (unchanged world event))
-    (replica_moves : (event : Event) (me : ReplicaId) (frame : Frame) (state : ReplicaState) → slice_get world.replicas me.0 ≡ Some state → P (at_replica world event me frame (Some state)))
+    (replica_moves : (number : ℕ) (letter : Letter) (me : ReplicaId) (state : ReplicaState) → letter_of world number ≡ Some letter → slice_get world.replicas me.0 ≡ Some state → P (at_replica world (Deliver number) me letter.text (Some state)))
     (invokes : (client : ClientId) (op : Op) (state : ClientState) → numbered world.clients client.0 ≡ Some state → P (at_client world (Invoke client op) client (λ (state : ClientState). client_invoke state op) (Some state)))
-    (takes : (number : ℕ) (letter : Letter) (client : ClientId) (state : ClientState) → letter_of world number ≡ Some letter → numbered world.clients client.0 ≡ Some state → P (at_client world (Deliver number) client (λ (state : ClientState). client_step state letter.frame) (Some state)))
+    (takes : (number : ℕ) (letter : Letter) (client : ClientId) (state : ClientState) → letter_of world number ≡ Some letter → numbered world.clients client.0 ≡ Some state → P (at_client world (Deliver number) client (λ (state : ClientState). client_step state letter.text) (Some state)))
     (ticks : (client : ClientId) (state : ClientState) → numbered world.clients client.0 ≡ Some state → P (at_client world (Tick client) client client_tick (Some state))) where
-  replica_found : (event : Event) (me : ReplicaId) (frame : Frame) (found : Option ReplicaState) → slice_get world.replicas me.0 ≡ found → P (at_replica world event me frame found)
-  replica_found event me frame None is = nothing event
-  replica_found event me frame (Some state) is = replica_moves event me frame state is
+  replica_found : (number : ℕ) (letter : Letter) → letter_of world number ≡ Some letter → (me : ReplicaId) (found : Option ReplicaState) → slice_get world.replicas me.0 ≡ found → P (at_replica world (Deliver number) me letter.text found)
+  replica_found number letter sent me None is = nothing (Deliver number)
+  replica_found number letter sent me (Some state) is = replica_moves number letter me state sent is
 
   invoke_found : (client : ClientId) (op : Op) (found : Option ClientState) → numbered world.clients client.0 ≡ found → P (at_client world (Invoke client op) client (λ (state : ClientState). client_invoke state op) found)
   invoke_found client op None is = nothing (Invoke client op)
   invoke_found client op (Some state) is = invokes client op state is
 
-  take_found : (number : ℕ) (letter : Letter) → letter_of world number ≡ Some letter → (client : ClientId) (found : Option ClientState) → numbered world.clients client.0 ≡ found → P (at_client world (Deliver number) client (λ (state : ClientState). client_step state letter.frame) found)
+  take_found : (number : ℕ) (letter : Letter) → letter_of world number ≡ Some letter → (client : ClientId) (found : Option ClientState) → numbered world.clients client.0 ≡ found → P (at_client world (Deliver number) client (λ (state : ClientState). client_step state letter.text) found)
   take_found number letter sent client None is = nothing (Deliver number)
   take_found number letter sent client (Some state) is = takes number letter client state sent is
 
@@ -49,18 +50,20 @@ module _ (world : WorldState) (P : WorldState → Type 0)
   tick_found client None is = nothing (Tick client)
   tick_found client (Some state) is = ticks client state is
 
-  received_by : (number : ℕ) (letter : Letter) → letter_of world number ≡ Some letter → (to : Party) → P (received world (Deliver number) to letter.frame)
-  received_by number letter sent (party.Replica me) = replica_found (Deliver number) me letter.frame (slice_get world.replicas me.0) refl
+  received_by : (number : ℕ) (letter : Letter) → letter_of world number ≡ Some letter → (to : Party) → P (received world (Deliver number) to letter.text)
+  received_by number letter sent (party.Replica me) = replica_found number letter sent me (slice_get world.replicas me.0) refl
   received_by number letter sent (party.Client me) = take_found number letter sent me (numbered world.clients me.0) refl
 
   letter_found : (number : ℕ) (found : Option Letter) → letter_of world number ≡ found → P (delivered world (Deliver number) found)
   letter_found number None is = nothing (Deliver number)
   letter_found number (Some letter) is = received_by number letter is letter.to
 
-  pub world_cases : (event : Event) → P (world_step world event)
-  world_cases (Invoke client op) = invoke_found client op (numbered world.clients client.0) refl
-  world_cases (Deliver number) = letter_found number (letter_of world number) refl
-  world_cases (Tick client) = tick_found client (numbered world.clients client.0) refl
+  -- of an event that is no injection
+  pub world_cases : (event : Event) → IsPlain event → P (world_step world event)
+  world_cases (Invoke client op) plain = invoke_found client op (numbered world.clients client.0) refl
+  world_cases (Deliver number) plain = letter_found number (letter_of world number) refl
+  world_cases (Tick client) plain = tick_found client (numbered world.clients client.0) refl
+  world_cases (Inject to text) plain = absurd plain
 
 -- ---- the entries of a world of a run
 
@@ -112,11 +115,11 @@ step_entry trace is index entry found =
     ap (λ (held : Entry). (world_after trace index).entries ++ held ∷ []) at
 
 -- whatever holds of each of these holds of the entry with this index
-module _ (trace : Trace) (is : IsRun trace) (index : ℕ) (entry : Entry) (is_entry : slice_get trace.entries index ≡ Some entry) (Q : Entry → Type 0)
+module _ (trace : Trace) (is : IsRun trace) (plain : ArePlain trace.entries) (index : ℕ) (entry : Entry) (is_entry : slice_get trace.entries index ≡ Some entry) (Q : Entry → Type 0)
     (nothing : (event : Event) → Q (record { event = event; letters = []; ended = None }))
-    (replica_moves : (event : Event) (me : ReplicaId) (frame : Frame) (state : ReplicaState) → slice_get (world_after trace index).replicas me.0 ≡ Some state → Q (record { event = event; letters = (replica_step state frame).1; ended = None }))
+    (replica_moves : (number : ℕ) (letter : Letter) (me : ReplicaId) (state : ReplicaState) → letter_of (world_after trace index) number ≡ Some letter → slice_get (world_after trace index).replicas me.0 ≡ Some state → Q (record { event = Deliver number; letters = (replica_step state letter.text).1; ended = None }))
     (invokes : (client : ClientId) (op : Op) (state : ClientState) → numbered (world_after trace index).clients client.0 ≡ Some state → Q (record { event = Invoke client op; letters = (client_invoke state op).letters; ended = ended_by client state.work (client_invoke state op).ended }))
-    (takes : (number : ℕ) (letter : Letter) (client : ClientId) (state : ClientState) → letter_of (world_after trace index) number ≡ Some letter → numbered (world_after trace index).clients client.0 ≡ Some state → Q (record { event = Deliver number; letters = (client_step state letter.frame).letters; ended = ended_by client state.work (client_step state letter.frame).ended }))
+    (takes : (number : ℕ) (letter : Letter) (client : ClientId) (state : ClientState) → letter_of (world_after trace index) number ≡ Some letter → numbered (world_after trace index).clients client.0 ≡ Some state → Q (record { event = Deliver number; letters = (client_step state letter.text).letters; ended = ended_by client state.work (client_step state letter.text).ended }))
     (ticks : (client : ClientId) (state : ClientState) → numbered (world_after trace index).clients client.0 ≡ Some state → Q (record { event = Tick client; letters = (client_tick state).letters; ended = ended_by client state.work (client_tick state).ended })) where
   abbrev before : WorldState
   before = world_after trace index
@@ -128,8 +131,11 @@ module _ (trace : Trace) (is : IsRun trace) (index : ℕ) (entry : Entry) (is_en
   entry_cases =
       world_cases before (λ (new : WorldState). new.entries ≡ before.entries ++ entry ∷ [] → Q entry)
       (λ event. of_last _ (nothing event))
-      (λ event me frame state found. of_last _ (replica_moves event me frame state found))
+      (λ number letter me state sent found. of_last _ (replica_moves number letter me state sent found))
       (λ client op state found. of_last _ (invokes client op state found))
       (λ number letter client state sent found. of_last _ (takes number letter client state sent found))
       (λ client state found. of_last _ (ticks client state found))
-      entry.event (step_entry trace is index entry is_entry)
+      entry.event
+      (subst (λ (it : Entry). IsPlain it.event) (get_or_from_slice_get trace.entries index entry entry is_entry)
+      (each_at (λ (it : Entry). IsPlain it.event) trace.entries index entry plain (slice_get_within trace.entries index entry is_entry)))
+      (step_entry trace is index entry is_entry)

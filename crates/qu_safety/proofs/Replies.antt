@@ -1,31 +1,34 @@
 -- Replies are sent by replicas, and what is delivered was sent before.
-use Rattle.std.proofs.Common.{◌≡◌, ℕ, zero, suc, ◌+◌, ◌-◌, ◌<◌, ◌≤◌, List, [], ◌∷◌, length, take, Some, refl, sym, ap, subst, ◌∙◌, arith, inl, inr, slice_get, All, Contains}
+use Rattle.std.proofs.Common.{◌≡◌, ℕ, zero, suc, ◌+◌, ◌-◌, ◌<◌, ◌≤◌, List, [], ◌∷◌, length, take, Some, refl, sym, ap, subst, ◌∙◌, arith, inl, inr, slice_get, All, Contains, Result, Ok, Err}
 use Rattle.std.specs.List.{AllZip}
 use Rattle.std.proofs.lemmas.Bool.{cases_lt}
 use Rattle.std.proofs.lemmas.List.{take_all}
 use Rattle.std.proofs.lemmas.List.Elements.{All-nil, All-cons}
-use Rattle.std.proofs.lemmas.Option.{none-some, same_Some, get_or_from_slice_get}
+use Rattle.std.proofs.lemmas.Option.{none-some, same_Some, slice_get_within, get_or_from_slice_get}
 use Rattle.qu_base.specs.declared.party.ClientId.{ClientId}
+use Rattle.qu_base.specs.declared.party.Party.TheVariants as party
 use Rattle.qu_base.specs.declared.party.ReplicaId.{ReplicaId}
 use Rattle.qu_base.specs.Thresholds.{replicas}
 use Rattle.qu_history.specs.declared.sets.SetOf.{SetOf}
-use Rattle.qu_history.specs.History.{ObjectHistory}
 use Rattle.qu_objects.specs.declared.kind.KindName.{KindName}
 use Rattle.qu_objects.specs.declared.op.Op.{Op}
 use Rattle.qu_frames.specs.declared.frame.Frame.{Frame}
 use Rattle.qu_frames.specs.declared.frame.Frame.TheVariants as frame
 use Rattle.qu_frames.specs.declared.frame.Letter.{Letter}
 use Rattle.qu_frames.specs.declared.verdict.Verdict.{Verdict}
+use Rattle.qu_frames.specs.Body.{body_of}
+use Rattle.qu_frames.specs.Blank.{blank_mac}
+use Rattle.qu_replica.specs.declared.decision.Accepted.{Accepted}
 use Rattle.qu_replica.specs.declared.decision.Decision.{Decision}
 use Rattle.qu_replica.specs.declared.decision.Decision.TheVariants.{Answers, Waits}
-use Rattle.qu_replica.specs.State.{ReplicaState}
+use Rattle.qu_replica.specs.State.{ReplicaState, accept_all}
 use Rattle.qu_replica.specs.Growth.{Grows}
 use Rattle.qu_replica.specs.Rows.{asked_of, decision_on}
-use Rattle.qu_replica.specs.Step.{carried_out, replica_step}
+use Rattle.qu_replica.specs.Step.{answer_frame, reply, carried_out, on_frame, on_decoded}
 use Rattle.qu_replica.proofs.Growth.{accept_all-me}
 use Rattle.qu_client.specs.declared.state.ClientState.{ClientState}
 use Rattle.qu_client.specs.declared.work.Work.{Work}
-use Rattle.qu_client.specs.Rounds.{requests_from}
+use Rattle.qu_client.specs.Rounds.{request_of, requests_from}
 use Rattle.qu_client.specs.Step.{client_invoke, client_step}
 use Rattle.qu_client.proofs.Cases.{step_cases, invoke_cases}
 use Rattle.qu_trace.specs.declared.trace.Entry.{Entry}
@@ -39,6 +42,14 @@ use Rattle.qu_safety.specs.Order.{world_after}
 use Rattle.qu_safety.proofs.WorldGrowth.{world_after-none, world_after-grows}
 use Rattle.qu_safety.proofs.Recording.{entries_after, entry_cases}
 use Rattle.qu_safety.proofs.LaterLetters.{letter_later}
+use Rattle.qu_safety.specs.Carried.{Tells}
+use Rattle.qu_frames.specs.Decoding.{decoded}
+use Rattle.qu_frames.specs.Forms.{frame_form}
+use Rattle.qu_safety.specs.Views.{ArePlain}
+use Rattle.qu_history.specs.declared.sealed.Sealed.{Sealed}
+use Rattle.qu_base.specs.declared.bad_text.BadText.{BadText}
+use Rattle.qu_safety.proofs.Carrying.{AnswersFit, carried_is, no_reply}
+use Rattle.qu_safety.proofs.Fitting.{fit_step}
 
 -- ---- the names of replicas
 
@@ -69,38 +80,50 @@ replica_within trace index place state found =
 -- a reply is from a replica below this bound
 abbrev pub RepliesWithin : ℕ → Letter → Type 0
 RepliesWithin bound letter =
-    (replica : ReplicaId) (client : ClientId) (number round : ℕ) (verdict : Verdict) (shown : List ObjectHistory) → letter.frame ≡ frame.Reply replica client number round verdict shown → replica.0 < bound
+    (replica : ReplicaId) (client : ClientId) (number round : ℕ) (verdict : Verdict) (shown : List Sealed) → Tells letter replica client number round verdict shown → replica.0 < bound
 
-of_reply : (bound : ℕ) (me : ReplicaId) (to : ClientId) (asked turn : ℕ) (told : Verdict) (showing : List ObjectHistory) → me.0 < bound → (replica : ReplicaId) (client : ClientId) (number round : ℕ) (verdict : Verdict) (shown : List ObjectHistory) → frame.Reply me to asked turn told showing ≡ frame.Reply replica client number round verdict shown → replica.0 < bound
-of_reply bound me to asked turn told showing below replica client number round verdict shown is =
-    let same : me ≡ replica = cc in
-    subst (λ (it : ReplicaId). it.0 < bound) same below
+by_replica : (bound : ℕ) (state : ReplicaState) (client : ClientId) (number round : ℕ) (sets : List SetOf) (decision : Decision)
+    → ((verdict : Verdict) (accepted : List Accepted) → decision ≡ Answers verdict accepted → frame_form.Fits (answer_frame (accept_all state accepted) client number round sets verdict))
+    → (state.me).0 < bound → All (RepliesWithin bound) (carried_out state client number round sets decision).1
+by_replica bound state client number round sets (Answers verdict accepted) fits below =
+    let new : ReplicaState = accept_all state accepted in
+    All-cons (RepliesWithin bound) (reply new client number round sets verdict) []
+    (λ replica to asked turn told shown tells.
+    let is : frame.Reply replica to asked turn told tells.culled shown tells.mac ≡ answer_frame new client number round sets verdict =
+    carried_is (reply new client number round sets verdict) (answer_frame new client number round sets verdict) _ (fits verdict accepted refl) refl tells.carries in
+    let named : replica ≡ new.me = cc in
+    subst (λ (it : ReplicaId). it.0 < bound) (sym (named ∙ accept_all-me state accepted)) below)
+    (All-nil (RepliesWithin bound))
+by_replica bound state client number round sets Waits fits below = All-nil (RepliesWithin bound)
 
-by_replica : (bound : ℕ) (state : ReplicaState) (client : ClientId) (number round : ℕ) (sets : List SetOf) (decision : Decision) → (state.me).0 < bound → All (RepliesWithin bound) (carried_out state client number round sets decision).1
-by_replica bound state client number round sets (Answers verdict accepted) below =
-    All-cons (RepliesWithin bound) _ [] (of_reply bound _ client number round verdict _ (subst (λ (it : ReplicaId). it.0 < bound) (sym (accept_all-me state accepted)) below)) (All-nil (RepliesWithin bound))
-by_replica bound state client number round sets Waits below = All-nil (RepliesWithin bound)
+frame_replies : (bound : ℕ) (state : ReplicaState) (received : Frame) → AnswersFit state received → (state.me).0 < bound → All (RepliesWithin bound) (on_frame state received).1
+frame_replies bound state (frame.Request client number round sets body mac) fits below =
+    by_replica bound state client number round sets (decision_on state (asked_of client number sets body) body) fits below
+frame_replies bound state (frame.Reply replica client number round verdict culled shown mac) fits below = All-nil (RepliesWithin bound)
 
-replica_replies : (bound : ℕ) (state : ReplicaState) (received : Frame) → (state.me).0 < bound → All (RepliesWithin bound) (replica_step state received).1
-replica_replies bound state (frame.Request client number round sets body) below =
-    by_replica bound state client number round sets (decision_on state (asked_of client number sets body) body) below
-replica_replies bound state (frame.Reply replica client number round verdict shown) below = All-nil (RepliesWithin bound)
+decoded_replies : (bound : ℕ) (state : ReplicaState) (read : Result Frame BadText) → ((sent : Frame) → read ≡ Ok sent → AnswersFit state sent) → (state.me).0 < bound → All (RepliesWithin bound) (on_decoded state read).1
+decoded_replies bound state (Ok received) fits below = frame_replies bound state received (fits received refl) below
+decoded_replies bound state (Err bad) fits below = All-nil (RepliesWithin bound)
 
 -- requests are no replies
 by_client : (bound replica count : ℕ) (me : ClientId) (work : Work) (sets : List SetOf) → All (RepliesWithin bound) (requests_from replica count me work sets)
 unfolding requests_from
 by_client bound replica zero me work sets = All-nil (RepliesWithin bound)
 by_client bound replica (suc count) me work sets =
-    All-cons (RepliesWithin bound) _ _ (λ from client number round verdict shown is. absurd cc) (by_client bound (replica + 1) count me work sets)
+    All-cons (RepliesWithin bound) _ _
+    (λ from client number round verdict shown tells.
+    absurd (no_reply (record { from = party.Client me; to = party.Replica (record { 0 = replica }); text = frame_form.spell (request_of me work sets) })
+    me work.number work.round sets (body_of work.op) blank_mac refl from client number round verdict shown tells))
+    (by_client bound (replica + 1) count me work sets)
 
-step_replies : (bound : ℕ) (state : ClientState) (received : Frame) → All (RepliesWithin bound) (client_step state received).letters
-step_replies bound state received =
+step_replies : (bound : ℕ) (state : ClientState) (text : List ℕ) → All (RepliesWithin bound) (client_step state text).letters
+step_replies bound state text =
     let none : All (RepliesWithin bound) [] = All-nil (RepliesWithin bound) in
     step_cases state (λ stepped. All (RepliesWithin bound) stepped.letters)
     none (λ _. none) (λ _ _ _ _ _ _ _ _. none) (λ _ _. none)
     (λ kept work replies acted is asking below. by_client bound 0 (replicas state.bounds) state.me _ _)
     (λ _ _ _ _ _ _. none)
-    received
+    text
 
 invoke_replies : (bound : ℕ) (state : ClientState) (op : Op) → All (RepliesWithin bound) (client_invoke state op).letters
 invoke_replies bound state op =
@@ -108,15 +131,18 @@ invoke_replies bound state op =
     (λ acted. by_client bound 0 (replicas state.bounds) state.me _ _) (All-nil (RepliesWithin bound))
 
 -- each reply among a run's letters is from one of its replicas
-pub replies_within : (trace : Trace) → IsRun trace → (index : ℕ) (entry : Entry) → slice_get trace.entries index ≡ Some entry → All (RepliesWithin (replicas trace.setup.bounds)) entry.letters
-replies_within trace is index entry is_entry =
+pub replies_within : (trace : Trace) → IsRun trace → ArePlain trace.entries → (index : ℕ) (entry : Entry) → slice_get trace.entries index ≡ Some entry → All (RepliesWithin (replicas trace.setup.bounds)) entry.letters
+replies_within trace is have index entry is_entry =
     let bound : ℕ = replicas trace.setup.bounds in
+    let below : index < length trace.entries = slice_get_within trace.entries index entry is_entry in
     let none : All (RepliesWithin bound) [] = All-nil (RepliesWithin bound) in
-    entry_cases trace is index entry is_entry (λ (made : Entry). All (RepliesWithin bound) made.letters)
+    entry_cases trace is have index entry is_entry (λ (made : Entry). All (RepliesWithin bound) made.letters)
     (λ event. none)
-    (λ event me received state found. replica_replies bound state received (replica_within trace index me.0 state found))
+    (λ number letter me state sent found.
+    decoded_replies bound state (decoded letter.text) (λ carried carries. (fit_step trace is have index below).answers me state found number letter carried sent carries)
+    (replica_within trace index me.0 state found))
     (λ client op state found. invoke_replies bound state op)
-    (λ number letter client state sent found. step_replies bound state letter.frame)
+    (λ number letter client state sent found. step_replies bound state letter.text)
     (λ client state found. none)
 
 -- ---- where a letter was sent

@@ -1,37 +1,39 @@
 -- Only a replica that is handed a request sends a reply, and the reply's verdict is what it decided.
-use Rattle.std.proofs.Common.{◌≡◌, ℕ, zero, suc, ◌+◌, ◌<◌, Bool, true, false, List, [], ◌∷◌, ◌++◌, length, get_or, Option, None, Some, refl, sym, subst, ap, ◌∙◌, arith}
+use Rattle.std.proofs.Common.{◌≡◌, ℕ, zero, suc, ◌+◌, ◌<◌, List, [], ◌∷◌, ◌++◌, length, get_or, Option, None, Some, refl, sym, subst, ap, ◌∙◌, arith, map, Result, Ok, Err}
 use Rattle.std.specs.Prelude.{slice_get, Contains}
 use Rattle.std.specs.List.{AllByRecursion}
-use Rattle.std.proofs.lemmas.Bool.{false≢true}
 use Rattle.std.proofs.lemmas.Option.{none-some, same_Some, get_or_from_slice_get}
 use Rattle.qu_base.specs.declared.party.ClientId.{ClientId}
+use Rattle.qu_base.specs.declared.party.ObjectId.{ObjectId}
 use Rattle.qu_base.specs.declared.party.Party.{Party}
 use Rattle.qu_base.specs.declared.party.Party.TheVariants as party
 use Rattle.qu_base.specs.declared.party.ReplicaId.{ReplicaId}
 use Rattle.qu_base.specs.Thresholds.{replicas}
 use Rattle.qu_history.specs.declared.sets.SetOf.{SetOf}
-use Rattle.qu_history.specs.History.{ObjectHistory}
 use Rattle.qu_objects.specs.declared.op.Op.{Op}
 use Rattle.qu_frames.specs.declared.frame.Body.{Body}
 use Rattle.qu_frames.specs.declared.frame.Frame.{Frame}
 use Rattle.qu_frames.specs.declared.frame.Frame.TheVariants as frame
 use Rattle.qu_frames.specs.declared.frame.Letter.{Letter}
 use Rattle.qu_frames.specs.declared.verdict.Verdict.{Verdict}
+use Rattle.qu_frames.specs.Body.{body_of}
+use Rattle.qu_frames.specs.Blank.{blank_mac, sealed}
 use Rattle.qu_replica.specs.declared.decision.Accepted.{Accepted}
 use Rattle.qu_replica.specs.declared.decision.Decision.{Decision}
 use Rattle.qu_replica.specs.declared.decision.Decision.TheVariants.{Answers, Waits}
 use Rattle.qu_replica.specs.State.{ReplicaState, accept_all}
 use Rattle.qu_replica.specs.Rows.{asked_of, decision_on}
-use Rattle.qu_replica.specs.Step.{reply, carried_out, replica_step}
+use Rattle.qu_replica.specs.Step.{answer_frame, reply, carried_out, on_frame, on_decoded, replica_step}
+use Rattle.qu_replica.specs.Step as own
 use Rattle.qu_client.specs.declared.state.ClientState.{ClientState}
 use Rattle.qu_client.specs.declared.state.Stepped.{Stepped}
 use Rattle.qu_client.specs.declared.work.Work.{Work}
-use Rattle.qu_client.specs.Rounds.{requests_from}
+use Rattle.qu_client.specs.Rounds.{request_of, requests_from}
 use Rattle.qu_client.specs.Step.{client_invoke, client_step, client_tick}
 use Rattle.qu_client.proofs.Cases.{step_cases, invoke_cases}
 use Rattle.qu_machine.proofs.Firsts.{at_contains}
 use Rattle.qu_trace.specs.declared.event.Event.{Event}
-use Rattle.qu_trace.specs.declared.event.Event.TheVariants.{Invoke, Deliver, Tick}
+use Rattle.qu_trace.specs.declared.event.Event.TheVariants.{Invoke, Deliver, Tick, Inject}
 use Rattle.qu_trace.specs.declared.trace.Entry.{Entry}
 use Rattle.qu_trace.specs.declared.trace.Trace.{Trace}
 use Rattle.qu_world.specs.State.{WorldState, numbered, letter_of}
@@ -39,21 +41,26 @@ use Rattle.qu_world.specs.Step.{world_step, unchanged, at_replica, at_client, re
 use Rattle.qu_world.specs.Run.{IsRun}
 use Rattle.qu_safety.specs.Order.{world_after}
 use Rattle.qu_safety.specs.Replies.{IsReplyTo}
-use Rattle.qu_safety.specs.Views.{HaveParts}
-use Rattle.qu_safety.proofs.Each.{each_found, set_here}
+use Rattle.qu_safety.specs.Views.{ArePlain, IsPlain}
+use Rattle.qu_safety.proofs.Each.{each_found, set_here, each_at}
 use Rattle.qu_safety.proofs.Entries.{entry_recorded}
 use Rattle.qu_safety.proofs.OwnHistories.{IsInPlace, step-in_place}
 use Rattle.qu_safety.proofs.Views.{true_world}
 use Rattle.qu_safety.proofs.WorldGrowth.{world_after-next}
+use Rattle.qu_safety.specs.Carried.{Tells, Carries, Asks}
+use Rattle.qu_frames.specs.Decoding.{decoded}
+use Rattle.qu_frames.specs.Forms.{frame_form}
+use Rattle.qu_history.specs.declared.sealed.Sealed.{Sealed}
+use Rattle.qu_base.specs.declared.bad_text.BadText.{BadText}
+use Rattle.qu_safety.proofs.Carrying.{asks_so, AnswersFit, carried_is, no_reply}
+use Rattle.qu_safety.proofs.Fitting.{fit_step}
 
 -- ---- clients send requests
 
-abbrev is_reply : Frame → Bool
-is_reply (frame.Request client number round sets body) = false
-is_reply (frame.Reply replica client number round verdict shown) = true
-
+-- the letter carries no reply
 abbrev IsNoReply : Letter → Type 0
-IsNoReply letter = is_reply letter.frame ≡ false
+IsNoReply letter =
+    (replica : ReplicaId) (client : ClientId) (number round : ℕ) (verdict : Verdict) (shown : List Sealed) → Tells letter replica client number round verdict shown → ⊥
 
 abbrev SendsNoReply : Stepped → Type 0
 SendsNoReply stepped = AllByRecursion IsNoReply stepped.letters
@@ -61,16 +68,19 @@ SendsNoReply stepped = AllByRecursion IsNoReply stepped.letters
 requests : (replica count : ℕ) (me : ClientId) (work : Work) (sets : List SetOf) → AllByRecursion IsNoReply (requests_from replica count me work sets)
 unfolding requests_from
 requests replica zero me work sets = tt
-requests replica (suc count) me work sets = (refl, requests (replica + 1) count me work sets)
+requests replica (suc count) me work sets = (
+  no_reply (record { from = party.Client me; to = party.Replica (record { 0 = replica }); text = frame_form.spell (request_of me work sets) }) me work.number work.round sets (body_of work.op) blank_mac refl,
+  requests (replica + 1) count me work sets,
+)
 
 invoke_requests : (state : ClientState) (op : Op) → SendsNoReply (client_invoke state op)
 invoke_requests state op = invoke_cases state op SendsNoReply (λ acted. requests 0 (replicas state.bounds) state.me _ _) tt
 
-step_requests : (state : ClientState) (sent : Frame) → SendsNoReply (client_step state sent)
-step_requests state sent =
+step_requests : (state : ClientState) (text : List ℕ) → SendsNoReply (client_step state text)
+step_requests state text =
     step_cases state SendsNoReply tt (λ kept. tt) (λ kept work replica number round verdict is counting. tt) (λ kept end. tt)
     (λ kept work replies acted is asking more. requests 0 (replicas state.bounds) state.me _ _)
-    (λ kept work replies is asking more. tt) sent
+    (λ kept work replies is asking more. tt) text
 
 -- ---- who sends a reply
 
@@ -84,22 +94,23 @@ record IsAnswer (old new : WorldState) (event : Event) (place : ℕ) (sent : Let
   to : letter.to ≡ party.Replica me
   state : ReplicaState
   is_state : slice_get old.replicas me.0 ≡ Some state
-  is_new : slice_get new.replicas me.0 ≡ Some (replica_step state letter.frame).0
-  sent_by : slice_get (replica_step state letter.frame).1 place ≡ Some sent
+  is_new : slice_get new.replicas me.0 ≡ Some (replica_step state letter.text).0
+  sent_by : slice_get (replica_step state letter.text).1 place ≡ Some sent
 
 -- what a step records, and whose the replies are
 record Sends (old new : WorldState) (event : Event) : Type 0 where
   entry : Entry
   of_event : entry.event ≡ event
   made : new.entries ≡ old.entries ++ entry ∷ []
-  replies : (place : ℕ) (sent : Letter) → slice_get entry.letters place ≡ Some sent → is_reply sent.frame ≡ true → IsAnswer old new event place sent
+  replies : (place : ℕ) (sent : Letter) → slice_get entry.letters place ≡ Some sent
+      → (replica : ReplicaId) (client : ClientId) (number round : ℕ) (verdict : Verdict) (shown : List Sealed) → Tells sent replica client number round verdict shown → IsAnswer old new event place sent
 
 unchanged_sends : (world : WorldState) (event : Event) → Sends world (unchanged world event) event
 unchanged_sends world event = record {
   entry = record { event = event; letters = []; ended = None };
   of_event = refl;
   made = refl;
-  replies = λ place sent found reply. absurd (none-some sent found);
+  replies = λ place sent found _ _ _ _ _ _ tells. absurd (none-some sent found);
 }
 
 client_sends : (world : WorldState) (event : Event) (me : ClientId) (move : ClientState → Stepped) (found : Option ClientState) → ((state : ClientState) → SendsNoReply (move state)) → Sends world (at_client world event me move found) event
@@ -108,17 +119,17 @@ client_sends world event me move (Some state) moves = record {
   entry = _;
   of_event = refl;
   made = refl;
-  replies = λ place sent found reply. absurd (false≢true (sym (each_found IsNoReply (move state).letters place sent (moves state) found) ∙ reply));
+  replies = λ place sent found replica client number round verdict shown tells. absurd (each_found IsNoReply (move state).letters place sent (moves state) found replica client number round verdict shown tells);
 }
 
 replica_sends : (world : WorldState) (asked : ℕ) (letter : Letter) (me : ReplicaId) (found : Option ReplicaState) → letter_of world asked ≡ Some letter → letter.to ≡ party.Replica me → slice_get world.replicas me.0 ≡ found
-    → Sends world (at_replica world (Deliver asked) me letter.frame found) (Deliver asked)
+    → Sends world (at_replica world (Deliver asked) me letter.text found) (Deliver asked)
 replica_sends world asked letter me None is_letter to is = unchanged_sends world (Deliver asked)
 replica_sends world asked letter me (Some state) is_letter to is = record {
   entry = _;
   of_event = refl;
   made = refl;
-  replies = λ place sent found reply. record {
+  replies = λ place sent found _ _ _ _ _ _ tells. record {
     asked = asked;
     is_deliver = refl;
     letter = letter;
@@ -127,25 +138,26 @@ replica_sends world asked letter me (Some state) is_letter to is = record {
     to = to;
     state = state;
     is_state = is;
-    is_new = set_here world.replicas me.0 state (replica_step state letter.frame).0 is;
+    is_new = set_here world.replicas me.0 state (replica_step state letter.text).0 is;
     sent_by = found;
   };
 }
 
-received_sends : (world : WorldState) (asked : ℕ) (letter : Letter) (to : Party) → letter_of world asked ≡ Some letter → letter.to ≡ to → Sends world (received world (Deliver asked) to letter.frame) (Deliver asked)
+received_sends : (world : WorldState) (asked : ℕ) (letter : Letter) (to : Party) → letter_of world asked ≡ Some letter → letter.to ≡ to → Sends world (received world (Deliver asked) to letter.text) (Deliver asked)
 received_sends world asked letter (party.Replica me) is_letter is_to = replica_sends world asked letter me (slice_get world.replicas me.0) is_letter is_to refl
 received_sends world asked letter (party.Client me) is_letter is_to =
-    client_sends world (Deliver asked) me (λ (state : ClientState). client_step state letter.frame) (numbered world.clients me.0) (λ state. step_requests state letter.frame)
+    client_sends world (Deliver asked) me (λ (state : ClientState). client_step state letter.text) (numbered world.clients me.0) (λ state. step_requests state letter.text)
 
 delivered_sends : (world : WorldState) (asked : ℕ) (found : Option Letter) → letter_of world asked ≡ found → Sends world (delivered world (Deliver asked) found) (Deliver asked)
 delivered_sends world asked None is = unchanged_sends world (Deliver asked)
 delivered_sends world asked (Some letter) is = received_sends world asked letter letter.to is refl
 
-step_sends : (world : WorldState) (event : Event) → Sends world (world_step world event) event
-step_sends world (Invoke client op) =
+step_sends : (world : WorldState) (event : Event) → IsPlain event → Sends world (world_step world event) event
+step_sends world (Invoke client op) plain =
     client_sends world (Invoke client op) client (λ (state : ClientState). client_invoke state op) (numbered world.clients client.0) (λ state. invoke_requests state op)
-step_sends world (Deliver asked) = delivered_sends world asked (letter_of world asked) refl
-step_sends world (Tick client) =
+step_sends world (Inject to text) plain = absurd plain
+step_sends world (Deliver asked) plain = delivered_sends world asked (letter_of world asked) refl
+step_sends world (Tick client) plain =
     client_sends world (Tick client) client client_tick (numbered world.clients client.0) (λ state. tt)
 
 -- ---- what a reply is
@@ -154,25 +166,27 @@ step_sends world (Tick client) =
 record IsDecidedOn (state : ReplicaState) (taken : Frame) (replica : ReplicaId) (client : ClientId) (number round : ℕ) (verdict : Verdict) : Type 0 where
   sets : List SetOf
   body : Body
-  is_request : taken ≡ frame.Request client number round sets body
+  mac : List ℕ
+  is_request : taken ≡ frame.Request client number round sets body mac
   accepted : List Accepted
   decided : decision_on state (asked_of client number sets body) body ≡ Answers verdict accepted
-  from : replica ≡ ((replica_step state taken).0).me
+  from : replica ≡ ((on_frame state taken).0).me
 
-module _ (replica : ReplicaId) (client : ClientId) (number round : ℕ) (verdict : Verdict) (shown : List ObjectHistory) where
+module _ (replica : ReplicaId) (client : ClientId) (number round : ℕ) (verdict : Verdict) (culled : List (ObjectId × ReplicaId)) (shown : List Sealed) (seal : List ℕ) where
   -- the fields of a reply are those of its request
-  same_reply : (me : ReplicaId) (other : ClientId) (asked turn : ℕ) (given : Verdict) (histories : List ObjectHistory) → frame.Reply me other asked turn given histories ≡ frame.Reply replica client number round verdict shown
+  same_reply : (me : ReplicaId) (other : ClientId) (asked turn : ℕ) (given : Verdict) (none : List (ObjectId × ReplicaId)) (histories : List Sealed) (mac : List ℕ) → frame.Reply me other asked turn given none histories mac ≡ frame.Reply replica client number round verdict culled shown seal
       → (me ≡ replica) × (other ≡ client) × (asked ≡ number) × (turn ≡ round) × (given ≡ verdict)
-  same_reply me other asked turn given histories same = (cc, cc, cc, cc, cc)
+  same_reply me other asked turn given none histories mac same = (cc, cc, cc, cc, cc)
 
-  decided_by : (state : ReplicaState) (other : ClientId) (asked turn : ℕ) (sets : List SetOf) (body : Body) (accepted : List Accepted) (given : Verdict)
+  decided_by : (state : ReplicaState) (other : ClientId) (asked turn : ℕ) (sets : List SetOf) (body : Body) (mac : List ℕ) (accepted : List Accepted) (given : Verdict)
       → decision_on state (asked_of other asked sets body) body ≡ Answers given accepted
       → (accept_all state accepted).me ≡ replica → other ≡ client → asked ≡ number → turn ≡ round → given ≡ verdict
-      → ((replica_step state (frame.Request other asked turn sets body)).0).me ≡ replica
-      → IsDecidedOn state (frame.Request other asked turn sets body) replica client number round verdict
-  decided_by state other asked turn sets body accepted given is from is_client is_number is_round is_verdict me = record {
+      → ((on_frame state (frame.Request other asked turn sets body mac)).0).me ≡ replica
+      → IsDecidedOn state (frame.Request other asked turn sets body mac) replica client number round verdict
+  decided_by state other asked turn sets body mac accepted given is from is_client is_number is_round is_verdict me = record {
     sets = sets;
     body = body;
+    mac = mac;
     is_request = cc;
     accepted = accepted;
     decided =
@@ -183,23 +197,52 @@ module _ (replica : ReplicaId) (client : ClientId) (number round : ℕ) (verdict
     from = sym me;
   }
 
-  carried_reply : (state : ReplicaState) (other : ClientId) (asked turn : ℕ) (sets : List SetOf) (body : Body) (decision : Decision)
+  carried_reply : (state : ReplicaState) (other : ClientId) (asked turn : ℕ) (sets : List SetOf) (body : Body) (mac : List ℕ) (decision : Decision)
+      → ((given : Verdict) (accepted : List Accepted) → decision ≡ Answers given accepted → frame_form.Fits (answer_frame (accept_all state accepted) other asked turn sets given))
       → decision_on state (asked_of other asked sets body) body ≡ decision
-      → (place : ℕ) (sent : Letter) → slice_get (carried_out state other asked turn sets decision).1 place ≡ Some sent → sent.frame ≡ frame.Reply replica client number round verdict shown
-      → IsDecidedOn state (frame.Request other asked turn sets body) replica client number round verdict
-  carried_reply state other asked turn sets body Waits is place sent found is_reply = absurd (none-some sent found)
-  carried_reply state other asked turn sets body (Answers given accepted) is (suc place) sent found is_reply = absurd (none-some sent found)
-  carried_reply state other asked turn sets body (Answers given accepted) is zero sent found is_reply =
+      → (place : ℕ) (sent : Letter) → slice_get (carried_out state other asked turn sets decision).1 place ≡ Some sent → Carries sent (frame.Reply replica client number round verdict culled shown seal)
+      → IsDecidedOn state (frame.Request other asked turn sets body mac) replica client number round verdict
+  carried_reply state other asked turn sets body mac Waits fits is place sent found is_reply = absurd (none-some sent found)
+  carried_reply state other asked turn sets body mac (Answers given accepted) fits is (suc place) sent found is_reply = absurd (none-some sent found)
+  carried_reply state other asked turn sets body mac (Answers given accepted) fits is zero sent found is_reply =
       let new : ReplicaState = accept_all state accepted in
-      let same = same_reply _ _ _ _ _ _ (ap (λ (it : Letter). it.frame) (same_Some (reply new other asked turn sets given) sent found) ∙ is_reply) in
-      decided_by state other asked turn sets body accepted given is same.0 same.1 same.2 same.3 same.4
+      let is_sent : sent.text ≡ frame_form.spell (answer_frame new other asked turn sets given) = ap (λ (it : Letter). it.text) (sym (same_Some (reply new other asked turn sets given) sent found)) in
+      let same = same_reply new.me other asked turn given [] (map (sealed new.bounds) (own.shown new sets)) blank_mac
+      (sym (carried_is sent (answer_frame new other asked turn sets given) (frame.Reply replica client number round verdict culled shown seal) (fits given accepted refl) is_sent is_reply)) in
+      decided_by state other asked turn sets body mac accepted given is same.0 same.1 same.2 same.3 same.4
       (ap (λ (it : Decision). ((carried_out state other asked turn sets it).0).me) is ∙ same.0)
 
-  reply_decided : (state : ReplicaState) (taken : Frame) (place : ℕ) (sent : Letter) → slice_get (replica_step state taken).1 place ≡ Some sent → sent.frame ≡ frame.Reply replica client number round verdict shown
+  reply_decided : (state : ReplicaState) (taken : Frame) → AnswersFit state taken → (place : ℕ) (sent : Letter) → slice_get (on_frame state taken).1 place ≡ Some sent → Carries sent (frame.Reply replica client number round verdict culled shown seal)
       → IsDecidedOn state taken replica client number round verdict
-  reply_decided state (frame.Request other asked turn sets body) place sent found is_reply =
-      carried_reply state other asked turn sets body (decision_on state (asked_of other asked sets body) body) refl place sent found is_reply
-  reply_decided state (frame.Reply me other asked turn given histories) place sent found is_reply = absurd (none-some sent found)
+  reply_decided state (frame.Request other asked turn sets body mac) fits place sent found is_reply =
+      carried_reply state other asked turn sets body mac (decision_on state (asked_of other asked sets body) body) fits refl place sent found is_reply
+  reply_decided state (frame.Reply me other asked turn given none histories mac) fits place sent found is_reply = absurd (none-some sent found)
+
+-- the same of the text of a letter
+record IsDecidedUpon (state : ReplicaState) (letter : Letter) (replica : ReplicaId) (client : ClientId) (number round : ℕ) (verdict : Verdict) : Type 0 where
+  sets : List SetOf
+  body : Body
+  is_request : Asks letter client number round sets body
+  accepted : List Accepted
+  decided : decision_on state (asked_of client number sets body) body ≡ Answers verdict accepted
+  from : replica ≡ ((replica_step state letter.text).0).me
+
+decided_upon : (state : ReplicaState) (letter : Letter) (replica : ReplicaId) (client : ClientId) (number round : ℕ) (verdict : Verdict) (shown : List Sealed) (read : Result Frame BadText) → decoded letter.text ≡ read
+    → ((carried : Frame) → Carries letter carried → AnswersFit state carried)
+    → (place : ℕ) (sent : Letter) → slice_get (replica_step state letter.text).1 place ≡ Some sent → Tells sent replica client number round verdict shown → IsDecidedUpon state letter replica client number round verdict
+decided_upon state letter replica client number round verdict shown (Err bad) read fits place sent found tells =
+    absurd (none-some sent (ap (λ it. slice_get (on_decoded state it).1 place) (sym read) ∙ found))
+decided_upon state letter replica client number round verdict shown (Ok taken) read fits place sent found tells =
+    let made : IsDecidedOn state taken replica client number round verdict =
+    reply_decided replica client number round verdict tells.culled shown tells.mac state taken (fits taken read) place sent (ap (λ it. slice_get (on_decoded state it).1 place) (sym read) ∙ found) tells.carries in
+    record {
+      sets = made.sets;
+      body = made.body;
+      is_request = asks_so letter taken client number round made.sets made.body made.mac read made.is_request;
+      accepted = made.accepted;
+      decided = made.decided;
+      from = made.from ∙ ap (λ it. ((on_decoded state it).0).me) (sym read);
+    }
 
 -- ---- the replies of a run
 
@@ -208,29 +251,30 @@ named_here : (me replica : ReplicaId) (state : ReplicaState) → replica ≡ sta
 named_here me replica state from in_place = sym (ap (λ (it : ReplicaId). it.0) from ∙ in_place.me)
 
 -- a reply that an entry sends is a replica's to a request that the event of the entry delivers
-pub reply_sent : (trace : Trace) → IsRun trace → HaveParts trace.entries → (at : ℕ) → at < length trace.entries → (entry : Entry) → slice_get trace.entries at ≡ Some entry → (letter : Letter) → Contains entry.letters letter
-    → (replica : ReplicaId) (client : ClientId) (number round : ℕ) (verdict : Verdict) (shown : List ObjectHistory) → letter.frame ≡ frame.Reply replica client number round verdict shown
+pub reply_sent : (trace : Trace) → IsRun trace → ArePlain trace.entries → (at : ℕ) → at < length trace.entries → (entry : Entry) → slice_get trace.entries at ≡ Some entry → (letter : Letter) → Contains entry.letters letter
+    → (replica : ReplicaId) (client : ClientId) (number round : ℕ) (verdict : Verdict) (shown : List Sealed) → Tells letter replica client number round verdict shown
     → IsReplyTo trace at replica.0 client number round verdict
 reply_sent trace is_run have at below entry is_entry letter holding replica client number round verdict shown is =
     let old : WorldState = world_after trace at in
     let new : WorldState = world_after trace (at + 1) in
     let event_is : (get_or trace.entries at entry).event ≡ entry.event = ap (λ (it : Entry). it.event) (get_or_from_slice_get trace.entries at entry entry is_entry) in
     let next : world_step old entry.event ≡ new = ap (world_step old) (sym event_is) ∙ sym (world_after-next trace at entry below) in
-    let sends : Sends old new entry.event = subst (λ (it : WorldState). Sends old it entry.event) next (step_sends old entry.event) in
+    let sends : Sends old new entry.event = subst (λ (it : WorldState). Sends old it entry.event) next (step_sends old entry.event (subst IsPlain event_is (each_at (λ (it : Entry). IsPlain it.event) trace.entries at entry have below))) in
     let recorded : sends.entry ≡ entry = entry_recorded trace is_run at below entry sends.entry is_entry sends.made in
     let place : ℕ = holding.0 in
     let stands : slice_get (sends.entry).letters place ≡ Some letter = ap (λ (it : Entry). slice_get it.letters place) recorded ∙ at_contains entry.letters letter holding in
-    let answer : IsAnswer old new entry.event place letter = sends.replies place letter stands (ap is_reply is) in
-    let made : IsDecidedOn answer.state (answer.letter).frame replica client number round verdict =
-    reply_decided replica client number round verdict shown answer.state (answer.letter).frame place letter answer.sent_by is in
-    let in_place : IsInPlace (answer.me).0 (replica_step answer.state (answer.letter).frame).0 =
-    step-in_place (answer.me).0 answer.state (answer.letter).frame ((true_world trace have at (omega arith)).replicas (answer.me).0 answer.state answer.is_state) in
-    let here : (answer.me).0 ≡ replica.0 = named_here answer.me replica (replica_step answer.state (answer.letter).frame).0 made.from in_place in
+    let answer : IsAnswer old new entry.event place letter = sends.replies place letter stands replica client number round verdict shown is in
+    let made : IsDecidedUpon answer.state answer.letter replica client number round verdict =
+    decided_upon answer.state answer.letter replica client number round verdict shown (decoded (answer.letter).text) refl
+    (λ carried carries. (fit_step trace is_run have at below).answers answer.me answer.state answer.is_state answer.asked answer.letter carried answer.is_letter carries) place letter answer.sent_by is in
+    let in_place : IsInPlace (answer.me).0 (replica_step answer.state (answer.letter).text).0 =
+    step-in_place (answer.me).0 answer.state (answer.letter).text ((true_world trace is_run have at (omega arith)).replicas (answer.me).0 answer.state answer.is_state) in
+    let here : (answer.me).0 ≡ replica.0 = named_here answer.me replica (replica_step answer.state (answer.letter).text).0 made.from in_place in
     subst (λ (it : ℕ). IsReplyTo trace at it client number round verdict) here
     (record {
       old = answer.state;
       is_old = answer.is_state;
-      new = (replica_step answer.state (answer.letter).frame).0;
+      new = (replica_step answer.state (answer.letter).text).0;
       is_new = answer.is_new;
       asked = answer.asked;
       entry = entry;

@@ -1,9 +1,11 @@
 -- What a client asks for, step by step: its requests are those of the operation under way.
-use Rattle.std.proofs.Common.{◌≡◌, ℕ, zero, suc, ◌+◌, ◌≤◌, eqb, true, List, [], Option, None, Some, sym, ap, subst, ◌∙◌, arith}
+use Rattle.std.proofs.Common.{◌≡◌, ℕ, zero, suc, ◌+◌, ◌≤◌, eqb, true, List, [], map, Option, None, Some, sym, ap, subst, ◌∙◌, arith, Result, Ok, Err, refl}
 use Rattle.std.specs.List.{All}
 use Rattle.std.proofs.lemmas.Bool.{cond_both, and_parts}
 use Rattle.std.proofs.lemmas.List.Elements.{All-nil, All-cons}
 use Rattle.qu_base.specs.declared.party.ClientId.{ClientId}
+use Rattle.qu_base.specs.declared.party.ObjectId.{ObjectId}
+use Rattle.qu_base.specs.declared.party.Party.TheVariants as party
 use Rattle.qu_base.specs.declared.party.ReplicaId.{ReplicaId}
 use Rattle.qu_base.specs.Thresholds.{replicas}
 use Rattle.qu_history.specs.declared.sets.SetOf.{SetOf}
@@ -14,23 +16,31 @@ use Rattle.qu_frames.specs.declared.frame.Frame.TheVariants as frame
 use Rattle.qu_frames.specs.declared.frame.Letter.{Letter}
 use Rattle.qu_frames.specs.declared.verdict.Verdict.{Verdict}
 use Rattle.qu_frames.specs.Body.{body_of}
+use Rattle.qu_frames.specs.Blank.{blank_mac, sealed}
 use Rattle.qu_replica.specs.declared.decision.Decision.{Decision}
 use Rattle.qu_replica.specs.declared.decision.Decision.TheVariants.{Answers, Waits}
-use Rattle.qu_replica.specs.State.{ReplicaState}
+use Rattle.qu_replica.specs.State.{ReplicaState, accept_all}
 use Rattle.qu_replica.specs.Rows.{asked_of, decision_on}
-use Rattle.qu_replica.specs.Step.{carried_out, replica_step}
+use Rattle.qu_replica.specs.Step.{shown, reply, carried_out, replica_step}
+use Rattle.qu_replica.specs.Step as replica
 use Rattle.qu_client.specs.declared.state.Stepped.{Stepped}
 use Rattle.qu_client.specs.declared.work.Work.{Work}
 use Rattle.qu_client.specs.declared.state.ClientState.{ClientState}
 use Rattle.qu_client.specs.State.{keep_all}
-use Rattle.qu_client.specs.Rounds.{requests_from}
-use Rattle.qu_client.specs.Step.{client_step, client_invoke, counted_in, counts, is_asking, next_number}
+use Rattle.qu_client.specs.Rounds.{request_of, requests_from}
+use Rattle.qu_client.specs.Step.{on_frame, on_decoded, client_step, client_invoke, counted_in, counts, is_asking, next_number}
 use Rattle.qu_client.specs.Sound.{IsSoundWork, IsSound, last_number}
 use Rattle.qu_client.proofs.Cases.{counted_cases, invoke_cases}
 use Rattle.qu_client.proofs.Laws.{client_step-me, client_invoke-me, IsSound-step, IsSound-invoke}
 use Rattle.qu_trace.specs.declared.trace.Trace.{Trace}
 use Rattle.qu_safety.specs.Invocations.{IsRequestOf}
 use Rattle.qu_safety.proofs.OnceSent.{sound_work}
+use Rattle.qu_safety.specs.Carried.{Carries}
+use Rattle.qu_frames.specs.Decoding.{decoded}
+use Rattle.qu_frames.specs.Forms.{frame_form}
+use Rattle.qu_history.specs.declared.sealed.Sealed.{Sealed}
+use Rattle.qu_base.specs.declared.bad_text.BadText.{BadText}
+use Rattle.qu_safety.proofs.Carrying.{AsksFit, carried_is, no_request}
 
 -- ---- letters
 
@@ -47,35 +57,57 @@ request_later trace count more client number asked order is = record {
 
 -- a request is one of an operation
 abbrev pub IsOfOperation : Trace → ℕ → Frame → Type 0
-IsOfOperation trace count (frame.Request client number round sets body) = IsRequestOf trace count client number body
-IsOfOperation trace count (frame.Reply replica client number round verdict shown) = Unit {0}
+IsOfOperation trace count (frame.Request client number round sets body mac) = IsRequestOf trace count client number body
+IsOfOperation trace count (frame.Reply replica client number round verdict culled shown mac) = Unit {0}
 
 pub record IsAsked (trace : Trace) (count : ℕ) (letter : Letter) : Type 0 where
-  pub asked : IsOfOperation trace count letter.frame
+  pub asked : (carried : Frame) → Carries letter carried → IsOfOperation trace count carried
 
 of_operation_later : (trace : Trace) (count more : ℕ) (sent : Frame) → count ≤ more → IsOfOperation trace count sent → IsOfOperation trace more sent
-of_operation_later trace count more (frame.Request client number round sets body) order is = request_later trace count more client number body order is
-of_operation_later trace count more (frame.Reply replica client number round verdict shown) order is = tt
+of_operation_later trace count more (frame.Request client number round sets body mac) order is = request_later trace count more client number body order is
+of_operation_later trace count more (frame.Reply replica client number round verdict culled shown mac) order is = tt
 
 pub asked_later : (trace : Trace) (count more : ℕ) (letter : Letter) → count ≤ more → IsAsked trace count letter → IsAsked trace more letter
-asked_later trace count more letter order is = record { asked = of_operation_later trace count more letter.frame order is.asked }
+asked_later trace count more letter order is = record { asked = λ carried carries. of_operation_later trace count more carried order (is.asked carried carries) }
 
-requests_asked : (trace : Trace) (count replica many : ℕ) (me : ClientId) (work : Work) (sets : List SetOf) → IsRequestOf trace count me work.number (body_of work.op) → All (IsAsked trace count) (requests_from replica many me work sets)
+requests_asked : (trace : Trace) (count replica many : ℕ) (me : ClientId) (work : Work) (sets : List SetOf) → frame_form.Fits (request_of me work sets) → IsRequestOf trace count me work.number (body_of work.op) → All (IsAsked trace count) (requests_from replica many me work sets)
 unfolding requests_from
-requests_asked trace count replica zero me work sets is = All-nil (IsAsked trace count)
-requests_asked trace count replica (suc many) me work sets is =
-    All-cons (IsAsked trace count) _ _ (record { asked = is }) (requests_asked trace count (replica + 1) many me work sets is)
+requests_asked trace count replica zero me work sets fits is = All-nil (IsAsked trace count)
+requests_asked trace count replica (suc many) me work sets fits is =
+    All-cons (IsAsked trace count) _ _
+    (record {
+      asked = λ carried carries. subst (IsOfOperation trace count)
+          (sym (carried_is (record { from = party.Client me; to = party.Replica (record { 0 = replica }); text = frame_form.spell (request_of me work sets) }) (request_of me work sets) carried fits refl carries)) is;
+    })
+    (requests_asked trace count (replica + 1) many me work sets fits is)
+
+-- a reply is no request
+reply_asked : (trace : Trace) (count : ℕ) (letter : Letter) (replica : ReplicaId) (to : ClientId) (number round : ℕ) (verdict : Verdict) (culled : List (ObjectId × ReplicaId)) (shown : List Sealed) (mac : List ℕ)
+    → letter.text ≡ frame_form.spell (frame.Reply replica to number round verdict culled shown mac) → (carried : Frame) → Carries letter carried → IsOfOperation trace count carried
+reply_asked trace count letter replica to number round verdict culled shown mac spelled (frame.Request client asked turn sets body other) carries =
+    absurd (no_request letter replica to number round verdict culled shown mac spelled client asked turn sets body (record { mac = other; carries = carries }))
+reply_asked trace count letter replica to number round verdict culled shown mac spelled (frame.Reply other client asked turn told more besides seal) carries = tt
 
 carried_asked : (trace : Trace) (count : ℕ) (state : ReplicaState) (client : ClientId) (number round : ℕ) (sets : List SetOf) (decision : Decision) → All (IsAsked trace count) (carried_out state client number round sets decision).1
 carried_asked trace count state client number round sets (Answers verdict accepted) =
-    All-cons (IsAsked trace count) _ [] (record { asked = tt }) (All-nil (IsAsked trace count))
+    let new : ReplicaState = accept_all state accepted in
+    All-cons (IsAsked trace count) (reply new client number round sets verdict) []
+    (record { asked = reply_asked trace count (reply new client number round sets verdict) new.me client number round verdict [] (map (sealed new.bounds) (shown new sets)) blank_mac refl })
+    (All-nil (IsAsked trace count))
 carried_asked trace count state client number round sets Waits = All-nil (IsAsked trace count)
 
 -- a replica sends no request
-pub replica_asked : (trace : Trace) (count : ℕ) (state : ReplicaState) (sent : Frame) → All (IsAsked trace count) (replica_step state sent).1
-replica_asked trace count state (frame.Request client number round sets body) =
+frame_asked : (trace : Trace) (count : ℕ) (state : ReplicaState) (sent : Frame) → All (IsAsked trace count) (replica.on_frame state sent).1
+frame_asked trace count state (frame.Request client number round sets body mac) =
     carried_asked trace count state client number round sets (decision_on state (asked_of client number sets body) body)
-replica_asked trace count state (frame.Reply replica client number round verdict shown) = All-nil (IsAsked trace count)
+frame_asked trace count state (frame.Reply replica client number round verdict culled shown mac) = All-nil (IsAsked trace count)
+
+decoded_asked : (trace : Trace) (count : ℕ) (state : ReplicaState) (read : Result Frame BadText) → All (IsAsked trace count) (replica.on_decoded state read).1
+decoded_asked trace count state (Ok sent) = frame_asked trace count state sent
+decoded_asked trace count state (Err bad) = All-nil (IsAsked trace count)
+
+pub replica_asked : (trace : Trace) (count : ℕ) (state : ReplicaState) (text : List ℕ) → All (IsAsked trace count) (replica_step state text).1
+replica_asked trace count state text = decoded_asked trace count state (decoded text)
 
 -- ---- clients
 
@@ -130,39 +162,47 @@ module _ (trace : Trace) (count begun : ℕ) (state : ClientState) (sound : IsSo
       let last : state.last_request ≡ Some (work.number, work.round) = held.asked (and_parts (is_asking work.phase) _ counting).0 in
       ap last_number last ∙ (working work is).latest
 
-  counted_step : (replica : ReplicaId) (number round : ℕ) (verdict : Verdict) → IsStepAt trace count begun state.me (counted_in state state.work replica number round verdict)
+  counted_step : (replica : ReplicaId) (number round : ℕ) (verdict : Verdict) → AsksFit (counted_in state state.work replica number round verdict).state → IsStepAt trace count begun state.me (counted_in state state.work replica number round verdict)
   counted_step replica number round verdict =
-      counted_cases state replica number round verdict (IsStepAt trace count begun state.me)
-      (record { at_work = at; letters = none_asked })
-      (λ work is counting. record { at_work = record { latest = (working work is).latest; request = (working work is).request }; letters = none_asked })
-      (λ work answer is counting fits enough. record { at_work = ended work replica number round is counting; letters = none_asked })
-      (λ work is counting spent. record { at_work = ended work replica number round is counting; letters = none_asked })
-      (λ work acted is counting below. record {
+      counted_cases state replica number round verdict (λ stepped. AsksFit stepped.state → IsStepAt trace count begun state.me stepped)
+      (λ fits. record { at_work = at; letters = none_asked })
+      (λ work is counting fits. record { at_work = record { latest = (working work is).latest; request = (working work is).request }; letters = none_asked })
+      (λ work answer is counting agrees enough fits. record { at_work = ended work replica number round is counting; letters = none_asked })
+      (λ work is counting spent fits. record { at_work = ended work replica number round is counting; letters = none_asked })
+      (λ work acted is counting below fits. record {
         at_work = record { latest = (working work is).latest; request = (working work is).request };
-        letters = requests_asked trace count 0 (replicas state.bounds) state.me _ _ (working work is).request;
+        letters = requests_asked trace count 0 (replicas state.bounds) state.me _ _ (fits _ refl) (working work is).request;
       })
-      (λ work is counting below. record { at_work = record { latest = (working work is).latest; request = (working work is).request }; letters = none_asked })
+      (λ work is counting below fits. record { at_work = record { latest = (working work is).latest; request = (working work is).request }; letters = none_asked })
 
-step_at : (trace : Trace) (count begun : ℕ) (state : ClientState) (sent : Frame) → IsSound state → IsAtWork trace count begun state.me state.last_request state.work → IsStepAt trace count begun state.me (client_step state sent)
-step_at trace count begun state (frame.Request client number round sets body) sound at = record { at_work = at; letters = All-nil (IsAsked trace count) }
-step_at trace count begun state (frame.Reply replica client number round verdict shown) sound at =
-    cond_both (eqb client.0 (state.me).0) _ _ (IsStepAt trace count begun state.me)
+frame_at : (trace : Trace) (count begun : ℕ) (state : ClientState) (sent : Frame) → IsSound state → IsAtWork trace count begun state.me state.last_request state.work → AsksFit (on_frame state sent).state → IsStepAt trace count begun state.me (on_frame state sent)
+frame_at trace count begun state (frame.Request client number round sets body mac) sound at fits = record { at_work = at; letters = All-nil (IsAsked trace count) }
+frame_at trace count begun state (frame.Reply replica client number round verdict culled shown mac) sound at fits =
+    cond_both (eqb client.0 (state.me).0) _ _ (λ stepped. AsksFit stepped.state → IsStepAt trace count begun state.me stepped)
     (λ _. counted_step trace count begun (record state { kept = keep_all number round shown state.kept }) sound at replica number round verdict)
-    (λ _. record { at_work = at; letters = All-nil (IsAsked trace count) })
+    (λ _ fit. record { at_work = at; letters = All-nil (IsAsked trace count) })
+    fits
+
+decoded_at : (trace : Trace) (count begun : ℕ) (state : ClientState) (read : Result Frame BadText) → IsSound state → IsAtWork trace count begun state.me state.last_request state.work → AsksFit (on_decoded state read).state → IsStepAt trace count begun state.me (on_decoded state read)
+decoded_at trace count begun state (Ok sent) sound at fits = frame_at trace count begun state sent sound at fits
+decoded_at trace count begun state (Err bad) sound at fits = record { at_work = at; letters = All-nil (IsAsked trace count) }
+
+step_at : (trace : Trace) (count begun : ℕ) (state : ClientState) (text : List ℕ) → IsSound state → IsAtWork trace count begun state.me state.last_request state.work → AsksFit (client_step state text).state → IsStepAt trace count begun state.me (client_step state text)
+step_at trace count begun state text = decoded_at trace count begun state (decoded text)
 
 named_at_work : (trace : Trace) (count begun : ℕ) (old new : ClientId) (last : Option (ℕ × ℕ)) (work : Option Work) → new ≡ old → IsAtWork trace count begun old last work → IsAtWork trace count begun new last work
 named_at_work trace count begun old new last work same at = rw same at
 
 -- a client that takes a frame goes on with its operation
-pub client_steps : (trace : Trace) (count begun number : ℕ) (state : ClientState) (sent : Frame) → IsClientAt trace count begun number state → IsClientAt trace count begun number (client_step state sent).state
-client_steps trace count begun number state sent is = record {
-  named = ap (λ (me : ClientId). me.0) (client_step-me state sent) ∙ is.named;
-  sound = IsSound-step state sent is.sound;
-  at_work = named_at_work trace count begun state.me _ (client_step state sent).state.last_request _ (client_step-me state sent) (step_at trace count begun state sent is.sound is.at_work).at_work;
+pub client_steps : (trace : Trace) (count begun number : ℕ) (state : ClientState) (text : List ℕ) → IsClientAt trace count begun number state → AsksFit (client_step state text).state → IsClientAt trace count begun number (client_step state text).state
+client_steps trace count begun number state text is fits = record {
+  named = ap (λ (me : ClientId). me.0) (client_step-me state text) ∙ is.named;
+  sound = IsSound-step state text is.sound;
+  at_work = named_at_work trace count begun state.me _ (client_step state text).state.last_request _ (client_step-me state text) (step_at trace count begun state text is.sound is.at_work fits).at_work;
 }
 
-pub client_step-asked : (trace : Trace) (count begun number : ℕ) (state : ClientState) (sent : Frame) → IsClientAt trace count begun number state → All (IsAsked trace count) (client_step state sent).letters
-client_step-asked trace count begun number state sent is = (step_at trace count begun state sent is.sound is.at_work).letters
+pub client_step-asked : (trace : Trace) (count begun number : ℕ) (state : ClientState) (text : List ℕ) → IsClientAt trace count begun number state → AsksFit (client_step state text).state → All (IsAsked trace count) (client_step state text).letters
+client_step-asked trace count begun number state text is fits = (step_at trace count begun state text is.sound is.at_work fits).letters
 
 next_is : (last : Option (ℕ × ℕ)) (begun : ℕ) → last_number last ≡ begun → next_number last ≡ begun + 1
 next_is None begun is = omega arith
@@ -174,21 +214,21 @@ module _ (trace : Trace) (count begun : ℕ) (state : ClientState) (op : Op) (la
   next_request =
       subst (λ (number : ℕ). IsRequestOf trace count state.me number (body_of op)) (sym (next_is state.last_request begun last)) shown
 
-  invoke_at : IsStepAt trace count (begun + 1) state.me (client_invoke state op)
+  invoke_at : AsksFit (client_invoke state op).state → IsStepAt trace count (begun + 1) state.me (client_invoke state op)
   invoke_at =
-      invoke_cases state op (IsStepAt trace count (begun + 1) state.me)
-      (λ acted. record {
+      invoke_cases state op (λ stepped. AsksFit stepped.state → IsStepAt trace count (begun + 1) state.me stepped)
+      (λ acted fits. record {
         at_work = record { latest = next_is state.last_request begun last; request = next_request };
-        letters = requests_asked trace count 0 (replicas state.bounds) state.me _ _ next_request;
+        letters = requests_asked trace count 0 (replicas state.bounds) state.me _ _ (fits _ refl) next_request;
       })
-      (record { at_work = record { latest = next_is state.last_request begun last; request = next_request }; letters = All-nil (IsAsked trace count) })
+      (λ fits. record { at_work = record { latest = next_is state.last_request begun last; request = next_request }; letters = All-nil (IsAsked trace count) })
 
-  pub client_begins : (number : ℕ) → (state.me).0 ≡ number → IsClientAt trace count (begun + 1) number (client_invoke state op).state
-  client_begins number named = record {
+  pub client_begins : (number : ℕ) → (state.me).0 ≡ number → AsksFit (client_invoke state op).state → IsClientAt trace count (begun + 1) number (client_invoke state op).state
+  client_begins number named fits = record {
     named = ap (λ (me : ClientId). me.0) (client_invoke-me state op) ∙ named;
     sound = IsSound-invoke state op;
-    at_work = named_at_work trace count (begun + 1) state.me _ (client_invoke state op).state.last_request _ (client_invoke-me state op) invoke_at.at_work;
+    at_work = named_at_work trace count (begun + 1) state.me _ (client_invoke state op).state.last_request _ (client_invoke-me state op) (invoke_at fits).at_work;
   }
 
-  pub client_begins-asked : All (IsAsked trace count) (client_invoke state op).letters
-  client_begins-asked = invoke_at.letters
+  pub client_begins-asked : AsksFit (client_invoke state op).state → All (IsAsked trace count) (client_invoke state op).letters
+  client_begins-asked fits = (invoke_at fits).letters

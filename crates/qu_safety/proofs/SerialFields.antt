@@ -13,7 +13,7 @@ use Rattle.qu_trace.specs.Operations.{operations_of}
 use Rattle.qu_world.specs.Run.{IsRun}
 use Rattle.qu_safety.proofs.OneAct.{ActsAreOne}
 use Rattle.qu_safety.specs.Order.{is_earlier, are_in_order, IsPoint, IsPrintedOrder}
-use Rattle.qu_safety.specs.Views.{HaveParts}
+use Rattle.qu_safety.specs.Views.{ArePlain}
 use Rattle.qu_safety.proofs.PointRequests.{begun_before, point_bounds, one_point}
 use Rattle.qu_safety.proofs.Recorded.{recorded_op}
 use Rattle.qu_safety.proofs.Sorted.{is_earlier-self, is_earlier-chain, in_order_parts, in_order_tail}
@@ -78,7 +78,7 @@ module _ (trace : Trace) (order : List Point) (is_order : IsPrintedOrder trace o
       (sym (here.stands).client ∙ (there.stands).client) (sym (here.stands).number ∙ (there.stands).number) in
       one_place order at other second is_order.in_order (here.there ∙ ap Some same) there.there
 
-  module _ (is_run : IsRun trace) (have : HaveParts trace.entries) (one_act : ActsAreOne trace) where
+  module _ (is_run : IsRun trace) (have : ArePlain trace.entries) (one_act : ActsAreOne trace) where
     -- each operation stands at one place at most, after its invocation
     pub stand_at_most_once : (operation : OpRecord) → Contains (operations_of trace.entries) operation → StandsAtMostOnce operation order
     stand_at_most_once operation of_trace = record {

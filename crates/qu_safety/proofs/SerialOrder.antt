@@ -28,7 +28,7 @@ use Rattle.qu_safety.specs.Decided.{accepts, IsDecided, TookEffect}
 use Rattle.qu_safety.specs.Order.{world_after, DecidesAt, effect_of, IsPoint, IsPrintedOrder}
 use Rattle.qu_safety.specs.Points.{point_at}
 use Rattle.qu_safety.specs.Values.{HasVersion}
-use Rattle.qu_safety.specs.Views.{HaveParts}
+use Rattle.qu_safety.specs.Views.{ArePlain}
 use Rattle.qu_safety.proofs.ChainLaws.{setting}
 use Rattle.qu_safety.proofs.Changes.{held_within, how_updated, Change, change, same_update}
 use Rattle.qu_safety.proofs.ActPoints.{StandsBefore, act_has_point}
@@ -59,7 +59,7 @@ index_in (first ∷ later) (suc at) point below is = index_in later at point (om
 place_of : (order : List Point) (point : Point) → Contains order point → PlaceOf order point
 place_of order point held = record { at = held.0; there = index_in order held.0 point held.1 held.2 }
 
-module _ (trace : Trace) (is_run : IsRun trace) (have : HaveParts trace.entries) (one_act : ActsAreOne trace) (order : List Point) (printed : IsPrintedOrder trace order) where
+module _ (trace : Trace) (is_run : IsRun trace) (have : ArePlain trace.entries) (one_act : ActsAreOne trace) (order : List Point) (printed : IsPrintedOrder trace order) where
   facts : Known trace
   facts = known trace is_run have
 
@@ -106,7 +106,7 @@ module _ (trace : Trace) (is_run : IsRun trace) (have : HaveParts trace.entries)
   stands_before : (operation : OpRecord) → Contains (operations_of trace.entries) operation → (reply : ℕ) (answer : Answer) → operation.reply ≡ Some (reply, outcome.Done answer) → (what : Op) → operation.op ≡ what → StandsBefore trace operation reply
   stands_before operation among reply answer replied (op.Act act) is = act_has_point trace is_run have one_act operation among reply answer replied act is
   stands_before operation among reply answer replied (op.Query query) is =
-      let found = query_has_point trace is_run have (completion trace is_run) facts (one_round_request trace is_run) operation among reply answer replied query is in
+      let found = query_has_point trace is_run have (completion trace is_run have) facts (one_round_request trace is_run have) operation among reply answer replied query is in
       record { point = found.0; is_point = found.1; stands = found.2; before = found.3 }
 
   completed : (operation : OpRecord) (reply : ℕ) (answer : Answer) → Contains (operations_of trace.entries) operation → Completes operation reply answer → StandsOnce operation reply order
@@ -184,7 +184,7 @@ module _ (trace : Trace) (is_run : IsRun trace) (have : HaveParts trace.entries)
 
   query_answers : (operation : OpRecord) (reply : ℕ) (answer : Answer) → Contains (operations_of trace.entries) operation → Completes operation reply answer → (query : List (ObjectId × Ask)) → operation.op ≡ op.Query query → (at : ℕ) (point : Point) → StandsAt operation order at point → answer_at trace.setup.kinds order at point ≡ answer
   query_answers operation reply answer among completes query is_query at point here =
-      let done : CompletedQuery trace is_run have operation reply answer = completed_query trace is_run have (completion trace is_run) facts (one_round_request trace is_run) operation among reply answer completes query is_query in
+      let done : CompletedQuery trace is_run have operation reply answer = completed_query trace is_run have (completion trace is_run have) facts (one_round_request trace is_run have) operation among reply answer completes query is_query in
       let there : IsPoint trace (point_at operation done.event) × Stands operation (point_at operation done.event) = point_of_query trace is_run have operation among reply answer completes done in
       let same : point ≡ point_at operation done.event =
       one_point trace point (point_at operation done.event) (point_at_place trace order printed at point here.there) there.0 (sym (here.stands).client) (sym (here.stands).number) in

@@ -34,7 +34,7 @@ use Rattle.qu_chain.proofs.Counting.{test_at-here}
 use Rattle.qu_replica.specs.Rows.{asked_of}
 use Rattle.std.proofs.lemmas.List.Elements.{Contains-get_or}
 use Rattle.qu_safety.proofs.OneAct.{act_by}
-use Rattle.qu_safety.proofs.Handled.{handled, made_for, made_for_operation}
+use Rattle.qu_safety.proofs.Handled.{plain_among, handled, made_for, made_for_operation}
 use Rattle.qu_safety.specs.Digested.{IsHandled}
 use Rattle.qu_safety.specs.Chained.{last_world}
 use Rattle.qu_safety.specs.Decided.{accepts, is_accepted, is_established, IsDecided}
@@ -42,7 +42,7 @@ use Rattle.qu_safety.specs.Grounds.{IsGround, IsPerformed, AcceptsOne, IsMoved}
 use Rattle.qu_safety.specs.Invocations.{IsRequestOf}
 use Rattle.qu_safety.specs.Order.{world_after}
 use Rattle.qu_safety.specs.Values.{HasVersion}
-use Rattle.qu_safety.specs.Views.{HaveParts, IsOfKept}
+use Rattle.qu_safety.specs.Views.{ArePlain, IsOfKept, IsPlain}
 use Rattle.qu_safety.proofs.Acceptance.{accepts_on}
 use Rattle.qu_safety.proofs.Acceptors.{method_is_shown}
 use Rattle.qu_safety.proofs.Grounds.{above_base}
@@ -55,6 +55,9 @@ use Rattle.qu_safety.proofs.WorldGrowth.{world_after-none, world_after-next, wor
 use Rattle.qu_safety.proofs.Small.{some_entry}
 use Rattle.qu_safety.proofs.OpeningReplicas.{opening_replica}
 use Rattle.qu_safety.proofs.Chained.{somewhere_accepted}
+use Rattle.qu_safety.specs.Carried.{Carries, Asks}
+use Rattle.qu_safety.proofs.Carrying.{asks_so}
+use Rattle.qu_frames.specs.declared.frame.Frame.{Frame}
 
 -- the replica stores the version of the candidate
 abbrev pub Stores : Trace → ObjectId → ReplicaState → Candidate → Type 0
@@ -132,7 +135,7 @@ opening-versioned trace me = record {
 
 -- ---- what an accepted candidate is made of
 
-module _ (trace : Trace) (known : Known trace) (is_run : IsRun trace) (have : HaveParts trace.entries) (count : ℕ) (within : count ≤ length trace.entries) where
+module _ (trace : Trace) (known : Known trace) (is_run : IsRun trace) (have : ArePlain trace.entries) (count : ℕ) (within : count ≤ length trace.entries) where
   still_accepted : (object : ObjectId) (candidate : Candidate) → is_accepted (world_after trace count) object candidate ≡ true → is_accepted (last_world trace) object candidate ≡ true
   still_accepted object candidate accepted =
       is_accepted-more (world_after trace count) (last_world trace)
@@ -151,12 +154,15 @@ module _ (trace : Trace) (known : Known trace) (is_run : IsRun trace) (have : Ha
       le-leb (quorum world.setup.bounds) (count_by (accepts object candidate) world.replicas + world.setup.bounds) (rw bounds (omega arith)) in
       still_accepted object candidate (accepted_by_decided world object candidate (IsDecided.by_acceptors candidate established))
 
-  module _ (number : ℕ) (letter : Letter) (sent : letter_of (world_after trace count) number ≡ Some letter) (place : ℕ) (old new : ReplicaState) (is_old : slice_get (world_after trace count).replicas place ≡ Some old) (before : IsVersioned trace old) (object : ObjectId) (one : AcceptsOne old new letter.frame object) where
+  module _ (number : ℕ) (letter : Letter) (sent : letter_of (world_after trace count) number ≡ Some letter) (carried : Frame) (carries : Carries letter carried) (place : ℕ) (old new : ReplicaState) (is_old : slice_get (world_after trace count).replicas place ≡ Some old) (before : IsVersioned trace old) (object : ObjectId) (one : AcceptsOne old new carried object) where
+    asks : Asks letter one.client one.number one.round one.sets (body.Act ((object, one.method) ∷ []))
+    asks = asks_so letter carried one.client one.number one.round one.sets (body.Act ((object, one.method) ∷ [])) one.mac carries one.is_request
+
     view : IsOfKept trace count one.sets (body.Act ((object, one.method) ∷ []))
-    view = view_of_request trace is_run have count within number letter sent one.client one.number one.round one.sets (body.Act ((object, one.method) ∷ [])) one.is_request
+    view = view_of_request trace is_run have count within number letter sent one.client one.number one.round one.sets (body.Act ((object, one.method) ∷ [])) asks
 
     request : IsRequestOf trace count one.client one.number (body.Act ((object, one.method) ∷ []))
-    request = known.request_of count within number letter sent one.client one.number one.round one.sets (body.Act ((object, one.method) ∷ [])) one.is_request
+    request = known.request_of count within number letter sent one.client one.number one.round one.sets (body.Act ((object, one.method) ∷ [])) asks
 
     -- a quorum showed the base, so it was accepted
     base_accepted : is_accepted (last_world trace) object (one.grounds).base ≡ true
@@ -192,7 +198,7 @@ module _ (trace : Trace) (known : Known trace) (is_run : IsRun trace) (have : Ha
               grounds.prior (above_base grounds) base_accepted request.of_trace
               (act_by ((object, one.method) ∷ []) operation.op request.asks)
               (made_for_operation trace count one.candidate one.client one.number ((object, one.method) ∷ []) (body.Act ((object, one.method) ∷ [])) request
-              (made_for trace old new letter.frame object one one.candidate refl was))
+              (made_for trace old new carried object one one.candidate refl was))
               base_version performed.value performed.answer,
         )
 
@@ -203,13 +209,13 @@ still_stores : (trace : Trace) (old new : ReplicaState) → Grows old new → (o
 still_stores trace old new grows object candidate stored =
     (stored.0, version_at-grows old new grows object candidate.stamp stored.0 stored.1, stored.2)
 
-module _ (trace : Trace) (known : Known trace) (is_run : IsRun trace) (have : HaveParts trace.entries) (count : ℕ) (within : count ≤ length trace.entries) (below : count < length trace.entries) (entry : Entry) (of_trace : Contains trace.entries entry) (event : Event) (event_is : event ≡ entry.event) (place : ℕ) (old new : ReplicaState) (is_old : slice_get (world_after trace count).replicas place ≡ Some old) (is_new : slice_get (world_step (world_after trace count) event).replicas place ≡ Some new) (grows : Grows old new) (before : IsVersioned trace old) where
-  one_handled : (moved : IsMoved (world_after trace count) event place old new) (object : ObjectId) (one : AcceptsOne old new (moved.letter).frame object) → IsHandled trace one.client one.number ((object, one.method) ∷ [])
+module _ (trace : Trace) (known : Known trace) (is_run : IsRun trace) (have : ArePlain trace.entries) (count : ℕ) (within : count ≤ length trace.entries) (below : count < length trace.entries) (entry : Entry) (of_trace : Contains trace.entries entry) (event : Event) (event_is : event ≡ entry.event) (place : ℕ) (old new : ReplicaState) (is_old : slice_get (world_after trace count).replicas place ≡ Some old) (is_new : slice_get (world_step (world_after trace count) event).replicas place ≡ Some new) (grows : Grows old new) (before : IsVersioned trace old) where
+  one_handled : (moved : IsMoved (world_after trace count) event place old new) (object : ObjectId) (one : AcceptsOne old new moved.carried object) → IsHandled trace one.client one.number ((object, one.method) ∷ [])
   one_handled moved object one =
       handled trace is_run count below entry of_trace event event_is place old new is_old is_new object
-      (record { number = moved.number; is_deliver = moved.is_deliver; letter = moved.letter; is_letter = moved.is_letter; to = moved.to; accepts = one })
+      (record { number = moved.number; is_deliver = moved.is_deliver; letter = moved.letter; is_letter = moved.is_letter; to = moved.to; carried = moved.carried; carries = moved.carries; accepts = one })
 
-  one_stores : (moved : IsMoved (world_after trace count) event place old new) (object : ObjectId) → AcceptsOne old new (moved.letter).frame object
+  one_stores : (moved : IsMoved (world_after trace count) event place old new) (object : ObjectId) → AcceptsOne old new moved.carried object
       → (candidate : Candidate) → holds candidate (own_candidates new object) ≡ true → Stores trace object new candidate
   one_stores moved object one candidate held =
       elim (or_cases _ _ (sym (holds_push candidate one.candidate (own_candidates old object)) ∙ ap (holds candidate) (sym one.added) ∙ held)) [
@@ -217,27 +223,27 @@ module _ (trace : Trace) (known : Known trace) (is_run : IsRun trace) (have : Ha
         | inr last ↦ elim (or_cases (same one.candidate candidate) false last) [
           | inl is ↦
               subst (Stores trace object new) (equal_by_same one.candidate candidate is)
-              (accepted_stores trace known is_run have count within moved.number moved.letter moved.is_letter place old new is_old before object one (one_handled moved object one))
+              (accepted_stores trace known is_run have count within moved.number moved.letter moved.is_letter moved.carried moved.carries place old new is_old before object one (one_handled moved object one))
           | inr never ↦ absurd (false≢true never)
         ]
       ]
 
   moved_stores : IsMoved (world_after trace count) event place old new → (object : ObjectId) (candidate : Candidate) → holds candidate (own_candidates new object) ≡ true → Stores trace object new candidate
   moved_stores moved object candidate held =
-      elim (accepts_on old new (moved.letter).frame moved.accepts object) [
+      elim (accepts_on old new moved.carried moved.accepts object) [
         | inl alike ↦ still_stores trace old new grows object candidate (before.stores object candidate (ap (holds candidate) (sym alike) ∙ held))
         | inr one ↦ one_stores moved object one candidate held
       ]
 
   event-versioned : IsVersioned trace new
   event-versioned =
-      let parts : (number : ℕ) (letter : Letter) → letter_of (world_after trace count) number ≡ Some letter → HasParts letter.frame =
+      let parts : (number : ℕ) (letter : Letter) → letter_of (world_after trace count) number ≡ Some letter → (carried : Frame) → Carries letter carried → HasParts carried =
       λ number letter sent. sent_has_parts trace is_run have count within number letter sent in
-      elim (event_moves (world_after trace count) event place old new is_old is_new parts) [
+      elim (event_moves (world_after trace count) event place old new is_old is_new parts (subst IsPlain (sym event_is) (plain_among trace.entries entry have of_trace))) [
         | inl alike ↦ subst (IsVersioned trace) (sym alike) before
         | inr moved ↦ record {
           bounds = grows.bounds ∙ before.bounds;
-          of_held = still_of_held old new (moved.letter).frame moved.accepts before.of_held;
+          of_held = still_of_held old new moved.carried moved.accepts before.of_held;
           stores = moved_stores moved;
         }
       ]
@@ -253,7 +259,7 @@ versioned_none trace = λ place state is_state.
     opening_replica 0 _ trace.setup.bounds trace.setup.kinds place state (ap (λ (world : WorldState). slice_get world.replicas place) (sym (world_after-none trace)) ∙ is_state) in
     subst (IsVersioned trace) (sym begun.1) (opening-versioned trace begun.0)
 
-versioned_next : (trace : Trace) → Known trace → IsRun trace → HaveParts trace.entries → (count : ℕ) → count < length trace.entries → AreVersioned trace count → AreVersioned trace (count + 1)
+versioned_next : (trace : Trace) → Known trace → IsRun trace → ArePlain trace.entries → (count : ℕ) → count < length trace.entries → AreVersioned trace count → AreVersioned trace (count + 1)
 versioned_next trace known is_run have count below before = λ place new is_new.
     let default : Entry = some_entry trace.entries (omega arith) in
     let event : Event = (get_or trace.entries count default).event in
@@ -263,13 +269,13 @@ versioned_next trace known is_run have count below before = λ place new is_new.
     let was : WasBefore (world_after trace count).replicas place new = was_before (world_after trace count) event place new now in
     event-versioned trace known is_run have count (omega arith) below (get_or trace.entries count default) (Contains-get_or trace.entries count default below) event refl place was.old new was.is_old now was.grows (before place was.old was.is_old)
 
-versioned : (trace : Trace) → Known trace → IsRun trace → HaveParts trace.entries → (count : ℕ) → count ≤ length trace.entries → AreVersioned trace count
+versioned : (trace : Trace) → Known trace → IsRun trace → ArePlain trace.entries → (count : ℕ) → count ≤ length trace.entries → AreVersioned trace count
 versioned trace known is_run have zero within = versioned_none trace
 versioned trace known is_run have (suc count) within =
     subst (AreVersioned trace) (add-one count)
     (versioned_next trace known is_run have count (omega arith) (versioned trace known is_run have count (omega arith)))
 
-pub version_held : (trace : Trace) → Known trace → IsRun trace → HaveParts trace.entries → (count : ℕ) → count ≤ length trace.entries
+pub version_held : (trace : Trace) → Known trace → IsRun trace → ArePlain trace.entries → (count : ℕ) → count ≤ length trace.entries
     → (place : ℕ) (state : ReplicaState) → slice_get (world_after trace count).replicas place ≡ Some state
     → (object : ObjectId) (candidate : Candidate) → holds candidate (own_candidates state object) ≡ true
     → (version : ObjState) × (version_at object candidate.stamp state.versions ≡ Some version) × HasVersion trace object candidate version
@@ -277,7 +283,7 @@ version_held trace known is_run have count within place state is_state object ca
     (versioned trace known is_run have count within place state is_state).stores object candidate held
 
 -- the version that is found is the candidate's
-pub version_is : (trace : Trace) → Known trace → IsRun trace → HaveParts trace.entries → (count : ℕ) → count ≤ length trace.entries
+pub version_is : (trace : Trace) → Known trace → IsRun trace → ArePlain trace.entries → (count : ℕ) → count ≤ length trace.entries
     → (place : ℕ) (state : ReplicaState) → slice_get (world_after trace count).replicas place ≡ Some state
     → (object : ObjectId) (candidate : Candidate) → holds candidate (own_candidates state object) ≡ true
     → (version : ObjState) → version_at object candidate.stamp state.versions ≡ Some version → HasVersion trace object candidate version

@@ -1,9 +1,11 @@
 -- Where updates and queries took effect.
-use Rattle.std.proofs.Common.{◌≡◌, ℕ, zero, suc, ◌+◌, ◌<◌, ◌≤◌, Bool, true, false, cond, List, [], ◌∷◌, length, get_or, Option, None, Some, refl, sym, ap, subst, ◌∙◌, arith, inl, inr, add-one}
-use Rattle.std.specs.Prelude.{position, slice_get, option_map, Contains, ◌==◌}
+use Rattle.std.proofs.Common.{◌≡◌, ℕ, zero, suc, ◌+◌, ◌<◌, ◌≤◌, Bool, true, false, cond, List, [], ◌∷◌, length, get_or, drop, drop-cons, Option, None, Some, refl, sym, ap, subst, ◌∙◌, arith, inl, inr, add-one}
+use Rattle.std.specs.Prelude.{position, slice_get, option_map, ◌==◌}
 use Rattle.std.specs.Option.{MatchOption}
 use Rattle.std.specs.Prelude.{Result, Ok, Err, IfOk}
-use Rattle.std.proofs.lemmas.Bool.{false≢true, cases_Bool, cases_lt, cases_order, and_parts, and_from, eq-eqb}
+use Rattle.std.specs.Prelude.{◌||◌}
+use Rattle.std.proofs.lemmas.List.{drop_all}
+use Rattle.std.proofs.lemmas.Bool.{false≢true, cases_Bool, cases_lt, cases_order, and_parts, and_from, or_left, eq-eqb}
 use Rattle.std.proofs.lemmas.Bool.Decides.{nat_tests}
 use Rattle.std.proofs.lemmas.List.Quantifiers.{position-Some}
 use Rattle.std.proofs.lemmas.Option.{none-some, same_Some}
@@ -26,8 +28,6 @@ use Rattle.qu_objects.specs.Text.{act_digest}
 use Rattle.qu_stamp.specs.declared.stamp.Stamp.{Stamp}
 use Rattle.qu_stamp.specs.Stamp.{opening_stamp, same_digest, same_stamp}
 use Rattle.qu_stamp.proofs.Order.{same_stamp-self, equal_by_same_stamp}
-use Rattle.qu_trace.specs.Operations.{operations_of}
-use Rattle.qu_world.specs.Run.{IsRun}
 use Rattle.std.specs.List.{list_any}
 use Rattle.qu_safety.proofs.HandledActs.{handled_among, among_handled}
 use Rattle.qu_safety.specs.Digested.{IsHandled}
@@ -35,7 +35,7 @@ use Rattle.qu_safety.specs.declared.tracked.Tracked.{Tracked}
 use Rattle.qu_safety.specs.Decided.{is_accepted, IsDecided, TookEffect}
 use Rattle.qu_safety.specs.Order.{world_after, DecidesAt, AnswersFirst, delivered_round, sends_answer, answers_at, completed_effect, query_effect, effect_of}
 use Rattle.qu_safety.specs.Tracker.{TellsFirst, TellsOf, Tracks}
-use Rattle.qu_safety.specs.Points.{act_mark, handled_acts, is_act, is_of_update, first_mark, answers_in}
+use Rattle.qu_safety.specs.Points.{NamedAct, act_mark, handled_acts, is_act, is_of_update, first_mark, answers_in}
 use Rattle.qu_safety.proofs.WorldGrowth.{has_more, world_after-grows, is_accepted-more, accepted_by_decided}
 use Rattle.qu_safety.proofs.Settling.{StandsIn, stands_in}
 use Rattle.qu_safety.proofs.Places.{position_none}
@@ -228,14 +228,13 @@ acted : (trace : Trace) (tracked : List Tracked) → Tracks trace (length trace.
 acted trace tracked tracks client number parts handled None is = decides_nowhere trace tracked tracks client number parts is
 acted trace tracked tracks client number parts handled (Some event) is = decides_at trace tracked tracks client number parts handled event is
 
--- the mark of an act takes it for handled where its client and number are among those of the handled acts
-marked : (trace : Trace) → IsRun trace → (tracked : List Tracked) → Tracks trace (length trace.entries) tracked → (operation : OpRecord) → Contains (operations_of trace.entries) operation → (parts : List (ObjectId × Method)) → operation.op ≡ op.Act parts
-    → (found : Option ℕ) → act_mark operation.client operation.number parts (handled_acts trace) tracked ≡ found
+-- the mark of an act takes it for handled where it is among the handled acts
+marked : (trace : Trace) (tracked : List Tracked) → Tracks trace (length trace.entries) tracked → (operation : OpRecord) (parts : List (ObjectId × Method)) (found : Option ℕ) → act_mark operation.client operation.number parts (handled_acts trace) tracked ≡ found
     → MatchOption found ((event : ℕ) → ¬ (DecidesAt trace operation.client operation.number parts event)) (λ event. DecidesAt trace operation.client operation.number parts event)
-marked trace is_run tracked tracks operation among parts is found mark =
-    elim (cases_Bool (list_any (is_act operation.client operation.number) (handled_acts trace))) [
+marked trace tracked tracks operation parts found mark =
+    elim (cases_Bool (list_any (is_act operation.client operation.number parts) (handled_acts trace))) [
       | inl there ↦
-          acted trace tracked tracks operation.client operation.number parts (among_handled trace is_run operation among parts is there) found
+          acted trace tracked tracks operation.client operation.number parts (among_handled trace operation.client operation.number parts there) found
           (sym (ap (λ (test : Bool). cond test (first_mark operation.client (act_digest operation.client operation.number parts) tracked) None) there) ∙ mark)
       | inr not_there ↦
           subst (λ it. MatchOption it ((event : ℕ) → ¬ (DecidesAt trace operation.client operation.number parts event)) (λ event. DecidesAt trace operation.client operation.number parts event))
@@ -243,23 +242,29 @@ marked trace is_run tracked tracks operation among parts is found mark =
           (λ event decides. false≢true (sym not_there ∙ handled_among trace operation.client operation.number parts decides.handled))
     ]
 
-pub act_effect : (trace : Trace) → IsRun trace → (tracked : List Tracked) (operation : OpRecord) → Contains (operations_of trace.entries) operation → (what : Op) (act : List (ObjectId × Method)) (found : Option ℕ) → Tracks trace (length trace.entries) tracked → what ≡ operation.op → what ≡ op.Act act
+act_effect : (trace : Trace) (tracked : List Tracked) (operation : OpRecord) (what : Op) (act : List (ObjectId × Method)) (found : Option ℕ) → Tracks trace (length trace.entries) tracked → what ≡ op.Act act
     → found ≡ act_mark operation.client operation.number act (handled_acts trace) tracked → IsEffect trace operation what found
-act_effect trace is_run tracked operation among what act found tracks same is mark =
+act_effect trace tracked operation what act found tracks is mark =
     subst (λ (it : Op). IsEffect trace operation it found) (sym is)
-    (marked trace is_run tracked tracks operation among act (sym same ∙ is) found (sym mark))
+    (marked trace tracked tracks operation act found (sym mark))
 
 -- the same of a result
-pub act_effect_of : {E : Type 0} (trace : Trace) → IsRun trace → (tracked : List Tracked) (operation : OpRecord) → Contains (operations_of trace.entries) operation → (what : Op) (act : List (ObjectId × Method)) (acts : List (ClientId × ℕ)) (seen : List Tracked) (result : Result (Option ℕ) E)
-    → Tracks trace (length trace.entries) tracked → what ≡ operation.op → what ≡ op.Act act → acts ≡ handled_acts trace → seen ≡ tracked
+pub act_effect_of : {E : Type 0} (trace : Trace) (tracked : List Tracked) (operation : OpRecord) (what : Op) (act : List (ObjectId × Method)) (acts : List NamedAct) (seen : List Tracked) (result : Result (Option ℕ) E)
+    → Tracks trace (length trace.entries) tracked → what ≡ op.Act act → acts ≡ handled_acts trace → seen ≡ tracked
     → IfOk result (λ found. found ≡ act_mark operation.client operation.number act acts seen) → IfOk result (IsEffect trace operation what)
-act_effect_of trace is_run tracked operation among what act acts seen (Err missing) tracks same is are seen_is mark = mark
-act_effect_of trace is_run tracked operation among what act acts seen (Ok found) tracks same is are seen_is mark =
-    act_effect trace is_run tracked operation among what act found tracks same is (mark ∙ (λ i. act_mark operation.client operation.number act (are i) (seen_is i)))
+act_effect_of trace tracked operation what act acts seen (Err missing) tracks is are seen_is mark = mark
+act_effect_of trace tracked operation what act acts seen (Ok found) tracks is are seen_is mark =
+    act_effect trace tracked operation what act found tracks is (mark ∙ (λ i. act_mark operation.client operation.number act (are i) (seen_is i)))
 
 pub ask_effect : (trace : Trace) (operation : OpRecord) (what : Op) (query : List (ObjectId × Ask)) (found : Option ℕ) → what ≡ op.Query query → MatchOption found ((event : ℕ) → ¬ (query_effect trace operation event operation.reply)) (λ event. query_effect trace operation event operation.reply) → IsEffect trace operation what found
 ask_effect trace operation what query found is effect =
     subst (λ (it : Op). IsEffect trace operation it found) (sym is) effect
+
+-- the same of a result
+pub ask_effect_of : {E : Type 0} (trace : Trace) (operation : OpRecord) (what : Op) (query : List (ObjectId × Ask)) (result : Result (Option ℕ) E) → what ≡ op.Query query
+    → IfOk result (λ found. MatchOption found ((event : ℕ) → ¬ (query_effect trace operation event operation.reply)) (λ event. query_effect trace operation event operation.reply)) → IfOk result (IsEffect trace operation what)
+ask_effect_of trace operation what query (Err missing) is effect = effect
+ask_effect_of trace operation what query (Ok found) is effect = ask_effect trace operation what query found is effect
 
 abbrev pub IsAnswer : Trace → ClientId → ℕ → ℕ → Option ℕ → Type 0
 IsAnswer trace client number reply found =
@@ -277,3 +282,24 @@ answered trace client number reply round found completed is =
 pub unanswered : (trace : Trace) (client : ClientId) (number reply : ℕ) (found : Option ℕ) → None ≡ delivered_round trace (numbered trace.entries reply) → found ≡ None → IsAnswer trace client number reply found
 unanswered trace client number reply found none is =
     subst (IsAnswer trace client number reply) (sym is) (answers_never trace client number reply (sym none))
+
+-- the same of a round that was found, if one was
+pub found_answer : {E : Type 0} (trace : Trace) (client : ClientId) (number reply : ℕ) (found : Option ℕ) (result : Result (Option ℕ) E) → (round : ℕ) → found ≡ delivered_round trace (numbered trace.entries reply) → found ≡ Some round
+    → IfOk result (λ first. first ≡ option_map (λ index. index + 1) (position (answers_in client number round) trace.entries)) → IfOk result (IsAnswer trace client number reply)
+found_answer trace client number reply found (Err missing) round delivered is first = first
+found_answer trace client number reply found (Ok it) round delivered is first = answered trace client number reply round it (sym is ∙ delivered) first
+
+-- ---- an entry after the other
+
+pub any_here : {X : Type 0} (test : X → Bool) (items : List X) (index : ℕ) (item : X) → index < length items → item ≡ get_or items index item → test item ≡ true → list_any test items ≡ list_any test (drop index items) → list_any test items ≡ true
+any_here test items index item below is passes before =
+    before ∙ ap (list_any test) (drop-cons items index item below) ∙ or_left (test (get_or items index item)) _ (ap test (sym is) ∙ passes)
+
+pub any_more : {X : Type 0} (test : X → Bool) (items : List X) (index : ℕ) (item : X) → index < length items → item ≡ get_or items index item → test item ≡ false → list_any test items ≡ list_any test (drop index items) → list_any test items ≡ list_any test (drop (index + 1) items)
+any_more test items index item below is fails before =
+    before ∙ ap (list_any test) (drop-cons items index item below) ∙
+    ap (λ (it : Bool). it || list_any test (drop (suc index) items)) (ap test (sym is) ∙ fails) ∙
+    ap (λ (it : ℕ). list_any test (drop it items)) (sym (add-one index))
+
+pub any_end : {X : Type 0} (test : X → Bool) (items : List X) (index : ℕ) → length items ≤ index → list_any test items ≡ list_any test (drop index items) → list_any test items ≡ false
+any_end test items index past before = before ∙ ap (list_any test) (drop_all index items past)

@@ -21,12 +21,14 @@ use Rattle.qu_trace.specs.declared.trace.Trace.{Trace}
 use Rattle.qu_world.specs.Run.{IsRun}
 use Rattle.qu_world.specs.State.{letter_of}
 use Rattle.qu_safety.specs.Order.{world_after}
-use Rattle.qu_safety.specs.Views.{HaveParts}
+use Rattle.qu_safety.specs.Views.{ArePlain}
 use Rattle.qu_safety.specs.Grounds.{IsDelivered}
 use Rattle.qu_safety.proofs.Accepting.{Acceptance}
 use Rattle.qu_safety.proofs.ChainLaws.{setting, accepted_of, laws}
 use Rattle.qu_safety.proofs.Established.{Established, Rests, same_accepted, accepted_by_established, last_established, below_prior, ancestor_established, IsTop}
+use Rattle.qu_safety.proofs.Carrying.{one_carried}
 use Rattle.qu_safety.proofs.Small.{same_deliver}
+use Rattle.qu_frames.specs.Decoding.{decoded}
 
 -- ---- letters
 
@@ -38,12 +40,12 @@ same_place : (first second : ℕ) → party.Replica (record { 0 = first }) ≡ p
 same_place first second same = ap place_of same
 
 abbrev act_object : Frame → ObjectId → ObjectId
-act_object (frame.Request client number round sets (body.Act [])) none = none
-act_object (frame.Request client number round sets (body.Act (part ∷ later))) none = part.0
-act_object (frame.Request client number round sets (body.Ask parts)) none = none
-act_object (frame.Reply replica client number round verdict shown) none = none
+act_object (frame.Request client number round sets (body.Act []) mac) none = none
+act_object (frame.Request client number round sets (body.Act (part ∷ later)) mac) none = part.0
+act_object (frame.Request client number round sets (body.Ask parts) mac) none = none
+act_object (frame.Reply replica client number round verdict culled shown mac) none = none
 
-module _ (trace : Trace) (is_run : IsRun trace) (have : HaveParts trace.entries) where
+module _ (trace : Trace) (is_run : IsRun trace) (have : ArePlain trace.entries) where
   -- candidates that are accepted at one event are one
   pub record AreOne (object other : ObjectId) (first second : Candidate) : Type 0 where
     pub objects : object ≡ other
@@ -59,8 +61,10 @@ module _ (trace : Trace) (is_run : IsRun trace) (have : HaveParts trace.entries)
       let letter : here.letter ≡ there.letter =
       same_Some here.letter there.letter (sym here.is_letter ∙ ap (letter_of (world_after trace time)) number ∙ there.is_letter) in
       let places : place ≡ elsewhere = same_place place elsewhere (sym here.to ∙ ap (λ (it : Letter). it.to) letter ∙ there.to) in
+      let carried : here.carried ≡ there.carried =
+      one_carried here.letter here.carried there.carried here.carries (ap (λ (it : Letter). decoded it.text) letter ∙ there.carries) in
       let objects : object ≡ other =
-      sym (ap (λ (it : Frame). act_object it object) (here.accepts).is_request) ∙ ap (λ (it : Letter). act_object it.frame object) letter ∙ ap (λ (it : Frame). act_object it object) (there.accepts).is_request in
+      sym (ap (λ (it : Frame). act_object it object) (here.accepts).is_request) ∙ ap (λ (it : Frame). act_object it object) carried ∙ ap (λ (it : Frame). act_object it object) (there.accepts).is_request in
       record {
         objects = objects;
         candidates = (laws trace is_run have).alone time object place first second new

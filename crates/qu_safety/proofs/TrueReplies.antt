@@ -12,7 +12,7 @@ use Rattle.qu_stamp.specs.Stamp.{is_below}
 use Rattle.qu_stamp.proofs.Order.{is_below-self, is_below-not_chain}
 use Rattle.qu_history.specs.declared.sets.SetOf.{SetOf}
 use Rattle.qu_history.specs.History.{holds}
-use Rattle.qu_history.specs.Sets.{entries_of, latest_of, method_at, if_method, object_candidate, candidates_of, greatest}
+use Rattle.qu_history.specs.Sets.{histories, entries_of, latest_of, method_at, if_method, object_candidate, candidates_of, greatest}
 use Rattle.qu_history.proofs.Rising.{holds_pushed}
 use Rattle.qu_history.proofs.Stamps.{not_below_latest}
 use Rattle.qu_objects.specs.declared.act.Method.{Method}
@@ -150,7 +150,7 @@ known_by_base number bounds (set ∷ sets) object base none is =
           omega arith
       | inr there ↦
           known_by_base number bounds sets object base good.1
-          (ap (λ (test : Bool). method_at bounds (cond test set.entries (entries_of object sets))) (sym there) ∙ is)
+          (ap (λ (test : Bool). method_at bounds (cond test (histories set.entries) (entries_of object sets))) (sym there) ∙ is)
     ]
 
 module _ (state : ReplicaState) (asked : Asked) (object : ObjectId) where
@@ -182,6 +182,8 @@ module _ (state : ReplicaState) (asked : Asked) (object : ObjectId) where
 abbrev QueryTells : ReplicaState → List SetOf → ObjectId → Ask → Decision → Type 0
 QueryTells state sets object ask (Answers (verdict.Done stamps answer) accepted) = ⊥
 QueryTells state sets object ask (Answers (verdict.Told stamps answer) accepted) = TellsQuery state sets object ask stamps answer × (accepted ≡ [])
+QueryTells state sets object ask (Answers (verdict.Already answer) accepted) = ⊥
+QueryTells state sets object ask (Answers (verdict.Mended other stamp) accepted) = ⊥
 QueryTells state sets object ask (Answers (verdict.Refused why) accepted) = accepted ≡ []
 QueryTells state sets object ask Waits = Unit {0}
 
@@ -232,6 +234,8 @@ module _ (state : ReplicaState) (client : ClientId) (number : ℕ) (sets : List 
 abbrev ActTells : ReplicaState → ClientId → Digest → ObjectId → Decision → Type 0
 ActTells state client act object (Answers (verdict.Done stamps answer) accepted) = TellsDone (accept_all state accepted) client act object stamps answer
 ActTells state client act object (Answers (verdict.Told stamps answer) accepted) = ⊥
+ActTells state client act object (Answers (verdict.Already answer) accepted) = ⊥
+ActTells state client act object (Answers (verdict.Mended other stamp) accepted) = ⊥
 ActTells state client act object (Answers (verdict.Refused why) accepted) = accepted ≡ []
 ActTells state client act object Waits = Unit {0}
 
@@ -356,6 +360,8 @@ act_tells state asked object method act is_act are =
 abbrev IsNotDone : Decision → Type 0
 IsNotDone (Answers (verdict.Done stamps answer) accepted) = ⊥
 IsNotDone (Answers (verdict.Told stamps answer) accepted) = Unit {0}
+IsNotDone (Answers (verdict.Already answer) accepted) = Unit {0}
+IsNotDone (Answers (verdict.Mended object stamp) accepted) = Unit {0}
 IsNotDone (Answers (verdict.Refused why) accepted) = Unit {0}
 IsNotDone Waits = Unit {0}
 

@@ -22,7 +22,6 @@ use Rattle.qu_objects.specs.declared.state.ObjState.{ObjState}
 use Rattle.qu_objects.specs.Kind.{fresh_value}
 use Rattle.qu_objects.specs.Perform.{performed_answer, performed_values}
 use Rattle.qu_frames.specs.declared.frame.Body.{Body}
-use Rattle.qu_frames.specs.declared.frame.Frame.TheVariants as frame
 use Rattle.qu_frames.specs.declared.frame.Letter.{Letter}
 use Rattle.qu_machine.specs.declared.record.OpRecord.{OpRecord}
 use Rattle.qu_trace.specs.declared.trace.Trace.{Trace}
@@ -35,6 +34,7 @@ use Rattle.qu_safety.specs.Chained.{last_world}
 use Rattle.qu_safety.specs.Invocations.{IsRequestOf}
 use Rattle.qu_safety.specs.Values.{HasVersion}
 use Rattle.qu_safety.proofs.OneAct.{ActsAreOne, one_made_for}
+use Rattle.qu_safety.specs.Carried.{Asks}
 
 -- what the versions of a run rest on
 pub record Known (trace : Trace) : Type 0 where
@@ -45,7 +45,7 @@ pub record Known (trace : Trace) : Type 0 where
   -- a request is made for an operation of its client
   pub request_of : (count : ℕ) → count ≤ length trace.entries → (number : ℕ) (letter : Letter)
       → letter_of (world_after trace count) number ≡ Some letter
-      → (client : ClientId) (asked round : ℕ) (sets : List SetOf) (body : Body) → letter.frame ≡ frame.Request client asked round sets body
+      → (client : ClientId) (asked round : ℕ) (sets : List SetOf) (body : Body) → Asks letter client asked round sets body
       → IsRequestOf trace count client asked body
 
 -- ---- parts of equal wholes

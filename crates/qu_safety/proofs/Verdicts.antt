@@ -16,7 +16,7 @@ use Rattle.qu_objects.specs.declared.op.Op.TheVariants as op
 use Rattle.qu_frames.specs.declared.verdict.Verdict.{Verdict}
 use Rattle.qu_frames.specs.declared.verdict.Verdict.TheVariants as verdict
 use Rattle.qu_frames.specs.Verdict.{same_answer, same_verdict, same_object, same_stamps}
-use Rattle.qu_frames.specs.declared.verdict.Verdict.TheVariants.{Done, Told, Refused}
+use Rattle.qu_frames.specs.declared.verdict.Verdict.TheVariants.{Done, Told, Already, Mended, Refused}
 use Rattle.qu_client.specs.Step.{fitting}
 use Rattle.qu_machine.proofs.Equalities.{decides_answer}
 use Rattle.qu_safety.proofs.Small.{object_is}
@@ -49,6 +49,8 @@ equal_answers (answer.Refused at why) (answer.Refused other reason) same =
 
 pub equal_told : (verdict : Verdict) (stamps : List (ObjectId × Stamp)) (answer : Answer) → same_verdict verdict (Told stamps answer) ≡ true → verdict ≡ Told stamps answer
 equal_told (Done others given) stamps answer same = absurd (false≢true same)
+equal_told (Already given) stamps answer same = absurd (false≢true same)
+equal_told (Mended object stamp) stamps answer same = absurd (false≢true same)
 equal_told (Refused refusal) stamps answer same = absurd (false≢true same)
 equal_told (Told others given) stamps answer same =
     let parts : (same_stamps others stamps ≡ true) × (same_answer given answer ≡ true) = and_parts _ _ same in
@@ -58,6 +60,8 @@ equal_told (Told others given) stamps answer same =
 
 pub equal_done : (verdict : Verdict) (stamps : List (ObjectId × Stamp)) (answer : Answer) → same_verdict verdict (Done stamps answer) ≡ true → verdict ≡ Done stamps answer
 equal_done (Told others given) stamps answer same = absurd (false≢true same)
+equal_done (Already given) stamps answer same = absurd (false≢true same)
+equal_done (Mended object stamp) stamps answer same = absurd (false≢true same)
 equal_done (Refused refusal) stamps answer same = absurd (false≢true same)
 equal_done (Done others given) stamps answer same =
     let parts : (same_stamps others stamps ≡ true) × (same_answer given answer ≡ true) = and_parts _ _ same in
@@ -79,4 +83,6 @@ fits_act act (verdict.Done stamps told) answer fits = record {
   is = ap (λ (it : Answer). verdict.Done stamps it) (same_Some told answer fits);
 }
 fits_act act (verdict.Told stamps told) answer fits = absurd (none-some answer fits)
+fits_act act (verdict.Already told) answer fits = absurd (none-some answer fits)
+fits_act act (verdict.Mended object stamp) answer fits = absurd (none-some answer fits)
 fits_act act (verdict.Refused why) answer fits = absurd (none-some answer fits)

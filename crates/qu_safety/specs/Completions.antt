@@ -2,9 +2,8 @@
 use Rattle.std.specs.Prelude.{◌≡◌, ◌≢◌, ℕ, ◌-◌, ◌<◌, ◌≤◌, true, List, length, slice_get, Some, All, AllPairs, Contains}
 use Rattle.qu_base.specs.declared.party.ClientId.{ClientId}
 use Rattle.qu_base.specs.Thresholds.{replicas, quorum}
-use Rattle.qu_history.specs.History.{ObjectHistory}
+use Rattle.qu_history.specs.declared.sealed.Sealed.{Sealed}
 use Rattle.qu_objects.specs.declared.answer.Answer.{Answer}
-use Rattle.qu_frames.specs.declared.frame.Frame.TheVariants as frame
 use Rattle.qu_frames.specs.declared.frame.Letter.{Letter}
 use Rattle.qu_frames.specs.declared.verdict.Verdict.{Verdict}
 use Rattle.qu_frames.specs.Verdict.{same_verdict}
@@ -13,6 +12,7 @@ use Rattle.qu_machine.specs.declared.record.OpRecord.{OpRecord}
 use Rattle.qu_trace.specs.declared.trace.Entry.{Entry}
 use Rattle.qu_trace.specs.declared.trace.Trace.{Trace}
 use Rattle.qu_world.specs.State.{numbered}
+use Rattle.qu_safety.specs.Carried.{Tells}
 use Rattle.qu_safety.specs.Order.{delivered_round}
 
 -- a replica sent this verdict to this round of the operation, at the event of the entry with this
@@ -23,8 +23,8 @@ pub record RepliedAt (trace : Trace) (at : ℕ) (client : ClientId) (number roun
   pub letter : Letter
   pub sent : Contains entry.letters letter
   pub told : Verdict
-  pub shown : List ObjectHistory
-  pub is_reply : letter.frame ≡ frame.Reply (record { 0 = replica }) client number round told shown
+  pub shown : List Sealed
+  pub is_reply : Tells letter (record { 0 = replica }) client number round told shown
   pub same : same_verdict told verdict ≡ true
 
 -- before the event of the entry with this index

@@ -1,7 +1,8 @@
 -- The requests that replicas handle in a run, the texts that are digested for them, and the premise that no two
 -- of these texts have one digest.
-use Rattle.std.specs.Prelude.{◌≡◌, ℕ, Bool, nat_lt, if◌then◌else◌, List, [], ◌∷◌, length, Option, None, Some, Contains}
+use Rattle.std.specs.Prelude.{◌≡◌, ℕ, Bool, nat_lt, if◌then◌else◌, List, [], ◌∷◌, length, Option, None, Some, Result, Ok, Err, IsTrue, Contains}
 use Rattle.std.specs.List.{list_all, flat_map}
+use Rattle.qu_base.specs.declared.bad_text.BadText.{BadText}
 use Rattle.qu_base.specs.declared.party.ClientId.{ClientId}
 use Rattle.qu_base.specs.declared.party.ObjectId.{ObjectId}
 use Rattle.qu_base.specs.declared.party.Party.{Party}
@@ -18,11 +19,13 @@ use Rattle.qu_frames.specs.declared.frame.Body.TheVariants as body
 use Rattle.qu_frames.specs.declared.frame.Frame.{Frame}
 use Rattle.qu_frames.specs.declared.frame.Frame.TheVariants as frame
 use Rattle.qu_frames.specs.declared.frame.Letter.{Letter}
+use Rattle.qu_frames.specs.Decoding.{decoded}
 use Rattle.qu_trace.specs.declared.event.Event.{Event}
-use Rattle.qu_trace.specs.declared.event.Event.TheVariants.{Invoke, Deliver, Tick}
+use Rattle.qu_trace.specs.declared.event.Event.TheVariants.{Invoke, Deliver, Tick, Inject}
 use Rattle.qu_trace.specs.declared.trace.Entry.{Entry}
 use Rattle.qu_trace.specs.declared.trace.Setup.{Setup}
 use Rattle.qu_trace.specs.declared.trace.Trace.{Trace}
+use Rattle.qu_trace.specs.Injections.{no_injection}
 use Rattle.qu_trace.specs.Letters.{letters_of}
 use Rattle.qu_world.specs.State.{numbered}
 
@@ -41,24 +44,30 @@ is_known setup set = nat_lt (set.object).0 (length setup.kinds)
 
 -- the request that a frame carries, where no object of its sets is unknown
 abbrev pub request_in : Setup → Frame → Option Request
-request_in setup (frame.Request client number round sets body) =
+request_in setup (frame.Request client number round sets body mac) =
     if list_all (is_known setup) sets then Some (record { client = client; number = number; sets = sets; body = body }) else None
-request_in setup (frame.Reply replica client number round verdict shown) = None
+request_in setup (frame.Reply replica client number round verdict culled shown mac) = None
 
--- the request that a frame brings to a replica of the setup
-abbrev pub request_to : Setup → Frame → Party → Option Request
-request_to setup sent (party.Replica me) = if nat_lt me.0 (replicas setup.bounds) then request_in setup sent else None
-request_to setup sent (party.Client me) = None
+-- the same of what was decoded
+abbrev pub request_read : Setup → Result Frame BadText → Option Request
+request_read setup (Ok sent) = request_in setup sent
+request_read setup (Err bad) = None
+
+-- the request that a text brings to a replica of the setup
+abbrev pub request_to : Setup → List ℕ → Party → Option Request
+request_to setup text (party.Replica me) = if nat_lt me.0 (replicas setup.bounds) then request_read setup (decoded text) else None
+request_to setup text (party.Client me) = None
 
 abbrev pub request_by : Setup → Option Letter → Option Request
 request_by setup None = None
-request_by setup (Some letter) = request_to setup letter.frame letter.to
+request_by setup (Some letter) = request_to setup letter.text letter.to
 
 -- the request that an event of a trace lets a replica handle
 abbrev pub handled_by : Trace → Event → Option Request
 handled_by trace (Invoke client op) = None
 handled_by trace (Deliver number) = request_by trace.setup (numbered (letters_of trace.entries) number)
 handled_by trace (Tick client) = None
+handled_by trace (Inject to text) = request_to trace.setup text to
 
 -- a replica handled a request of this act, which has this client and number
 pub record IsHandled (trace : Trace) (client : ClientId) (number : ℕ) (parts : List (ObjectId × Method)) : Type 0 where
@@ -98,3 +107,10 @@ digested trace = flat_map (λ entry. texts_of (handled_by trace entry.event)) tr
 abbrev pub NoCollision : Trace → Type 0
 NoCollision trace = (first second : Text) → Contains (digested trace) first → Contains (digested trace) second
     → digest_of first.tag first.bytes ≡ digest_of second.tag second.bytes → first ≡ second
+
+-- ---- what is assumed of a run
+
+-- no bytes reach a party but those of letters that were sent, and no two texts have one digest
+pub record MeetsPremises (trace : Trace) : Type 0 where
+  pub no_injection : IsTrue (no_injection trace.entries)
+  pub no_collision : NoCollision trace

@@ -20,6 +20,7 @@ use Rattle.qu_replica.specs.Versions.{version_at}
 use Rattle.qu_trace.specs.declared.event.Event.{Event}
 use Rattle.qu_trace.specs.declared.event.Event.TheVariants.{Deliver}
 use Rattle.qu_world.specs.State.{WorldState, letter_of}
+use Rattle.qu_safety.specs.Carried.{Carries}
 
 -- why a replica in this state accepts a candidate on an object upon a request: the sets show a base that
 -- a quorum holds and that nothing shown is above, and the replica itself has nothing above what is shown
@@ -44,7 +45,8 @@ pub record AcceptsOne (old new : ReplicaState) (received : Frame) (object : Obje
   pub round : ℕ
   pub sets : List SetOf
   pub method : Method
-  pub is_request : received ≡ frame.Request client number round sets (body.Act ((object, method) ∷ []))
+  pub mac : List ℕ
+  pub is_request : received ≡ frame.Request client number round sets (body.Act ((object, method) ∷ [])) mac
   pub candidate : Candidate
   pub added : own_candidates new object ≡ own_candidates old object ++ candidate ∷ []
   pub grounds : IsGround old (asked_of client number sets (body.Act ((object, method) ∷ []))) object candidate
@@ -65,7 +67,9 @@ pub record IsMoved (world : WorldState) (event : Event) (place : ℕ) (old new :
   pub letter : Letter
   pub is_letter : letter_of world number ≡ Some letter
   pub to : letter.to ≡ party.Replica (record { 0 = place })
-  pub accepts : AcceptsAlone old new letter.frame
+  pub carried : Frame
+  pub carries : Carries letter carried
+  pub accepts : AcceptsAlone old new carried
 
 -- the same, of an object on which it accepts the candidate
 pub record IsDelivered (world : WorldState) (event : Event) (place : ℕ) (old new : ReplicaState) (object : ObjectId) : Type 0 where
@@ -74,4 +78,6 @@ pub record IsDelivered (world : WorldState) (event : Event) (place : ℕ) (old n
   pub letter : Letter
   pub is_letter : letter_of world number ≡ Some letter
   pub to : letter.to ≡ party.Replica (record { 0 = place })
-  pub accepts : AcceptsOne old new letter.frame object
+  pub carried : Frame
+  pub carries : Carries letter carried
+  pub accepts : AcceptsOne old new carried object

@@ -1,11 +1,13 @@
 pub mod Decided
 pub mod Digested
+pub mod Carried
 pub mod Order
 pub mod Points
 pub mod Tracker
 pub mod Views
 pub mod Grounds
 pub mod Chained
+pub mod Named
 pub mod Invocations
 pub mod Values
 pub mod Completions

@@ -1,73 +1,111 @@
 ghost use Rattle.std.specs.Prelude.{◌≡◌, [], ◌++◌, IfOk, OnOk};
 ghost use Rattle.std.specs.List.{list_all, list_any, cons_option};
-ghost use Rattle.qu_safety.specs.Digested.{is_known, request_in, request_by, handled_by};
+ghost use Rattle.qu_frames.specs.Decoding.{decoded};
+ghost use Rattle.qu_safety.specs.Digested.{is_known, request_in, request_read, request_to, handled_by};
+ghost use Rattle.qu_objects.specs.declared.op.Op.TheVariants as op;
+ghost use Rattle.qu_machine.specs.PointTests.{same_op};
 ghost use Rattle.qu_safety.specs.Points.{act_in, handled_acts, is_act};
 
-use qu_base::{ClientId, List, NoMemory, Party};
-use qu_frames::{Body, Frame, Letter};
+use qu_base::{ClientId, List, NoMemory, Party, ReadFail};
+use qu_frames::{Body, Frame, decode};
 use qu_history::Sets;
+use qu_objects::Act;
 use qu_trace::{Event, Setup, Trace};
 use qu_world::letter_at;
 use std::alloc::Global;
 
-/// Client and number of each act that a replica handled, in the order of the events.
+/// Each act that a replica handled, with its client and its number, in the order of the events.
 #[tactic(auto, unfolding(crate::specs::Points::handled_acts))]
-pub fn handled_acts(alloc: Global, trace: &Trace) -> Result<List<(ClientId, u64)>, NoMemory>
+pub fn handled_acts(alloc: Global, trace: &Trace) -> Result<List<(ClientId, u64, Act)>, NoMemory>
     ensures { IfOk result (λ acts. acts ≡ handled_acts trace.now) }
 {
     let mut acts = List::new(alloc);
     for entry in trace.entries.as_slice() {
-        add_act(&mut acts, trace, &entry.event)?;
+        add_act(alloc, &mut acts, trace, &entry.event)?;
     }
     Ok(acts)
 }
 
 /// Adds the act that an event lets a replica handle, where it lets it handle one.
-fn add_act(acts: &mut List<(ClientId, u64)>, trace: &Trace, event: &Event) -> Result<(), NoMemory>
+fn add_act(
+    alloc: Global,
+    acts: &mut List<(ClientId, u64, Act)>,
+    trace: &Trace,
+    event: &Event,
+) -> Result<(), NoMemory>
     ensures { OnOk result (acts.new ≡ acts.old ++ cons_option (act_in (handled_by trace.now event.now)) []) }
 {
-    if let Some(act) = handled_act(trace, event) {
+    if let Some(act) = handled_act(alloc, trace, event)? {
         acts.push(act)?;
     }
     Ok(())
 }
 
-/// Client and number of the act that an event lets a replica handle.
-fn handled_act(trace: &Trace, event: &Event) -> Option<(ClientId, u64)>
-    ensures { result ≡ act_in (handled_by trace.now event.now) }
+/// The act that an event lets a replica handle.
+fn handled_act(
+    alloc: Global,
+    trace: &Trace,
+    event: &Event,
+) -> Result<Option<(ClientId, u64, Act)>, NoMemory>
+    ensures { IfOk result (λ act. act ≡ act_in (handled_by trace.now event.now)) }
 {
     match event {
-        Event::Deliver(number) => {
-            let letter = letter_at(trace.entries.as_slice(), *number)?;
-            act_by(&trace.setup, letter)
-        }
-        Event::Invoke(_, _) | Event::Tick(_) => None,
+        Event::Deliver(number) => match letter_at(trace.entries.as_slice(), *number) {
+            Some(letter) => act_to(alloc, &trace.setup, letter.text.as_slice(), letter.to),
+            None => Ok(None),
+        },
+        Event::Inject(to, text) => act_to(alloc, &trace.setup, text.as_slice(), *to),
+        Event::Invoke(_, _) | Event::Tick(_) => Ok(None),
     }
 }
 
-/// The same of the letter that is delivered.
-fn act_by(setup: &Setup, letter: &Letter) -> Option<(ClientId, u64)>
-    ensures { result ≡ act_in (request_by setup.now (Some letter.now)) }
+/// The same of a text that reaches a party.
+fn act_to(
+    alloc: Global,
+    setup: &Setup,
+    text: &[u8],
+    to: Party,
+) -> Result<Option<(ClientId, u64, Act)>, NoMemory>
+    ensures { IfOk result (λ act. act ≡ act_in (request_to setup.now text.now to)) }
 {
-    match letter.to {
-        Party::Replica(me) if me.0 < setup.bounds.n() => act_in(setup, &letter.frame),
-        Party::Replica(_) | Party::Client(_) => None,
+    match to {
+        Party::Replica(me) if me.0 < setup.bounds.n() => act_read(alloc, setup, text),
+        Party::Replica(_) | Party::Client(_) => Ok(None),
+    }
+}
+
+/// The same of its text.
+fn act_read(
+    alloc: Global,
+    setup: &Setup,
+    text: &[u8],
+) -> Result<Option<(ClientId, u64, Act)>, NoMemory>
+    ensures { IfOk result (λ act. act ≡ act_in (request_read setup.now (decoded text.now))) }
+{
+    match decode(alloc, text) {
+        Ok(frame) => act_in(alloc, setup, &frame),
+        Err(ReadFail::Bad(_)) => Ok(None),
+        Err(ReadFail::NoMemory) => Err(NoMemory),
     }
 }
 
 /// The same of its frame.
-fn act_in(setup: &Setup, frame: &Frame) -> Option<(ClientId, u64)>
-    ensures { result ≡ act_in (request_in setup.now frame.now) }
+fn act_in(
+    alloc: Global,
+    setup: &Setup,
+    frame: &Frame,
+) -> Result<Option<(ClientId, u64, Act)>, NoMemory>
+    ensures { IfOk result (λ act. act ≡ act_in (request_in setup.now frame.now)) }
 {
     match frame {
         Frame::Request {
             client,
             number,
             sets,
-            body: Body::Act(_),
+            body: Body::Act(act),
             ..
-        } if are_known(setup, sets) => Some((*client, *number)),
-        Frame::Request { .. } | Frame::Reply { .. } => None,
+        } if are_known(setup, sets) => Ok(Some((*client, *number, act.copy(alloc)?))),
+        Frame::Request { .. } | Frame::Reply { .. } => Ok(None),
     }
 }
 
@@ -82,8 +120,15 @@ fn are_known(setup: &Setup, sets: &Sets) -> bool
 }
 
 /// Whether an act is among these.
-pub fn is_handled(acts: &[(ClientId, u64)], client: ClientId, number: u64) -> bool
-    ensures { result ≡ list_any (is_act client number) acts.now }
+pub fn is_handled(acts: &[(ClientId, u64, Act)], client: ClientId, number: u64, act: &Act) -> bool
+    ensures { result ≡ list_any (is_act client number act.now) acts.now }
 {
-    acts.iter().any(|act| act.0 == client && act.1 == number)
+    acts.iter().any(|other| other.0 == client && other.1 == number && same_acts(&other.2, act))
+}
+
+/// Whether two acts have the same parts.
+fn same_acts(first: &Act, second: &Act) -> bool
+    ensures { result ≡ same_op (op.Act first.now) (op.Act second.now) }
+{
+    first.parts() == second.parts()
 }

@@ -1,17 +1,16 @@
-ghost use Rattle.std.specs.Prelude.{◌≡◌, ℕ, ◌+◌, length, position, option_map, IfOk, IfSome, MatchOption, Contains, ◌<◌, ◌^◌};
+ghost use Rattle.std.specs.Prelude.{◌≡◌, ℕ, length, map, Some, IfOk, MatchOption};
 ghost use Rattle.std.specs.Option.{option_copied};
-ghost use Rattle.qu_trace.specs.Operations.{operations_of};
-ghost use Rattle.qu_world.specs.Run.{IsRun};
+ghost use Rattle.qu_frames.specs.Decoding.{decoded};
 ghost use Rattle.qu_world.specs.State.{numbered};
-ghost use Rattle.qu_safety.specs.Order.{answers, delivered_round, round_of, query_effect, effect_of, AnswersFirst};
+ghost use Rattle.qu_safety.specs.Order.{delivered_round, round_in, query_effect, effect_of, AnswersFirst};
 ghost use Rattle.qu_safety.specs.Tracker.{Tracks};
-ghost use Rattle.qu_safety.specs.Points.{handled_acts, mark_of, earlier_of, first_mark, act_mark, answers_in};
+ghost use Rattle.qu_safety.specs.Points.{handled_acts, mark_of, earlier_of, first_mark, act_mark, answered_at};
 
 use super::acts::is_handled;
+use super::answers::{Answered, first_answer, round_answered};
 use super::tracked::Tracked;
 use super::tracker::Tracker;
-use qu_base::{ClientId, Digest, NoMemory};
-use qu_frames::{Frame, Letter};
+use qu_base::{ClientId, Digest, List, NoMemory};
 use qu_machine::OpRecord;
 use qu_objects::{Act, Op, Outcome, act_digest};
 use qu_trace::{Entry, Event, Trace};
@@ -54,23 +53,23 @@ fn earlier(first: Option<u64>, second: Option<u64>) -> Option<u64>
 }
 
 /// The event at which an operation of a run took effect, None where it took none. The acts are those
-/// that replicas handled.
+/// that replicas handled, and the answers those that each entry has.
 pub fn effect(
     alloc: Global,
     trace: &Trace,
     tracker: &Tracker,
-    acts: &[(ClientId, u64)],
+    acts: &[(ClientId, u64, Act)],
+    answers: &[List<Answered>],
     operation: &OpRecord,
 ) -> Result<Option<u64>, NoMemory>
-    requires run { IsRun trace.now }
     requires tracked { Tracks trace.now (length trace.now.entries) tracker.now }
     requires handled { acts.now ≡ handled_acts trace.now }
-    requires of_trace { Contains (operations_of trace.now.entries) operation.now }
+    requires answered { answers.now ≡ map answered_at trace.now.entries }
     ensures { IfOk result (λ found. MatchOption found ((event : ℕ) → ¬ (effect_of trace.now operation.now event operation.now.op)) (λ event. effect_of trace.now operation.now event operation.now.op)) }
 {
     match &operation.op {
         Op::Act(act) => act_mark(alloc, tracker.as_slice(), acts, operation, act),
-        Op::Query(_) => Ok(query_effect(trace, operation)),
+        Op::Query(_) => query_effect(alloc, trace, answers, operation),
     }
 }
 
@@ -78,13 +77,13 @@ pub fn effect(
 fn act_mark(
     alloc: Global,
     tracked: &[Tracked],
-    acts: &[(ClientId, u64)],
+    acts: &[(ClientId, u64, Act)],
     operation: &OpRecord,
     act: &Act,
 ) -> Result<Option<u64>, NoMemory>
     ensures { IfOk result (λ mark. mark ≡ act_mark operation.now.client operation.now.number act.now acts.now tracked.now) }
 {
-    if !is_handled(acts, operation.client, operation.number) {
+    if !is_handled(acts, operation.client, operation.number, act) {
         return Ok(None);
     }
     let digest = act_digest(alloc, operation.client, operation.number, act)?;
@@ -92,32 +91,75 @@ fn act_mark(
 }
 
 /// The event at which a query took effect, None where it did not complete.
-fn query_effect(trace: &Trace, operation: &OpRecord) -> Option<u64>
-    ensures { MatchOption result ((event : ℕ) → ¬ (query_effect trace.now operation.now event operation.now.reply)) (λ event. query_effect trace.now operation.now event operation.now.reply) }
+fn query_effect(
+    alloc: Global,
+    trace: &Trace,
+    answers: &[List<Answered>],
+    operation: &OpRecord,
+) -> Result<Option<u64>, NoMemory>
+    requires answered { answers.now ≡ map answered_at trace.now.entries }
+    ensures { IfOk result (λ found. MatchOption found ((event : ℕ) → ¬ (query_effect trace.now operation.now event operation.now.reply)) (λ event. query_effect trace.now operation.now event operation.now.reply)) }
 {
     match &operation.reply {
-        Some((reply, Outcome::Done(_))) => {
-            first_answer_of(trace, operation.client, operation.number, *reply)
-        }
-        Some((_, Outcome::GaveUp)) | None => None,
+        Some((reply, Outcome::Done(_))) => first_answer_of(
+            alloc,
+            trace,
+            answers,
+            operation.client,
+            operation.number,
+            *reply,
+        ),
+        Some((_, Outcome::GaveUp)) | None => Ok(None),
     }
 }
 
 /// The first event at which a replica answers the round of the answer that this event delivers.
-fn first_answer_of(trace: &Trace, client: ClientId, number: u64, reply: u64) -> Option<u64>
-    ensures { MatchOption result ((event : ℕ) → ¬ (AnswersFirst trace.now client number reply event)) (λ event. AnswersFirst trace.now client number reply event) }
+fn first_answer_of(
+    alloc: Global,
+    trace: &Trace,
+    answers: &[List<Answered>],
+    client: ClientId,
+    number: u64,
+    reply: u64,
+) -> Result<Option<u64>, NoMemory>
+    requires answered { answers.now ≡ map answered_at trace.now.entries }
+    ensures { IfOk result (λ found. MatchOption found ((event : ℕ) → ¬ (AnswersFirst trace.now client number reply event)) (λ event. AnswersFirst trace.now client number reply event)) }
 {
-    let round = delivered_round(trace, reply)?;
-    first_answer(trace.entries.as_slice(), client, number, round)
+    let found = delivered_round(alloc, trace, reply)?;
+    match found {
+        Some(round) => {
+            let asked = Answered {
+                client,
+                number,
+                round,
+            };
+            Ok(first_answer(answers, asked))
+        }
+        None => Ok(None),
+    }
 }
 
 /// The round of the answer that an event delivers, None where it delivers none.
-fn delivered_round(trace: &Trace, event: u64) -> Option<u8>
-    ensures { result ≡ delivered_round trace.now (numbered trace.now.entries event) }
+fn delivered_round(alloc: Global, trace: &Trace, event: u64) -> Result<Option<u8>, NoMemory>
+    ensures { IfOk result (λ round. round ≡ delivered_round trace.now (numbered trace.now.entries event)) }
 {
-    match &entry_at(trace, event)?.event {
-        Event::Deliver(number) => round_of(letter_at(trace.entries.as_slice(), *number)?),
-        Event::Invoke(_, _) | Event::Tick(_) => None,
+    match entry_at(trace, event) {
+        Some(entry) => round_at(alloc, trace, entry),
+        None => Ok(None),
+    }
+}
+
+/// The same of the event of an entry.
+fn round_at(alloc: Global, trace: &Trace, entry: &Entry) -> Result<Option<u8>, NoMemory>
+    ensures { IfOk result (λ round. round ≡ delivered_round trace.now (Some entry.now)) }
+{
+    match &entry.event {
+        Event::Deliver(number) => match letter_at(trace.entries.as_slice(), *number) {
+            Some(letter) => round_in(alloc, letter.text.as_slice()),
+            None => Ok(None),
+        },
+        Event::Inject(_, text) => round_in(alloc, text.as_slice()),
+        Event::Invoke(_, _) | Event::Tick(_) => Ok(None),
     }
 }
 
@@ -129,54 +171,11 @@ fn entry_at(trace: &Trace, event: u64) -> Option<&Entry>
     trace.entries.get(index as usize)
 }
 
-/// The round of the answer that a letter carries.
-fn round_of(letter: &Letter) -> Option<u8>
-    ensures { result ≡ round_of (Some letter.now) }
+/// The round of the answer that a text carries.
+#[tactic(auto, using(crate::proofs::AnsweredRounds::round_of_answer))]
+fn round_in(alloc: Global, text: &[u8]) -> Result<Option<u8>, NoMemory>
+    ensures { IfOk result (λ round. round ≡ round_in (decoded text.now)) }
 {
-    match &letter.frame {
-        Frame::Reply { round, .. } => Some(*round),
-        Frame::Request { .. } => None,
-    }
-}
-
-/// The first event at which an answer to this round is sent.
-fn first_answer(entries: &[Entry], client: ClientId, number: u64, round: u8) -> Option<u64>
-    ensures { result ≡ option_map (λ index. index + 1) (position (answers_in client number round) entries.now) }
-{
-    let index = first_entry(entries, client, number, round)?;
-    Some(index as u64 + 1)
-}
-
-/// The index of the first entry with an answer to this round.
-fn first_entry(entries: &[Entry], client: ClientId, number: u64, round: u8) -> Option<usize>
-    ensures value { result ≡ position (answers_in client number round) entries.now }
-    ensures fits { IfSome result (λ index. index + 1 < 2 ^ 64) }
-{
-    entries
-        .iter()
-        .position(|entry| answers_in(entry, client, number, round))
-}
-
-fn answers_in(entry: &Entry, client: ClientId, number: u64, round: u8) -> bool
-    ensures { result ≡ answers_in client number round entry.now }
-{
-    entry
-        .letters
-        .iter()
-        .any(|letter| answers(letter, client, number, round))
-}
-
-/// Whether the letter is an answer to this round of the operation.
-fn answers(letter: &Letter, client: ClientId, number: u64, round: u8) -> bool
-    ensures { result ≡ answers client number round letter.now }
-{
-    match &letter.frame {
-        Frame::Reply {
-            client: other,
-            number: replied,
-            round: turn,
-            ..
-        } => *other == client && *replied == number && *turn == round,
-        Frame::Request { .. } => false,
-    }
+    let found = round_answered(alloc, text)?;
+    Ok(found.map(|answer| answer.round))
 }

@@ -2,6 +2,7 @@
 #![tactic(auto)]
 
 mod acts;
+mod answers;
 mod effects;
 mod news;
 mod order;

@@ -1,48 +1,55 @@
-ghost use Rattle.std.specs.Prelude.{◌≡◌, ◌≤◌, not, length, position, AllPairs, Contains, IfOk, OnOk};
+ghost use Rattle.std.specs.Prelude.{◌≡◌, ◌≤◌, not, length, map, position, AllPairs, IfOk, OnOk, IsTrue};
 ghost use Rattle.std.specs.List.{position_or_len};
 ghost use Rattle.qu_machine.specs.Serial.{IsSerial};
+ghost use Rattle.qu_trace.specs.Injections.{no_injection};
 ghost use Rattle.qu_trace.specs.Operations.{operations_of};
 ghost use Rattle.qu_world.specs.Run.{IsRun};
 ghost use Rattle.qu_safety.specs.Chained.{IsChained};
-ghost use Rattle.qu_safety.specs.Digested.{NoCollision};
+ghost use Rattle.qu_safety.specs.Digested.{MeetsPremises};
+ghost use Rattle.qu_safety.specs.Named.{StampsNameHistories};
 ghost use Rattle.qu_safety.specs.Order.{is_earlier, IsPrintedOrder};
 ghost use Rattle.qu_safety.specs.Quorums.{CompletesByQuorums};
 ghost use Rattle.qu_safety.specs.Turns.{DecidesInTurn};
-ghost use Rattle.qu_safety.specs.Points.{AreApart, AddsPoint, ArePointsOf, handled_acts, with_point};
+ghost use Rattle.qu_safety.specs.Points.{AreApart, AddsPoint, ArePointsOf, handled_acts, answered_at, with_point};
 ghost use Rattle.qu_safety.specs.Tracker.{Tracks};
 
 use super::acts::handled_acts;
+use super::answers::{Answered, answers};
 use super::effects::effect;
 use super::parts::have_parts;
 use super::replay::replay;
 use super::tracker::Tracker;
 use qu_base::{ClientId, List, NoMemory};
 use qu_machine::{OpRecord, Point};
+use qu_objects::Act;
 use qu_trace::{Trace, operations};
 use std::alloc::Global;
 
 /// The points of a run: where each update and each completed query took effect.
 ///
-/// They stand by event. Where no two texts that were digested have one digest, they are a serial order
-/// of the operations: one machine that runs whole operations in this order gives each completed one its
-/// answer, between its call and its reply.
+/// They stand by event. Where nothing was injected and no two texts that were digested have one digest,
+/// they are a serial order of the operations: one machine that runs whole operations in this order gives
+/// each completed one its answer, between its call and its reply.
 pub fn order_of(alloc: Global, trace: &Trace) -> Result<List<Point>, NoMemory>
     requires { IsRun trace.now }
     ensures printed { IfOk result (λ order. IsPrintedOrder trace.now order) }
-    ensures serial { IfOk result (λ order. NoCollision trace.now → IsSerial trace.now.setup.kinds (operations_of trace.now.entries) order) }
-    ensures chained { OnOk result (IsChained trace.now) }
-    ensures in_turn { OnOk result (DecidesInTurn trace.now) }
-    ensures by_quorums { OnOk result (CompletesByQuorums trace.now) }
+    ensures serial { IfOk result (λ order. MeetsPremises trace.now → IsSerial trace.now.setup.kinds (operations_of trace.now.entries) order) }
+    ensures chained { OnOk result (IsTrue (no_injection trace.now.entries) → IsChained trace.now) }
+    ensures named { OnOk result (MeetsPremises trace.now → StampsNameHistories trace.now) }
+    ensures in_turn { OnOk result (IsTrue (no_injection trace.now.entries) → DecidesInTurn trace.now) }
+    ensures by_quorums { OnOk result (IsTrue (no_injection trace.now.entries) → CompletesByQuorums trace.now) }
 {
     have_parts(trace.entries.as_slice());
     let tracker = replay(alloc, trace)?;
     let acts = handled_acts(alloc, trace)?;
+    let answers = answers(alloc, trace.entries.as_slice())?;
     let operations = operations(alloc, trace)?;
     let points = points(
         alloc,
         trace,
         &tracker,
         acts.as_slice(),
+        answers.as_slice(),
         operations.as_slice(),
     )?;
     Ok(List::from(points))
@@ -53,19 +60,19 @@ fn points(
     alloc: Global,
     trace: &Trace,
     tracker: &Tracker,
-    acts: &[(ClientId, u64)],
+    acts: &[(ClientId, u64, Act)],
+    answers: &[List<Answered>],
     operations: &[OpRecord],
 ) -> Result<Vec<Point>, NoMemory>
-    requires run { IsRun trace.now }
     requires tracked { Tracks trace.now (length trace.now.entries) tracker.now }
     requires handled { acts.now ≡ handled_acts trace.now }
-    requires of_trace { operations.now ≡ operations_of trace.now.entries }
+    requires answered { answers.now ≡ map answered_at trace.now.entries }
     requires apart { AllPairs AreApart operations.now }
     ensures { IfOk result (λ points. ArePointsOf trace.now operations.now points.items) }
 {
     let mut points = Vec::new(alloc);
     for operation in operations {
-        add_point(alloc, &mut points, trace, tracker, acts, operation)?;
+        add_point(alloc, &mut points, trace, tracker, acts, answers, operation)?;
     }
     Ok(points)
 }
@@ -76,16 +83,16 @@ fn add_point(
     points: &mut Vec<Point>,
     trace: &Trace,
     tracker: &Tracker,
-    acts: &[(ClientId, u64)],
+    acts: &[(ClientId, u64, Act)],
+    answers: &[List<Answered>],
     operation: &OpRecord,
 ) -> Result<(), NoMemory>
-    requires run { IsRun trace.now }
     requires tracked { Tracks trace.now (length trace.now.entries) tracker.now }
     requires handled { acts.now ≡ handled_acts trace.now }
-    requires of_trace { Contains (operations_of trace.now.entries) operation.now }
+    requires answered { answers.now ≡ map answered_at trace.now.entries }
     ensures { OnOk result (AddsPoint trace.now operation.now points.old.items points.new.items) }
 {
-    let found = effect(alloc, trace, tracker, acts, operation)?;
+    let found = effect(alloc, trace, tracker, acts, answers, operation)?;
     if let Some(event) = found {
         let point = Point {
             event,

@@ -29,7 +29,7 @@ fn has_parts(event: &Event)
             client_fits(*client);
             query.parts();
         }
-        Event::Deliver(_) | Event::Tick(_) => {}
+        Event::Deliver(_) | Event::Tick(_) | Event::Inject(_, _) => {}
     }
 }
 

@@ -1,10 +1,10 @@
 ghost use Rattle.std.specs.Prelude.{◌≤◌};
 
 use super::order_of;
-use qu_base::{Bounds, ClientId, List, ObjectId};
+use qu_base::{Bounds, ClientId, List, ObjectId, Party, ReplicaId};
 use qu_objects::{Act, Ask, KindName, Method, Op, Query};
 use qu_trace::{Event, Setup};
-use qu_world::{World, WorldFail};
+use qu_world::{World, WorldFail, letter_at};
 use std::alloc::Global;
 use std::test::Fail;
 
@@ -49,6 +49,16 @@ fn deliver(world: &mut World, first: u64, last: u64) -> Result<(), Fail> {
             Err(fail) => return Err(fail.into()),
         }
     }
+    Ok(())
+}
+
+/// Injects the bytes of the letter with this number to its receiver.
+fn inject(alloc: Global, world: &mut World, number: u64) -> Result<(), Fail> {
+    let (to, text) = match letter_at(world.trace().entries.as_slice(), number) {
+        Some(letter) => (letter.to, letter.text.copy(alloc)?),
+        None => return Ok(()),
+    };
+    world.apply(Event::Inject(to, text))?;
     Ok(())
 }
 
@@ -115,5 +125,45 @@ fn a_query_takes_effect_at_the_first_answer_of_its_last_round(rt: HostRuntime) -
     deliver(&mut world, 23, 100)?;
     let points = points_of(rt.alloc(), &world)?;
     assert_eq!(rt; points.as_slice(), [(14, 1, 1)].as_slice());
+    Ok(())
+}
+
+// The requests of the second round reach the replicas as injected bytes, and the fourth accepts as before.
+#[test]
+fn injected_requests_count_as_delivered_ones(rt: HostRuntime) -> Result<(), Fail> {
+    let mut world = started(rt.alloc(), 1)?;
+    invoke_add(rt.alloc(), &mut world, 1, 5)?;
+    deliver(&mut world, 1, 12)?;
+    for number in 13..=18 {
+        inject(rt.alloc(), &mut world, number)?;
+    }
+    let points = points_of(rt.alloc(), &world)?;
+    assert_eq!(rt; points.as_slice(), [(17, 1, 1)].as_slice());
+    Ok(())
+}
+
+// The second round's answers reach the client as injected bytes; the first of them is sent at event 14.
+#[test]
+fn injected_answers_complete_a_query(rt: HostRuntime) -> Result<(), Fail> {
+    let mut world = started(rt.alloc(), 1)?;
+    invoke_read(rt.alloc(), &mut world)?;
+    deliver(&mut world, 1, 18)?;
+    for number in 19..=24 {
+        inject(rt.alloc(), &mut world, number)?;
+    }
+    let points = points_of(rt.alloc(), &world)?;
+    assert_eq!(rt; points.as_slice(), [(14, 1, 1)].as_slice());
+    Ok(())
+}
+
+// Bytes that are no frame change no point.
+#[test]
+fn bytes_that_are_no_frame_change_no_point(rt: HostRuntime) -> Result<(), Fail> {
+    let mut world = started(rt.alloc(), 1)?;
+    invoke_add(rt.alloc(), &mut world, 1, 5)?;
+    world.apply(Event::Inject(Party::Replica(ReplicaId(0)), List::new(rt.alloc())))?;
+    deliver(&mut world, 1, 100)?;
+    let points = points_of(rt.alloc(), &world)?;
+    assert_eq!(rt; points.as_slice(), [(18, 1, 1)].as_slice());
     Ok(())
 }

@@ -32,6 +32,7 @@ kind_of (fail.NoSuchLetter number) = kind.NoSuchLetter
 kind_of (fail.NoSuchActor party) = kind.UnknownLine
 kind_of fail.Busy = kind.Busy
 kind_of fail.TooManyEvents = kind.TooManyEvents
+kind_of fail.TooManyBytes = kind.TooManyBytes
 kind_of fail.NoMemory = kind.UnknownLine
 
 abbrev pub unless_refused : ℕ → Option WorldFail → WorldState → Result WorldState Bad
@@ -56,6 +57,7 @@ abbrev pub delivers : ℕ → Event → Bool
 delivers letter (event.Invoke client op) = false
 delivers letter (event.Deliver number) = number == letter
 delivers letter (event.Tick client) = false
+delivers letter (event.Inject party text) = false
 
 -- an event has delivered the letter
 unfoldable pub is_delivered : List Entry → ℕ → Bool

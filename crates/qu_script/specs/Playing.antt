@@ -13,6 +13,7 @@ told_of number (fail.NoSuchLetter letter) = fails.Bad (record { line = number; k
 told_of number (fail.NoSuchActor party) = fails.Bad (record { line = number; kind = kind_of (fail.NoSuchActor party) })
 told_of number fail.Busy = fails.Bad (record { line = number; kind = kind_of fail.Busy })
 told_of number fail.TooManyEvents = fails.Bad (record { line = number; kind = kind_of fail.TooManyEvents })
+told_of number fail.TooManyBytes = fails.Bad (record { line = number; kind = kind_of fail.TooManyBytes })
 told_of number fail.NoMemory = fails.NoMemory
 
 -- a search for a letter that waits may begin at this one

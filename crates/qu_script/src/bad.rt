@@ -17,6 +17,8 @@ pub enum BadKind {
     Busy,
     /// In the run, the line would make one event more than a run may have.
     TooManyEvents,
+    /// In the run, the letters before the line have as many bytes as they may.
+    TooManyBytes,
 }
 
 /// Why a script is refused: the line that cannot stand, from 1, and what is wrong with it.

@@ -130,6 +130,7 @@ fn fail_of(line: u64, fail: WorldFail) -> ScriptFail
         WorldFail::NoSuchActor(_) => BadKind::UnknownLine,
         WorldFail::Busy => BadKind::Busy,
         WorldFail::TooManyEvents => BadKind::TooManyEvents,
+        WorldFail::TooManyBytes => BadKind::TooManyBytes,
         WorldFail::NoMemory => return ScriptFail::NoMemory,
     };
     ScriptFail::Bad(Bad { line, kind })

@@ -1,4 +1,5 @@
-ghost use Rattle.std.specs.Prelude.{IfOk};
+ghost use Rattle.std.specs.Prelude.{IfOk, IsTrue};
+ghost use Rattle.qu_trace.specs.Injections.{no_injection};
 ghost use Rattle.qu_world.specs.Run.{IsRun, IsSetup};
 ghost use Rattle.qu_script.specs.Script.{Gives};
 ghost use Rattle.qu_script.specs.Events.{run_of};
@@ -10,12 +11,14 @@ use std::alloc::Global;
 
 /// Runs a script: its lines make events one after another, and the trace records them.
 ///
-/// The first line with an event that the world refuses ends the run, and is told with the reason.
+/// The first line with an event that the world refuses ends the run, and is told with the reason. No
+/// line injects bytes.
 #[tactic(auto, unfolding(crate::specs::Events::run_of))]
 pub fn run_script(alloc: Global, script: &Script) -> Result<Trace, ScriptFail>
     requires { IsSetup script.now.setup }
     ensures value { Gives (λ trace. trace) result (run_of script.now) }
     ensures run { IfOk result IsRun }
+    ensures scripted { IfOk result (λ trace. IsTrue (no_injection trace.entries)) }
 {
     let setup = script.setup.copy(alloc)?;
     let mut player = Player::start(alloc, setup)?;

@@ -41,6 +41,6 @@ fn is_delivery(event: &Event, letter: u64) -> bool
 {
     match event {
         Event::Deliver(number) => *number == letter,
-        Event::Invoke(..) | Event::Tick(..) => false,
+        Event::Invoke(..) | Event::Tick(..) | Event::Inject(..) => false,
     }
 }

@@ -7,8 +7,8 @@ use Rattle.qu_base.specs.declared.bad_text.BadText.{BadText}
 use Rattle.qu_base.specs.Front.{Front}
 use Rattle.qu_base.specs.Reading.{Reads, IsRead}
 use Rattle.qu_base.proofs.Reading.{read_exactly}
-use Rattle.qu_base.specs.Format.{AreBytes, Format, IsExact, digest_form}
-use Rattle.qu_base.proofs.Formats.{wide8, wide16, wide64, number-exact, both-exact, tested-exact, fields-exact, flag-exact, optional-exact, digest-exact}
+use Rattle.qu_base.specs.Format.{IsPrefixCode, AreBytes, Format, IsExact, digest_form}
+use Rattle.qu_base.proofs.Formats.{prefix_code, wide8, wide16, wide64, number-exact, both-exact, tested-exact, fields-exact, flag-exact, optional-exact, digest-exact}
 use Rattle.qu_stamp.specs.declared.stamp.Stamp.{Stamp}
 use Rattle.qu_stamp.specs.declared.stamp.TheConstants.{LAST_TIME}
 use Rattle.qu_stamp.specs.declared.candidate.Candidate.{Candidate}
@@ -79,3 +79,13 @@ prior_is_below stamp prior fits is =
 pub prior_is_plain : (stamp prior : Stamp) → (prior_form stamp).Fits prior → prior.barrier ≡ false
 unfolding prior_form
 prior_is_plain stamp prior fits = not-true _ ((and_parts (is_below_or_opening stamp prior) (not prior.barrier) (fits.0).1).1)
+
+-- ---- each is a prefix code
+
+pub stamp-code : (barrier_may_be : Bool) → IsPrefixCode (stamp_with barrier_may_be)
+stamp-code barrier_may_be = prefix_code (stamp_with barrier_may_be) (stamp_with-exact barrier_may_be)
+
+pub candidate-code : IsPrefixCode candidate_form
+candidate-code = prefix_code candidate_form candidate-exact
+
+pub ruleset code_laws = (stamp-code, candidate-code)

@@ -6,13 +6,14 @@ use Rattle.qu_objects.specs.declared.op.Op.{Op}
 use Rattle.qu_objects.specs.declared.op.Outcome.{Outcome}
 use Rattle.qu_machine.specs.declared.record.OpRecord.{OpRecord}
 use Rattle.qu_trace.specs.declared.event.Event.{Event}
-use Rattle.qu_trace.specs.declared.event.Event.TheVariants.{Invoke, Deliver, Tick}
+use Rattle.qu_trace.specs.declared.event.Event.TheVariants.{Invoke, Deliver, Tick, Inject}
 use Rattle.qu_trace.specs.declared.trace.Entry.{Entry}
 
 abbrev pub invokes : ClientId → Event → Bool
 invokes client (Invoke other op) = client.0 == other.0
 invokes client (Deliver letter) = false
 invokes client (Tick other) = false
+invokes client (Inject party text) = false
 
 -- how many operations a client began
 unfoldable pub begun_by : ClientId → List Entry → ℕ
@@ -45,6 +46,7 @@ abbrev pub begins_at : Event → ℕ → List Entry → List Entry → List OpRe
 begins_at (Invoke client op) at earlier later = record_of client op at earlier later ∷ []
 begins_at (Deliver letter) at earlier later = []
 begins_at (Tick client) at earlier later = []
+begins_at (Inject party text) at earlier later = []
 
 -- the operations that begin at the later events, the first of which has this number
 unfoldable pub operations_from : List Entry → ℕ → List Entry → List OpRecord

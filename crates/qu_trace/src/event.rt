@@ -1,6 +1,6 @@
 ghost use Rattle.std.specs.Prelude.{◌≡◌, IfOk};
 
-use qu_base::{ClientId, NoMemory};
+use qu_base::{ClientId, List, NoMemory, Party};
 use qu_objects::Op;
 use std::alloc::Global;
 
@@ -14,6 +14,8 @@ pub enum Event {
     Deliver(u64),
     /// Time passes at a client.
     Tick(ClientId),
+    /// These bytes reach a party, though maybe no party sent them.
+    Inject(Party, List<u8>),
 }
 
 impl Event {
@@ -25,6 +27,7 @@ impl Event {
             Event::Invoke(client, op) => Event::Invoke(*client, op.copy(alloc)?),
             Event::Deliver(letter) => Event::Deliver(*letter),
             Event::Tick(client) => Event::Tick(*client),
+            Event::Inject(party, text) => Event::Inject(*party, text.copy(alloc)?),
         })
     }
 }

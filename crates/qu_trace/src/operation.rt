@@ -64,7 +64,7 @@ fn is_invoked(event: &Event, client: ClientId) -> bool
 {
     match event {
         Event::Invoke(other, _) => client.0 == other.0,
-        Event::Deliver(_) | Event::Tick(_) => false,
+        Event::Deliver(_) | Event::Tick(_) | Event::Inject(_, _) => false,
     }
 }
 

@@ -1,8 +1,12 @@
 -- Where a letter stands among those of several events.
-use Rattle.std.proofs.Common.{◌≡◌, ℕ, zero, suc, ◌+◌, ◌<◌, ◌≤◌, List, [], ◌∷◌, ◌++◌, length, drop, get_or, refl, add-one, arith}
+use Rattle.std.proofs.Common.{◌≡◌, ℕ, zero, suc, ◌+◌, ◌<◌, ◌≤◌, List, [], ◌∷◌, ◌++◌, length, drop, get_or, refl, ap, ◌∙◌, add-one, append-nil, arith}
+use Rattle.std.specs.List.{flat_map}
+use Rattle.std.proofs.lemmas.Grind.{flat_map-append}
+use Rattle.std.proofs.lemmas.List.Sums.{sum_by-append}
 use Rattle.std.specs.Prelude.{slice_get}
 use Rattle.qu_trace.specs.declared.trace.Entry.{Entry}
-use Rattle.qu_trace.specs.Letters.{letters_of}
+use Rattle.qu_frames.specs.declared.frame.Letter.{Letter}
+use Rattle.qu_trace.specs.Letters.{letters_of, bytes_of, bytes_sent}
 
 -- an item of the first list
 pub slice_get-append_left : {X : Type 0} (xs ys : List X) (k : ℕ) → k < length xs → slice_get (xs ++ ys) k ≡ slice_get xs k
@@ -34,5 +38,15 @@ letters-past [] zero past = refl
 letters-past [] (suc index) past = refl
 letters-past (first ∷ later) zero past = absurd (omega arith)
 letters-past (first ∷ later) (suc index) past = letters-past later index (omega arith)
+
+pub letters-push : (entries : List Entry) (entry : Entry) → letters_of (entries ++ entry ∷ []) ≡ letters_of entries ++ entry.letters
+unfolding letters_of
+letters-push entries entry =
+    flat_map-append (λ (it : Entry). it.letters) entries (entry ∷ []) ∙ ap (λ more. flat_map (λ (it : Entry). it.letters) entries ++ more) (append-nil entry.letters)
+
+-- an entry adds the bytes of its letters
+pub bytes_sent_more : (entries : List Entry) (entry : Entry) → bytes_sent (entries ++ entry ∷ []) ≡ bytes_sent entries + bytes_of entry.letters
+bytes_sent_more entries entry =
+    ap bytes_of (letters-push entries entry) ∙ sum_by-append (λ (letter : Letter). length letter.text) (letters_of entries) entry.letters
 
 pub ruleset letter_laws = (slice_get-append_left, slice_get-append_right, letters-at, letters-past)

@@ -1,4 +1,5 @@
 pub mod LetterLaws
+pub mod Injecting
 pub mod Making
 pub mod Moving
 pub mod OpeningLaws

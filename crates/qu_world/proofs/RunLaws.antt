@@ -8,7 +8,6 @@ use Rattle.qu_base.specs.declared.party.ClientId.{ClientId}
 use Rattle.qu_base.specs.declared.party.ReplicaId.{ReplicaId}
 use Rattle.qu_base.specs.declared.party.Party.{Party}
 use Rattle.qu_base.specs.declared.party.Party.TheVariants as party
-use Rattle.qu_frames.specs.declared.frame.Frame.{Frame}
 use Rattle.qu_frames.specs.declared.frame.Letter.{Letter}
 use Rattle.qu_replica.specs.State.{ReplicaState}
 use Rattle.qu_client.specs.declared.state.ClientState.{ClientState}
@@ -17,17 +16,18 @@ use Rattle.qu_client.specs.Step.{client_invoke, client_step, client_tick}
 use Rattle.qu_client.specs.Sound.{NumbersWithin}
 use Rattle.qu_client.proofs.Laws.{NumbersWithin-opening, NumbersWithin-step, NumbersWithin-invoke, NumbersWithin-tick, may_invoke}
 use Rattle.qu_trace.specs.declared.event.Event.{Event}
-use Rattle.qu_trace.specs.declared.event.Event.TheVariants.{Invoke, Deliver, Tick}
+use Rattle.qu_trace.specs.declared.event.Event.TheVariants.{Invoke, Deliver, Tick, Inject}
 use Rattle.qu_trace.specs.declared.trace.Entry.{Entry}
 use Rattle.qu_trace.specs.declared.trace.Setup.{Setup}
+use Rattle.qu_trace.specs.Letters.{letters_of, bytes_sent}
 use Rattle.qu_client.specs.declared.work.Work.{Work}
 use Rattle.qu_world.specs.declared.fail.WorldFail.TheVariants as fails
-use Rattle.qu_world.specs.declared.fail.TheConstants.{EVENT_LIMIT}
+use Rattle.qu_world.specs.declared.fail.TheConstants.{EVENT_LIMIT, BYTE_LIMIT}
 use Rattle.qu_world.specs.State.{WorldState, opening_world, opening_clients, numbered, with_numbered, letter_of}
 use Rattle.qu_world.specs.Step.{world_step, at_client, at_replica, received, delivered}
-use Rattle.qu_world.specs.Refusals.{refusal_of, refused_at_limit, refused_invocation}
+use Rattle.qu_world.specs.Refusals.{refusal_of, refused_at_limit, refused_invocation, refused_delivery, refused_tick, refused_injection, is_party}
 use Rattle.qu_world.specs.Parties.{MayBegin, CanBegin}
-use Rattle.qu_world.specs.Run.{run_from, run, MayHappen, events_of, IsSetup, IsWorld}
+use Rattle.qu_world.specs.Run.{run_from, run, MayHappen, events_of, IsSetup, IsWorld, IsCounted}
 
 -- ---- one event more
 
@@ -50,32 +50,37 @@ pub record Records (old new : WorldState) (event : Event) : Type 0 where
   pub of_event : entry.event ≡ event
   pub entries : new.entries ≡ old.entries ++ entry ∷ []
 
-at_replica_records : (world : WorldState) (event : Event) (me : ReplicaId) (frame : Frame) (found : Option ReplicaState) → Records world (at_replica world event me frame found) event
-at_replica_records world event me frame None = record { setup = refl; entry = _; of_event = refl; entries = refl }
-at_replica_records world event me frame (Some state) = record { setup = refl; entry = _; of_event = refl; entries = refl }
+at_replica_records : (world : WorldState) (event : Event) (me : ReplicaId) (text : List ℕ) (found : Option ReplicaState) → Records world (at_replica world event me text found) event
+at_replica_records world event me text None = record { setup = refl; entry = _; of_event = refl; entries = refl }
+at_replica_records world event me text (Some state) = record { setup = refl; entry = _; of_event = refl; entries = refl }
 
 at_client_records : (world : WorldState) (event : Event) (me : ClientId) (move : ClientState → Stepped) (found : Option ClientState) → Records world (at_client world event me move found) event
 at_client_records world event me move None = record { setup = refl; entry = _; of_event = refl; entries = refl }
 at_client_records world event me move (Some state) = record { setup = refl; entry = _; of_event = refl; entries = refl }
 
-received_records : (world : WorldState) (event : Event) (to : Party) (frame : Frame) → Records world (received world event to frame) event
-received_records world event (party.Replica me) frame = at_replica_records world event me frame (slice_get world.replicas me.0)
-received_records world event (party.Client me) frame = at_client_records world event me (λ state. client_step state frame) (numbered world.clients me.0)
+received_records : (world : WorldState) (event : Event) (to : Party) (text : List ℕ) → Records world (received world event to text) event
+received_records world event (party.Replica me) text = at_replica_records world event me text (slice_get world.replicas me.0)
+received_records world event (party.Client me) text = at_client_records world event me (λ state. client_step state text) (numbered world.clients me.0)
 
 delivered_records : (world : WorldState) (event : Event) (letter : Option Letter) → Records world (delivered world event letter) event
 delivered_records world event None = record { setup = refl; entry = _; of_event = refl; entries = refl }
-delivered_records world event (Some letter) = received_records world event letter.to letter.frame
+delivered_records world event (Some letter) = received_records world event letter.to letter.text
 
 pub step_records : (world : WorldState) (event : Event) → Records world (world_step world event) event
 step_records world (Invoke client op) = at_client_records world (Invoke client op) client (λ state. client_invoke state op) (numbered world.clients client.0)
 step_records world (Deliver number) = delivered_records world (Deliver number) (letter_of world number)
 step_records world (Tick client) = at_client_records world (Tick client) client client_tick (numbered world.clients client.0)
+step_records world (Inject who text) = received_records world (Inject who text) who text
 
 -- ---- worlds
 
 pub IsWorld-opening : (setup : Setup) → IsSetup setup → IsWorld (opening_world setup)
 unfolding run_from MayHappen
 IsWorld-opening setup limits = record { setup = limits; is_run = refl; happened = tt }
+
+pub counted-opening : (setup : Setup) → IsSetup setup → IsCounted (opening_world setup) 0
+unfolding letters_of
+counted-opening setup limits = record { is_world = IsWorld-opening setup limits; all = refl }
 
 step_by : (old new : WorldState) (event : Event) → new ≡ world_step old event → Records old new event → IsWorld old → refusal_of old event ≡ None → IsWorld new
 step_by old new event is made world may =
@@ -147,22 +152,22 @@ numbers_at most world event me move (Some state) is moved all =
     (all_weaker (NumbersWithin most) (NumbersWithin (most + 1)) world.clients (within_more most) all)
     (moved state (all_numbered (NumbersWithin most) world.clients me.0 state all is))
 
-numbers_replica : (most : ℕ) (world : WorldState) (event : Event) (me : ReplicaId) (frame : Frame) (found : Option ReplicaState)
-    → AllByRecursion (NumbersWithin most) world.clients → AllByRecursion (NumbersWithin (most + 1)) (at_replica world event me frame found).clients
-numbers_replica most world event me frame None all = all_weaker (NumbersWithin most) (NumbersWithin (most + 1)) world.clients (within_more most) all
-numbers_replica most world event me frame (Some state) all = all_weaker (NumbersWithin most) (NumbersWithin (most + 1)) world.clients (within_more most) all
+numbers_replica : (most : ℕ) (world : WorldState) (event : Event) (me : ReplicaId) (text : List ℕ) (found : Option ReplicaState)
+    → AllByRecursion (NumbersWithin most) world.clients → AllByRecursion (NumbersWithin (most + 1)) (at_replica world event me text found).clients
+numbers_replica most world event me text None all = all_weaker (NumbersWithin most) (NumbersWithin (most + 1)) world.clients (within_more most) all
+numbers_replica most world event me text (Some state) all = all_weaker (NumbersWithin most) (NumbersWithin (most + 1)) world.clients (within_more most) all
 
-numbers_received : (most : ℕ) (world : WorldState) (event : Event) (to : Party) (frame : Frame)
-    → AllByRecursion (NumbersWithin most) world.clients → AllByRecursion (NumbersWithin (most + 1)) (received world event to frame).clients
-numbers_received most world event (party.Replica me) frame all = numbers_replica most world event me frame (slice_get world.replicas me.0) all
-numbers_received most world event (party.Client me) frame all =
-    numbers_at most world event me (λ state. client_step state frame) (numbered world.clients me.0) refl
-    (λ state within. within_more most (client_step state frame).state (NumbersWithin-step most state frame within)) all
+numbers_received : (most : ℕ) (world : WorldState) (event : Event) (to : Party) (text : List ℕ)
+    → AllByRecursion (NumbersWithin most) world.clients → AllByRecursion (NumbersWithin (most + 1)) (received world event to text).clients
+numbers_received most world event (party.Replica me) text all = numbers_replica most world event me text (slice_get world.replicas me.0) all
+numbers_received most world event (party.Client me) text all =
+    numbers_at most world event me (λ state. client_step state text) (numbered world.clients me.0) refl
+    (λ state within. within_more most (client_step state text).state (NumbersWithin-step most state text within)) all
 
 numbers_delivered : (most : ℕ) (world : WorldState) (event : Event) (letter : Option Letter)
     → AllByRecursion (NumbersWithin most) world.clients → AllByRecursion (NumbersWithin (most + 1)) (delivered world event letter).clients
 numbers_delivered most world event None all = all_weaker (NumbersWithin most) (NumbersWithin (most + 1)) world.clients (within_more most) all
-numbers_delivered most world event (Some letter) all = numbers_received most world event letter.to letter.frame all
+numbers_delivered most world event (Some letter) all = numbers_received most world event letter.to letter.text all
 
 -- a step makes the numbers of operations at most one greater
 numbers_step : (most : ℕ) (world : WorldState) (event : Event)
@@ -174,6 +179,7 @@ numbers_step most world (Deliver number) all = numbers_delivered most world (Del
 numbers_step most world (Tick client) all =
     numbers_at most world (Tick client) client client_tick (numbered world.clients client.0) refl
     (λ state within. within_more most (client_tick state).state (NumbersWithin-tick most state within)) all
+numbers_step most world (Inject who text) all = numbers_received most world (Inject who text) who text all
 
 numbers_from : (events : List Event) (most total : ℕ) (world : WorldState) → total ≡ most + length events
     → AllByRecursion (NumbersWithin most) world.clients → AllByRecursion (NumbersWithin total) (run_from world events).clients
@@ -200,12 +206,23 @@ numbers_world world is =
 
 -- ---- what may happen
 
-not_full : (full : Bool) → cond full (Some fails.TooManyEvents) None ≡ None → full ≡ false
-not_full true free = absurd cc
-not_full false free = refl
+-- there is room for one event more, and for its letters
+pub record IsBelowLimits (entries : List Entry) : Type 0 where
+  pub events : length entries < EVENT_LIMIT
+  pub bytes : bytes_sent entries < BYTE_LIMIT
+
+not_full : (full spent : Bool) → cond full (Some fails.TooManyEvents) (cond spent (Some fails.TooManyBytes) None) ≡ None → (full ≡ false) × (spent ≡ false)
+not_full true spent free = absurd cc
+not_full false true free = absurd cc
+not_full false false free = (refl, refl)
+
+pub below_limits : (entries : List Entry) → refused_at_limit entries ≡ None → IsBelowLimits entries
+below_limits entries free =
+    let parts = not_full (nat_le EVENT_LIMIT (length entries)) (nat_le BYTE_LIMIT (bytes_sent entries)) free in
+    record { events = leb-false EVENT_LIMIT (length entries) parts.0; bytes = leb-false BYTE_LIMIT (bytes_sent entries) parts.1 }
 
 pub below_limit : (entries : List Entry) → refused_at_limit entries ≡ None → length entries < EVENT_LIMIT
-below_limit entries free = leb-false EVENT_LIMIT (length entries) (not_full (nat_le EVENT_LIMIT (length entries)) free)
+below_limit entries free = (below_limits entries free).events
 
 pub idle_by : (work : Option Work) (entries : List Entry) → cond (is_some work) (Some fails.Busy) (refused_at_limit entries) ≡ None → (work ≡ None) × (length entries < EVENT_LIMIT)
 idle_by None entries free = (refl, below_limit entries free)
@@ -227,3 +244,36 @@ may_begin world (Invoke client op) is free =
     can_begin world.clients client.0 (party.Client client) world.entries (numbered world.clients client.0) refl (numbers_world world is) free
 may_begin world (Deliver number) is free = tt
 may_begin world (Tick client) is free = tt
+may_begin world (Inject who text) is free = tt
+
+-- ---- the limits
+
+idle_limit : (work : Option Work) (entries : List Entry) → cond (is_some work) (Some fails.Busy) (refused_at_limit entries) ≡ None → refused_at_limit entries ≡ None
+idle_limit None entries free = free
+idle_limit (Some work) entries free = absurd cc
+
+invocation_limit : (entries : List Entry) (who : Party) (found : Option ClientState) → refused_invocation entries who found ≡ None → refused_at_limit entries ≡ None
+invocation_limit entries who None free = absurd cc
+invocation_limit entries who (Some state) free = idle_limit state.work entries free
+
+delivery_limit : (entries : List Entry) (number : ℕ) (found : Option Letter) → refused_delivery entries number found ≡ None → refused_at_limit entries ≡ None
+delivery_limit entries number None free = absurd cc
+delivery_limit entries number (Some letter) free = free
+
+tick_limit : (entries : List Entry) (who : Party) (found : Option ClientState) → refused_tick entries who found ≡ None → refused_at_limit entries ≡ None
+tick_limit entries who None free = absurd cc
+tick_limit entries who (Some state) free = free
+
+injection_limit : (entries : List Entry) (who : Party) (there : Bool) → refused_injection entries who there ≡ None → refused_at_limit entries ≡ None
+injection_limit entries who false free = absurd cc
+injection_limit entries who true free = free
+
+limit_of : (world : WorldState) (event : Event) → refusal_of world event ≡ None → refused_at_limit world.entries ≡ None
+limit_of world (Invoke client op) free = invocation_limit world.entries (party.Client client) (numbered world.clients client.0) free
+limit_of world (Deliver number) free = delivery_limit world.entries number (letter_of world number) free
+limit_of world (Tick client) free = tick_limit world.entries (party.Client client) (numbered world.clients client.0) free
+limit_of world (Inject who text) free = injection_limit world.entries who (is_party world.replicas world.clients who) free
+
+-- an event that may happen comes below the limits
+pub room_for : (world : WorldState) (event : Event) → refusal_of world event ≡ None → IsBelowLimits world.entries
+room_for world event free = below_limits world.entries (limit_of world event free)

@@ -7,7 +7,6 @@ use Rattle.qu_base.specs.declared.party.ClientId.{ClientId}
 use Rattle.qu_base.specs.declared.party.Party.{Party}
 use Rattle.qu_base.specs.declared.party.Party.TheVariants as party
 use Rattle.qu_base.specs.declared.party.ReplicaId.{ReplicaId}
-use Rattle.qu_frames.specs.declared.frame.Frame.{Frame}
 use Rattle.qu_frames.specs.declared.frame.Letter.{Letter}
 use Rattle.qu_replica.specs.State.{ReplicaState}
 use Rattle.qu_replica.specs.Growth.{Grows}
@@ -17,7 +16,7 @@ use Rattle.qu_client.specs.declared.state.ClientState.{ClientState}
 use Rattle.qu_client.specs.declared.state.Stepped.{Stepped}
 use Rattle.qu_client.specs.Step.{client_invoke, client_step, client_tick}
 use Rattle.qu_trace.specs.declared.event.Event.{Event}
-use Rattle.qu_trace.specs.declared.event.Event.TheVariants.{Invoke, Deliver, Tick}
+use Rattle.qu_trace.specs.declared.event.Event.TheVariants.{Invoke, Deliver, Tick, Inject}
 use Rattle.qu_world.specs.State.{WorldState, numbered, letter_of}
 use Rattle.qu_world.specs.Step.{world_step, at_replica, at_client, received, delivered}
 use Rattle.qu_world.specs.Growth.{GrowsTo}
@@ -54,25 +53,26 @@ at_client-grows : (world : WorldState) (event : Event) (me : ClientId) (move : C
 at_client-grows world event me move None = record { setup = refl; replicas = each-self world.replicas }
 at_client-grows world event me move (Some state) = record { setup = refl; replicas = each-self world.replicas }
 
-at_replica-grows : (world : WorldState) (event : Event) (me : ReplicaId) (frame : Frame) (found : Option ReplicaState) → slice_get world.replicas me.0 ≡ found → GrowsTo world (at_replica world event me frame found)
-at_replica-grows world event me frame None is = record { setup = refl; replicas = each-self world.replicas }
-at_replica-grows world event me frame (Some state) is = record {
+at_replica-grows : (world : WorldState) (event : Event) (me : ReplicaId) (text : List ℕ) (found : Option ReplicaState) → slice_get world.replicas me.0 ≡ found → GrowsTo world (at_replica world event me text found)
+at_replica-grows world event me text None is = record { setup = refl; replicas = each-self world.replicas }
+at_replica-grows world event me text (Some state) is = record {
   setup = refl;
-  replicas = each-set world.replicas me.0 state (replica_step state frame).0 is (step-grows state frame);
+  replicas = each-set world.replicas me.0 state (replica_step state text).0 is (step-grows state text);
 }
 
-received-grows : (world : WorldState) (event : Event) (to : Party) (frame : Frame) → GrowsTo world (received world event to frame)
-received-grows world event (party.Replica me) frame = at_replica-grows world event me frame (slice_get world.replicas me.0) refl
-received-grows world event (party.Client me) frame = at_client-grows world event me (λ (state : ClientState). client_step state frame) (numbered world.clients me.0)
+received-grows : (world : WorldState) (event : Event) (to : Party) (text : List ℕ) → GrowsTo world (received world event to text)
+received-grows world event (party.Replica me) text = at_replica-grows world event me text (slice_get world.replicas me.0) refl
+received-grows world event (party.Client me) text = at_client-grows world event me (λ (state : ClientState). client_step state text) (numbered world.clients me.0)
 
 delivered-grows : (world : WorldState) (event : Event) (letter : Option Letter) → GrowsTo world (delivered world event letter)
 delivered-grows world event None = record { setup = refl; replicas = each-self world.replicas }
-delivered-grows world event (Some letter) = received-grows world event letter.to letter.frame
+delivered-grows world event (Some letter) = received-grows world event letter.to letter.text
 
 pub world_step-grows : (world : WorldState) (event : Event) → GrowsTo world (world_step world event)
 world_step-grows world (Invoke client op) = at_client-grows world (Invoke client op) client (λ (state : ClientState). client_invoke state op) (numbered world.clients client.0)
 world_step-grows world (Deliver number) = delivered-grows world (Deliver number) (letter_of world number)
 world_step-grows world (Tick client) = at_client-grows world (Tick client) client client_tick (numbered world.clients client.0)
+world_step-grows world (Inject who text) = received-grows world (Inject who text) who text
 
 -- what a step made of a world grew out of it
 pub step_made-grows : (old new : WorldState) (event : Event) → new ≡ world_step old event → GrowsTo old new

@@ -1,5 +1,6 @@
 pub mod State
 pub mod Step
+pub mod Effects
 pub mod Parties
 pub mod Refusals
 pub mod Growth

@@ -1,19 +1,19 @@
 -- What one party makes of its part of an event, and that the others stay as they are.
-use Rattle.std.specs.Prelude.{◌≡◌, ◌<◌, ◌-◌, ◌^◌, IfSome, IsSomeAnd, List, [], ◌∷◌, ◌++◌, slice_get, slice_set, Option, None, MatchOption}
+use Rattle.std.specs.Prelude.{ℕ, ◌≡◌, ◌<◌, ◌-◌, ◌^◌, IfSome, IsSomeAnd, List, [], ◌∷◌, ◌++◌, slice_get, slice_set, Option, None, MatchOption}
 use Rattle.qu_base.specs.declared.party.ClientId.{ClientId}
+use Rattle.qu_base.specs.declared.party.Party.{Party}
 use Rattle.qu_base.specs.declared.party.ReplicaId.{ReplicaId}
-use Rattle.qu_frames.specs.declared.frame.Frame.{Frame}
 use Rattle.qu_replica.specs.State.{ReplicaState}
 use Rattle.qu_replica.specs.Step.{replica_step}
 use Rattle.qu_client.specs.declared.state.ClientState.{ClientState}
 use Rattle.qu_client.specs.declared.state.Stepped.{Stepped}
 use Rattle.qu_trace.specs.declared.event.Event.{Event}
-use Rattle.qu_trace.specs.declared.event.Event.TheVariants.{Invoke, Deliver, Tick}
+use Rattle.qu_trace.specs.declared.event.Event.TheVariants.{Invoke, Deliver, Tick, Inject}
 use Rattle.qu_trace.specs.declared.trace.Entry.{Entry}
 use Rattle.qu_trace.specs.declared.trace.Setup.{Setup}
 use Rattle.qu_world.specs.declared.parties.Made.{Made}
 use Rattle.qu_world.specs.State.{WorldState, world_of, numbered, with_numbered}
-use Rattle.qu_world.specs.Step.{ended_by, world_step}
+use Rattle.qu_world.specs.Step.{ended_by, received, world_step}
 
 -- nobody moved, and nothing was made
 pub record MakesNothing {X : Type 0} (old new : List X) (made : Made) : Type 0 where
@@ -21,15 +21,15 @@ pub record MakesNothing {X : Type 0} (old new : List X) (made : Made) : Type 0 w
   pub letters : made.letters ≡ []
   pub ended : made.ended ≡ None
 
--- a replica took a frame
-pub record TakesFrame (old new : List ReplicaState) (me : ReplicaId) (frame : Frame) (made : Made) (state : ReplicaState) : Type 0 where
-  pub parties : new ≡ slice_set old me.0 (replica_step state frame).0
-  pub letters : made.letters ≡ (replica_step state frame).1
+-- a replica took a text
+pub record TakesText (old new : List ReplicaState) (me : ReplicaId) (text : List ℕ) (made : Made) (state : ReplicaState) : Type 0 where
+  pub parties : new ≡ slice_set old me.0 (replica_step state text).0
+  pub letters : made.letters ≡ (replica_step state text).1
   pub ended : made.ended ≡ None
 
-abbrev pub ReplicaMoves : List ReplicaState → List ReplicaState → ReplicaId → Frame → Made → Type 0
-ReplicaMoves old new me frame made =
-    MatchOption (slice_get old me.0) (MakesNothing old new made) (TakesFrame old new me frame made)
+abbrev pub ReplicaMoves : List ReplicaState → List ReplicaState → ReplicaId → List ℕ → Made → Type 0
+ReplicaMoves old new me text made =
+    MatchOption (slice_get old me.0) (MakesNothing old new made) (TakesText old new me text made)
 
 -- a client moved so
 pub record Moves (old new : List ClientState) (me : ClientId) (move : ClientState → Stepped) (made : Made) (state : ClientState) : Type 0 where
@@ -53,11 +53,17 @@ abbrev pub MayBegin : List ClientState → Event → Type 0
 MayBegin clients (Invoke client op) = IsIdle (numbered clients client.0)
 MayBegin clients (Deliver letter) = Unit {0}
 MayBegin clients (Tick client) = Unit {0}
+MayBegin clients (Inject party text) = Unit {0}
 
 -- the world with the record of what an event made of these parties
 abbrev pub made_world : Setup → List ReplicaState → List ClientState → List Entry → Event → Made → WorldState
 made_world setup replicas clients entries event made =
     world_of setup replicas clients (entries ++ (record { event = event; letters = made.letters; ended = made.ended }) ∷ [])
+
+-- a text that reached a party made this of the parties
+abbrev pub Receives : List ReplicaState → List ReplicaState → List ClientState → List ClientState → Party → List ℕ → Made → Type 0
+Receives replicas moved clients stepped to text made =
+    (setup : Setup) (entries : List Entry) (event : Event) → made_world setup moved stepped entries event made ≡ received (world_of setup replicas clients entries) event to text
 
 -- an event made this of the parties
 abbrev pub Makes : List ReplicaState → List ReplicaState → List ClientState → List ClientState → List Entry → Event → Made → Type 0

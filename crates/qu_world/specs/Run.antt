@@ -1,9 +1,10 @@
 -- A run: the fold of the steps over a list of events, each of which may happen where it comes.
-use Rattle.std.specs.Prelude.{◌≡◌, ◌≤◌, List, [], ◌∷◌, map, length, None}
+use Rattle.std.specs.Prelude.{ℕ, ◌≡◌, ◌≤◌, List, [], ◌∷◌, map, length, None}
 use Rattle.qu_trace.specs.declared.event.Event.{Event}
 use Rattle.qu_trace.specs.declared.trace.Entry.{Entry}
 use Rattle.qu_trace.specs.declared.trace.Setup.{Setup}
 use Rattle.qu_trace.specs.declared.trace.Trace.{Trace}
+use Rattle.qu_trace.specs.Letters.{bytes_sent}
 use Rattle.qu_world.specs.State.{WorldState, opening_world}
 use Rattle.qu_world.specs.Step.{world_step}
 use Rattle.qu_world.specs.Refusals.{refusal_of}
@@ -42,6 +43,11 @@ pub record IsWorld (world : WorldState) : Type 0 where
   pub setup : IsSetup world.setup
   pub is_run : run world.setup (events_of world.entries) ≡ world
   pub happened : MayHappen (opening_world world.setup) (events_of world.entries)
+
+-- a world, and how many bytes were sent in it
+pub record IsCounted (world : WorldState) (sent : ℕ) : Type 0 where
+  pub is_world : IsWorld world
+  pub all : sent ≡ bytes_sent world.entries
 
 abbrev pub trace_of : WorldState → Trace
 trace_of world = record { setup = world.setup; entries = world.entries }

@@ -5,7 +5,6 @@ use Rattle.qu_base.specs.declared.party.ReplicaId.{ReplicaId}
 use Rattle.qu_base.specs.declared.party.Party.{Party}
 use Rattle.qu_base.specs.declared.party.Party.TheVariants as party
 use Rattle.qu_objects.specs.declared.op.Outcome.{Outcome}
-use Rattle.qu_frames.specs.declared.frame.Frame.{Frame}
 use Rattle.qu_frames.specs.declared.frame.Letter.{Letter}
 use Rattle.qu_replica.specs.State.{ReplicaState}
 use Rattle.qu_replica.specs.Step.{replica_step}
@@ -14,7 +13,7 @@ use Rattle.qu_client.specs.declared.state.ClientState.{ClientState}
 use Rattle.qu_client.specs.declared.state.Stepped.{Stepped}
 use Rattle.qu_client.specs.Step.{client_invoke, client_step, client_tick}
 use Rattle.qu_trace.specs.declared.event.Event.{Event}
-use Rattle.qu_trace.specs.declared.event.Event.TheVariants.{Invoke, Deliver, Tick}
+use Rattle.qu_trace.specs.declared.event.Event.TheVariants.{Invoke, Deliver, Tick, Inject}
 use Rattle.qu_world.specs.State.{WorldState, numbered, with_numbered, letter_of}
 
 -- the record of an event that made this
@@ -35,11 +34,11 @@ ended_as client (Some number) ended = option_map (λ (outcome : Outcome). (clien
 abbrev pub ended_by : ClientId → Option Work → Option Outcome → Option (ClientId × ℕ × Outcome)
 ended_by client work ended = ended_as client (option_map (λ (under_way : Work). under_way.number) work) ended
 
--- a replica takes a frame
-abbrev pub at_replica : WorldState → Event → ReplicaId → Frame → Option ReplicaState → WorldState
-at_replica world event me frame None = unchanged world event
-at_replica world event me frame (Some state) =
-    let moved = replica_step state frame in
+-- a replica takes a text
+abbrev pub at_replica : WorldState → Event → ReplicaId → List ℕ → Option ReplicaState → WorldState
+at_replica world event me text None = unchanged world event
+at_replica world event me text (Some state) =
+    let moved = replica_step state text in
     recorded (record world { replicas = slice_set world.replicas me.0 moved.0 }) event moved.1 None
 
 -- a client moves
@@ -49,17 +48,19 @@ at_client world event me move (Some state) =
     let stepped = move state in
     recorded (record world { clients = with_numbered world.clients me.0 stepped.state }) event stepped.letters (ended_by me state.work stepped.ended)
 
--- a letter reaches its receiver
-abbrev pub received : WorldState → Event → Party → Frame → WorldState
-received world event (party.Replica me) frame = at_replica world event me frame (slice_get world.replicas me.0)
-received world event (party.Client me) frame = at_client world event me (λ state. client_step state frame) (numbered world.clients me.0)
+-- a text reaches a party
+abbrev pub received : WorldState → Event → Party → List ℕ → WorldState
+received world event (party.Replica me) text = at_replica world event me text (slice_get world.replicas me.0)
+received world event (party.Client me) text = at_client world event me (λ state. client_step state text) (numbered world.clients me.0)
 
+-- a letter's text reaches its receiver
 abbrev pub delivered : WorldState → Event → Option Letter → WorldState
 delivered world event None = unchanged world event
-delivered world event (Some letter) = received world event letter.to letter.frame
+delivered world event (Some letter) = received world event letter.to letter.text
 
 abbrev pub world_step : WorldState → Event → WorldState
 world_step world (Invoke client op) =
     at_client world (Invoke client op) client (λ state. client_invoke state op) (numbered world.clients client.0)
 world_step world (Deliver number) = delivered world (Deliver number) (letter_of world number)
 world_step world (Tick client) = at_client world (Tick client) client client_tick (numbered world.clients client.0)
+world_step world (Inject party text) = received world (Inject party text) party text

@@ -6,6 +6,9 @@ use qu_base::{NoMemory, Party};
 /// The most events of a run.
 pub const EVENT_LIMIT: usize = 20_000;
 
+/// The most bytes of the letters of a run, 2^31: at so many no event happens any more.
+pub const BYTE_LIMIT: u128 = 1 << 31;
+
 /// Why an event does not happen. The world is as before.
 #[derive(Clone, Copy, Debug, PartialEq, Eq)]
 pub enum WorldFail {
@@ -17,6 +20,8 @@ pub enum WorldFail {
     Busy,
     /// The run has as many events as it may.
     TooManyEvents,
+    /// The letters that were sent have as many bytes as they may.
+    TooManyBytes,
     NoMemory,
 }
 

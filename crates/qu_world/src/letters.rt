@@ -1,6 +1,6 @@
-ghost use Rattle.std.specs.Prelude.{◌≡◌};
+ghost use Rattle.std.specs.Prelude.{◌≡◌, ◌≤◌, ◌-◌, ◌^◌};
 ghost use Rattle.std.specs.Option.{option_copied};
-ghost use Rattle.qu_trace.specs.Letters.{letters_of};
+ghost use Rattle.qu_trace.specs.Letters.{letters_of, bytes_of};
 ghost use Rattle.qu_world.specs.State.{numbered};
 
 use qu_frames::Letter;
@@ -20,4 +20,16 @@ pub fn letter_at(entries: &[Entry], number: u64) -> Option<&Letter>
         before -= count;
     }
     None
+}
+
+/// How many bytes these letters have together.
+pub fn bytes_in(letters: &[Letter]) -> u128
+    ensures value { result ≡ bytes_of letters.now }
+    ensures most { result ≤ 2 ^ 128 - 2 ^ 64 }
+{
+    let mut bytes = 0;
+    for letter in letters {
+        bytes += letter.text.len() as u128;
+    }
+    bytes
 }

@@ -7,7 +7,7 @@ ghost use Rattle.qu_world.specs.Parties.{ReplicaMoves, ClientMoves, IsIdle};
 
 use qu_base::{ClientId, List, NoMemory, ReplicaId};
 use qu_client::{Client, InvokeFail};
-use qu_frames::{Frame, Letter};
+use qu_frames::Letter;
 use qu_objects::{Op, Outcome};
 use qu_replica::Replica;
 use std::alloc::Global;
@@ -48,14 +48,14 @@ pub fn client_at(clients: &[Client], me: ClientId) -> Option<&Client>
     clients.get(index)
 }
 
-/// A replica takes a frame. Where there is no such replica nothing happens.
+/// A replica takes a text. Where there is no such replica nothing happens.
 pub fn step_replica(
     alloc: Global,
     replicas: &mut Vec<Replica>,
     me: ReplicaId,
-    frame: &Frame,
+    text: &[u8],
 ) -> Result<Made, NoMemory>
-    ensures moves { IfOk result (ReplicaMoves replicas.old.items replicas.new.items me frame.now) }
+    ensures moves { IfOk result (ReplicaMoves replicas.old.items replicas.new.items me text.now) }
     ensures err { OnErr result (replicas.new.items ≡ replicas.old.items) }
 {
     let index = usize::from(me.0);
@@ -63,21 +63,21 @@ pub fn step_replica(
         return Ok(Made::nothing(alloc));
     }
     let replica = &mut replicas[index];
-    let letters = replica.step(frame)?;
+    let letters = replica.step(text)?;
     Ok(Made {
         letters,
         ended: None,
     })
 }
 
-/// A client takes a frame. Where there is no such client nothing happens.
+/// A client takes a text. Where there is no such client nothing happens.
 pub fn step_client(
     alloc: Global,
     clients: &mut Vec<Client>,
     me: ClientId,
-    frame: &Frame,
+    text: &[u8],
 ) -> Result<Made, NoMemory>
-    ensures moves { IfOk result (ClientMoves clients.old.items clients.new.items me (λ state. client_step state frame.now)) }
+    ensures moves { IfOk result (ClientMoves clients.old.items clients.new.items me (λ state. client_step state text.now)) }
     ensures err { OnErr result (clients.new.items ≡ clients.old.items) }
 {
     let Some(index) = index_of(me, clients.len()) else {
@@ -85,7 +85,7 @@ pub fn step_client(
     };
     let client = &mut clients[index];
     let number = client.working_on();
-    let moved = client.step(frame)?;
+    let moved = client.step(text)?;
     Ok(Made {
         letters: moved.letters,
         ended: named(me, number, moved.ended),

@@ -1,7 +1,8 @@
-ghost use Rattle.std.specs.Prelude.{◌≡◌, IfOk, OnOk, OnErr};
-ghost use Rattle.qu_world.specs.Parties.{MayBegin, Makes, MakesEntry};
+ghost use Rattle.std.specs.Prelude.{◌≡◌, ◌≤◌, ◌+◌, ◌-◌, ◌^◌, IfOk, OnOk, OnErr};
+ghost use Rattle.qu_trace.specs.Letters.{bytes_sent};
+ghost use Rattle.qu_world.specs.Parties.{MayBegin, Receives, Makes, MakesEntry};
 
-use super::letters::letter_at;
+use super::letters::{bytes_in, letter_at};
 use super::parties::{Made, invoke_client, step_client, step_replica, tick_client};
 use qu_base::{List, NoMemory, Party};
 use qu_client::Client;
@@ -9,6 +10,24 @@ use qu_replica::Replica;
 use qu_trace::{Entry, Event, Trace};
 use std::alloc::Global;
 use std::mem;
+
+/// What a text that reaches a party makes of the parties. Without memory they are as before.
+fn receive(
+    alloc: Global,
+    replicas: &mut Vec<Replica>,
+    clients: &mut Vec<Client>,
+    to: Party,
+    text: &[u8],
+) -> Result<Made, NoMemory>
+    ensures made { IfOk result (Receives replicas.old.items replicas.new.items clients.old.items clients.new.items to text.now) }
+    ensures replicas_stay { OnErr result (replicas.new.items ≡ replicas.old.items) }
+    ensures clients_stay { OnErr result (clients.new.items ≡ clients.old.items) }
+{
+    match to {
+        Party::Replica(me) => step_replica(alloc, replicas, me, text),
+        Party::Client(me) => step_client(alloc, clients, me, text),
+    }
+}
 
 /// What an event makes of the parties. Without memory they are as before.
 fn make(
@@ -30,49 +49,54 @@ fn make(
         }
         Event::Deliver(number) => match letter_at(entries, *number) {
             None => Ok(Made::nothing(alloc)),
-            Some(letter) => match letter.to {
-                Party::Replica(me) => step_replica(alloc, replicas, me, &letter.frame),
-                Party::Client(me) => step_client(alloc, clients, me, &letter.frame),
-            },
+            Some(letter) => receive(alloc, replicas, clients, letter.to, letter.text.as_slice()),
         },
         Event::Tick(me) => tick_client(alloc, clients, *me),
+        Event::Inject(to, text) => receive(alloc, replicas, clients, *to, text.as_slice()),
     }
 }
 
-/// Records an event with what it makes of the parties. Room for the record is made first.
+/// Records an event with what it makes of the parties, and tells how many bytes were sent. Room for
+/// the record is made first.
+#[tactic(auto, using(crate::proofs::LetterLaws::bytes_sent_more))]
 fn push_event(
     alloc: Global,
     replicas: &mut Vec<Replica>,
     clients: &mut Vec<Client>,
     entries: &mut Vec<Entry>,
     event: Event,
-) -> Result<(), NoMemory>
+) -> Result<u128, NoMemory>
     requires { MayBegin clients.old.items event }
     ensures ok { OnOk result (MakesEntry replicas.old.items replicas.new.items clients.old.items clients.new.items entries.old.items entries.new.items event) }
+    ensures sent { IfOk result (λ bytes. bytes_sent entries.new.items ≡ bytes_sent entries.old.items + bytes) }
+    ensures most { IfOk result (λ bytes. bytes ≤ 2 ^ 128 - 2 ^ 64) }
     ensures replicas_stay { OnErr result (replicas.new.items ≡ replicas.old.items) }
     ensures clients_stay { OnErr result (clients.new.items ≡ clients.old.items) }
     ensures entries_stay { OnErr result (entries.new.items ≡ entries.old.items) }
 {
     entries.reserve(1)?;
     let made = make(alloc, replicas, clients, entries.as_slice(), &event)?;
+    let bytes = bytes_in(made.letters.as_slice());
     entries.push_reserved(Entry {
         event,
         letters: made.letters,
         ended: made.ended,
     });
-    Ok(())
+    Ok(bytes)
 }
 
-/// Lets an event happen, and records it in the trace.
+/// Lets an event happen, records it in the trace, and tells how many bytes were sent.
 pub fn record_event(
     alloc: Global,
     replicas: &mut Vec<Replica>,
     clients: &mut Vec<Client>,
     trace: &mut Trace,
     event: Event,
-) -> Result<(), NoMemory>
+) -> Result<u128, NoMemory>
     requires { MayBegin clients.old.items event }
     ensures ok { OnOk result (MakesEntry replicas.old.items replicas.new.items clients.old.items clients.new.items trace.old.entries trace.new.entries event) }
+    ensures sent { IfOk result (λ bytes. bytes_sent trace.new.entries ≡ bytes_sent trace.old.entries + bytes) }
+    ensures most { IfOk result (λ bytes. bytes ≤ 2 ^ 128 - 2 ^ 64) }
     ensures setup { trace.new.setup ≡ trace.old.setup }
     ensures replicas_stay { OnErr result (replicas.new.items ≡ replicas.old.items) }
     ensures clients_stay { OnErr result (clients.new.items ≡ clients.old.items) }

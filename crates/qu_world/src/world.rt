@@ -13,7 +13,7 @@ use super::WorldFail;
 use super::opening::{start_clients, start_replicas};
 use super::parties::client_at;
 use super::recording::record_event;
-use super::refusals::{refuse_delivery, refuse_invocation, refuse_tick};
+use super::refusals::{refuse_delivery, refuse_injection, refuse_invocation, refuse_tick};
 use qu_base::{ClientId, List, NoMemory, ObjectId, ReplicaId};
 use qu_client::Client;
 use qu_history::History;
@@ -29,19 +29,21 @@ pub struct World {
     trace: Trace,
     replicas: Vec<Replica>,
     clients: Vec<Client>,
+    /// How many bytes the letters that were sent have together.
+    sent: u128,
 }
 
 impl Model for World {
     ghost use Rattle.qu_world.specs.State.{WorldState, world_of};
     ghost use Rattle.qu_replica.specs.Growth.{AreHistories};
     ghost use Rattle.qu_world.specs.Growth.{GrowsTo};
-    ghost use Rattle.qu_world.specs.Run.{IsWorld};
+    ghost use Rattle.qu_world.specs.Run.{IsCounted};
 
     ghost Value = { WorldState };
 
     ghost view = { λ world. world_of world.trace.setup world.replicas.items world.clients.items world.trace.entries };
 
-    ghost invariant = { λ world. IsWorld (world_of world.trace.setup world.replicas.items world.clients.items world.trace.entries) };
+    ghost invariant = { λ world. IsCounted (world_of world.trace.setup world.replicas.items world.clients.items world.trace.entries) world.sent };
 }
 
 impl World {
@@ -58,6 +60,7 @@ impl World {
             trace: Trace { setup, entries },
             replicas,
             clients,
+            sent: 0,
         })
     }
 
@@ -76,13 +79,14 @@ impl World {
         if let Some(fail) = self.refusal(&event) {
             return Err(fail);
         }
-        record_event(
+        let bytes = record_event(
             self.alloc,
             &mut self.replicas,
             &mut self.clients,
             &mut self.trace,
             event,
         )?;
+        self.sent += bytes;
         Ok(())
     }
 
@@ -91,10 +95,15 @@ impl World {
         ensures { result ≡ refusal_of self.now event.now }
     {
         let entries = self.trace.entries.as_slice();
+        let clients = self.clients.as_slice();
         match event {
-            Event::Invoke(me, _) => refuse_invocation(entries, self.clients.as_slice(), *me),
-            Event::Deliver(number) => refuse_delivery(entries, *number),
-            Event::Tick(me) => refuse_tick(entries, self.clients.as_slice(), *me),
+            Event::Invoke(me, _) => refuse_invocation(entries, self.sent, clients, *me),
+            Event::Deliver(number) => refuse_delivery(entries, self.sent, *number),
+            Event::Tick(me) => refuse_tick(entries, self.sent, clients, *me),
+            Event::Inject(who, _) => {
+                let replicas = self.replicas.as_slice();
+                refuse_injection(entries, self.sent, replicas, clients, *who)
+            }
         }
     }
 
@@ -145,3 +154,6 @@ impl World {
         client_at(self.clients.as_slice(), me)
     }
 }
+
+#[cfg(test)]
+mod tests;

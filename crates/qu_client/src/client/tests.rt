@@ -1,7 +1,7 @@
 use super::*;
 use qu_base::{Bounds, Digest, ObjectId, Party, ReplicaId};
-use qu_frames::{Refusal, Verdict};
-use qu_history::History;
+use qu_frames::{Refusal, Verdict, blank_mac, decode, encode};
+use qu_history::{History, Sealed};
 use qu_objects::{Act, Answer, Item, Method};
 use qu_stamp::Stamp;
 use std::test::Fail;
@@ -27,18 +27,42 @@ fn invoke(client: &mut Client) -> Result<List<Letter>, InvokeFail> {
     }
 }
 
-/// A replica's answer to a round of operation 1, with the history with which the counter begins.
-fn reply(alloc: Global, replica: u8, round: u8, verdict: Verdict) -> Result<Frame, NoMemory> {
+/// The history with which the counter begins, with six times this HMAC.
+fn opening(alloc: Global, replica: u8, mac: [u8; 32]) -> Result<Sealed, NoMemory> {
+    let history = History::opening(alloc, COUNTER, ReplicaId(replica))?;
+    let mut macs = List::new(alloc);
+    for _ in 0..6 {
+        macs.push(mac)?;
+    }
+    Ok(Sealed { history, macs })
+}
+
+/// A replica's answer to a round of a client's operation 1, which shows a history with this HMAC.
+fn reply_to(
+    alloc: Global,
+    client: ClientId,
+    replica: u8,
+    round: u8,
+    verdict: Verdict,
+    mac: [u8; 32],
+) -> Result<List<u8>, NoMemory> {
     let mut shown = List::new(alloc);
-    shown.push(History::opening(alloc, COUNTER, ReplicaId(replica))?)?;
-    Ok(Frame::Reply {
+    shown.push(opening(alloc, replica, mac)?)?;
+    let frame = Frame::Reply {
         replica: ReplicaId(replica),
-        client: ClientId(7),
+        client,
         number: 1,
         round,
         verdict,
+        culled: List::new(alloc),
         shown,
-    })
+        mac: blank_mac(),
+    };
+    encode(alloc, &frame)
+}
+
+fn reply(alloc: Global, replica: u8, round: u8, verdict: Verdict) -> Result<List<u8>, NoMemory> {
+    reply_to(alloc, ClientId(7), replica, round, verdict, blank_mac())
 }
 
 fn thin() -> Verdict {
@@ -81,15 +105,15 @@ fn value_told(ended: &Option<Outcome>) -> Option<u64> {
 fn requests(alloc: Global, letters: &List<Letter>) -> Result<List<(u8, u8, usize)>, NoMemory> {
     let mut requests = List::new(alloc);
     for letter in letters.as_slice() {
-        if let (Party::Replica(to), Frame::Request { round, sets, .. }) = (
+        if let (Party::Replica(to), Ok(Frame::Request { round, sets, .. })) = (
             letter.to,
-            &letter.frame,
+            decode(alloc, letter.text.as_slice()),
         ) {
             let mut entries = 0;
             for set in sets.objects().as_slice() {
                 entries = set.entries.len();
             }
-            requests.push((to.0, *round, entries))?;
+            requests.push((to.0, round, entries))?;
         }
     }
     Ok(requests)
@@ -104,8 +128,8 @@ fn in_round_two(alloc: Global) -> Result<(Client, List<Letter>), NoMemory> {
         return Err(NoMemory);
     };
     for replica in 0..5 {
-        let frame = reply(alloc, replica, 1, thin())?;
-        letters = client.step(&frame)?.letters;
+        let text = reply(alloc, replica, 1, thin())?;
+        letters = client.step(text.as_slice())?.letters;
     }
     Ok((client, letters))
 }
@@ -151,7 +175,7 @@ fn a_round_of_thin_sets_gives_way_to_the_next(rt: HostRuntime) -> Result<(), Fai
     );
     assert_eq!(rt; client.state.kept.len(), 5);
     // A late answer to the round before is kept, and does no more.
-    let moved = client.step(&reply(rt.alloc(), 5, 1, thin())?)?;
+    let moved = client.step(reply(rt.alloc(), 5, 1, thin())?.as_slice())?;
     assert_eq!(rt; (moved.letters.len(), moved.ended.is_none()), (0, true));
     assert_eq!(rt; client.state.kept.len(), 6);
     assert_eq!(rt; client.last_request(), Some((1, 2)));
@@ -170,7 +194,7 @@ fn a_quorum_of_identical_answers_ends_the_operation(rt: HostRuntime) -> Result<(
         let (mut client, _) = in_round_two(rt.alloc())?;
         for (place, (replica, value)) in answers.iter().enumerate() {
             let verdict = done(rt.alloc(), *value)?;
-            let moved = client.step(&reply(rt.alloc(), *replica, 2, verdict)?)?;
+            let moved = client.step(reply(rt.alloc(), *replica, 2, verdict)?.as_slice())?;
             let told = value_told(&moved.ended);
             assert_eq!(rt; told, if place == last { Some(2) } else { None });
         }
@@ -178,3 +202,5 @@ fn a_quorum_of_identical_answers_ends_the_operation(rt: HostRuntime) -> Result<(
     }
     Ok(())
 }
+
+mod bytes;

@@ -5,27 +5,27 @@ ghost use Rattle.qu_client.specs.State.{keep, keep_all, kept_of, same_source};
 
 use super::Kept;
 use qu_base::{List, NoMemory, ObjectId};
-use qu_history::History;
+use qu_history::Sealed;
 use std::alloc::Global;
 
-/// What is kept after an answer to this number and round, which showed these histories.
+/// What is kept after an answer to this number and round, which showed these sealed histories.
 #[tactic(auto, unfolding(crate::specs::State::keep_all))]
 pub fn keep_all(
     alloc: Global,
     number: u64,
     round: u8,
-    shown: &[History],
+    shown: &[Sealed],
     kept: &[Kept],
 ) -> Result<List<Kept>, NoMemory>
     ensures { IfOk result (λ all. all ≡ keep_all number round shown.now kept.now) }
 {
     let mut all = copies(alloc, kept)?;
-    for history in shown {
-        let history = history.copy(alloc)?;
+    for sealed in shown {
+        let sealed = sealed.copy(alloc)?;
         keep(
             &mut all,
             Kept {
-                history,
+                sealed,
                 number,
                 round,
             },
@@ -34,20 +34,21 @@ pub fn keep_all(
     Ok(List::from(all))
 }
 
-/// The history that is kept of an object and a replica.
+/// The sealed history that is kept of an object and a replica.
 #[tactic(auto, unfolding(crate::specs::State::kept_of))]
-pub fn kept_of(kept: &[Kept], object: ObjectId, replica: u8) -> Option<&History>
+pub fn kept_of(kept: &[Kept], object: ObjectId, replica: u8) -> Option<&Sealed>
     ensures { option_copied result ≡ kept_of object replica kept.now }
 {
     for held in kept {
-        if held.history.object().0 == object.0 && held.history.replica().0 == replica {
-            return Some(&held.history);
+        let history = &held.sealed.history;
+        if history.object().0 == object.0 && history.replica().0 == replica {
+            return Some(&held.sealed);
         }
     }
     None
 }
 
-/// Keeps a history in the place of the one of its source, unless it is older.
+/// Keeps a sealed history in the place of the one of its source, unless it is older.
 fn keep(kept: &mut Vec<Kept>, new: Kept) -> Result<(), NoMemory>
     ensures { OnOk result (kept.new.items ≡ keep new kept.old.items) }
 {
@@ -64,7 +65,7 @@ fn keep(kept: &mut Vec<Kept>, new: Kept) -> Result<(), NoMemory>
 
 /// The place of the history of the same object and replica.
 fn place_of(kept: &[Kept], new: &Kept) -> Option<usize>
-    ensures { result ≡ position (λ held. same_source new.now.history held.history) kept.now }
+    ensures { result ≡ position (λ held. same_source new.now.sealed.history held.sealed.history) kept.now }
 {
     kept.iter().position(|held| new.is_of_source(held))
 }

@@ -5,7 +5,7 @@ ghost use Rattle.qu_replica.specs.Rows.{shown_of, base_version, fresh_on, is_hel
 
 use super::Replica;
 use crate::asked::Asked;
-use crate::decision::{Accepted, Decision, one};
+use crate::decision::{Accepted, Decision};
 use qu_base::{List, NoMemory, ObjectId};
 use qu_frames::Verdict;
 use qu_objects::{Act, ObjState, Performed, perform};
@@ -74,7 +74,7 @@ impl Replica {
             return Ok(None);
         };
         let verdict = Verdict::Done {
-            stamps: one(self.alloc, (object, fresh.stamp))?,
+            stamps: List::one(self.alloc, (object, fresh.stamp))?,
             answer: version.answer.copy(self.alloc)?,
         };
         Ok(Some(Decision::Answers {
@@ -127,12 +127,12 @@ fn done(alloc: Global, accepted: Accepted) -> Result<Decision, NoMemory>
     ensures { IfOk result (λ decision. decision ≡ Decision.Answers (Verdict.Done ((accepted.object, accepted.candidate.stamp) ∷ []) accepted.state.answer) (accepted ∷ [])) }
 {
     let verdict = Verdict::Done {
-        stamps: one(alloc, (accepted.object, accepted.candidate.stamp))?,
+        stamps: List::one(alloc, (accepted.object, accepted.candidate.stamp))?,
         answer: accepted.state.answer.copy(alloc)?,
     };
     Ok(Decision::Answers {
         verdict,
-        accepted: one(alloc, accepted)?,
+        accepted: List::one(alloc, accepted)?,
     })
 }
 

@@ -4,7 +4,7 @@ ghost use Rattle.qu_replica.specs.Rows.{base_version, row_told, decide_ask, obje
 
 use super::Replica;
 use crate::asked::Asked;
-use crate::decision::{Decision, one};
+use crate::decision::Decision;
 use qu_base::{List, NoMemory, ObjectId};
 use qu_frames::Verdict;
 use qu_objects::{Query, tell_all};
@@ -60,7 +60,7 @@ impl Replica {
         let base = self.base(asked, object).unwrap();
         let version = self.base_version(asked, object).unwrap();
         let verdict = Verdict::Told {
-            stamps: one(self.alloc, (object, base.stamp))?,
+            stamps: List::one(self.alloc, (object, base.stamp))?,
             answer: tell_all(self.alloc, &[version.value], query)?,
         };
         Ok(Decision::Answers {

@@ -1,4 +1,5 @@
-ghost use Rattle.std.specs.Prelude.{◌≡◌, [], ◌∷◌, length, slice_get, IfOk, OnOk, OnErr};
+ghost use Rattle.std.specs.Prelude.{◌≡◌, [], ◌∷◌, length, map, slice_get, IfOk, OnOk, OnErr};
+ghost use Rattle.qu_frames.specs.Blank.{sealed};
 ghost use Rattle.qu_replica.specs.State.{accept, accept_all};
 ghost use Rattle.qu_replica.specs.Step.{shown, reply, carried_out};
 ghost use Rattle.qu_replica.specs.Growth.{MayAccept, MayAcceptAll, MayDecide};
@@ -8,8 +9,8 @@ use crate::Stored;
 use crate::asked::Asked;
 use crate::decision::{Accepted, Decision};
 use qu_base::{List, NoMemory, ObjectId, Party};
-use qu_frames::{Frame, Letter, Verdict};
-use qu_history::{AddFail, History};
+use qu_frames::{Frame, Letter, Verdict, blank_mac, encode, seal};
+use qu_history::{AddFail, History, Sealed};
 
 impl Replica {
     /// Carries a decision out, and gives its letter. Without memory the replica stays as it is.
@@ -48,7 +49,7 @@ impl Replica {
         }
     }
 
-    /// The letter that answers the request, with the histories as they stand once these candidates are accepted.
+    /// The letter that answers the request, with the sealed histories as they stand once these candidates are accepted.
     #[tactic(auto, using(crate::proofs::Accepting::answers))]
     fn reply(
         &self,
@@ -60,33 +61,36 @@ impl Replica {
         requires { MayAcceptAll self.now accepted.now }
         ensures { IfOk result (λ letters. letters ≡ reply (accept_all self.now accepted.now) asked.now.client asked.now.number round asked.now.sets verdict ∷ []) }
     {
-        let shown = self.shown(asked, accepted)?;
-        let mut letters = List::new(self.alloc);
-        letters.push(Letter {
-            from: Party::Replica(self.me),
-            to: Party::Client(asked.client),
-            frame: Frame::Reply {
-                replica: self.me,
-                client: asked.client,
-                number: asked.number,
-                round,
-                verdict,
-                shown,
+        let frame = Frame::Reply {
+            replica: self.me,
+            client: asked.client,
+            number: asked.number,
+            round,
+            verdict,
+            culled: List::new(self.alloc),
+            shown: self.shown(asked, accepted)?,
+            mac: blank_mac(),
+        };
+        List::one(
+            self.alloc,
+            Letter {
+                from: Party::Replica(self.me),
+                to: Party::Client(asked.client),
+                text: encode(self.alloc, &frame)?,
             },
-        })?;
-        Ok(letters)
+        )
     }
 
-    /// The histories of the request's objects as they stand once these candidates are accepted.
-    #[tactic(auto, using(crate::proofs::Showing::shown_some, crate::proofs::Showing::shown_none, crate::proofs::Showing::shown_first))]
-    fn shown(&self, asked: &Asked, accepted: &[Accepted]) -> Result<List<History>, NoMemory>
+    /// The sealed histories of the request's objects as they stand once these candidates are accepted.
+    #[tactic(auto, using(crate::proofs::Showing::sealed_some, crate::proofs::Showing::sealed_none, crate::proofs::Showing::sealed_first))]
+    fn shown(&self, asked: &Asked, accepted: &[Accepted]) -> Result<List<Sealed>, NoMemory>
         requires { MayAcceptAll self.now accepted.now }
-        ensures { IfOk result (λ histories. histories ≡ shown (accept_all self.now accepted.now) asked.now.sets) }
+        ensures { IfOk result (λ histories. histories ≡ map (sealed self.now.bounds) (shown (accept_all self.now accepted.now) asked.now.sets)) }
     {
         let mut histories = List::new(self.alloc);
         for set in asked.sets.objects().as_slice() {
             if let Some(history) = self.history_after(set.object, accepted)? {
-                histories.push(history)?;
+                histories.push(seal(self.alloc, history, self.bounds)?)?;
             }
         }
         Ok(histories)

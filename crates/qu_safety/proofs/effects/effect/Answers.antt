@@ -1,12 +1,11 @@
-use Rattle.std.proofs.Common.{refl}
-use Rattle.qu_safety.proofs.Taking.{act_effect_of, ask_effect}
+use Rattle.qu_safety.proofs.Taking.{act_effect_of, ask_effect_of}
 use Rattle.qu_safety.proofs.effects.effect.Goals as goal
 
 pub returns-in-Act : goal.returns-in-Act
 returns-in-Act c =
-    act_effect_of c.args.trace.now c.requires.run c.args.tracker.now c.args.operation.now c.requires.of_trace c.args.operation.now.op c.in-Act.act c.args.acts.now c.as_slice.result.now c.act_mark.result
-    c.requires.tracked refl c.in-Act.is c.requires.handled c.as_slice.ensures c.act_mark.ensures
+    act_effect_of c.args.trace.now c.args.tracker.now c.args.operation.now c.args.operation.now.op c.in-Act.act c.args.acts.now c.as_slice.result.now c.act_mark.result
+    c.requires.tracked c.in-Act.is c.requires.handled c.as_slice.ensures c.act_mark.ensures
 
 pub returns-in-Query : goal.returns-in-Query
 returns-in-Query c =
-    ask_effect c.args.trace.now c.args.operation.now c.args.operation.now.op c.in-Query.field-0 c.query_effect.result c.in-Query.is c.query_effect.ensures
+    ask_effect_of c.args.trace.now c.args.operation.now c.args.operation.now.op c.in-Query.field-0 c.query_effect.result c.in-Query.is c.query_effect.ensures

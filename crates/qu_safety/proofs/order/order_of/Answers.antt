@@ -4,41 +4,48 @@ use Rattle.std.specs.List.{AllPairs}
 use Rattle.qu_machine.specs.declared.record.OpRecord.{OpRecord}
 use Rattle.qu_safety.specs.Order.{IsPrintedOrder}
 use Rattle.qu_safety.specs.Points.{AreApart}
-use Rattle.qu_safety.specs.Views.{HaveParts}
+use Rattle.qu_safety.specs.Views.{HaveParts, ArePlain}
 use Rattle.qu_safety.proofs.ByQuorums.{completes_by_quorums}
 use Rattle.qu_safety.proofs.Chained.{is_chained}
 use Rattle.qu_safety.proofs.Distinct.{operations_apart}
 use Rattle.qu_safety.proofs.InTurn.{decides_in_turn}
+use Rattle.qu_safety.proofs.Named.{stamps_name}
 use Rattle.qu_safety.proofs.OneAct.{acts_are_one}
+use Rattle.qu_safety.proofs.Plain.{plain_from}
 use Rattle.qu_safety.proofs.Printed.{printed}
 use Rattle.qu_safety.proofs.SerialOrder.{serial}
 use Rattle.qu_safety.proofs.order.order_of.Goals as goal
 
 pub points-requires-clause-apart : goal.points-requires-clause-apart
 points-requires-clause-apart c =
-    subst (λ (operations : List OpRecord). AllPairs AreApart operations) (sym (c.as_slice-3.ensures ∙ c.in_ok-operations.ensures)) (operations_apart c.args.trace.now.entries)
-
-pub points-requires-clause-of_trace : goal.points-requires-clause-of_trace
-points-requires-clause-of_trace c = c.as_slice-3.ensures ∙ c.in_ok-operations.ensures
+    subst (λ (operations : List OpRecord). AllPairs AreApart operations) (sym (c.as_slice-5.ensures ∙ c.in_ok-operations.ensures)) (operations_apart c.args.trace.now.entries)
 
 pub points-requires-clause-handled : goal.points-requires-clause-handled
-points-requires-clause-handled c = c.as_slice-2.ensures ∙ c.in_ok-acts.ensures
+points-requires-clause-handled c = c.as_slice-3.ensures ∙ c.in_ok-acts.ensures
 
 pub returns-clause-printed : goal.returns-clause-printed
 returns-clause-printed c =
     subst (IsPrintedOrder c.args.trace.now) (sym c.from.ensures)
-    (printed c.args.trace.now c.as_slice-3.result.now c.in_ok-points.points.items (c.as_slice-3.ensures ∙ c.in_ok-operations.ensures) c.in_ok-points.ensures)
+    (printed c.args.trace.now c.as_slice-5.result.now c.in_ok-points.points.items (c.as_slice-5.ensures ∙ c.in_ok-operations.ensures) c.in_ok-points.ensures)
 
 pub returns-clause-serial : goal.returns-clause-serial
 returns-clause-serial c =
-    λ no_collision. serial c.args.trace.now c.requires (subst HaveParts c.as_slice.ensures c.have_parts.ensures)
-    (acts_are_one c.args.trace.now c.requires (subst HaveParts c.as_slice.ensures c.have_parts.ensures) no_collision) c.from.result (returns-clause-printed c)
+    λ premises.
+    let plain : ArePlain c.args.trace.now.entries = plain_from c.args.trace.now.entries (subst HaveParts c.as_slice.ensures c.have_parts.ensures) premises.no_injection in
+    serial c.args.trace.now c.requires plain (acts_are_one c.args.trace.now c.requires plain premises.no_collision) c.from.result (returns-clause-printed c)
 
 pub returns-clause-chained : goal.returns-clause-chained
-returns-clause-chained c = is_chained c.args.trace.now c.requires (subst HaveParts c.as_slice.ensures c.have_parts.ensures)
+returns-clause-chained c =
+    λ none. is_chained c.args.trace.now c.requires (plain_from c.args.trace.now.entries (subst HaveParts c.as_slice.ensures c.have_parts.ensures) none)
+
+pub returns-clause-named : goal.returns-clause-named
+returns-clause-named c =
+    λ premises. stamps_name c.args.trace.now c.requires (plain_from c.args.trace.now.entries (subst HaveParts c.as_slice.ensures c.have_parts.ensures) premises.no_injection) premises.no_collision
 
 pub returns-clause-in_turn : goal.returns-clause-in_turn
-returns-clause-in_turn c = decides_in_turn c.args.trace.now c.requires (subst HaveParts c.as_slice.ensures c.have_parts.ensures)
+returns-clause-in_turn c =
+    λ none. decides_in_turn c.args.trace.now c.requires (plain_from c.args.trace.now.entries (subst HaveParts c.as_slice.ensures c.have_parts.ensures) none)
 
 pub returns-clause-by_quorums : goal.returns-clause-by_quorums
-returns-clause-by_quorums c = completes_by_quorums c.args.trace.now c.requires (subst HaveParts c.as_slice.ensures c.have_parts.ensures)
+returns-clause-by_quorums c =
+    λ none. completes_by_quorums c.args.trace.now c.requires (plain_from c.args.trace.now.entries (subst HaveParts c.as_slice.ensures c.have_parts.ensures) none)

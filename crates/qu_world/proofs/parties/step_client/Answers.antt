@@ -1,4 +1,4 @@
--- The client with this number took the frame.
+-- The client with this number took the text.
 use Rattle.std.proofs.Common.{◌∙◌, ap, arith}
 use Rattle.std.specs.Prelude.{option_map}
 use Rattle.qu_client.specs.declared.work.Work.{Work}
@@ -9,7 +9,7 @@ use Rattle.qu_world.proofs.parties.step_client.Goals as goal
 
 pub returns-clause-moves : goal.returns-clause-moves
 returns-clause-moves c =
-    client_moved _ c.args.me c.in-Some.index c.index_mut-client.result.now c.step.new.self (λ state. client_step state c.args.frame.now) _
+    client_moved _ c.args.me c.in-Some.index c.index_mut-client.result.now c.step.new.self (λ state. client_step state c.args.text.now) _
     c.in-Some.ensures.0 (omega arith) c.index_mut-client.ensures.value c.in_ok-moved.ensures.state c.in_ok-moved.ensures.letters
     (c.named.ensures
     ∙ ap (λ number. ended_as c.args.me number c.in_ok-moved.moved.ended) c.working_on-number.ensures

@@ -1,7 +1,7 @@
--- The opening world is a world.
-use Rattle.qu_world.proofs.RunLaws.{IsWorld-opening}
+-- The opening world is a world, in which nothing was sent.
+use Rattle.qu_world.proofs.RunLaws.{counted-opening}
 use Rattle.qu_world.proofs.world.World.start.Goals as goal
 
 pub invariant_of-result : goal.invariant_of-result
 invariant_of-result c =
-    rw (c.in_ok-replicas.ensures, c.in_ok-clients.ensures, c.new-entries.ensures, c.as_slice.ensures) (IsWorld-opening c.args.setup c.requires)
+    rw (c.in_ok-replicas.ensures, c.in_ok-clients.ensures, c.new-entries.ensures, c.as_slice.ensures) (counted-opening c.args.setup c.requires)

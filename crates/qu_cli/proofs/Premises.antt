@@ -1,0 +1,12 @@
+-- A run into which nothing is injected meets the premises of its order where no digests collide.
+use Rattle.std.proofs.Common.{IsTrue, List}
+use Rattle.qu_machine.specs.declared.record.Point.{Point}
+use Rattle.qu_machine.specs.Serial.{IsSerial}
+use Rattle.qu_trace.specs.declared.trace.Trace.{Trace}
+use Rattle.qu_trace.specs.Injections.{no_injection}
+use Rattle.qu_trace.specs.Operations.{operations_of}
+use Rattle.qu_safety.specs.Digested.{NoCollision, MeetsPremises}
+
+pub serial_run : (trace : Trace) (order : List Point) → IsTrue (no_injection trace.entries) → (MeetsPremises trace → IsSerial trace.setup.kinds (operations_of trace.entries) order)
+    → NoCollision trace → IsSerial trace.setup.kinds (operations_of trace.entries) order
+serial_run trace order none serial no_collision = serial (record { no_injection = none; no_collision = no_collision })

@@ -1,0 +1,286 @@
+-- The formats of verdicts, of what is asked for, and of frames.
+use Rattle.std.specs.Prelude.{ℕ, Bool, true, ◌==◌, ◌&&◌, ◌||◌, ◌-◌, ◌^◌, ◌+◌, nat_lt, nat_le, if◌then◌else◌, List, ◌++◌, map, Option, None, Some}
+use Rattle.std.specs.Int.{w8, w16, w64}
+use Rattle.qu_base.specs.declared.bad_text.Why.TheVariants.{Kind, Order}
+use Rattle.qu_base.specs.declared.party.ClientId.{ClientId}
+use Rattle.qu_base.specs.declared.party.ObjectId.{ObjectId}
+use Rattle.qu_base.specs.declared.party.ReplicaId.{ReplicaId}
+use Rattle.qu_base.specs.Format.{Format, number, bytes, both, tested, made, either, items, counted, tagged, object_form, replica_form}
+use Rattle.qu_stamp.specs.declared.stamp.Stamp.{Stamp}
+use Rattle.qu_stamp.specs.Forms.{stamp_form}
+use Rattle.qu_objects.specs.declared.act.Method.{Method}
+use Rattle.qu_objects.specs.declared.query.Ask.{Ask}
+use Rattle.qu_objects.specs.declared.answer.Answer.{Answer}
+use Rattle.qu_objects.specs.Forms.{word_form, is_one_of, act_form, query_form, answer_form}
+use Rattle.qu_history.specs.declared.sealed.Sealed.{Sealed}
+use Rattle.qu_history.specs.declared.sets.SetOf.{SetOf}
+use Rattle.qu_history.specs.Forms.{object_from, sets_form, shown_form}
+use Rattle.qu_frames.specs.declared.frame.Body.{Body}
+use Rattle.qu_frames.specs.declared.frame.Body.TheVariants as body
+use Rattle.qu_frames.specs.declared.frame.Frame.{Frame}
+use Rattle.qu_frames.specs.declared.frame.Frame.TheVariants.{Request, Reply}
+use Rattle.qu_frames.specs.declared.verdict.ClassCode.{ClassCode}
+use Rattle.qu_frames.specs.declared.verdict.ClassCode.TheVariants as class
+use Rattle.qu_frames.specs.declared.verdict.Refusal.{Refusal}
+use Rattle.qu_frames.specs.declared.verdict.Refusal.TheVariants.{HistoryFull, Thin, Needs, Stale, NotCurrent, NotMethod, Spent, TimeSpent, UnknownObject, Sound}
+use Rattle.qu_frames.specs.declared.verdict.Verdict.{Verdict}
+use Rattle.qu_frames.specs.declared.verdict.Verdict.TheVariants.{Done, Told, Already, Mended, Refused}
+use Rattle.qu_frames.specs.Verdict.{class_code}
+
+-- ---- refusals
+
+abbrev pub class_of : ℕ → ClassCode
+class_of code =
+    if code == 2 then class.InlineMethod else
+    if code == 3 then class.Copy else
+    if code == 4 then class.InlineBarrier else
+    if code == 5 then class.Barrier else class.Needs
+
+abbrev pub class_form : Format ClassCode
+class_form = made class_of (λ class. Some (class_code class)) (number w8 2 6)
+
+abbrev pub refusal_number : Refusal → ℕ
+refusal_number (HistoryFull object) = 11
+refusal_number (Thin object) = 13
+refusal_number (Needs object) = 15
+refusal_number (Stale object) = 16
+refusal_number (NotCurrent object latest) = 22
+refusal_number (NotMethod object class) = 23
+refusal_number (Spent object number) = 24
+refusal_number (TimeSpent object) = 25
+refusal_number (UnknownObject object) = 26
+refusal_number (Sound object) = 27
+
+abbrev pub is_refusal_number : ℕ → Bool
+is_refusal_number code = code == 11 || (code == 13 || (code == 15 || (code == 16 || (nat_le 22 code && nat_le code 27))))
+
+abbrev pub refused_object : Refusal → ObjectId
+refused_object (HistoryFull object) = object
+refused_object (Thin object) = object
+refused_object (Needs object) = object
+refused_object (Stale object) = object
+refused_object (NotCurrent object latest) = object
+refused_object (NotMethod object class) = object
+refused_object (Spent object number) = object
+refused_object (TimeSpent object) = object
+refused_object (UnknownObject object) = object
+refused_object (Sound object) = object
+
+abbrev pub latest_told : Refusal → Option (ObjectId × Stamp)
+latest_told (NotCurrent object latest) = Some (object, latest)
+latest_told _ = None
+
+abbrev pub class_told : Refusal → Option (ObjectId × ClassCode)
+class_told (NotMethod object class) = Some (object, class)
+class_told _ = None
+
+abbrev pub number_told : Refusal → Option (ObjectId × ℕ)
+number_told (Spent object number) = Some (object, number)
+number_told _ = None
+
+-- the refusal with this number that tells an object and no more
+abbrev pub plain_refusal : ℕ → ObjectId → Refusal
+plain_refusal code object =
+    if code == 11 then HistoryFull object else
+    if code == 13 then Thin object else
+    if code == 15 then Needs object else
+    if code == 16 then Stale object else
+    if code == 25 then TimeSpent object else
+    if code == 26 then UnknownObject object else Sound object
+
+abbrev pub plain_object : ℕ → Refusal → Option ObjectId
+plain_object code refusal = if refusal_number refusal == code then Some (refused_object refusal) else None
+
+abbrev pub refusal_body : ℕ → Format Refusal
+refusal_body code =
+    either (code == 22) (made (λ fields. NotCurrent fields.0 fields.1) latest_told (both object_form (λ object. stamp_form)))
+    (either (code == 23) (made (λ fields. NotMethod fields.0 fields.1) class_told (both object_form (λ object. class_form)))
+    (either (code == 24) (made (λ fields. Spent fields.0 fields.1) number_told (both object_form (λ object. word_form)))
+    (made (plain_refusal code) (plain_object code) object_form)))
+
+-- the number of the refusal, the object, and for 22 a stamp, for 23 a class, for 24 a number
+unfoldable pub refusal_form : Format Refusal
+refusal_form = tagged is_refusal_number refusal_number refusal_body
+
+-- ---- verdicts
+
+abbrev pub spelled_stamp : ObjectId × Stamp → List ℕ
+spelled_stamp told = object_form.spell told.0 ++ stamp_form.spell told.1
+
+-- an object that is not below this number, and the stamp that is told of it
+abbrev pub stamp_from : ℕ → Format (ObjectId × Stamp)
+stamp_from least = both (object_from least) (λ object. stamp_form)
+
+abbrev pub after_told : ObjectId × Stamp → ℕ
+after_told told = (told.0).0 + 1
+
+abbrev pub some_stamps : ℕ → ℕ → Format (List (ObjectId × Stamp))
+some_stamps least count = items spelled_stamp stamp_from after_told least count
+
+-- one to four stamps, by rising objects
+unfoldable pub stamps_form : Format (List (ObjectId × Stamp))
+stamps_form = counted (number w8 1 4) spelled_stamp stamp_from after_told 0
+
+abbrev pub verdict_code : Verdict → ℕ
+verdict_code (Done stamps answer) = 1
+verdict_code (Told stamps answer) = 2
+verdict_code (Already answer) = 3
+verdict_code (Mended object stamp) = 4
+verdict_code (Refused refusal) = 5
+
+abbrev pub is_verdict_code : ℕ → Bool
+is_verdict_code code = nat_le 1 code && nat_le code 5
+
+abbrev pub done : Verdict → Option (List (ObjectId × Stamp) × Answer)
+done (Done stamps answer) = Some (stamps, answer)
+done _ = None
+
+abbrev pub told : Verdict → Option (List (ObjectId × Stamp) × Answer)
+told (Told stamps answer) = Some (stamps, answer)
+told _ = None
+
+abbrev pub already : Verdict → Option Answer
+already (Already answer) = Some answer
+already _ = None
+
+abbrev pub mended : Verdict → Option (ObjectId × Stamp)
+mended (Mended object stamp) = Some (object, stamp)
+mended _ = None
+
+abbrev pub refusal : Verdict → Option Refusal
+refusal (Refused why) = Some why
+refusal _ = None
+
+abbrev pub answered_form : Format (List (ObjectId × Stamp) × Answer)
+answered_form = both stamps_form (λ stamps. answer_form)
+
+abbrev pub verdict_body : ℕ → Format Verdict
+verdict_body code =
+    either (code == 1) (made (λ fields. Done fields.0 fields.1) done answered_form)
+    (either (code == 2) (made (λ fields. Told fields.0 fields.1) told answered_form)
+    (either (code == 3) (made Already already answer_form)
+    (either (code == 4) (made (λ fields. Mended fields.0 fields.1) mended (both object_form (λ object. stamp_form)))
+    (made Refused refusal refusal_form))))
+
+-- 1: done; 2: told; 3: done already; 4: mended; 5: refused
+unfoldable pub verdict_form : Format Verdict
+verdict_form = tagged is_verdict_code verdict_code verdict_body
+
+-- ---- what is asked for
+
+abbrev pub body_code : Body → ℕ
+body_code (body.Act parts) = 1
+body_code (body.Ask parts) = 2
+
+abbrev pub is_body_code : ℕ → Bool
+is_body_code code = nat_le 1 code && nat_le code 2
+
+abbrev pub act_parts : Body → Option (List (ObjectId × Method))
+act_parts (body.Act parts) = Some parts
+act_parts (body.Ask parts) = None
+
+abbrev pub ask_parts : Body → Option (List (ObjectId × Ask))
+ask_parts (body.Act parts) = None
+ask_parts (body.Ask parts) = Some parts
+
+abbrev pub objects_of : List SetOf → List ObjectId
+objects_of sets = map (λ set. set.object) sets
+
+abbrev pub body_of_code : List ObjectId → ℕ → Format Body
+body_of_code objects code =
+    either (code == 1) (made body.Act act_parts (act_form (is_one_of objects))) (made body.Ask ask_parts (query_form (is_one_of objects)))
+
+-- 1: an act; 2: a query; of these objects
+unfoldable pub body_form : List ObjectId → Format Body
+body_form objects = tagged is_body_code body_code (body_of_code objects)
+
+-- ---- frames
+
+abbrev pub client_form : Format ClientId
+client_form = made (λ number. record { 0 = number }) (λ client. Some client.0) (number w16 1 64)
+
+abbrev pub round_form : Format ℕ
+round_form = number w8 1 64
+
+-- what was culled: an object and a replica
+abbrev pub is_after_pair : Option (ObjectId × ReplicaId) → ObjectId × ReplicaId → Bool
+is_after_pair None pair = true
+is_after_pair (Some before) pair =
+    nat_lt (before.0).0 (pair.0).0 || ((before.0).0 == (pair.0).0 && nat_lt (before.1).0 (pair.1).0)
+
+abbrev pub spelled_pair : ObjectId × ReplicaId → List ℕ
+spelled_pair pair = object_form.spell pair.0 ++ replica_form.spell pair.1
+
+abbrev pub pair_after : Option (ObjectId × ReplicaId) → Format (ObjectId × ReplicaId)
+pair_after before = tested (is_after_pair before) Order (both object_form (λ object. replica_form))
+
+abbrev pub some_culled : Option (ObjectId × ReplicaId) → ℕ → Format (List (ObjectId × ReplicaId))
+some_culled before count = items spelled_pair pair_after (λ pair. Some pair) before count
+
+-- at most 128 pairs that rise
+unfoldable pub culled_form : Format (List (ObjectId × ReplicaId))
+culled_form = counted (number w8 0 128) spelled_pair pair_after (λ pair. Some pair) None
+
+abbrev pub RequestFields : Type 0
+RequestFields = ClientId × (ℕ × (ℕ × (List SetOf × (Body × List ℕ))))
+
+abbrev pub request_fields : Frame → Option RequestFields
+request_fields (Request client number round sets body mac) = Some (client, (number, (round, (sets, (body, mac)))))
+request_fields (Reply replica client number round verdict culled shown mac) = None
+
+abbrev pub request_of : RequestFields → Frame
+request_of fields = Request fields.0 fields.1.0 fields.1.1.0 fields.1.1.1.0 fields.1.1.1.1.0 fields.1.1.1.1.1
+
+-- client, number from 1 on, round, sets, what is asked for, HMAC
+abbrev pub request_form : Format RequestFields
+request_form =
+    both client_form (λ client. both (number w64 1 (2 ^ 64 - 1)) (λ number. both round_form (λ round.
+    both sets_form (λ sets. both (body_form (objects_of sets)) (λ body. bytes 32)))))
+
+unfoldable pub request_frame : Format Frame
+request_frame = made request_of request_fields request_form
+
+abbrev pub ReplyFields : Type 0
+ReplyFields = ReplicaId × (ClientId × (ℕ × (ℕ × (Verdict × (List (ObjectId × ReplicaId) × (List Sealed × List ℕ))))))
+
+abbrev pub reply_fields : Frame → Option ReplyFields
+reply_fields (Request client number round sets body mac) = None
+reply_fields (Reply replica client number round verdict culled shown mac) = Some (replica, (client, (number, (round, (verdict, (culled, (shown, mac)))))))
+
+abbrev pub reply_of : ReplyFields → Frame
+reply_of fields =
+    Reply fields.0 fields.1.0 fields.1.1.0 fields.1.1.1.0 fields.1.1.1.1.0 fields.1.1.1.1.1.0 fields.1.1.1.1.1.1.0 fields.1.1.1.1.1.1.1
+
+-- replica, client, number, round, verdict, what was culled, what is shown, HMAC
+abbrev pub reply_form : Format ReplyFields
+reply_form =
+    both replica_form (λ replica. both client_form (λ client. both word_form (λ number. both round_form (λ round.
+    both verdict_form (λ verdict. both culled_form (λ culled. both (shown_form replica) (λ shown. bytes 32)))))))
+
+unfoldable pub reply_frame : Format Frame
+reply_frame = made reply_of reply_fields reply_form
+
+abbrev pub frame_kind : Frame → ℕ
+frame_kind (Request client number round sets body mac) = 1
+frame_kind (Reply replica client number round verdict culled shown mac) = 2
+
+abbrev pub is_version : ℕ → Bool
+is_version version = version == 1
+
+abbrev pub is_frame_kind : ℕ → Bool
+is_frame_kind kind = nat_le 1 kind && nat_le kind 2
+
+abbrev pub frame_body : ℕ → Format Frame
+frame_body kind = either (kind == 1) request_frame reply_frame
+
+-- the kind, and a frame of it
+unfoldable pub kind_form : Format Frame
+kind_form =
+    made (λ found. found.1) (λ frame. Some (frame_kind frame, frame))
+    (both (tested is_frame_kind Kind (number w8 0 255)) frame_body)
+
+-- the version, which is 1, and a frame of some kind
+unfoldable pub frame_form : Format Frame
+frame_form =
+    made (λ found. found.1) (λ frame. Some (1, frame))
+    (both (tested is_version Kind (number w8 0 255)) (λ version. kind_form))

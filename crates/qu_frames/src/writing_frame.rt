@@ -1,0 +1,111 @@
+//! Frames as bytes, by the formats of `specs/Forms.antt`.
+ghost use Rattle.std.specs.Prelude.{◌≡◌, ◌++◌, List, OnOk};
+ghost use Rattle.std.specs.List.{flat_map};
+ghost use Rattle.std.specs.Int.{w8, w16, w64, to_be_bytes};
+ghost use Rattle.qu_base.specs.declared.party.ObjectId.{ObjectId as Object};
+ghost use Rattle.qu_frames.specs.Forms.{body_form, spelled_pair, culled_form, frame_form};
+
+use super::writing_verdict::append_verdict;
+use super::{Body, Frame};
+use qu_base::{ClientId, NoMemory, ObjectId, Outbytes, ReplicaId};
+use qu_history::{write_sets, write_shown};
+use qu_objects::{write_act, write_query};
+
+/// Appends a frame.
+#[tactic(auto, unfolding(crate::specs::Forms::frame_form, crate::specs::Forms::kind_form, crate::specs::Forms::request_frame, crate::specs::Forms::reply_frame))]
+pub(crate) fn append_frame(frame: &Frame, out: &mut Outbytes) -> Result<(), NoMemory>
+    ensures { OnOk result (out.new ≡ out.old ++ frame_form.spell frame.now) }
+{
+    out.u8(1)?;
+    match frame {
+        Frame::Request {
+            client,
+            number,
+            round,
+            sets,
+            body,
+            mac,
+        } => {
+            out.u8(1)?;
+            append_round(*client, *number, *round, out)?;
+            write_sets(sets, out)?;
+            append_body(body, out)?;
+            out.put(mac)?;
+            Ok(())
+        }
+        Frame::Reply {
+            replica,
+            client,
+            number,
+            round,
+            verdict,
+            culled,
+            shown,
+            mac,
+        } => {
+            out.u8(2)?;
+            out.u8(replica.0)?;
+            append_round(*client, *number, *round, out)?;
+            append_verdict(verdict, out)?;
+            append_culled(culled.as_slice(), out)?;
+            write_shown(shown.as_slice(), out)?;
+            out.put(mac)?;
+            Ok(())
+        }
+    }
+}
+
+/// Appends the client, the number and the round.
+fn append_round(
+    client: ClientId,
+    number: u64,
+    round: u8,
+    out: &mut Outbytes,
+) -> Result<(), NoMemory>
+    ensures { OnOk result (out.new ≡ out.old ++ (to_be_bytes w16 client.0 ++ (to_be_bytes w64 number ++ to_be_bytes w8 round))) }
+{
+    out.u16(client.0)?;
+    out.u64(number)?;
+    out.u8(round)?;
+    Ok(())
+}
+
+/// Appends what is asked for.
+#[tactic(auto, unfolding(crate::specs::Forms::body_form))]
+fn append_body(body: &Body, out: &mut Outbytes) -> Result<(), NoMemory>
+    ensures { (objects : List Object) → OnOk result (out.new ≡ out.old ++ (body_form objects).spell body.now) }
+{
+    match body {
+        Body::Act(act) => {
+            out.u8(1)?;
+            write_act(out, act)?;
+            Ok(())
+        }
+        Body::Ask(query) => {
+            out.u8(2)?;
+            write_query(out, query)?;
+            Ok(())
+        }
+    }
+}
+
+/// Appends a count, and so many pairs of an object and a replica.
+#[tactic(auto, unfolding(crate::specs::Forms::culled_form))]
+fn append_culled(culled: &[(ObjectId, ReplicaId)], out: &mut Outbytes) -> Result<(), NoMemory>
+    ensures { OnOk result (out.new ≡ out.old ++ culled_form.spell culled.now) }
+{
+    out.count(culled.len())?;
+    append_each_pair(culled, out)
+}
+
+/// Appends pairs one behind the other.
+#[tactic(auto)]
+fn append_each_pair(culled: &[(ObjectId, ReplicaId)], out: &mut Outbytes) -> Result<(), NoMemory>
+    ensures { OnOk result (out.new ≡ out.old ++ flat_map spelled_pair culled.now) }
+{
+    for pair in culled {
+        out.u16(pair.0.0)?;
+        out.u8(pair.1.0)?;
+    }
+    Ok(())
+}

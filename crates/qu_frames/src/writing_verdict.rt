@@ -1,0 +1,134 @@
+//! Verdicts as bytes, by the formats of `specs/Forms.antt`.
+ghost use Rattle.std.specs.Prelude.{◌≡◌, ◌++◌, OnOk};
+ghost use Rattle.std.specs.List.{flat_map};
+ghost use Rattle.qu_frames.specs.Verdict.{class_code};
+ghost use Rattle.qu_frames.specs.Forms.{refusal_form, refusal_number, refused_object, spelled_stamp, stamps_form, verdict_form};
+
+use super::{ClassCode, Refusal, Verdict};
+use qu_base::{NoMemory, ObjectId, Outbytes};
+use qu_objects::write_answer;
+use qu_stamp::{Stamp, write_stamp};
+
+/// Appends a verdict.
+#[tactic(auto, unfolding(crate::specs::Forms::verdict_form))]
+pub(crate) fn append_verdict(verdict: &Verdict, out: &mut Outbytes) -> Result<(), NoMemory>
+    ensures { OnOk result (out.new ≡ out.old ++ verdict_form.spell verdict.now) }
+{
+    match verdict {
+        Verdict::Done { stamps, answer } => {
+            out.u8(1)?;
+            append_stamps(stamps.as_slice(), out)?;
+            write_answer(out, answer)
+        }
+        Verdict::Told { stamps, answer } => {
+            out.u8(2)?;
+            append_stamps(stamps.as_slice(), out)?;
+            write_answer(out, answer)
+        }
+        Verdict::Already(answer) => {
+            out.u8(3)?;
+            write_answer(out, answer)
+        }
+        Verdict::Mended(object, stamp) => {
+            out.u8(4)?;
+            append_told(*object, stamp, out)
+        }
+        Verdict::Refused(refusal) => {
+            out.u8(5)?;
+            append_refusal(refusal, out)
+        }
+    }
+}
+
+/// Appends a count, and so many objects with their stamps.
+#[tactic(auto, unfolding(crate::specs::Forms::stamps_form))]
+fn append_stamps(stamps: &[(ObjectId, Stamp)], out: &mut Outbytes) -> Result<(), NoMemory>
+    ensures { OnOk result (out.new ≡ out.old ++ stamps_form.spell stamps.now) }
+{
+    out.count(stamps.len())?;
+    append_each_stamp(stamps, out)
+}
+
+/// Appends objects with their stamps one behind the other.
+#[tactic(auto)]
+fn append_each_stamp(stamps: &[(ObjectId, Stamp)], out: &mut Outbytes) -> Result<(), NoMemory>
+    ensures { OnOk result (out.new ≡ out.old ++ flat_map spelled_stamp stamps.now) }
+{
+    for told in stamps {
+        append_told(told.0, &told.1, out)?;
+    }
+    Ok(())
+}
+
+/// Appends an object with its stamp.
+#[tactic(auto)]
+fn append_told(object: ObjectId, stamp: &Stamp, out: &mut Outbytes) -> Result<(), NoMemory>
+    ensures { OnOk result (out.new ≡ out.old ++ spelled_stamp (object, stamp.now)) }
+{
+    out.u16(object.0)?;
+    write_stamp(stamp, out)
+}
+
+/// Appends a refusal.
+#[tactic(auto, unfolding(crate::specs::Forms::refusal_form))]
+fn append_refusal(refusal: &Refusal, out: &mut Outbytes) -> Result<(), NoMemory>
+    ensures { OnOk result (out.new ≡ out.old ++ refusal_form.spell refusal.now) }
+{
+    out.u8(number_of(refusal))?;
+    out.u16(object_of(refusal).0)?;
+    match refusal {
+        Refusal::NotCurrent(_, latest) => write_stamp(latest, out),
+        Refusal::NotMethod(_, class) => out.u8(code_of(*class)),
+        Refusal::Spent(_, number) => out.u64(*number),
+        _ => Ok(()),
+    }
+}
+
+/// The number of a refusal.
+fn number_of(refusal: &Refusal) -> u8
+    ensures { result ≡ refusal_number refusal.now }
+{
+    match refusal {
+        Refusal::HistoryFull(_) => 11,
+        Refusal::Thin(_) => 13,
+        Refusal::Needs(_) => 15,
+        Refusal::Stale(_) => 16,
+        Refusal::NotCurrent(..) => 22,
+        Refusal::NotMethod(..) => 23,
+        Refusal::Spent(..) => 24,
+        Refusal::TimeSpent(_) => 25,
+        Refusal::UnknownObject(_) => 26,
+        Refusal::Sound(_) => 27,
+    }
+}
+
+/// The object of a refusal.
+fn object_of(refusal: &Refusal) -> ObjectId
+    ensures { result ≡ refused_object refusal.now }
+{
+    match refusal {
+        Refusal::HistoryFull(object)
+        | Refusal::Thin(object)
+        | Refusal::Needs(object)
+        | Refusal::Stale(object)
+        | Refusal::NotCurrent(object, _)
+        | Refusal::NotMethod(object, _)
+        | Refusal::Spent(object, _)
+        | Refusal::TimeSpent(object)
+        | Refusal::UnknownObject(object)
+        | Refusal::Sound(object) => *object,
+    }
+}
+
+/// The code of a class.
+fn code_of(class: ClassCode) -> u8
+    ensures { result ≡ class_code class }
+{
+    match class {
+        ClassCode::InlineMethod => 2,
+        ClassCode::Copy => 3,
+        ClassCode::InlineBarrier => 4,
+        ClassCode::Barrier => 5,
+        ClassCode::Needs => 6,
+    }
+}

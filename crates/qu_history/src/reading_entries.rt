@@ -1,0 +1,179 @@
+ghost use Rattle.std.specs.Prelude.{◌≡◌, ◌<◌, ◌≤◌, IfOk};
+ghost use Rattle.qu_base.specs.Reading.{Reads, Gives};
+ghost use Rattle.qu_history.specs.Forms.{some_macs, macs_form, object_from, entry_form, sealed_entry_form, some_entries, entries_form, shown_by, some_shown, shown_form};
+
+use super::reading::candidates_at;
+use super::{History, Sealed};
+use qu_base::{BadText, Cursor, List, ObjectId, ReadFail, ReplicaId, Why};
+use std::alloc::Global;
+
+/// The next object, which is not below this number.
+#[tactic(auto, using(crate::proofs::Forms::object_below))]
+pub fn object_from(least: u16, text: &mut Cursor) -> Result<ObjectId, BadText>
+    ensures given { Reads (object_from least) result text.old text.new }
+    ensures below { IfOk result (λ object. object.0 < 64) }
+{
+    text.are_bytes();
+    let start = text.ahead();
+    let object = text.object()?;
+    if object.0 < least {
+        return Err(start.refusal(Why::Order));
+    }
+    Ok(object)
+}
+
+/// A count, and so many entries of this object, by rising replicas.
+#[tactic(auto, unfolding(crate::specs::Forms::entries_form))]
+pub(crate) fn entries_at(
+    alloc: Global,
+    object: ObjectId,
+    text: &mut Cursor,
+) -> Result<List<Sealed>, ReadFail>
+    ensures { Gives (entries_form object) result text.old text.new }
+{
+    let count = text.u8_within(0, 16)?;
+    next_entries(alloc, count, object, text)
+}
+
+/// So many entries of this object.
+#[tactic(auto, using(qu_base::proofs::Lists::list_laws))]
+fn next_entries(
+    alloc: Global,
+    count: u8,
+    object: ObjectId,
+    text: &mut Cursor,
+) -> Result<List<Sealed>, ReadFail>
+    ensures { Gives (some_entries object 0 count) result text.old text.new }
+{
+    let mut entries = List::new(alloc);
+    let mut least = 0;
+    for at in 0..count {
+        let entry = entry_at(alloc, object, least, text)?;
+        least = entry.history.replica().0 + 1;
+        entries.push(entry)?;
+    }
+    Ok(entries)
+}
+
+/// The next entry of this object, by a replica that is not below this number.
+#[tactic(auto, unfolding(crate::specs::Forms::sealed_entry_form))]
+fn entry_at(
+    alloc: Global,
+    object: ObjectId,
+    least: u8,
+    text: &mut Cursor,
+) -> Result<Sealed, ReadFail>
+    ensures given { Gives (sealed_entry_form object least) result text.old text.new }
+    ensures below { IfOk result (λ entry. ((entry.history).replica).0 < 16) }
+{
+    let history = entry_history(alloc, object, least, text)?;
+    let macs = macs_at(alloc, text)?;
+    Ok(Sealed { history, macs })
+}
+
+/// Its history.
+#[tactic(auto, unfolding(crate::specs::Forms::entry_form), using(crate::proofs::Forms::replica_below))]
+fn entry_history(
+    alloc: Global,
+    object: ObjectId,
+    least: u8,
+    text: &mut Cursor,
+) -> Result<History, ReadFail>
+    ensures given { Gives (entry_form object least) result text.old text.new }
+    ensures below { IfOk result (λ history. (history.replica).0 < 16) }
+{
+    let start = text.ahead();
+    let own = text.object()?;
+    if own != object {
+        return Err(ReadFail::Bad(start.refusal(Why::Range)));
+    }
+    text.are_bytes();
+    let start = text.ahead();
+    let replica = text.replica()?;
+    if replica.0 < least {
+        return Err(ReadFail::Bad(start.refusal(Why::Order)));
+    }
+    let candidates = candidates_at(alloc, text)?;
+    Ok(History::of(own, replica, candidates))
+}
+
+/// A count, and so many sealed histories of this replica, by rising objects.
+#[tactic(auto, unfolding(crate::specs::Forms::shown_form))]
+pub(crate) fn shown_at(
+    alloc: Global,
+    replica: ReplicaId,
+    text: &mut Cursor,
+) -> Result<List<Sealed>, ReadFail>
+    ensures { Gives (shown_form replica) result text.old text.new }
+{
+    let count = text.u8_within(0, 8)?;
+    next_shown(alloc, count, replica, text)
+}
+
+/// So many sealed histories of this replica.
+#[tactic(auto, using(qu_base::proofs::Lists::list_laws))]
+fn next_shown(
+    alloc: Global,
+    count: u8,
+    replica: ReplicaId,
+    text: &mut Cursor,
+) -> Result<List<Sealed>, ReadFail>
+    ensures { Gives (some_shown replica 0 count) result text.old text.new }
+{
+    let mut shown = List::new(alloc);
+    let mut least = 0;
+    for at in 0..count {
+        let sealed = shown_by(alloc, replica, least, text)?;
+        least = sealed.history.object().0 + 1;
+        shown.push(sealed)?;
+    }
+    Ok(shown)
+}
+
+/// The next sealed history of this replica, of an object that is not below this number.
+#[tactic(auto, unfolding(crate::specs::Forms::shown_by))]
+fn shown_by(
+    alloc: Global,
+    replica: ReplicaId,
+    least: u16,
+    text: &mut Cursor,
+) -> Result<Sealed, ReadFail>
+    ensures given { Gives (shown_by replica least) result text.old text.new }
+    ensures below { IfOk result (λ sealed. ((sealed.history).object).0 < 64) }
+{
+    let object = object_from(least, text)?;
+    let start = text.ahead();
+    let own = text.replica()?;
+    if own != replica {
+        return Err(ReadFail::Bad(start.refusal(Why::Range)));
+    }
+    let candidates = candidates_at(alloc, text)?;
+    let history = History::of(object, own, candidates);
+    let macs = macs_at(alloc, text)?;
+    Ok(Sealed { history, macs })
+}
+
+/// The count of the HMACs, and each of them.
+fn macs_at(alloc: Global, text: &mut Cursor) -> Result<List<[u8; 32]>, ReadFail>
+    ensures { Gives macs_form result text.old text.new }
+{
+    let start = text.ahead();
+    let count = text.u8_within(0, 255)?;
+    match count {
+        6 | 11 | 16 => next_macs(alloc, count, text),
+        _ => Err(ReadFail::Bad(start.refusal(Why::Range))),
+    }
+}
+
+/// So many HMACs.
+#[tactic(auto, using(qu_base::proofs::Lists::list_laws))]
+fn next_macs(alloc: Global, count: u8, text: &mut Cursor) -> Result<List<[u8; 32]>, ReadFail>
+    ensures { Gives (some_macs count) result text.old text.new }
+{
+    let mut macs = List::new(alloc);
+    for at in 0..count {
+        let mac = text.array()?;
+        macs.push(mac)?;
+    }
+    Ok(macs)
+}

@@ -1,0 +1,47 @@
+-- What was decoded fits its format. So a request that was decoded has parts, and a step on bytes keeps the histories.
+use Rattle.std.proofs.Common.{◌≡◌, ℕ, List, [], ◌∷◌, Bool, Result, Ok, Err, refl, arith}
+use Rattle.std.specs.Prelude.{IsTrue}
+use Rattle.std.proofs.lemmas.Bool.{lt-ltb}
+use Rattle.qu_base.specs.declared.bad_text.BadText.{BadText}
+use Rattle.qu_base.specs.declared.party.ObjectId.{ObjectId}
+use Rattle.qu_base.specs.Format.{Format, AreBytes}
+use Rattle.qu_objects.specs.Forms.{method_form, ask_form, parts_form, act_form, query_form}
+use Rattle.qu_objects.specs.Parts.{are_parts}
+use Rattle.qu_frames.specs.declared.frame.Body.{Body}
+use Rattle.qu_frames.specs.declared.frame.Body.TheVariants as body
+use Rattle.qu_frames.specs.declared.frame.Frame.{Frame}
+use Rattle.qu_frames.specs.declared.frame.Frame.TheVariants as frame
+use Rattle.qu_frames.specs.Forms.{body_form, objects_of, request_frame, kind_form, frame_form}
+use Rattle.qu_frames.specs.Decoding.{decoded}
+use Rattle.qu_frames.proofs.Decoded.{decoded_is_spelled}
+use Rattle.qu_replica.specs.State.{ReplicaState}
+use Rattle.qu_replica.specs.Step.{on_decoded, replica_step}
+use Rattle.qu_replica.specs.Growth.{AreHistories, has_parts, HasParts}
+use Rattle.qu_replica.proofs.Allowed.{on_frame-histories}
+
+one_part : {X : Type 0} (form : Format X) (known : ObjectId → Bool) (parts : List (ObjectId × X)) → (parts_form form known).Fits parts → IsTrue (are_parts parts)
+one_part form known [] fits = absurd (omega (arith, (fits.0).0))
+one_part form known (part ∷ []) fits = lt-ltb _ _ (omega (arith, ((((((fits.1).1).0).0).0).0).1))
+one_part form known (first ∷ second ∷ later) fits = absurd (omega (arith, (fits.0).1))
+
+pub body_has_parts : (objects : List ObjectId) (asks : Body) → (body_form objects).Fits asks → IsTrue (has_parts asks)
+unfolding body_form act_form query_form
+body_has_parts objects (body.Act parts) fits = one_part method_form _ parts fits.1
+body_has_parts objects (body.Ask parts) fits = one_part ask_form _ parts fits.1
+
+pub fits_has_parts : (received : Frame) → frame_form.Fits received → HasParts received
+unfolding frame_form kind_form request_frame
+fits_has_parts (frame.Request client number round sets asks mac) fits = body_has_parts (objects_of sets) asks (((((((fits.1).1).1).1).1).1).0)
+fits_has_parts (frame.Reply replica client number round verdict culled shown mac) fits = tt
+
+-- a request that was decoded has parts
+pub decoded_has_parts : (text : List ℕ) (received : Frame) → AreBytes text → decoded text ≡ Ok received → HasParts received
+decoded_has_parts text received fit given = fits_has_parts received (decoded_is_spelled text received fit given).0
+
+on_decoded-histories : (state : ReplicaState) (found : Result Frame BadText) → ((received : Frame) → found ≡ Ok received → HasParts received) → AreHistories state → AreHistories (on_decoded state found).0
+on_decoded-histories state (Ok received) parts own = on_frame-histories state received (parts received refl) own
+on_decoded-histories state (Err bad) parts own = own
+
+-- a step keeps the histories as they must be
+pub step-histories : (state : ReplicaState) (text : List ℕ) → AreBytes text → AreHistories state → AreHistories (replica_step state text).0
+step-histories state text fit own = on_decoded-histories state (decoded text) (λ received given. decoded_has_parts text received fit given) own

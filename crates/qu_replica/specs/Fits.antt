@@ -1,0 +1,49 @@
+-- What a replica holds, and what it sends, fits the formats of bytes.
+use Rattle.std.specs.Prelude.{◌≡◌, ℕ, false, ◌-◌, ◌^◌, ◌≤◌, List, length, slice_get, Some, IsTrue}
+use Rattle.std.specs.List.{AllByRecursion}
+use Rattle.qu_base.specs.Thresholds.{replicas}
+use Rattle.qu_stamp.specs.declared.stamp.Stamp.{Stamp}
+use Rattle.qu_stamp.specs.Stamp.{opening_stamp, same_stamp}
+use Rattle.qu_history.specs.History.{ObjectHistory}
+use Rattle.qu_history.specs.Forms.{is_mac_count, candidates_form}
+use Rattle.qu_objects.specs.declared.kind.Value.{Value}
+use Rattle.qu_objects.specs.declared.kind.Value.TheVariants.{Counter}
+use Rattle.qu_objects.specs.declared.state.ObjState.{ObjState}
+use Rattle.qu_objects.specs.Forms.{answer_form}
+use Rattle.qu_frames.specs.declared.frame.Frame.{Frame}
+use Rattle.qu_frames.specs.declared.frame.Letter.{Letter}
+use Rattle.qu_frames.specs.Forms.{frame_form}
+use Rattle.qu_replica.specs.declared.versions.Stored.{Stored}
+use Rattle.qu_replica.specs.State.{ReplicaState}
+use Rattle.qu_replica.specs.Growth.{AreHistories}
+
+-- a counter is below 2^64
+abbrev pub ValueFits : Value → Type 0
+ValueFits (Counter number) = number ≤ 2 ^ 64 - 1
+
+-- the version of a candidate with this stamp; the opening ones have no answer to tell
+pub record VersionFits (stamp : Stamp) (version : ObjState) : Type 0 where
+  pub value : ValueFits version.value
+  pub answer : same_stamp opening_stamp stamp ≡ false → answer_form.Fits version.answer
+
+abbrev pub VersionsFit : List Stored → Type 0
+VersionsFit versions = AllByRecursion (λ stored. VersionFits stored.stamp stored.state) versions
+
+-- a replica below 16, of 6, 11 or 16 replicas, with at most 64 objects
+pub record StateFits (state : ReplicaState) : Type 0 where
+  pub me : (state.me).0 ≤ 15
+  pub bounds : IsTrue (is_mac_count (replicas state.bounds))
+  pub few : length state.histories ≤ 64
+  pub own : AreHistories state
+  pub histories : (place : ℕ) (history : ObjectHistory) → slice_get state.histories place ≡ Some history → candidates_form.Fits history.candidates
+  pub versions : VersionsFit state.versions
+
+-- a letter carries the one spelling of a frame that fits
+pub record LetterFits (letter : Letter) : Type 0 where
+  pub sent : Frame
+  pub fits : frame_form.Fits sent
+  pub text : letter.text ≡ frame_form.spell sent
+
+-- the state and the letters that a step makes
+abbrev pub StepFits : ReplicaState × List Letter → Type 0
+StepFits made = StateFits made.0 × AllByRecursion LetterFits made.1

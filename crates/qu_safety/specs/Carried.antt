@@ -1,0 +1,28 @@
+-- What the bytes of a letter carry.
+use Rattle.std.specs.Prelude.{◌≡◌, ℕ, List, Ok}
+use Rattle.qu_base.specs.declared.party.ClientId.{ClientId}
+use Rattle.qu_base.specs.declared.party.ObjectId.{ObjectId}
+use Rattle.qu_base.specs.declared.party.ReplicaId.{ReplicaId}
+use Rattle.qu_history.specs.declared.sealed.Sealed.{Sealed}
+use Rattle.qu_history.specs.declared.sets.SetOf.{SetOf}
+use Rattle.qu_frames.specs.declared.frame.Body.{Body}
+use Rattle.qu_frames.specs.declared.frame.Frame.{Frame}
+use Rattle.qu_frames.specs.declared.frame.Frame.TheVariants as frame
+use Rattle.qu_frames.specs.declared.frame.Letter.{Letter}
+use Rattle.qu_frames.specs.declared.verdict.Verdict.{Verdict}
+use Rattle.qu_frames.specs.Decoding.{decoded}
+
+-- the letter's text is decoded to this frame
+abbrev pub Carries : Letter → Frame → Type 0
+Carries letter sent = decoded letter.text ≡ Ok sent
+
+-- it carries this request, whatever its HMAC
+pub record Asks (letter : Letter) (client : ClientId) (number round : ℕ) (sets : List SetOf) (body : Body) : Type 0 where
+  pub mac : List ℕ
+  pub carries : Carries letter (frame.Request client number round sets body mac)
+
+-- it carries this reply, whatever was culled and whatever its HMAC
+pub record Tells (letter : Letter) (replica : ReplicaId) (client : ClientId) (number round : ℕ) (verdict : Verdict) (shown : List Sealed) : Type 0 where
+  pub culled : List (ObjectId × ReplicaId)
+  pub mac : List ℕ
+  pub carries : Carries letter (frame.Reply replica client number round verdict culled shown mac)

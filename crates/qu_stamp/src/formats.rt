@@ -1,0 +1,11 @@
+ghost use Rattle.std.specs.Prelude.{Bool};
+ghost use Rattle.qu_base.specs.Format.{IsPrefixCode};
+ghost use Rattle.qu_stamp.specs.Forms.{stamp_with, candidate_form};
+
+/// By each format of this crate, what is read is spelled so, what is spelled so is read, and no
+/// spelling begins another.
+#[tactic(auto, using(crate::proofs::Forms::code_laws))]
+pub fn formats_are_codes()
+    ensures stamp { (barrier_may_be : Bool) → IsPrefixCode (stamp_with barrier_may_be) }
+    ensures candidate { IsPrefixCode candidate_form }
+{}
