@@ -8,6 +8,8 @@ use qu_world::{World, WorldFail, letter_at};
 use std::alloc::Global;
 use std::test::Fail;
 
+mod digests;
+
 /// A world of six replicas, so many clients and one counter.
 fn started(alloc: Global, clients: u16) -> Result<World, Fail>
     requires { clients ≤ 64 }
