@@ -3,6 +3,7 @@ pub mod Digested
 pub mod Carried
 pub mod Order
 pub mod Points
+pub mod Facts
 pub mod Tracker
 pub mod Views
 pub mod Grounds

@@ -1,15 +1,15 @@
-ghost use Rattle.std.specs.Prelude.{◌≡◌, ℕ, length, map, Some, IfOk, MatchOption};
+ghost use Rattle.std.specs.Prelude.{◌≡◌, ℕ, map, Some, IfOk, MatchOption};
 ghost use Rattle.std.specs.Option.{option_copied};
 ghost use Rattle.qu_frames.specs.Decoding.{decoded};
 ghost use Rattle.qu_world.specs.State.{numbered};
 ghost use Rattle.qu_safety.specs.Order.{delivered_round, round_in, query_effect, effect_of, AnswersFirst};
-ghost use Rattle.qu_safety.specs.Tracker.{Tracks};
-ghost use Rattle.qu_safety.specs.Points.{handled_acts, mark_of, earlier_of, first_mark, act_mark, answered_at};
+ghost use Rattle.qu_safety.specs.Facts.{AreFacts};
+ghost use Rattle.qu_safety.specs.Points.{mark_of, earlier_of, first_mark, act_mark, answered_at};
 
 use super::acts::is_handled;
 use super::answers::{Answered, first_answer, round_answered};
+use super::facts::Facts;
 use super::tracked::Tracked;
-use super::tracker::Tracker;
 use qu_base::{ClientId, Digest, List, NoMemory};
 use qu_machine::OpRecord;
 use qu_objects::{Act, Op, Outcome, act_digest};
@@ -52,24 +52,22 @@ fn earlier(first: Option<u64>, second: Option<u64>) -> Option<u64>
     }
 }
 
-/// The event at which an operation of a run took effect, None where it took none. The acts are those
-/// that replicas handled, and the answers those that each entry has.
+/// The event at which an operation of a run took effect, None where it took none.
 pub fn effect(
     alloc: Global,
     trace: &Trace,
-    tracker: &Tracker,
-    acts: &[(ClientId, u64, Act)],
-    answers: &[List<Answered>],
+    facts: &Facts,
     operation: &OpRecord,
 ) -> Result<Option<u64>, NoMemory>
-    requires tracked { Tracks trace.now (length trace.now.entries) tracker.now }
-    requires handled { acts.now ≡ handled_acts trace.now }
-    requires answered { answers.now ≡ map answered_at trace.now.entries }
+    requires { AreFacts trace.now facts.now }
     ensures { IfOk result (λ found. MatchOption found ((event : ℕ) → ¬ (effect_of trace.now operation.now event operation.now.op)) (λ event. effect_of trace.now operation.now event operation.now.op)) }
 {
     match &operation.op {
-        Op::Act(act) => act_mark(alloc, tracker.as_slice(), acts, operation, act),
-        Op::Query(_) => query_effect(alloc, trace, answers, operation),
+        Op::Act(act) => {
+            let tracked = facts.tracker.as_slice();
+            act_mark(alloc, tracked, facts.acts.as_slice(), operation, act)
+        }
+        Op::Query(_) => query_effect(alloc, trace, facts.answers.as_slice(), operation),
     }
 }
 

@@ -4,6 +4,7 @@
 mod acts;
 mod answers;
 mod effects;
+mod facts;
 mod news;
 mod order;
 mod parts;

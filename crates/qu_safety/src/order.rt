@@ -1,27 +1,23 @@
-ghost use Rattle.std.specs.Prelude.{◌≡◌, ◌≤◌, not, length, map, position, AllPairs, IfOk, OnOk, IsTrue};
+ghost use Rattle.std.specs.Prelude.{◌≡◌, ◌≤◌, not, length, position, AllPairs, IfOk, OnOk, IsTrue};
 ghost use Rattle.std.specs.List.{position_or_len};
 ghost use Rattle.qu_machine.specs.Serial.{IsSerial};
 ghost use Rattle.qu_trace.specs.Injections.{no_injection};
 ghost use Rattle.qu_trace.specs.Operations.{operations_of};
 ghost use Rattle.qu_world.specs.Run.{IsRun};
 ghost use Rattle.qu_safety.specs.Chained.{IsChained};
+ghost use Rattle.qu_safety.specs.Facts.{AreFacts};
 ghost use Rattle.qu_safety.specs.Digested.{MeetsPremises};
 ghost use Rattle.qu_safety.specs.Named.{StampsNameHistories};
 ghost use Rattle.qu_safety.specs.Order.{is_earlier, IsPrintedOrder};
 ghost use Rattle.qu_safety.specs.Quorums.{CompletesByQuorums};
 ghost use Rattle.qu_safety.specs.Turns.{DecidesInTurn};
-ghost use Rattle.qu_safety.specs.Points.{AreApart, AddsPoint, ArePointsOf, handled_acts, answered_at, with_point};
-ghost use Rattle.qu_safety.specs.Tracker.{Tracks};
+ghost use Rattle.qu_safety.specs.Points.{AreApart, AddsPoint, ArePointsOf, with_point};
 
-use super::acts::handled_acts;
-use super::answers::{Answered, answers};
 use super::effects::effect;
+use super::facts::Facts;
 use super::parts::have_parts;
-use super::replay::replay;
-use super::tracker::Tracker;
-use qu_base::{ClientId, List, NoMemory};
+use qu_base::{List, NoMemory};
 use qu_machine::{OpRecord, Point};
-use qu_objects::Act;
 use qu_trace::{Trace, operations};
 use std::alloc::Global;
 
@@ -40,18 +36,9 @@ pub fn order_of(alloc: Global, trace: &Trace) -> Result<List<Point>, NoMemory>
     ensures by_quorums { OnOk result (IsTrue (no_injection trace.now.entries) → CompletesByQuorums trace.now) }
 {
     have_parts(trace.entries.as_slice());
-    let tracker = replay(alloc, trace)?;
-    let acts = handled_acts(alloc, trace)?;
-    let answers = answers(alloc, trace.entries.as_slice())?;
+    let facts = Facts::of(alloc, trace)?;
     let operations = operations(alloc, trace)?;
-    let points = points(
-        alloc,
-        trace,
-        &tracker,
-        acts.as_slice(),
-        answers.as_slice(),
-        operations.as_slice(),
-    )?;
+    let points = points(alloc, trace, &facts, operations.as_slice())?;
     Ok(List::from(points))
 }
 
@@ -59,20 +46,16 @@ pub fn order_of(alloc: Global, trace: &Trace) -> Result<List<Point>, NoMemory>
 fn points(
     alloc: Global,
     trace: &Trace,
-    tracker: &Tracker,
-    acts: &[(ClientId, u64, Act)],
-    answers: &[List<Answered>],
+    facts: &Facts,
     operations: &[OpRecord],
 ) -> Result<Vec<Point>, NoMemory>
-    requires tracked { Tracks trace.now (length trace.now.entries) tracker.now }
-    requires handled { acts.now ≡ handled_acts trace.now }
-    requires answered { answers.now ≡ map answered_at trace.now.entries }
+    requires known { AreFacts trace.now facts.now }
     requires apart { AllPairs AreApart operations.now }
     ensures { IfOk result (λ points. ArePointsOf trace.now operations.now points.items) }
 {
     let mut points = Vec::new(alloc);
     for operation in operations {
-        add_point(alloc, &mut points, trace, tracker, acts, answers, operation)?;
+        add_point(alloc, &mut points, trace, facts, operation)?;
     }
     Ok(points)
 }
@@ -82,17 +65,13 @@ fn add_point(
     alloc: Global,
     points: &mut Vec<Point>,
     trace: &Trace,
-    tracker: &Tracker,
-    acts: &[(ClientId, u64, Act)],
-    answers: &[List<Answered>],
+    facts: &Facts,
     operation: &OpRecord,
 ) -> Result<(), NoMemory>
-    requires tracked { Tracks trace.now (length trace.now.entries) tracker.now }
-    requires handled { acts.now ≡ handled_acts trace.now }
-    requires answered { answers.now ≡ map answered_at trace.now.entries }
+    requires { AreFacts trace.now facts.now }
     ensures { OnOk result (AddsPoint trace.now operation.now points.old.items points.new.items) }
 {
-    let found = effect(alloc, trace, tracker, acts, answers, operation)?;
+    let found = effect(alloc, trace, facts, operation)?;
     if let Some(event) = found {
         let point = Point {
             event,

@@ -1,10 +1,11 @@
+use Rattle.std.proofs.Common.{◌∙◌}
 use Rattle.qu_safety.proofs.Taking.{act_effect_of, ask_effect_of}
 use Rattle.qu_safety.proofs.effects.effect.Goals as goal
 
 pub returns-in-Act : goal.returns-in-Act
 returns-in-Act c =
-    act_effect_of c.args.trace.now c.args.tracker.now c.args.operation.now c.args.operation.now.op c.in-Act.act c.args.acts.now c.as_slice.result.now c.act_mark.result
-    c.requires.tracked c.in-Act.is c.requires.handled c.as_slice.ensures c.act_mark.ensures
+    act_effect_of c.args.trace.now c.args.facts.now.tracker c.args.operation.now c.args.operation.now.op c.in-Act.act c.as_slice.result.now c.as_slice-tracked.result.now c.act_mark.result
+    c.requires.tracked c.in-Act.is (c.as_slice.ensures ∙ c.requires.handled) c.as_slice-tracked.ensures c.act_mark.ensures
 
 pub returns-in-Query : goal.returns-in-Query
 returns-in-Query c =

@@ -18,15 +18,12 @@ use Rattle.qu_safety.proofs.order.order_of.Goals as goal
 
 pub points-requires-clause-apart : goal.points-requires-clause-apart
 points-requires-clause-apart c =
-    subst (λ (operations : List OpRecord). AllPairs AreApart operations) (sym (c.as_slice-5.ensures ∙ c.in_ok-operations.ensures)) (operations_apart c.args.trace.now.entries)
-
-pub points-requires-clause-handled : goal.points-requires-clause-handled
-points-requires-clause-handled c = c.as_slice-3.ensures ∙ c.in_ok-acts.ensures
+    subst (λ (operations : List OpRecord). AllPairs AreApart operations) (sym (c.as_slice-2.ensures ∙ c.in_ok-operations.ensures)) (operations_apart c.args.trace.now.entries)
 
 pub returns-clause-printed : goal.returns-clause-printed
 returns-clause-printed c =
     subst (IsPrintedOrder c.args.trace.now) (sym c.from.ensures)
-    (printed c.args.trace.now c.as_slice-5.result.now c.in_ok-points.points.items (c.as_slice-5.ensures ∙ c.in_ok-operations.ensures) c.in_ok-points.ensures)
+    (printed c.args.trace.now c.as_slice-2.result.now c.in_ok-points.points.items (c.as_slice-2.ensures ∙ c.in_ok-operations.ensures) c.in_ok-points.ensures)
 
 pub returns-clause-serial : goal.returns-clause-serial
 returns-clause-serial c =
