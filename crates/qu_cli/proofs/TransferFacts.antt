@@ -2,7 +2,7 @@
 use Rattle.std.proofs.Common.{◌≡◌, ℕ, ◌+◌, ◌-◌, List, [], ◌++◌, length, take, drop, length-drop, Option, None, Some, arith, ap, ◌∙◌, refl}
 use Rattle.std.proofs.lemmas.List.{take_all}
 use Rattle.std.proofs.Math.Seq.{take-add}
-use Rattle.std.proofs.KnownBytes.{Appends-trans, Consumes-trans}
+use Rattle.std.proofs.KnownBytes.{Appends-trans}
 use Rattle.std.specs.Io.KnownBytes.{Appends, Consumes, IsAtEnd}
 
 -- the front of a text, and then a front of its rest
@@ -22,7 +22,3 @@ script_end (Some held) (Some left) (Some rest) script piece n first none ends se
     let empty : take n piece ≡ [] = rw none refl in
     let same : left ≡ rest = rw empty at second in
     (first ∙ ap (λ l. script ++ l) same, ends none)
-
--- a piece more
-pub script_more : (a b c : Option (List ℕ)) (script piece : List ℕ) → Consumes a b script → Consumes b c piece → Consumes a c (script ++ piece)
-script_more a b c script piece first second = Consumes-trans a b c script piece first second

@@ -46,7 +46,7 @@ client_invoke-bounds state op =
 pub NumbersWithin-opening : (me : ClientId) (bounds : ℕ) → NumbersWithin 0 (opening_state me bounds)
 NumbersWithin-opening me bounds = record { last = tt; work = tt }
 
-work_within : (most : ℕ) (state : ClientState) (work : Work) → NumbersWithin most state → state.work ≡ Some work → work.number ≤ most
+pub work_within : (most : ℕ) (state : ClientState) (work : Work) → NumbersWithin most state → state.work ≡ Some work → work.number ≤ most
 work_within most state work within is =
     let P : Option Work → Type 0 = λ found. IfSome found (λ work. work.number ≤ most) in subst P is within.work
 
@@ -65,7 +65,7 @@ next_within : (most : ℕ) (last : Option (ℕ × ℕ)) → IfSome last (λ last
 next_within most None within = omega arith
 next_within most (Some last) within = omega arith
 
-last_within : (most : ℕ) (last : Option (ℕ × ℕ)) → IfSome last (λ last. last.0 ≤ most) → IfSome last (λ last. last.0 ≤ most + 1)
+pub last_within : (most : ℕ) (last : Option (ℕ × ℕ)) → IfSome last (λ last. last.0 ≤ most) → IfSome last (λ last. last.0 ≤ most + 1)
 last_within most None within = tt
 last_within most (Some last) within = omega arith
 
@@ -88,14 +88,14 @@ may_invoke most state within few = fits_by most state.last_request within.last f
 pub IsSound-opening : (me : ClientId) (bounds : ℕ) → IsSound (opening_state me bounds)
 IsSound-opening me bounds = tt
 
-sound_work : (state : ClientState) (work : Work) → IsSound state → state.work ≡ Some work → IsSoundWork state.last_request work
+pub sound_work : (state : ClientState) (work : Work) → IsSound state → state.work ≡ Some work → IsSoundWork state.last_request work
 sound_work state work sound is =
     let P : Option Work → Type 0 = λ found. IfSome found (IsSoundWork state.last_request) in subst P is sound
 
 none_different : AllPairs (λ (a b : Counted). (a.replica).0 ≢ (b.replica).0) []
 none_different = λ i j d before within. absurd (omega arith)
 
-other_replica : (replies : List Counted) (replica : ReplicaId) (k : ℕ) (d : Counted) → list_any (λ counted. eqb (counted.replica).0 replica.0) replies ≡ false → k < length replies → ((get_or replies k d).replica).0 ≢ replica.0
+pub other_replica : (replies : List Counted) (replica : ReplicaId) (k : ℕ) (d : Counted) → list_any (λ counted. eqb (counted.replica).0 replica.0) replies ≡ false → k < length replies → ((get_or replies k d).replica).0 ≢ replica.0
 other_replica replies replica k d none within = λ same.
     both_ways _ none (list_any_at (λ counted. eqb (counted.replica).0 replica.0) replies k d within (eq-eqb _ _ same))
 

@@ -1,5 +1,5 @@
 -- The formats of refusals, verdicts, bodies and frames are exact.
-use Rattle.std.proofs.Common.{◌≡◌, ℕ, zero, suc, ◌^◌, ◌<◌, ◌≤◌, ◌-◌, ◌==◌, Bool, true, false, cond, List, Option, None, Some, refl, sym, ap, subst, ◌∙◌, inl, inr, arith}
+use Rattle.std.proofs.Common.{◌≡◌, ℕ, zero, suc, ◌^◌, ◌≤◌, ◌-◌, ◌==◌, Bool, true, false, cond, List, Option, None, Some, refl, sym, ap, subst, ◌∙◌, inl, inr, arith}
 use Rattle.std.specs.Prelude.{IsTrue}
 use Rattle.std.proofs.lemmas.Bool.{cases_Bool, eqb-true}
 use Rattle.std.proofs.lemmas.Bool.Decides.{nat_tests}
@@ -8,7 +8,7 @@ use Rattle.qu_base.specs.declared.bad_text.Why.TheVariants.{Kind, Order}
 use Rattle.qu_base.specs.declared.party.ObjectId.{ObjectId}
 use Rattle.qu_base.specs.declared.party.ReplicaId.{ReplicaId}
 use Rattle.qu_base.specs.Format.{IsPrefixCode, Format, number, both, tested, FitsPart, made, either, object_form, replica_form, IsExact}
-use Rattle.qu_base.proofs.Formats.{prefix_code, some_is, wide8, wide16, wide64, number-exact, bytes-exact, both-exact, tested-exact, made-exact, fields-exact, counted-exact, tagged-exact, object-exact, replica-exact}
+use Rattle.qu_base.proofs.Formats.{prefix_code, some_is, wide16, wide64, number-exact, bytes-exact, both-exact, tested-exact, made-exact, fields-exact, counted-exact, tagged-exact, object-exact, replica-exact}
 use Rattle.qu_stamp.specs.declared.stamp.Stamp.{Stamp}
 use Rattle.qu_stamp.specs.Forms.{stamp_form}
 use Rattle.qu_stamp.proofs.Forms.{stamp_with-exact}
@@ -16,7 +16,7 @@ use Rattle.qu_objects.specs.declared.act.Method.{Method}
 use Rattle.qu_objects.specs.declared.query.Ask.{Ask}
 use Rattle.qu_objects.specs.declared.answer.Answer.{Answer}
 use Rattle.qu_objects.specs.Forms.{word_form, is_one_of, act_form, query_form, answer_form}
-use Rattle.qu_objects.proofs.Forms.{word-exact, act-exact, query-exact, answer-exact}
+use Rattle.qu_objects.proofs.Forms.{word-exact, act-exact, query-exact, answer-exact, byte-exact}
 use Rattle.qu_history.specs.Forms.{object_from}
 use Rattle.qu_history.proofs.Forms.{object_from-exact, sets-exact, shown-exact}
 use Rattle.qu_frames.specs.declared.frame.Body.{Body}
@@ -46,9 +46,6 @@ either-fits false first second value one two fits = two refl fits
 -- a value that is made of the part that was found
 of_part : {V W : Type 0} (make : V → W) (part found : V) → Some part ≡ Some found → make found ≡ make part
 of_part make part found is = ap make (sym (some_is is))
-
-byte-exact : (least most : ℕ) → most < 2 ^ 8 → IsExact (number w8 least most)
-byte-exact least most below = number-exact w8 (2 ^ 8) least most wide8 below
 
 -- ---- refusals
 

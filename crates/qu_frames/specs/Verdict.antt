@@ -4,10 +4,7 @@ use Rattle.std.specs.Cmp.Lexicographic.{pointwise}
 use Rattle.qu_base.specs.declared.party.ObjectId.{ObjectId}
 use Rattle.qu_stamp.specs.declared.stamp.Stamp.{Stamp}
 use Rattle.qu_stamp.specs.Stamp.{same_stamp}
-use Rattle.qu_objects.specs.declared.answer.Item.{Item}
-use Rattle.qu_objects.specs.declared.answer.Item.TheVariants.{Number}
-use Rattle.qu_objects.specs.declared.answer.Answer.{Answer}
-use Rattle.qu_objects.specs.declared.answer.Answer.TheVariants as answer
+use Rattle.qu_objects.specs.Alike.{same_answer}
 use Rattle.qu_frames.specs.declared.verdict.ClassCode.{ClassCode}
 use Rattle.qu_frames.specs.declared.verdict.ClassCode.TheVariants as class
 use Rattle.qu_frames.specs.declared.verdict.Refusal.{Refusal}
@@ -17,15 +14,6 @@ use Rattle.qu_frames.specs.declared.verdict.Verdict.TheVariants.{Done, Told, Alr
 
 abbrev pub same_object : ObjectId → ObjectId → Bool
 same_object a b = a.0 == b.0
-
-abbrev pub same_item : Item → Item → Bool
-same_item (Number a) (Number b) = a == b
-
-abbrev pub same_answer : Answer → Answer → Bool
-same_answer (answer.Ok items) (answer.Ok others) = pointwise same_item items others
-same_answer (answer.Refused at why) (answer.Refused other reason) = at == other && why == reason
-same_answer (answer.Ok items) (answer.Refused at why) = false
-same_answer (answer.Refused at why) (answer.Ok items) = false
 
 abbrev pub same_stamps : List (ObjectId × Stamp) → List (ObjectId × Stamp) → Bool
 same_stamps stamps others = pointwise (λ (a b : ObjectId × Stamp). same_object a.0 b.0 && same_stamp a.1 b.1) stamps others

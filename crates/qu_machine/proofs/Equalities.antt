@@ -24,7 +24,8 @@ use Rattle.qu_objects.specs.declared.op.Op.TheVariants as op
 use Rattle.qu_machine.specs.declared.record.OpRecord.{OpRecord}
 use Rattle.qu_machine.specs.declared.record.Point.{Point}
 use Rattle.qu_machine.specs.Serial.{Stands, Agree, IsKnown}
-use Rattle.qu_machine.specs.PointTests.{same_method, same_ask, same_item, same_part, same_op, same_answer, stands, agree, is_known}
+use Rattle.qu_machine.specs.PointTests.{same_method, same_ask, same_part, same_op, stands, agree, is_known}
+use Rattle.qu_objects.specs.Alike.{same_item, same_answer}
 
 -- ---- equal operations and answers
 
@@ -40,10 +41,10 @@ decides_ask Read Read = (λ same. refl, λ same. refl)
 decides_item : (a b : Item) → Decides (same_item a b) (a ≡ b)
 decides_item (Number a) (Number b) = (λ same. ap (λ (n : ℕ). Number n) ((Decides-eqb a b).0 same), λ same. (Decides-eqb a b).1 (cc))
 
-object_is : (a b : ObjectId) → a.0 ≡ b.0 → a ≡ b
+pub object_is : (a b : ObjectId) → a.0 ≡ b.0 → a ≡ b
 object_is a b same = ap (λ (it : ℕ). (let object : ObjectId = record { 0 = it } in object)) same
 
-client_is : (a b : ClientId) → a.0 ≡ b.0 → a ≡ b
+pub client_is : (a b : ClientId) → a.0 ≡ b.0 → a ≡ b
 client_is a b same = ap (λ (it : ℕ). (let client : ClientId = record { 0 = it } in client)) same
 
 decides_part : {X : Type 0} (test : X → X → Bool) → ((a b : X) → Decides (test a b) (a ≡ b)) → (a b : ObjectId × X) → Decides (same_part test a b) (a ≡ b)

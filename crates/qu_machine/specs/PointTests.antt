@@ -8,18 +8,16 @@ use Rattle.qu_objects.specs.declared.act.Method.{Method}
 use Rattle.qu_objects.specs.declared.act.Method.TheVariants.{Add, Take}
 use Rattle.qu_objects.specs.declared.query.Ask.{Ask}
 use Rattle.qu_objects.specs.declared.query.Ask.TheVariants.{Read}
-use Rattle.qu_objects.specs.declared.answer.Item.{Item}
-use Rattle.qu_objects.specs.declared.answer.Item.TheVariants.{Number}
 use Rattle.qu_objects.specs.declared.answer.Answer.{Answer}
-use Rattle.qu_objects.specs.declared.answer.Answer.TheVariants as answer
 use Rattle.qu_objects.specs.declared.op.Op.{Op}
 use Rattle.qu_objects.specs.declared.op.Op.TheVariants as op
 use Rattle.qu_objects.specs.declared.op.Outcome.{Outcome}
 use Rattle.qu_objects.specs.declared.op.Outcome.TheVariants as outcome
+use Rattle.qu_objects.specs.Alike.{same_answer}
 use Rattle.qu_machine.specs.declared.record.OpRecord.{OpRecord}
 use Rattle.qu_machine.specs.declared.record.Point.{Point}
 
--- ---- equal operations and answers
+-- ---- equal operations
 
 abbrev pub same_method : Method → Method → Bool
 same_method (Add first) (Add second) = first == second
@@ -30,9 +28,6 @@ same_method (Take first) (Take second) = first == second
 abbrev pub same_ask : Ask → Ask → Bool
 same_ask Read Read = true
 
-abbrev pub same_item : Item → Item → Bool
-same_item (Number first) (Number second) = first == second
-
 abbrev pub same_part : {X : Type 0} → (X → X → Bool) → ObjectId × X → ObjectId × X → Bool
 same_part same first second = (first.0).0 == (second.0).0 && same first.1 second.1
 
@@ -41,12 +36,6 @@ same_op (op.Act first) (op.Act second) = pointwise (same_part same_method) first
 same_op (op.Act first) (op.Query second) = false
 same_op (op.Query first) (op.Act second) = false
 same_op (op.Query first) (op.Query second) = pointwise (same_part same_ask) first second
-
-abbrev pub same_answer : Answer → Answer → Bool
-same_answer (answer.Ok first) (answer.Ok second) = pointwise same_item first second
-same_answer (answer.Ok first) (answer.Refused at why) = false
-same_answer (answer.Refused at why) (answer.Ok second) = false
-same_answer (answer.Refused at why) (answer.Refused other reason) = at == other && why == reason
 
 -- ---- one point
 

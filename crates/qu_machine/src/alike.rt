@@ -1,5 +1,6 @@
 ghost use Rattle.std.specs.Prelude.{◌≡◌};
-ghost use Rattle.qu_machine.specs.PointTests.{same_op, same_answer};
+ghost use Rattle.qu_machine.specs.PointTests.{same_op};
+ghost use Rattle.qu_objects.specs.Alike.{same_answer};
 
 use qu_objects::{Answer, Op};
 

@@ -21,7 +21,7 @@ use Rattle.qu_objects.specs.Forms.{word_form, method_code, added, taken, is_meth
 pub word-exact : IsExact word_form
 word-exact = number-exact w64 (2 ^ 64) 0 (2 ^ 64 - 1) wide64 (omega arith)
 
-byte-exact : (least most : ℕ) → most < 2 ^ 8 → IsExact (number w8 least most)
+pub byte-exact : (least most : ℕ) → most < 2 ^ 8 → IsExact (number w8 least most)
 byte-exact least most below = number-exact w8 (2 ^ 8) least most wide8 below
 
 -- ---- updates, questions and items

@@ -18,7 +18,7 @@ use Rattle.qu_objects.proofs.Text.{act_text-exact}
 object_below : (object : ObjectId) → object_form.Fits object → object.0 < 64
 object_below object fits = omega (arith, fits.1)
 
-in_order : {X : Type 0} (form : Format X) (known : ObjectId → Bool) (parts : List (ObjectId × X)) → (parts_form form known).Fits parts → IsTrue (are_parts parts)
+pub in_order : {X : Type 0} (form : Format X) (known : ObjectId → Bool) (parts : List (ObjectId × X)) → (parts_form form known).Fits parts → IsTrue (are_parts parts)
 in_order form known [] fits = absurd (omega (arith, fits.0))
 in_order form known (part ∷ []) fits = lt-ltb _ _ (object_below part.0 fits.1.1.0.0.0.0)
 in_order form known (first ∷ second ∷ parts) fits = absurd (omega (arith, fits.0))

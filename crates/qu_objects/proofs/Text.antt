@@ -28,7 +28,7 @@ act_text-exact =
 
 -- ---- what has a spelling
 
-method_fits : (method : Method) → MethodFits method → method_form.Fits method
+pub method_fits : (method : Method) → MethodFits method → method_form.Fits method
 unfolding method_form
 method_fits (Add more) fits = (((omega arith, omega arith), refl), (omega arith, omega arith))
 method_fits (Take fewer) fits = (((omega arith, omega arith), refl), (omega arith, omega arith))

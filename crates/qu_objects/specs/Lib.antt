@@ -3,3 +3,4 @@ pub mod Kind
 pub mod Perform
 pub mod Forms
 pub mod Text
+pub mod Alike

@@ -73,11 +73,11 @@ unfolding row_full
 full state asked objects = refusing state _ _
 
 -- no entry, no candidate
-method_at_none : (bounds : ℕ) → method_at bounds [] ≡ None
+pub method_at_none : (bounds : ℕ) → method_at bounds [] ≡ None
 unfolding method_at if_method object_candidate candidates_of greatest
 method_at_none bounds = refl
 
-not_first : {A : Type 0} (test : Bool) (it : A) (later : Option A) → cond test (Some it) later ≡ None → (test ≡ false) × (later ≡ None)
+pub not_first : {A : Type 0} (test : Bool) (it : A) (later : Option A) → cond test (Some it) later ≡ None → (test ≡ false) × (later ≡ None)
 not_first test it later none =
     elim test as (λ (t : Bool). cond t (Some it) later ≡ None → (t ≡ false) × (later ≡ None)) [
       | true ↦ λ found. absurd (none-some it (sym found))
@@ -104,7 +104,7 @@ known_by_entries number (set ∷ sets) object none some =
     ]
 
 -- a stamp with the time after the latest is above all that the replica accepted
-fresh_later : (latest own fresh : Stamp) → fresh.time ≡ latest.time + 1 → is_below latest own ≡ false → is_below own fresh ≡ true
+pub fresh_later : (latest own fresh : Stamp) → fresh.time ≡ latest.time + 1 → is_below latest own ≡ false → is_below own fresh ≡ true
 fresh_later latest own fresh next current =
     elim (cases_lt latest.time own.time) [
       | inl above ↦ absurd (false≢true (sym current ∙ is_below_by_time latest own above))
@@ -140,7 +140,7 @@ made_of asked object (Some it) fresh made =
 in_time_of : (latest fresh : Stamp) → fresh.time ≡ latest.time + 1 → latest.time < LAST_TIME → fresh.time ≤ LAST_TIME
 in_time_of latest fresh next spent = omega arith
 
-unmapped : {A B : Type 0} (f : A → B) (found : Option A) → option_map f found ≡ None → found ≡ None
+pub unmapped : {A B : Type 0} (f : A → B) (found : Option A) → option_map f found ≡ None → found ≡ None
 unmapped f None none = refl
 unmapped f (Some it) none = absurd (none-some (f it) (sym none))
 
@@ -171,7 +171,7 @@ may_accept_made state asked answer object [] made is_made may = tt
 may_accept_made state asked answer object (value ∷ values) None is_made may = rw (is_made, MayAcceptAll) tt
 may_accept_made state asked answer object (value ∷ values) (Some fresh) is_made may = rw (is_made, MayAcceptAll) (may fresh is_made (record { value = value; answer = answer }))
 
-no_first : (why : ObjectId → Refusal) (bad : Bool) (object : ObjectId) → option_map (λ (it : ObjectId). refuse (why it)) (cond bad (Some object) None) ≡ None → bad ≡ false
+pub no_first : (why : ObjectId → Refusal) (bad : Bool) (object : ObjectId) → option_map (λ (it : ObjectId). refuse (why it)) (cond bad (Some object) None) ≡ None → bad ≡ false
 no_first why true object none = absurd (none-some (refuse (why object)) (sym none))
 no_first why false object none = refl
 

@@ -1,12 +1,10 @@
 -- What was decoded fits its format. So a request that was decoded has parts, and a step on bytes keeps the histories.
-use Rattle.std.proofs.Common.{◌≡◌, ℕ, List, [], ◌∷◌, Bool, Result, Ok, Err, refl, arith}
+use Rattle.std.proofs.Common.{◌≡◌, ℕ, List, Result, Ok, Err, refl}
 use Rattle.std.specs.Prelude.{IsTrue}
-use Rattle.std.proofs.lemmas.Bool.{lt-ltb}
 use Rattle.qu_base.specs.declared.bad_text.BadText.{BadText}
 use Rattle.qu_base.specs.declared.party.ObjectId.{ObjectId}
-use Rattle.qu_base.specs.Format.{Format, AreBytes}
-use Rattle.qu_objects.specs.Forms.{method_form, ask_form, parts_form, act_form, query_form}
-use Rattle.qu_objects.specs.Parts.{are_parts}
+use Rattle.qu_base.specs.Format.{AreBytes}
+use Rattle.qu_objects.specs.Forms.{method_form, ask_form, act_form, query_form}
 use Rattle.qu_frames.specs.declared.frame.Body.{Body}
 use Rattle.qu_frames.specs.declared.frame.Body.TheVariants as body
 use Rattle.qu_frames.specs.declared.frame.Frame.{Frame}
@@ -18,16 +16,12 @@ use Rattle.qu_replica.specs.State.{ReplicaState}
 use Rattle.qu_replica.specs.Step.{on_decoded, replica_step}
 use Rattle.qu_replica.specs.Growth.{AreHistories, has_parts, HasParts}
 use Rattle.qu_replica.proofs.Allowed.{on_frame-histories}
-
-one_part : {X : Type 0} (form : Format X) (known : ObjectId → Bool) (parts : List (ObjectId × X)) → (parts_form form known).Fits parts → IsTrue (are_parts parts)
-one_part form known [] fits = absurd (omega (arith, (fits.0).0))
-one_part form known (part ∷ []) fits = lt-ltb _ _ (omega (arith, ((((((fits.1).1).0).0).0).0).1))
-one_part form known (first ∷ second ∷ later) fits = absurd (omega (arith, (fits.0).1))
+use Rattle.qu_objects.proofs.ReadingLaws.{in_order}
 
 pub body_has_parts : (objects : List ObjectId) (asks : Body) → (body_form objects).Fits asks → IsTrue (has_parts asks)
 unfolding body_form act_form query_form
-body_has_parts objects (body.Act parts) fits = one_part method_form _ parts fits.1
-body_has_parts objects (body.Ask parts) fits = one_part ask_form _ parts fits.1
+body_has_parts objects (body.Act parts) fits = in_order method_form _ parts fits.1
+body_has_parts objects (body.Ask parts) fits = in_order ask_form _ parts fits.1
 
 pub fits_has_parts : (received : Frame) → frame_form.Fits received → HasParts received
 unfolding frame_form kind_form request_frame

@@ -43,6 +43,7 @@ use Rattle.qu_replica.proofs.Carried.{stamps_one, done_one, told_one}
 use Rattle.qu_replica.proofs.FitStamps.{stamp_fits, not_opening, prior_fits, opening_fits, stamps_fit, shown_fit, base_latest, base_shown}
 use Rattle.qu_replica.proofs.FitVerdicts.{unknown_fits, thin_fits, time_fits, full_fits, method_fits, current_fits, done_fits, told_fits, performed_fits, after_fits, read_fits}
 use Rattle.qu_replica.proofs.FitState.{AcceptAllFit, version_fits}
+use Rattle.qu_replica.proofs.Allowed.{no_first}
 
 -- a request whose fields fit
 pub record AskedFits (asked : Asked) : Type 0 where
@@ -77,10 +78,6 @@ refusing why (Some it) fits decision given = subst DecisionFits (same_Some (refu
 -- the only object of a list
 refusing_one : (why : ObjectId → Refusal) (bad : Bool) (object : ObjectId) → verdict_form.Fits (Refused (why object)) → Gives (option_map (λ it. refuse (why it)) (cond bad (Some object) None))
 refusing_one why bad object fits = refusing why (cond bad (Some object) None) (λ it is. subst (λ (one : ObjectId). verdict_form.Fits (Refused (why one))) (cond_some bad object it is).1 fits)
-
-not_bad : (why : ObjectId → Refusal) (bad : Bool) (object : ObjectId) → option_map (λ (it : ObjectId). refuse (why it)) (cond bad (Some object) None) ≡ None → bad ≡ false
-not_bad why true object none = absurd (none-some (refuse (why object)) (sym none))
-not_bad why false object none = refl
 
 found_set : (test : SetOf → Bool) (least : ℕ) (sets : List SetOf) → FitsFrom set_form (λ (set : SetOf). (set.object).0 + 1) least sets → (found : SetOf) → find test sets ≡ Some found → (found.object).0 ≤ 63
 unfolding set_form
@@ -235,7 +232,7 @@ module _ (state : ReplicaState) (asked : Asked) (fits : StateFits state) (asks :
 
   has_time : row_time state asked (object ∷ []) ≡ None → (latest_of (shown_of asked object)).time < LAST_TIME
   unfolding row_time
-  has_time none = leb-false _ _ (not_bad TimeSpent _ object none)
+  has_time none = leb-false _ _ (no_first TimeSpent _ object none)
 
   version_of : (found : Option Candidate) (version : ObjState) → option_and_then (λ (it : Candidate). version_at object it.stamp state.versions) found ≡ Some version
       → (base : Candidate) × (found ≡ Some base) × (version_at object base.stamp state.versions ≡ Some version)

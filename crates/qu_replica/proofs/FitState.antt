@@ -122,7 +122,7 @@ opening_candidates : candidates_form.Fits (opening ∷ [])
 unfolding candidates_form next_candidate same_stamp
 opening_candidates = ((omega arith, omega arith), (refl, (((opening_fits, refl), prior_of_opening_fits), tt)))
 
-opening_number : (me : ReplicaId) (first : ℕ) (kinds : List KindName) → length (opening_histories me first kinds) ≡ length kinds
+pub opening_number : (me : ReplicaId) (first : ℕ) (kinds : List KindName) → length (opening_histories me first kinds) ≡ length kinds
 unfolding opening_histories
 opening_number me first [] = refl
 opening_number me first (kind ∷ kinds) = ap suc (opening_number me (first + 1) kinds)

@@ -50,7 +50,7 @@ few_macs count sized =
     (λ more. of_either (count == 11) (count == 16) (λ eleven. let is : count ≡ 11 = eqb-true _ _ eleven in omega arith)
     (λ sixteen. let is : count ≡ 16 = eqb-true _ _ sixteen in omega arith) more) sized
 
-blank_sized : length blank_mac ≡ 32
+pub blank_sized : length blank_mac ≡ 32
 unfolding blank_mac
 blank_sized = refl
 

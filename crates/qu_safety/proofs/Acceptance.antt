@@ -33,7 +33,7 @@ use Rattle.qu_replica.specs.Step.{carried_out, on_frame}
 use Rattle.qu_replica.specs.Versions.{version_at}
 use Rattle.qu_replica.specs.Growth.{MayAccept, MayAcceptAll, MayDecide, HasParts}
 use Rattle.qu_replica.proofs.Accepting.{other_history}
-use Rattle.qu_replica.proofs.Allowed.{decision_on-may}
+use Rattle.qu_replica.proofs.Allowed.{decision_on-may, no_first}
 use Rattle.qu_replica.proofs.Carried.{performed_one, done_one}
 use Rattle.qu_safety.specs.Grounds.{IsGround, IsPerformed, AcceptsOne, AcceptsAlone}
 use Rattle.qu_safety.proofs.Small.{some_of, single}
@@ -126,11 +126,6 @@ record MakesOne (state : ReplicaState) (asked : Asked) (part : ObjectId × Metho
   version : ObjState
   performed : IsPerformed state part.0 grounds.base part.1 version
   alone : accepted ≡ record { object = part.0; candidate = candidate; state = version } ∷ []
-
--- the row refused nothing
-pub no_first : (why : ObjectId → Refusal) (bad : Bool) (object : ObjectId) → option_map (λ (it : ObjectId). refuse (why it)) (cond bad (Some object) None) ≡ None → bad ≡ false
-no_first why true object none = absurd (none-some (refuse (why object)) (sym none))
-no_first why false object none = refl
 
 pub no_wait : (missing : Bool) → cond (missing || false) (Some Waits) None ≡ None → missing ≡ false
 no_wait true none = absurd (none-some Waits (sym none))

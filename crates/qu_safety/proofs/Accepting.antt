@@ -24,7 +24,7 @@ use Rattle.qu_safety.specs.Views.{IsPlain, ArePlain}
 use Rattle.qu_safety.specs.Grounds.{IsDelivered}
 use Rattle.qu_safety.proofs.Happenings.{WasBefore, was_before, event_accepts}
 use Rattle.qu_safety.proofs.Views.{sent_has_parts}
-use Rattle.qu_safety.proofs.Each.{each_at}
+use Rattle.qu_world.proofs.Each.{each_at}
 use Rattle.qu_safety.proofs.WorldGrowth.{world_after-next}
 use Rattle.qu_safety.proofs.OpeningReplicas.{opening_holds}
 

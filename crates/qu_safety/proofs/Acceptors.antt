@@ -26,7 +26,7 @@ use Rattle.qu_world.specs.Run.{IsRun}
 use Rattle.qu_safety.specs.Decided.{accepts}
 use Rattle.qu_safety.specs.Order.{world_after}
 use Rattle.qu_safety.specs.Views.{WasHeld, IsOfKept}
-use Rattle.qu_safety.proofs.Each.{zip_found}
+use Rattle.qu_world.proofs.Each.{zip_found}
 use Rattle.qu_safety.proofs.WorldGrowth.{AcceptsMore, HasMore, has_more, world_after-none, world_after-grows, counted-more}
 use Rattle.qu_safety.proofs.Grounds.{is_base}
 use Rattle.qu_safety.proofs.Small.{same_object}
@@ -108,7 +108,7 @@ tell_later object candidate kept number state later tell = λ place other sealed
     let sum : number + suc place ≡ (number + 1) + place = omega arith in
     tell (suc place) other sealed is_other (ap (λ (at : ℕ). kept_of object at kept) sum ∙ is_kept) held
 
-abbrev entries_with : Option Sealed → List Sealed → List Sealed
+abbrev pub entries_with : Option Sealed → List Sealed → List Sealed
 entries_with None later = later
 entries_with (Some sealed) later = sealed ∷ later
 
@@ -122,7 +122,7 @@ order_with candidate (Some sealed) entries state most less tells =
     sum_by-cons (λ (it : ObjectHistory). cond (holds candidate it.candidates) 1 0) history (histories entries) in
     rw sum (omega arith)
 
-entries_next : (object : ObjectId) (number count : ℕ) (kept : List Kept) → entries_from object number (suc count) kept ≡ entries_with (kept_of object number kept) (entries_from object (number + 1) count kept)
+pub entries_next : (object : ObjectId) (number count : ℕ) (kept : List Kept) → entries_from object number (suc count) kept ≡ entries_with (kept_of object number kept) (entries_from object (number + 1) count kept)
 unfolding entries_from
 entries_next object number count kept =
     elim (kept_of object number kept) as (λ (found : Option Sealed). elim found [ None ↦ entries_from object (number + 1) count kept | Some sealed ↦ sealed ∷ entries_from object (number + 1) count kept ] ≡ entries_with found (entries_from object (number + 1) count kept)) [
@@ -134,7 +134,7 @@ order_of-none : (candidate : Candidate) → order_of candidate [] ≡ 0
 unfolding order_of
 order_of-none candidate = refl
 
-entries_none : (object : ObjectId) (number : ℕ) (kept : List Kept) → entries_from object number 0 kept ≡ []
+pub entries_none : (object : ObjectId) (number : ℕ) (kept : List Kept) → entries_from object number 0 kept ≡ []
 unfolding entries_from
 entries_none object number kept = refl
 

@@ -8,7 +8,6 @@ use Rattle.std.proofs.lemmas.List.{drop_at, get_or_at, length_push}
 use Rattle.std.proofs.lemmas.List.Elements.{All-push}
 use Rattle.std.proofs.lemmas.List.Folds.{list_any-append}
 use Rattle.qu_base.specs.declared.party.ObjectId.{ObjectId}
-use Rattle.qu_base.specs.declared.party.ReplicaId.{ReplicaId}
 use Rattle.qu_base.specs.Thresholds.{replicas}
 use Rattle.qu_stamp.specs.declared.candidate.Candidate.{Candidate}
 use Rattle.qu_stamp.specs.Candidate.{same}
@@ -24,6 +23,7 @@ use Rattle.qu_safety.specs.Tracker.{is_of, is_tracked, undecided, sizes_from, si
 use Rattle.qu_world.specs.Growth.{GrowsTo}
 use Rattle.qu_safety.proofs.WorldGrowth.{AcceptsMore, HasMore}
 use Rattle.qu_safety.proofs.Settling.{is_of_equal}
+use Rattle.qu_replica.proofs.FitState.{opening_number}
 
 -- ---- tests
 
@@ -162,16 +162,11 @@ each_has-grows objects (old ∷ olds) (new ∷ news) grows few =
     let before : length old.histories ≤ objects = few.0 in
     (omega arith, each_has-grows objects olds news grows.1 few.1)
 
-length-opening_histories : (me : ReplicaId) (number : ℕ) (kinds : List KindName) → length (opening_histories me number kinds) ≡ length kinds
-unfolding opening_histories
-length-opening_histories me number [] = refl
-length-opening_histories me number (kind ∷ kinds) = ap suc (length-opening_histories me (number + 1) kinds)
-
 each_has-opening : (number count bounds : ℕ) (kinds : List KindName) → EachHas (length kinds) (opening_replicas number count bounds kinds)
 unfolding opening_replicas
 each_has-opening number zero bounds kinds = tt
 each_has-opening number (suc count) bounds kinds =
-    let same_number : length (opening_histories (record { 0 = number }) 0 kinds) ≡ length kinds = length-opening_histories (record { 0 = number }) 0 kinds in
+    let same_number : length (opening_histories (record { 0 = number }) 0 kinds) ≡ length kinds = opening_number (record { 0 = number }) 0 kinds in
     (omega arith, each_has-opening (number + 1) count bounds kinds)
 
 pub opening_has : (setup : Setup) → EachHas (length setup.kinds) (opening_world setup).replicas

@@ -31,7 +31,7 @@ use Rattle.qu_client.specs.declared.work.Work.{Work}
 use Rattle.qu_client.specs.Rounds as rounds
 use Rattle.qu_world.specs.State.{WorldState, numbered, with_numbered, letter_of}
 use Rattle.qu_safety.specs.Carried.{Carries, Asks, Tells}
-use Rattle.qu_safety.proofs.Each.{set_here}
+use Rattle.qu_world.proofs.Each.{set_here}
 
 -- ---- one letter carries one frame
 

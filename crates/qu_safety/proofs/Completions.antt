@@ -35,11 +35,11 @@ use Rattle.qu_safety.proofs.Recording.{entry_cases}
 use Rattle.qu_safety.proofs.Replies.{sent_before, letter_stays}
 use Rattle.qu_safety.proofs.Counted.{Answered, AreDifferent, Counts, counts_world, work_answered, with_answered, different_more}
 use Rattle.qu_safety.proofs.Endings.{TextCompletes, EndsAt, operation_ends, EndedBy, ended_so, Completes, completes}
-use Rattle.qu_safety.proofs.OnceSent.{sound_work}
-use Rattle.qu_safety.proofs.Small.{same_clients}
 use Rattle.qu_safety.specs.Carried.{Carries}
 use Rattle.qu_frames.specs.Decoding.{decoded}
 use Rattle.qu_safety.specs.Views.{ArePlain}
+use Rattle.qu_client.proofs.Laws.{sound_work}
+use Rattle.qu_machine.proofs.Equalities.{client_is}
 
 -- ---- what the theorem is given of the records of operations
 
@@ -149,7 +149,7 @@ by_letter trace is have recorded one operation among index answer number letter 
     let holds : Counts trace index client.0 state = counts_world trace is have index (omega arith) client.0 state found in
     let work : Work = done.work in
     let replies : List Counted = (with_verdict work done.replica done.verdict).replies in
-    let me : state.me ≡ operation.client = same_clients state.me client holds.me ∙ ended.is_me in
+    let me : state.me ≡ operation.client = client_is state.me client holds.me ∙ ended.is_me in
     let same_work : ended.work ≡ work = same_Some ended.work work (sym ended.under_way ∙ done.under_way) in
     let of_number : work.number ≡ operation.number = ap (λ (it : Work). it.number) (sym same_work) ∙ ended.is_number in
     let record_there : RecordedWork trace client work = recorded index (omega arith) client state found work done.under_way in

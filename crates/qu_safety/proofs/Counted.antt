@@ -1,9 +1,8 @@
 -- The verdicts that a client counts were sent by replicas, to the round that is under way.
 use Rattle.std.proofs.Common.{◌≡◌, ◌≢◌, ℕ, zero, suc, ◌+◌, ◌<◌, ◌≤◌, true, false, eqb, List, length, get_or, Option, None, Some, IfSome, refl, sym, ap, subst, ◌∙◌, arith, inl, inr, add-one, slice_get, All, AllPairs, Contains, Result, Ok, Err}
 use Rattle.std.specs.List.{list_any}
-use Rattle.std.proofs.lemmas.Bool.{both_ways, not-true, and_parts, eqb-true, eq-eqb, cond_both}
+use Rattle.std.proofs.lemmas.Bool.{not-true, and_parts, eqb-true, cond_both}
 use Rattle.std.proofs.lemmas.List.Elements.{All-nil, All-push, All-weaker, All-contains}
-use Rattle.std.proofs.lemmas.List.Folds.{list_any_at}
 use Rattle.std.proofs.lemmas.List.Quantifiers.{all_pairs_push}
 use Rattle.std.proofs.lemmas.Option.{none-some}
 use Rattle.qu_base.specs.declared.party.ClientId.{ClientId}
@@ -22,7 +21,7 @@ use Rattle.qu_client.specs.State.{opening_state, keep_all}
 use Rattle.qu_client.specs.Step.{is_asking, counts, on_frame, on_decoded, client_step, client_invoke, client_tick}
 use Rattle.qu_client.specs.Sound.{IsSound}
 use Rattle.qu_client.proofs.Cases.{with_verdict, counted_cases, invoke_cases}
-use Rattle.qu_client.proofs.Laws.{client_step-me, client_step-bounds, client_invoke-me, client_invoke-bounds, IsSound-opening, IsSound-step, IsSound-invoke}
+use Rattle.qu_client.proofs.Laws.{client_step-me, client_step-bounds, client_invoke-me, client_invoke-bounds, IsSound-opening, IsSound-step, IsSound-invoke, other_replica}
 use Rattle.qu_trace.specs.declared.event.Event.{Event}
 use Rattle.qu_trace.specs.declared.trace.Entry.{Entry}
 use Rattle.qu_trace.specs.declared.trace.Trace.{Trace}
@@ -35,13 +34,14 @@ use Rattle.qu_safety.proofs.Recording.{world_cases}
 use Rattle.qu_safety.proofs.Replies.{RepliesWithin, replies_within, SentBefore, sent_before}
 use Rattle.qu_safety.proofs.OneRequest.{opening_client}
 use Rattle.qu_safety.proofs.Carrying.{tells_as}
-use Rattle.qu_safety.proofs.Small.{same_clients, some_entry}
-use Rattle.qu_safety.proofs.Each.{with_cases, each_at}
+use Rattle.qu_safety.proofs.Small.{some_entry}
+use Rattle.qu_world.proofs.Each.{with_cases, each_at}
 use Rattle.qu_safety.specs.Carried.{Tells, Carries}
 use Rattle.qu_frames.specs.Decoding.{decoded}
 use Rattle.qu_safety.specs.Views.{IsPlain, ArePlain}
 use Rattle.qu_history.specs.declared.sealed.Sealed.{Sealed}
 use Rattle.qu_base.specs.declared.bad_text.BadText.{BadText}
+use Rattle.qu_machine.proofs.Equalities.{client_is}
 
 -- the verdict was sent by its replica to this round, before the event of the entry with this index
 pub record Answered (trace : Trace) (before : ℕ) (client : ClientId) (number round : ℕ) (counted : Counted) : Type 0 where
@@ -128,7 +128,7 @@ answered_frame trace is have before letter state sent are (frame.Reply replica c
     cond_both (eqb client.0 (state.me).0) _ _ P
     (λ mine.
     let is_reply : Tells letter replica state.me number round verdict shown =
-    tells_as letter replica client state.me number number round round verdict verdict shown (same_clients client state.me (eqb-true client.0 (state.me).0 mine)) refl refl refl (record { culled = culled; mac = mac; carries = is_frame }) in
+    tells_as letter replica client state.me number number round round verdict verdict shown (client_is client state.me (eqb-true client.0 (state.me).0 mine)) refl refl refl (record { culled = culled; mac = mac; carries = is_frame }) in
     counted_cases (record state { kept = keep_all number round shown state.kept }) replica number round verdict P
     same
     (λ work under_way counting.
@@ -235,10 +235,6 @@ counts_world trace is have (suc count) within =
 
 abbrev pub AreDifferent : List Counted → Type 0
 AreDifferent replies = AllPairs (λ (a b : Counted). (a.replica).0 ≢ (b.replica).0) replies
-
-other_replica : (replies : List Counted) (replica : ReplicaId) (k : ℕ) (d : Counted) → list_any (λ counted. eqb (counted.replica).0 replica.0) replies ≡ false → k < length replies → ((get_or replies k d).replica).0 ≢ replica.0
-other_replica replies replica k d none within = λ same.
-    both_ways _ none (list_any_at (λ counted. eqb (counted.replica).0 replica.0) replies k d within (eq-eqb _ _ same))
 
 pub different_more : (work : Work) (replica : ReplicaId) (number round : ℕ) (verdict : Verdict) → counts work replica number round ≡ true → AreDifferent work.replies → AreDifferent (with_verdict work replica verdict).replies
 different_more work replica number round verdict counting different =

@@ -12,7 +12,7 @@ use Rattle.qu_trace.specs.declared.event.Event.TheVariants.{Invoke, Deliver, Tic
 use Rattle.qu_trace.specs.declared.trace.Entry.{Entry}
 use Rattle.qu_trace.specs.Operations.{invokes, begun_by, record_of, begins_at, operations_from, operations_of}
 use Rattle.qu_safety.specs.Points.{AreApart}
-use Rattle.qu_safety.proofs.Small.{same_clients}
+use Rattle.qu_machine.proofs.Equalities.{client_is}
 
 -- an operation that began after these entries has a later number than all operations of its client there
 abbrev IsLater : List Entry → OpRecord → Type 0
@@ -33,7 +33,7 @@ begun_grows client earlier entry =
 -- the operation that begins here is before those that begin later
 apart_by_later : (client : ClientId) (op : Op) (at : ℕ) (earlier later : List Entry) (entry : Entry) → entry.event ≡ Invoke client op → (second : OpRecord) → IsLater (earlier ++ entry ∷ []) second → AreApart (record_of client op at earlier later) second
 apart_by_later client op at earlier later entry is second after same_client same_number =
-    let same : client ≡ second.client = same_clients client second.client same_client in
+    let same : client ≡ second.client = client_is client second.client same_client in
     let counted : begins client entry.event ≡ 1 =
     ap (begins client) is ∙ ap (λ (it : Bool). cond it 1 0) (eq-eqb client.0 client.0 refl) in
     let more : begun_by client (earlier ++ entry ∷ []) ≡ begun_by client earlier + begins client entry.event = begun_more client earlier entry in

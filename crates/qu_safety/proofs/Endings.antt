@@ -24,11 +24,11 @@ use Rattle.qu_trace.specs.declared.event.Event.TheVariants.{Invoke, Deliver, Tic
 use Rattle.qu_trace.specs.declared.trace.Entry.{Entry}
 use Rattle.qu_trace.specs.Operations.{outcome_in, first_end, end_from, begins_at, begun_by, operations_from, operations_of}
 use Rattle.qu_world.specs.Step.{ended_by}
-use Rattle.qu_safety.proofs.Small.{same_clients}
 use Rattle.qu_frames.specs.Decoding.{decoded}
 use Rattle.qu_history.specs.declared.sealed.Sealed.{Sealed}
 use Rattle.qu_base.specs.declared.bad_text.BadText.{BadText}
 use Rattle.qu_base.specs.declared.party.ObjectId.{ObjectId}
+use Rattle.qu_machine.proofs.Equalities.{client_is}
 
 -- ---- where the end is recorded
 
@@ -116,7 +116,7 @@ ended_so client me number (Some work) (Some ended) how is =
       work = work;
       under_way = refl;
       is_end = ap (λ (it : Outcome). Some it) found.1;
-      is_me = same_clients me client (eqb-true me.0 client.0 parts.0);
+      is_me = client_is me client (eqb-true me.0 client.0 parts.0);
       is_number = eqb-true work.number number parts.1;
     }
 
@@ -161,7 +161,7 @@ frame_completes state (frame.Reply replica client number round verdict culled sh
       culled = culled;
       shown = shown;
       mac = mac;
-      is_reply = ap (λ (it : ClientId). frame.Reply replica it number round verdict culled shown mac) (same_clients client state.me (eqb-true client.0 (state.me).0 mine));
+      is_reply = ap (λ (it : ClientId). frame.Reply replica it number round verdict culled shown mac) (client_is client state.me (eqb-true client.0 (state.me).0 mine));
       work = work;
       under_way = under_way;
       counting = counting;

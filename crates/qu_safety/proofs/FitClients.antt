@@ -30,10 +30,11 @@ use Rattle.qu_client.proofs.Cases.{counted_cases, step_cases, invoke_cases}
 use Rattle.qu_history.specs.declared.sets.SetOf.{SetOf}
 use Rattle.qu_replica.specs.Fits.{LetterFits}
 use Rattle.qu_world.specs.State.{opening_clients, numbered}
-use Rattle.qu_client.proofs.Laws.{client_step-me, client_step-bounds, client_invoke-me, client_invoke-bounds, NumbersWithin-opening, NumbersWithin-step, NumbersWithin-invoke, IsSound-step, IsSound-invoke}
+use Rattle.qu_client.proofs.Laws.{client_step-me, client_step-bounds, client_invoke-me, client_invoke-bounds, NumbersWithin-opening, NumbersWithin-step, NumbersWithin-invoke, IsSound-step, IsSound-invoke, work_within, sound_work}
 use Rattle.qu_safety.specs.Views.{HasOpParts}
 use Rattle.qu_safety.proofs.Carrying.{AsksFit}
 use Rattle.qu_safety.proofs.FitRequests.{KeptFits, request_fits}
+use Rattle.qu_world.proofs.RunLaws.{within_more}
 
 -- ---- what a reply shows
 
@@ -140,13 +141,6 @@ opening_fit bounds number me low high is = record {
   holds = record { kept = tt; work = tt };
 }
 
-within_more : (most : ℕ) (state : ClientState) → NumbersWithin most state → NumbersWithin (most + 1) state
-within_more most state within = record { last = more state.last_request (λ last. last.0) within.last; work = more state.work (λ work. work.number) within.work }
-  where
-    more : {X : Type 0} (found : Option X) (number : X → ℕ) → IfSome found (λ it. number it ≤ most) → IfSome found (λ it. number it ≤ most + 1)
-    more None number is = tt
-    more (Some it) number is = omega arith
-
 pub fit_more : (bounds most number : ℕ) (state : ClientState) → FitClient bounds most number state → FitClient bounds (most + 1) number state
 fit_more bounds most number state fit = record {
   low = fit.low;
@@ -182,20 +176,14 @@ invoke_fit bounds most number state what parts fit = record {
 
 -- ---- what it asks for
 
-sound_found : (state : ClientState) (work : Work) → IsSound state → state.work ≡ Some work → IsSoundWork state.last_request work
-sound_found state work sound is = subst (λ (found : Option Work). IfSome found (IsSoundWork state.last_request)) is sound
-
-most_found : (most : ℕ) (state : ClientState) (work : Work) → NumbersWithin most state → state.work ≡ Some work → work.number ≤ most
-most_found most state work within is = subst (λ (found : Option Work). IfSome found (λ (it : Work). it.number ≤ most)) is within.work
-
 pub asks_fit : (bounds most number : ℕ) (state : ClientState) → most < 2 ^ 64 → replicas bounds ≤ 16 → FitClient bounds most number state → AsksFit state
 asks_fit bounds most number state few size fit work is =
     let first : 1 ≤ number = fit.low in
     let last : number ≤ 64 = fit.high in
     let named : (state.me).0 ≡ number = fit.named in
-    let sound : IsSoundWork state.last_request work = sound_found state work fit.sound is in
+    let sound : IsSoundWork state.last_request work = sound_work state work fit.sound is in
     let begins : IsBegun work = begun state.work work is (fit.holds).work in
-    let up_to : work.number ≤ most = most_found most state work fit.within is in
+    let up_to : work.number ≤ most = work_within most state work fit.within is in
     let sizes : replicas state.bounds ≤ 16 = subst (λ (it : ℕ). replicas it ≤ 16) (sym fit.bounds_are) size in
     request_fits state.me work state.bounds state.kept
     (record { client = (omega arith, omega arith); number = (begins.from_one, omega arith); round = (sound.first, sound.last); parts = begins.parts })

@@ -13,15 +13,13 @@ use Rattle.qu_history.specs.declared.sets.SetOf.{SetOf}
 use Rattle.qu_history.specs.History.{ObjectHistory}
 use Rattle.qu_history.specs.Forms.{history_form, sealed_form, entry_form, sealed_entry_form, next_entry, entries_form, set_form, sets_form}
 use Rattle.qu_objects.specs.declared.act.Method.{Method}
-use Rattle.qu_objects.specs.declared.act.Method.TheVariants.{Add, Take}
 use Rattle.qu_objects.specs.declared.query.Ask.{Ask}
 use Rattle.qu_objects.specs.declared.query.Ask.TheVariants.{Read}
 use Rattle.qu_objects.specs.declared.op.Op.{Op}
 use Rattle.qu_objects.specs.declared.op.Op.TheVariants as op
-use Rattle.qu_objects.specs.Forms.{is_one_of, method_form, ask_form, act_form, query_form}
+use Rattle.qu_objects.specs.Forms.{is_one_of, ask_form, act_form, query_form}
 use Rattle.qu_objects.specs.Text.{MethodFits}
 use Rattle.qu_frames.specs.Body.{body_of}
-use Rattle.qu_frames.specs.Blank.{blank_mac}
 use Rattle.qu_frames.specs.Forms.{body_form, request_frame, kind_form, frame_form}
 use Rattle.qu_frames.specs.Forms as forms
 use Rattle.qu_client.specs.declared.kept.Kept.{Kept}
@@ -29,6 +27,9 @@ use Rattle.qu_client.specs.declared.work.Work.{Work}
 use Rattle.qu_client.specs.State.{kept_of}
 use Rattle.qu_client.specs.Rounds.{entries_from, set_of, sets_of, request_of}
 use Rattle.qu_safety.specs.Views.{HasOpParts}
+use Rattle.qu_objects.proofs.Text.{method_fits}
+use Rattle.qu_replica.proofs.FitSteps.{blank_sized}
+use Rattle.qu_safety.proofs.Acceptors.{entries_with, entries_next, entries_none}
 
 -- each sealed history that is kept fits
 abbrev pub KeptFits : List Kept → Type 0
@@ -62,22 +63,6 @@ entry_fits object replica key sealed order found =
     let fits = found.fits in
     let above : key ≤ ((sealed.history).replica).0 = (let own : ((sealed.history).replica).0 ≡ replica = found.of_replica in omega arith) in
     (((fits.0.0, found.of_object), ((fits.0.1.0, le-leb key ((sealed.history).replica).0 above), fits.0.1.1)), fits.1)
-
-abbrev entries_with : Option Sealed → List Sealed → List Sealed
-entries_with None later = later
-entries_with (Some sealed) later = sealed ∷ later
-
-entries_next : (object : ObjectId) (number count : ℕ) (kept : List Kept) → entries_from object number (suc count) kept ≡ entries_with (kept_of object number kept) (entries_from object (number + 1) count kept)
-unfolding entries_from
-entries_next object number count kept =
-    elim (kept_of object number kept) as (λ (found : Option Sealed). elim found [ None ↦ entries_from object (number + 1) count kept | Some sealed ↦ sealed ∷ entries_from object (number + 1) count kept ] ≡ entries_with found (entries_from object (number + 1) count kept)) [
-      | None ↦ refl
-      | Some sealed ↦ refl
-    ]
-
-entries_none : (object : ObjectId) (number : ℕ) (kept : List Kept) → entries_from object number 0 kept ≡ []
-unfolding entries_from
-entries_none object number kept = refl
 
 -- entries under a key fit, and are so many at most
 abbrev EntriesFit : ObjectId → ℕ → ℕ → List Sealed → Type 0
@@ -114,11 +99,6 @@ set_fits bounds kept object fit few below =
 
 -- ---- what is asked for
 
-method_fits : (method : Method) → MethodFits method → method_form.Fits method
-unfolding method_form
-method_fits (Add more) fit = (((omega arith, omega arith), refl), (omega arith, omega arith))
-method_fits (Take fewer) fit = (((omega arith, omega arith), refl), (omega arith, omega arith))
-
 ask_fits : (ask : Ask) → ask_form.Fits ask
 unfolding ask_form
 ask_fits Read = (((omega arith, omega arith), refl), refl)
@@ -153,10 +133,6 @@ asked_fits bounds kept (op.Query (first ∷ second ∷ later)) fit few parts = a
 
 -- ---- the request
 
-pub blank_fits : length blank_mac ≡ 32
-unfolding blank_mac
-blank_fits = refl
-
 pub record IsInRange (me : ClientId) (work : Work) : Type 0 where
   pub client : (1 ≤ me.0) × (me.0 ≤ 64)
   pub number : (1 ≤ work.number) × (work.number < 2 ^ 64)
@@ -169,5 +145,5 @@ request_fits me work bounds kept range fit few =
     let asked : FitAsked (sets_of bounds kept work.op) work.op = asked_fits bounds kept work.op fit few range.parts in
     let number : work.number ≤ 2 ^ 64 - 1 = (let below : work.number < 2 ^ 64 = (range.number).1 in omega arith) in (
       ((omega arith, omega arith), refl),
-      (((omega arith, omega arith), refl), (range.client, (((range.number).0, number), (range.round, (asked.of_sets, (asked.of_body, blank_fits)))))),
+      (((omega arith, omega arith), refl), (range.client, (((range.number).0, number), (range.round, (asked.of_sets, (asked.of_body, blank_sized)))))),
     )

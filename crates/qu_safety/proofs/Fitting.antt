@@ -39,11 +39,12 @@ use Rattle.qu_safety.specs.Carried.{Carries}
 use Rattle.qu_safety.specs.Order.{world_after}
 use Rattle.qu_safety.specs.Views.{IsPlain, ArePlain}
 use Rattle.qu_safety.proofs.Carrying.{carried_is, AsksFit, AnswersFit, IsFitStep}
-use Rattle.qu_safety.proofs.Each.{each_append, each_at, each_numbered, set_cases, with_cases}
+use Rattle.qu_world.proofs.Each.{each_append, each_at, each_numbered, set_cases, with_cases}
 use Rattle.qu_safety.proofs.FitClients.{FitClient, fit_more, step_fit, invoke_fit, asks_fit, step_letters, invoke_letters, opening_clients-fit}
 use Rattle.qu_safety.proofs.Ranges.{few_by}
-use Rattle.qu_safety.proofs.Small.{some_entry, letters_of-push}
+use Rattle.qu_safety.proofs.Small.{some_entry}
 use Rattle.qu_safety.proofs.WorldGrowth.{world_after-none, world_after-next}
+use Rattle.qu_world.proofs.LetterLaws.{letters-push}
 
 -- ---- letters
 
@@ -54,7 +55,7 @@ carried_fits letter fits carried carries =
 
 push_letters : (entries : List Entry) (entry : Entry) → AllByRecursion LetterFits (letters_of entries) → AllByRecursion LetterFits entry.letters → AllByRecursion LetterFits (letters_of (entries ++ entry ∷ []))
 push_letters entries entry each here =
-    subst (AllByRecursion LetterFits) (sym (letters_of-push entries entry)) (each_append LetterFits (letters_of entries) entry.letters each here)
+    subst (AllByRecursion LetterFits) (sym (letters-push entries entry)) (each_append LetterFits (letters_of entries) entry.letters each here)
 
 -- ---- worlds
 

@@ -32,7 +32,7 @@ use Rattle.qu_safety.specs.Order.{world_after}
 use Rattle.qu_safety.specs.Origins.{Origin}
 use Rattle.qu_safety.proofs.OpeningReplicas.{bounds_are}
 use Rattle.qu_safety.proofs.Acceptance.{accepted_in, AcceptsNothing, unknown, thin, carried, stays}
-use Rattle.qu_safety.proofs.Each.{set_here}
+use Rattle.qu_world.proofs.Each.{set_here}
 
 -- ---- the rows
 

@@ -1,6 +1,6 @@
 -- Where a candidate with grounds stands: above all that its replica holds, and upon a base that the replica
 -- has nothing above.
-use Rattle.std.proofs.Common.{◌≡◌, ◌≤◌, ℕ, ◌+◌, true, false, ◌&&◌, List, Option, None, Some, refl, sym, ap, ◌∙◌, arith, inl, inr}
+use Rattle.std.proofs.Common.{◌≡◌, ◌≤◌, ℕ, true, false, ◌&&◌, List, Option, None, Some, refl, sym, ap, ◌∙◌, inl, inr}
 use Rattle.std.specs.Prelude.{nat_le}
 use Rattle.std.proofs.lemmas.Bool.{false≢true, cases_Bool, and_parts, leb-true}
 use Rattle.std.proofs.lemmas.Option.{none-some, cond_some}
@@ -9,13 +9,14 @@ use Rattle.qu_base.specs.Thresholds.{quorum}
 use Rattle.qu_stamp.specs.declared.stamp.Stamp.{Stamp}
 use Rattle.qu_stamp.specs.declared.candidate.Candidate.{Candidate}
 use Rattle.qu_stamp.specs.Stamp.{is_below, same_stamp}
-use Rattle.qu_stamp.proofs.Order.{is_below-self, is_below-not_chain, is_below_by_time, equal_by_same_stamp}
+use Rattle.qu_stamp.proofs.Order.{is_below-self, is_below-not_chain, equal_by_same_stamp}
 use Rattle.qu_history.specs.History.{ObjectHistory, holds}
 use Rattle.qu_history.specs.Sets.{entries_of, order_of, candidates_of, latest_of, object_candidate, if_method, method_at}
 use Rattle.qu_history.proofs.Stamps.{not_below_latest}
 use Rattle.qu_replica.specs.Rows.{Asked, fresh_stamp}
 use Rattle.qu_replica.specs.State.{ReplicaState, own_candidates, own_latest}
 use Rattle.qu_safety.specs.Grounds.{IsGround}
+use Rattle.qu_replica.proofs.Allowed.{fresh_later}
 
 -- ---- what a base is
 
@@ -52,12 +53,6 @@ below_by_latest held latest fresh not_above later =
       | inl below ↦ below
       | inr not_below ↦ absurd (false≢true (sym (is_below-not_chain latest held fresh not_above not_below) ∙ later))
     ]
-
--- a fresh stamp is above all that the replica accepted
-fresh_later : (latest own fresh : Stamp) → fresh.time ≡ latest.time + 1 → is_below latest own ≡ false → is_below own fresh ≡ true
-fresh_later latest own fresh next current =
-    let above : is_below latest fresh ≡ true = is_below_by_time latest fresh (omega arith) in
-    below_by_latest own latest fresh current above
 
 module _ {state : ReplicaState} {asked : Asked} {object : ObjectId} {candidate : Candidate} (grounds : IsGround state asked object candidate) where
   -- the base is the latest of what is shown

@@ -49,7 +49,7 @@ use Rattle.qu_frames.specs.Decoding.{decoded}
 use Rattle.qu_safety.specs.Views.{IsPlain, ArePlain}
 use Rattle.qu_base.specs.declared.bad_text.BadText.{BadText}
 use Rattle.qu_safety.proofs.Carrying.{asks_so}
-use Rattle.qu_safety.proofs.Each.{each_at}
+use Rattle.qu_world.proofs.Each.{each_at}
 
 -- ---- what is accepted was handled
 

@@ -11,14 +11,13 @@ use Rattle.qu_history.specs.declared.sets.SetOf.{SetOf}
 use Rattle.qu_objects.specs.declared.act.Method.{Method}
 use Rattle.qu_objects.specs.declared.op.Op.TheVariants as op
 use Rattle.qu_machine.specs.PointTests.{same_op}
-use Rattle.qu_machine.proofs.Equalities.{decides_op}
+use Rattle.qu_machine.proofs.Equalities.{decides_op, client_is}
 use Rattle.qu_frames.specs.declared.frame.Body.{Body}
 use Rattle.qu_frames.specs.declared.frame.Body.TheVariants as body
 use Rattle.qu_trace.specs.declared.trace.Trace.{Trace}
 use Rattle.qu_safety.specs.Digested.{Request, handled_by, IsHandled}
 use Rattle.qu_safety.specs.Points.{NamedAct, act_asked, act_in, act_at, handled_acts, is_act}
 use Rattle.qu_safety.proofs.OneAct.{only_one}
-use Rattle.qu_safety.proofs.Small.{same_clients}
 
 -- ---- lists
 
@@ -104,7 +103,7 @@ among_handled trace client number parts some =
     let asked : IsActAsked (handled_by trace (it.item).event) it.given = act_in_is (handled_by trace (it.item).event) it.given it.gives in
     let equal : ((((it.given).0).0 == client.0) ≡ true) × ((((it.given).1 == number) && same_op (op.Act (it.given).2) (op.Act parts)) ≡ true) = and_parts _ _ it.passes in
     let more : (((it.given).1 == number) ≡ true) × (same_op (op.Act (it.given).2) (op.Act parts) ≡ true) = and_parts _ _ equal.1 in
-    let clients : (it.given).0 ≡ client = same_clients (it.given).0 client (eqb-true _ _ equal.0) in
+    let clients : (it.given).0 ≡ client = client_is (it.given).0 client (eqb-true _ _ equal.0) in
     let numbers : (it.given).1 ≡ number = eqb-true _ _ more.0 in
     let acts : (it.given).2 ≡ parts = equal_parts (it.given).2 parts more.1 in
     record {

@@ -24,7 +24,7 @@ use Rattle.qu_world.specs.Step.{world_step, at_replica, at_client, received, del
 use Rattle.qu_world.proofs.WorldGrowth.{world_step-grows}
 use Rattle.qu_safety.specs.Grounds.{AcceptsAlone, IsMoved, IsDelivered}
 use Rattle.qu_safety.proofs.Acceptance.{step_moves, accepts_on}
-use Rattle.qu_safety.proofs.Each.{set_here, set_other}
+use Rattle.qu_world.proofs.Each.{set_here, set_other}
 use Rattle.qu_safety.specs.Carried.{Carries}
 use Rattle.qu_frames.specs.Decoding.{decoded}
 use Rattle.qu_safety.specs.Views.{IsPlain}

@@ -16,7 +16,7 @@ use Rattle.qu_safety.specs.Views.{IsPlain, ArePlain}
 use Rattle.qu_safety.proofs.Happenings.{WasBefore, was_before}
 use Rattle.qu_safety.proofs.HeldVersions.{AreOfHeld, opening_of_held, event_of_held}
 use Rattle.qu_safety.proofs.Views.{sent_has_parts}
-use Rattle.qu_safety.proofs.Each.{each_at}
+use Rattle.qu_world.proofs.Each.{each_at}
 use Rattle.qu_safety.proofs.WorldGrowth.{world_after-none, world_after-next}
 use Rattle.qu_safety.proofs.Small.{some_entry}
 

@@ -39,16 +39,18 @@ use Rattle.qu_safety.specs.Invocations.{IsRequestOf}
 use Rattle.qu_safety.proofs.WorldGrowth.{world_after-next, world_after-none}
 use Rattle.qu_safety.proofs.Beginning.{operation_begun, begun_one, begun_same, happens, IsFree, may_invoke}
 use Rattle.qu_safety.proofs.Requesting.{IsAsked, asked_later, replica_asked, IsUnderWay, IsAtWork, IsClientAt, client_later, client_steps, client_step-asked, client_begins, client_begins-asked}
-use Rattle.qu_safety.proofs.Small.{some_entry, same_clients, letters_of-push}
-use Rattle.qu_safety.proofs.Each.{with_cases, each_at}
+use Rattle.qu_safety.proofs.Small.{some_entry}
+use Rattle.qu_world.proofs.Each.{with_cases, each_at}
 use Rattle.qu_safety.specs.Carried.{Asks}
 use Rattle.qu_safety.specs.Views.{IsPlain, ArePlain}
 use Rattle.qu_safety.proofs.Carrying.{AsksFit, IsFitStep, numbered_here}
 use Rattle.qu_safety.proofs.Fitting.{fit_step}
+use Rattle.qu_world.proofs.LetterLaws.{letters-push}
+use Rattle.qu_machine.proofs.Equalities.{client_is}
 
 letters_next : (trace : Trace) (count : ℕ) (entries : List Entry) (entry : Entry) → All (IsAsked trace count) (letters_of entries) → All (IsAsked trace (count + 1)) entry.letters → All (IsAsked trace (count + 1)) (letters_of (entries ++ entry ∷ []))
 letters_next trace count entries entry old new =
-    subst (All (IsAsked trace (count + 1))) (sym (letters_of-push entries entry))
+    subst (All (IsAsked trace (count + 1))) (sym (letters-push entries entry))
     (All-append (IsAsked trace (count + 1)) (letters_of entries) entry.letters
     (All-weaker (IsAsked trace count) (IsAsked trace (count + 1)) (λ (letter : Letter) (is : IsAsked trace count letter). asked_later trace count (count + 1) letter (omega arith) is) (letters_of entries) old)
     new)
@@ -138,7 +140,7 @@ module _ (trace : Trace) (count : ℕ) (world : WorldState) (shown : IsShown tra
       let last : last_number state.last_request ≡ begun =
       subst (λ (work : Option Work). IsAtWork trace count begun state.me state.last_request work) free.free before.at_work in
       let asks : IsRequestOf trace (count + 1) state.me (begun + 1) (body_of what) =
-      subst (λ (me : ClientId). IsRequestOf trace (count + 1) me (begun + 1) (body_of what)) (same_clients client state.me (sym before.named)) request in
+      subst (λ (me : ClientId). IsRequestOf trace (count + 1) me (begun + 1) (body_of what)) (client_is client state.me (sym before.named)) request in
       let fit : AsksFit (client_invoke state what).state =
       (subst (λ (found : Option ClientState). IsFitStep world (at_client world (Invoke client what) client (λ (it : ClientState). client_invoke it what) found)) free.found fits).asks client.0 (client_invoke state what).state
       (numbered_here world.clients client.0 state (client_invoke state what).state free.found) in
@@ -233,7 +235,7 @@ work_of trace is have count within client state found work working =
     let at : IsClientAt trace count (begun_at trace count client.0) client.0 state = shown.clients client.0 state found in
     let under_way : IsUnderWay trace count (begun_at trace count client.0) state.me work =
     subst (λ (held : Option Work). IsAtWork trace count (begun_at trace count client.0) state.me state.last_request held) working at.at_work in
-    subst (λ (me : ClientId). IsRequestOf trace count me work.number (body_of work.op)) (same_clients state.me client at.named) under_way.request
+    subst (λ (me : ClientId). IsRequestOf trace count me work.number (body_of work.op)) (client_is state.me client at.named) under_way.request
 
 same_op : (first second : Op) → body_of first ≡ body_of second → first ≡ second
 same_op (op.Act parts) (op.Act others) same = cc

@@ -8,11 +8,11 @@ use Rattle.qu_trace.specs.declared.trace.Trace.{Trace}
 use Rattle.qu_trace.specs.Letters.{letters_of}
 use Rattle.qu_world.specs.State.{WorldState, numbered, letter_of}
 use Rattle.qu_world.specs.Step.{world_step}
-use Rattle.qu_world.proofs.LetterLaws.{slice_get-append_left}
+use Rattle.qu_world.proofs.LetterLaws.{slice_get-append_left, letters-push}
 use Rattle.qu_world.proofs.RunLaws.{Records, step_records}
 use Rattle.qu_safety.specs.Order.{world_after}
 use Rattle.qu_safety.proofs.WorldGrowth.{world_after-next}
-use Rattle.qu_safety.proofs.Small.{some_entry, letters_of-push}
+use Rattle.qu_safety.proofs.Small.{some_entry}
 
 numbered-append : {X : Type 0} (items more : List X) (number : ℕ) (item : X) → numbered items number ≡ Some item → numbered (items ++ more) number ≡ Some item
 numbered-append items more zero item found = absurd (none-some item found)
@@ -21,7 +21,7 @@ numbered-append items more (suc place) item found =
 
 letters_more : (entries : List Entry) (entry : Entry) (number : ℕ) (letter : Letter) → numbered (letters_of entries) number ≡ Some letter → numbered (letters_of (entries ++ entry ∷ [])) number ≡ Some letter
 letters_more entries entry number letter found =
-    ap (λ (it : List Letter). numbered it number) (letters_of-push entries entry) ∙ numbered-append (letters_of entries) entry.letters number letter found
+    ap (λ (it : List Letter). numbered it number) (letters-push entries entry) ∙ numbered-append (letters_of entries) entry.letters number letter found
 
 letter_next : (world : WorldState) (event : Event) (number : ℕ) (letter : Letter) → letter_of world number ≡ Some letter → letter_of (world_step world event) number ≡ Some letter
 letter_next world event number letter found =

@@ -20,7 +20,6 @@ pub mod Acceptance
 pub mod Happenings
 pub mod Performed
 pub mod HeldVersions
-pub mod Each
 pub mod OwnHistories
 pub mod TrueLetters
 pub mod Views

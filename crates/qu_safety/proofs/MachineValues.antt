@@ -52,8 +52,8 @@ use Rattle.qu_safety.proofs.Folding.{IsQuestion}
 use Rattle.qu_safety.proofs.Tops.{AreOne, one_accepted, base_is_top, one_top}
 use Rattle.qu_safety.proofs.Values.{Known, one_version, same_method, IsUpdated}
 use Rattle.qu_safety.proofs.WorldGrowth.{world_after-none}
-use Rattle.qu_safety.proofs.Small.{object_is}
-use Rattle.qu_safety.proofs.Each.{set_other}
+use Rattle.qu_world.proofs.Each.{set_other}
+use Rattle.qu_machine.proofs.Equalities.{object_is}
 
 -- ---- lists
 

@@ -1,6 +1,6 @@
 -- A client sends an act upon full sets at most once: it remembers that it did, and no later operation has
 -- the same number.
-use Rattle.std.proofs.Common.{◌≡◌, ◌⊎◌, ℕ, zero, suc, ◌+◌, ◌≤◌, Bool, true, false, not, ◌&&◌, leb, List, [], ◌∷◌, Option, None, Some, IfSome, refl, sym, ap, subst, ◌∙◌, arith, inl, inr, Result, Ok, Err}
+use Rattle.std.proofs.Common.{◌≡◌, ◌⊎◌, ℕ, zero, suc, ◌+◌, ◌≤◌, Bool, true, false, not, ◌&&◌, leb, List, [], ◌∷◌, Option, None, Some, refl, sym, ap, subst, ◌∙◌, arith, inl, inr, Result, Ok, Err}
 use Rattle.std.specs.Prelude.{slice_get}
 use Rattle.std.proofs.lemmas.Bool.{false≢true, cond_both, and_parts}
 use Rattle.std.proofs.lemmas.Option.{none-some, same_Some}
@@ -33,12 +33,13 @@ use Rattle.qu_client.specs.declared.work.Work.{Work}
 use Rattle.qu_client.specs.State.{keep_all}
 use Rattle.qu_client.specs.Rounds.{is_act, sets_of, are_full, are_current, request_of, requests_from, asked, halted, begin_full, begin_round}
 use Rattle.qu_client.specs.Step.{stays, goes_on, ends, fitting, identical, is_hopeless, next_round, judged, is_asking, counts, counted_in, on_frame, on_decoded, client_step, client_invoke, next_number, first_work}
-use Rattle.qu_client.specs.Sound.{IsSoundWork, IsSound, last_number}
+use Rattle.qu_client.specs.Sound.{IsSound, last_number}
 use Rattle.qu_client.proofs.Cases.{with_verdict}
 use Rattle.qu_safety.specs.Carried.{Asks}
 use Rattle.qu_frames.specs.Decoding.{decoded}
 use Rattle.qu_frames.specs.Forms.{frame_form}
 use Rattle.qu_base.specs.declared.bad_text.BadText.{BadText}
+use Rattle.qu_client.proofs.Laws.{sound_work}
 
 -- the item stands somewhere in the list
 abbrev pub StandsIn : {X : Type 0} → List X → X → Type 0
@@ -276,9 +277,6 @@ module _ (Sent : Letter → Type 0) (bounds : ℕ) (state : ClientState) (is_bou
       (λ _. cond_both (is_hopeless state.bounds work.op work.replies) _ _ (IsOnceIf Sent bounds state.me)
       (λ _. next_once work order unasked)
       (λ _. waits_once Sent bounds state work is_bounds up_to order unasked))
-
-pub sound_work : (state : ClientState) (work : Work) → IsSound state → state.work ≡ Some work → IsSoundWork state.last_request work
-sound_work state work sound is = subst (λ (found : Option Work). IfSome found (IsSoundWork state.last_request)) is sound
 
 counted_once : (Sent : Letter → Type 0) (bounds : ℕ) (state : ClientState) (found : Option Work) (replica : ReplicaId) (number round : ℕ) (verdict : Verdict) → state.work ≡ found → state.bounds ≡ bounds → IsSound state → IsOnce Sent bounds state → IsOnceIf Sent bounds state.me (counted_in state found replica number round verdict)
 counted_once Sent bounds state None replica number round verdict is is_bounds sound once = λ fits. quiet Sent bounds state.me state None once

@@ -38,16 +38,17 @@ use Rattle.qu_world.specs.State.{WorldState, opening_world, opening_clients, num
 use Rattle.qu_world.specs.Step.{world_step, unchanged, at_replica, at_client, received, delivered}
 use Rattle.qu_world.specs.Run.{IsRun}
 use Rattle.qu_safety.specs.Order.{world_after}
-use Rattle.qu_safety.proofs.Each.{with_cases, each_at}
+use Rattle.qu_world.proofs.Each.{with_cases, each_at}
 use Rattle.qu_safety.proofs.WorldGrowth.{world_after-none, world_after-next}
 use Rattle.qu_safety.proofs.OnceSent.{StandsIn, none_stands, IsOnce, AreAlike, OrNew, IsOnceStep, client_step-once, client_tick-once, client_invoke-once, once_more, once_of}
-use Rattle.qu_safety.proofs.Small.{some_entry, letters_of-push}
+use Rattle.qu_safety.proofs.Small.{some_entry}
 use Rattle.qu_safety.specs.Carried.{Asks}
 use Rattle.qu_frames.specs.Decoding.{decoded}
 use Rattle.qu_safety.specs.Views.{IsPlain, ArePlain}
 use Rattle.qu_base.specs.declared.bad_text.BadText.{BadText}
 use Rattle.qu_safety.proofs.Carrying.{AsksFit, IsFitStep, numbered_here, no_request}
 use Rattle.qu_safety.proofs.Fitting.{fit_step}
+use Rattle.qu_world.proofs.LetterLaws.{letters-push}
 
 -- ---- places
 
@@ -67,7 +68,7 @@ numbered_stands items (suc place) item found = (place, found)
 -- the letters of one entry more
 pub letters_either : (entries : List Entry) (entry : Entry) (letter : Letter) → StandsIn (letters_of (entries ++ entry ∷ [])) letter → OrNew (StandsIn (letters_of entries)) entry.letters letter
 letters_either entries entry letter stands =
-    stands-append (letters_of entries) entry.letters letter stands.0 (ap (λ (it : List Letter). slice_get it stands.0) (sym (letters_of-push entries entry)) ∙ stands.1)
+    stands-append (letters_of entries) entry.letters letter stands.0 (ap (λ (it : List Letter). slice_get it stands.0) (sym (letters-push entries entry)) ∙ stands.1)
 
 -- what stands in a list where one item was replaced
 pub numbered_found : {X : Type 0} (items : List X) (number : ℕ) (old new : X) (other : ℕ) (found : X) → numbered items number ≡ Some old → numbered (with_numbered items number new) other ≡ Some found → ((other ≡ number → ⊥) × (numbered items other ≡ Some found)) ⊎ ((other ≡ number) × (found ≡ new))

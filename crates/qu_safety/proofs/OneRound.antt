@@ -35,7 +35,7 @@ use Rattle.qu_safety.specs.Carried.{Asks}
 use Rattle.qu_safety.specs.Views.{IsPlain, ArePlain}
 use Rattle.qu_safety.proofs.Carrying.{AsksFit, IsFitStep, numbered_here}
 use Rattle.qu_safety.proofs.Fitting.{fit_step}
-use Rattle.qu_safety.proofs.Each.{each_at}
+use Rattle.qu_world.proofs.Each.{each_at}
 
 -- ---- what holds of all clients and letters
 

@@ -18,7 +18,7 @@ use Rattle.std.proofs.lemmas.List.Elements.{Contains-get_or}
 use Rattle.qu_safety.specs.Order.{world_after}
 use Rattle.qu_safety.specs.Origins.{Origin}
 use Rattle.qu_safety.specs.Views.{IsPlain, ArePlain}
-use Rattle.qu_safety.proofs.Each.{each_at}
+use Rattle.qu_world.proofs.Each.{each_at}
 use Rattle.qu_safety.proofs.WorldGrowth.{world_after-next}
 use Rattle.qu_safety.proofs.Happenings.{WasBefore, was_before, event_accepts}
 use Rattle.qu_safety.proofs.OpeningReplicas.{opening_holds}

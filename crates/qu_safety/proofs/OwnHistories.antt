@@ -23,7 +23,7 @@ use Rattle.qu_replica.specs.Rows.{asked_of, decision_on}
 use Rattle.qu_replica.specs.Step.{carried_out, on_frame, on_decoded, replica_step}
 use Rattle.qu_replica.proofs.Own.{IsOwn, own_history, opening-histories}
 use Rattle.qu_world.specs.State.{WorldState, opening_replicas, history_at}
-use Rattle.qu_safety.proofs.Each.{set_cases}
+use Rattle.qu_world.proofs.Each.{set_cases}
 
 -- a history of this replica and of the object with this number
 pub record IsOf (me : ReplicaId) (place : ℕ) (history : ObjectHistory) : Type 0 where

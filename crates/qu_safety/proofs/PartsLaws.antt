@@ -3,7 +3,7 @@ use Rattle.std.proofs.Common.{◌≡◌, ℕ, ◌+◌, ◌<◌, ◌≤◌, List,
 use Rattle.std.proofs.lemmas.List.{take_more, take_all}
 use Rattle.qu_trace.specs.declared.trace.Entry.{Entry}
 use Rattle.qu_safety.specs.Views.{IsPlain, ArePlain}
-use Rattle.qu_safety.proofs.Each.{each_append}
+use Rattle.qu_world.proofs.Each.{each_append}
 
 pub parts_next : (entries : List Entry) (index : ℕ) (entry : Entry) → index < length entries → entry ≡ get_or entries index entry → ArePlain (take index entries) → IsPlain entry.event → ArePlain (take (index + 1) entries)
 parts_next entries index entry below is have has =

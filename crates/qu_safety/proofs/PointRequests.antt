@@ -23,7 +23,7 @@ use Rattle.qu_frames.specs.declared.verdict.Verdict.{Verdict}
 use Rattle.qu_frames.specs.Body.{body_of}
 use Rattle.qu_machine.specs.declared.record.OpRecord.{OpRecord}
 use Rattle.qu_machine.specs.declared.record.Point.{Point}
-use Rattle.qu_machine.proofs.Equalities.{Passes, passes_from_any}
+use Rattle.qu_machine.proofs.Equalities.{Passes, passes_from_any, client_is}
 use Rattle.qu_trace.specs.declared.event.Event.TheVariants.{Deliver}
 use Rattle.qu_trace.specs.declared.trace.Entry.{Entry}
 use Rattle.qu_trace.specs.declared.trace.Trace.{Trace}
@@ -52,7 +52,7 @@ use Rattle.qu_safety.proofs.Replying.{reply_sent}
 use Rattle.qu_safety.proofs.Taking.{effect_once}
 use Rattle.qu_safety.proofs.WorldGrowth.{accepted_by_decided}
 use Rattle.qu_safety.proofs.Carrying.{asks_as, tells_as, asks_so, one_carried}
-use Rattle.qu_safety.proofs.Small.{same_clients, same_deliver, same_point}
+use Rattle.qu_safety.proofs.Small.{same_deliver, same_point}
 use Rattle.qu_safety.specs.Carried.{Asks, Tells}
 use Rattle.qu_frames.specs.Decoding.{decoded}
 use Rattle.qu_history.specs.declared.sealed.Sealed.{Sealed}
@@ -78,7 +78,7 @@ reply_in_read client number round letter (Ok (frame.Request other asked turn set
 reply_in_read client number round letter (Ok (frame.Reply replica other replied turn verdict culled shown mac)) is answer =
     let parts : ((other.0 == client.0) ≡ true) × ((replied == number && turn == round) ≡ true) = and_parts _ _ answer in
     let more : ((replied == number) ≡ true) × ((turn == round) ≡ true) = and_parts _ _ parts.1 in
-    reply_is letter replica other client replied number turn round verdict shown (record { culled = culled; mac = mac; carries = is }) (same_clients other client (eqb-true _ _ parts.0)) (eqb-true _ _ more.0) (eqb-true _ _ more.1)
+    reply_is letter replica other client replied number turn round verdict shown (record { culled = culled; mac = mac; carries = is }) (client_is other client (eqb-true _ _ parts.0)) (eqb-true _ _ more.0) (eqb-true _ _ more.1)
 
 pub reply_in : (client : ClientId) (number round : ℕ) (letter : Letter) → answers client number round letter ≡ true → IsReplyIn client number round letter
 reply_in client number round letter answer = reply_in_read client number round letter (decoded letter.text) refl answer

@@ -25,7 +25,7 @@ use Rattle.qu_safety.specs.Views.{HasOpParts, IsPlain, ArePlain}
 use Rattle.qu_safety.proofs.Beginning.{happens}
 use Rattle.qu_safety.proofs.Entries.{length_after}
 use Rattle.qu_safety.proofs.Small.{some_entry}
-use Rattle.qu_safety.proofs.Each.{each_at}
+use Rattle.qu_world.proofs.Each.{each_at}
 
 -- ---- how many events there are
 

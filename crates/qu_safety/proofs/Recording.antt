@@ -23,7 +23,7 @@ use Rattle.qu_world.proofs.RunLaws.{step_records}
 use Rattle.qu_safety.specs.Order.{world_after}
 use Rattle.qu_safety.proofs.WorldGrowth.{world_after-next}
 use Rattle.qu_safety.specs.Views.{IsPlain, ArePlain}
-use Rattle.qu_safety.proofs.Each.{each_at}
+use Rattle.qu_world.proofs.Each.{each_at}
 
 -- ---- what a step of a world may be
 

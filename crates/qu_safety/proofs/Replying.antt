@@ -42,7 +42,7 @@ use Rattle.qu_world.specs.Run.{IsRun}
 use Rattle.qu_safety.specs.Order.{world_after}
 use Rattle.qu_safety.specs.Replies.{IsReplyTo}
 use Rattle.qu_safety.specs.Views.{ArePlain, IsPlain}
-use Rattle.qu_safety.proofs.Each.{each_found, set_here, each_at}
+use Rattle.qu_world.proofs.Each.{each_found, set_here, each_at}
 use Rattle.qu_safety.proofs.Entries.{entry_recorded}
 use Rattle.qu_safety.proofs.OwnHistories.{IsInPlace, step-in_place}
 use Rattle.qu_safety.proofs.Views.{true_world}

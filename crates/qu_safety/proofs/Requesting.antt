@@ -31,10 +31,9 @@ use Rattle.qu_client.specs.Rounds.{request_of, requests_from}
 use Rattle.qu_client.specs.Step.{on_frame, on_decoded, client_step, client_invoke, counted_in, counts, is_asking, next_number}
 use Rattle.qu_client.specs.Sound.{IsSoundWork, IsSound, last_number}
 use Rattle.qu_client.proofs.Cases.{counted_cases, invoke_cases}
-use Rattle.qu_client.proofs.Laws.{client_step-me, client_invoke-me, IsSound-step, IsSound-invoke}
+use Rattle.qu_client.proofs.Laws.{client_step-me, client_invoke-me, IsSound-step, IsSound-invoke, sound_work}
 use Rattle.qu_trace.specs.declared.trace.Trace.{Trace}
 use Rattle.qu_safety.specs.Invocations.{IsRequestOf}
-use Rattle.qu_safety.proofs.OnceSent.{sound_work}
 use Rattle.qu_safety.specs.Carried.{Carries}
 use Rattle.qu_frames.specs.Decoding.{decoded}
 use Rattle.qu_frames.specs.Forms.{frame_form}

@@ -1,19 +1,15 @@
 -- Small lemmas that several files need: the first of a list, letters of entries, and equality of what has equal parts.
-use Rattle.std.proofs.Common.{◌≡◌, ℕ, ◌<◌, ◌≤◌, true, false, List, [], ◌∷◌, ◌++◌, length, Option, None, Some, refl, sym, ap, ◌∙◌, arith, append_assoc}
+use Rattle.std.proofs.Common.{◌≡◌, ℕ, ◌<◌, ◌≤◌, true, false, List, [], ◌∷◌, length, Option, None, Some, refl, sym, arith}
 use Rattle.std.specs.Prelude.{◌==◌, is_none}
 use Rattle.std.specs.List.{All}
 use Rattle.std.proofs.lemmas.Bool.{false≢true}
 use Rattle.std.proofs.lemmas.Bool.Decides.{nat_tests}
-use Rattle.std.proofs.lemmas.List.{append-nil}
 use Rattle.std.proofs.lemmas.List.Elements.{All-head}
-use Rattle.qu_base.specs.declared.party.ClientId.{ClientId}
 use Rattle.qu_base.specs.declared.party.ObjectId.{ObjectId}
 use Rattle.qu_base.specs.Thresholds.{quorum}
-use Rattle.qu_frames.specs.declared.frame.Letter.{Letter}
 use Rattle.qu_machine.specs.declared.record.Point.{Point}
 use Rattle.qu_trace.specs.declared.event.Event.TheVariants.{Deliver}
 use Rattle.qu_trace.specs.declared.trace.Entry.{Entry}
-use Rattle.qu_trace.specs.Letters.{letters_of}
 
 -- ---- the first of some
 
@@ -40,19 +36,7 @@ some_quorum b = omega arith
 
 -- ---- letters
 
-pub letters_of-push : (entries : List Entry) (entry : Entry) → letters_of (entries ++ entry ∷ []) ≡ letters_of entries ++ entry.letters
-unfolding letters_of
-letters_of-push [] entry = append-nil entry.letters
-letters_of-push (first ∷ later) entry =
-    ap (λ (rest : List Letter). first.letters ++ rest) (letters_of-push later entry) ∙ sym (append_assoc first.letters (letters_of later) entry.letters)
-
 -- ---- equal parts
-
-pub same_clients : (first second : ClientId) → first.0 ≡ second.0 → first ≡ second
-same_clients first second same = ap (λ (it : ℕ). (let client : ClientId = record { 0 = it } in client)) same
-
-pub object_is : (first second : ObjectId) → first.0 ≡ second.0 → first ≡ second
-object_is first second same = λ i. record { 0 = same i }
 
 pub same_object : (first second : ObjectId) → (first.0 == second.0) ≡ true → first ≡ second
 same_object first second alike = grind (arith, nat_tests)

@@ -25,9 +25,8 @@ use Rattle.qu_world.specs.State.{numbered}
 use Rattle.std.specs.Option.{option_eq}
 use Rattle.qu_base.specs.declared.party.Digest.{Digest}
 use Rattle.qu_objects.specs.Text.{act_digest}
-use Rattle.qu_stamp.specs.declared.stamp.Stamp.{Stamp}
-use Rattle.qu_stamp.specs.Stamp.{opening_stamp, same_digest, same_stamp}
-use Rattle.qu_stamp.proofs.Order.{same_stamp-self, equal_by_same_stamp}
+use Rattle.qu_stamp.specs.Stamp.{same_digest}
+use Rattle.qu_stamp.proofs.Order.{same_act-self, equal_by_same_act}
 use Rattle.std.specs.List.{list_any}
 use Rattle.qu_safety.proofs.HandledActs.{handled_among, among_handled}
 use Rattle.qu_safety.specs.Digested.{IsHandled}
@@ -50,18 +49,6 @@ tells_up_to trace end object candidate (Some first) tells event before decided =
       | inl earlier ↦ absurd (tells.2 event earlier decided)
       | inr order ↦ (first, refl, order)
     ]
-
--- acts are compared as those of two stamps that are alike otherwise
-abbrev with_act : Option Digest → Stamp
-with_act act = record opening_stamp { act = act }
-
-same_act-self : (act : Option Digest) → option_eq same_digest act act ≡ true
-unfolding same_stamp
-same_act-self act = (and_parts (option_eq same_digest act act) _ (same_stamp-self (with_act act))).0
-
-equal_by_same_act : (a b : Option Digest) → option_eq same_digest a b ≡ true → a ≡ b
-unfolding same_stamp
-equal_by_same_act a b alike = ap (λ (it : Stamp). it.act) (equal_by_same_stamp (with_act a) (with_act b) (and_from (option_eq same_digest a b) _ alike refl))
 
 act_is_same : (found : Option Digest) (act : Digest) → found ≡ Some act → option_eq same_digest found (Some act) ≡ true
 act_is_same found act is = ap (λ (it : Option Digest). option_eq same_digest it (Some act)) is ∙ same_act-self (Some act)

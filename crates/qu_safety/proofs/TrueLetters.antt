@@ -40,7 +40,7 @@ use Rattle.qu_client.specs.Step.{goes_on, counted_in, on_frame, on_decoded, clie
 use Rattle.qu_client.proofs.Cases.{counted_cases, invoke_cases}
 use Rattle.qu_safety.specs.Views.{HasOpParts}
 use Rattle.qu_safety.specs.Carried.{Carries}
-use Rattle.qu_safety.proofs.Each.{each_weaker}
+use Rattle.qu_world.proofs.Each.{each_weaker}
 use Rattle.qu_safety.proofs.Carrying.{carried_is, AsksFit, AnswersFit}
 
 -- the sets and the body of a request: made of kept histories that were held

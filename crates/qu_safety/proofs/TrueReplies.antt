@@ -12,7 +12,7 @@ use Rattle.qu_stamp.specs.Stamp.{is_below}
 use Rattle.qu_stamp.proofs.Order.{is_below-self, is_below-not_chain}
 use Rattle.qu_history.specs.declared.sets.SetOf.{SetOf}
 use Rattle.qu_history.specs.History.{holds}
-use Rattle.qu_history.specs.Sets.{histories, entries_of, latest_of, method_at, if_method, object_candidate, candidates_of, greatest}
+use Rattle.qu_history.specs.Sets.{histories, entries_of, latest_of, method_at}
 use Rattle.qu_history.proofs.Rising.{holds_pushed}
 use Rattle.qu_history.proofs.Stamps.{not_below_latest}
 use Rattle.qu_objects.specs.declared.act.Method.{Method}
@@ -39,8 +39,9 @@ use Rattle.qu_safety.specs.Replies.{TellsDone, TellsQuery}
 use Rattle.qu_safety.proofs.Grounds.{is_base, above_held}
 use Rattle.qu_safety.proofs.HeldVersions.{AreOfHeld, HoldsUnder}
 use Rattle.qu_safety.proofs.Small.{some_of, single}
-use Rattle.qu_safety.proofs.Acceptance.{no_wait, candidates_after, no_first}
+use Rattle.qu_safety.proofs.Acceptance.{no_wait, candidates_after}
 use Rattle.qu_safety.proofs.Performed.{version_at-push}
+use Rattle.qu_replica.proofs.Allowed.{no_first, not_first, unmapped, method_at_none}
 
 -- ---- the rows
 
@@ -125,22 +126,10 @@ module _ (P : Decision → Type 0) (refused : (why : Refusal) → P (refuse why)
 
 -- ---- what is so where a row decided nothing
 
-unmapped : {A B : Type 0} (f : A → B) (found : Option A) → option_map f found ≡ None → found ≡ None
-unmapped f None none = refl
-unmapped f (Some it) none = absurd (none-some (f it) (sym none))
-
-not_first : {A : Type 0} (test : Bool) (it : A) (later : Option A) → cond test (Some it) later ≡ None → (test ≡ false) × (later ≡ None)
-not_first true it later none = absurd (none-some it (sym none))
-not_first false it later none = (refl, none)
-
-no_entry : (bounds : ℕ) → method_at bounds [] ≡ None
-unfolding method_at if_method object_candidate candidates_of greatest
-no_entry bounds = refl
-
 -- no object of the sets is unknown, so one that has a base is known
 known_by_base : (number bounds : ℕ) (sets : List SetOf) (object : ObjectId) (base : Candidate) → find (λ (set : SetOf). nat_le number (set.object).0) sets ≡ None → method_at bounds (entries_of object sets) ≡ Some base → object.0 < number
 unfolding entries_of
-known_by_base number bounds [] object base none is = absurd (none-some base (sym (no_entry bounds) ∙ is))
+known_by_base number bounds [] object base none is = absurd (none-some base (sym (method_at_none bounds) ∙ is))
 known_by_base number bounds (set ∷ sets) object base none is =
     let good : (nat_le number (set.object).0 ≡ false) × (find (λ (it : SetOf). nat_le number (it.object).0) sets ≡ None) = not_first _ set _ none in
     let below : (set.object).0 < number = leb-false _ _ good.0 in

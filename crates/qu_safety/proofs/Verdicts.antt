@@ -11,15 +11,14 @@ use Rattle.qu_stamp.specs.Stamp.{same_stamp}
 use Rattle.qu_stamp.proofs.Order.{same_stamp-self, equal_by_same_stamp}
 use Rattle.qu_objects.specs.declared.act.Method.{Method}
 use Rattle.qu_objects.specs.declared.answer.Answer.{Answer}
-use Rattle.qu_objects.specs.declared.answer.Answer.TheVariants as answer
 use Rattle.qu_objects.specs.declared.op.Op.TheVariants as op
 use Rattle.qu_frames.specs.declared.verdict.Verdict.{Verdict}
 use Rattle.qu_frames.specs.declared.verdict.Verdict.TheVariants as verdict
-use Rattle.qu_frames.specs.Verdict.{same_answer, same_verdict, same_object, same_stamps}
+use Rattle.qu_frames.specs.Verdict.{same_verdict, same_object, same_stamps}
+use Rattle.qu_objects.specs.Alike.{same_answer}
 use Rattle.qu_frames.specs.declared.verdict.Verdict.TheVariants.{Done, Told, Already, Mended, Refused}
 use Rattle.qu_client.specs.Step.{fitting}
-use Rattle.qu_machine.proofs.Equalities.{decides_answer}
-use Rattle.qu_safety.proofs.Small.{object_is}
+use Rattle.qu_machine.proofs.Equalities.{decides_answer, object_is}
 
 -- ---- identical verdicts
 
@@ -40,13 +39,6 @@ equal_stamps stamps others same =
     let decides : Decides (same_stamps stamps others) (stamps ≡ others) = slice_eq-Decides decides_stamp stamps others _ refl in
     decides.0 same
 
-equal_answers : (first second : Answer) → same_answer first second ≡ true → first ≡ second
-equal_answers (answer.Ok items) (answer.Ok others) same = (decides_answer (answer.Ok items) (answer.Ok others)).0 same
-equal_answers (answer.Ok items) (answer.Refused at why) same = absurd (false≢true same)
-equal_answers (answer.Refused at why) (answer.Ok items) same = absurd (false≢true same)
-equal_answers (answer.Refused at why) (answer.Refused other reason) same =
-    (decides_answer (answer.Refused at why) (answer.Refused other reason)).0 same
-
 pub equal_told : (verdict : Verdict) (stamps : List (ObjectId × Stamp)) (answer : Answer) → same_verdict verdict (Told stamps answer) ≡ true → verdict ≡ Told stamps answer
 equal_told (Done others given) stamps answer same = absurd (false≢true same)
 equal_told (Already given) stamps answer same = absurd (false≢true same)
@@ -55,7 +47,7 @@ equal_told (Refused refusal) stamps answer same = absurd (false≢true same)
 equal_told (Told others given) stamps answer same =
     let parts : (same_stamps others stamps ≡ true) × (same_answer given answer ≡ true) = and_parts _ _ same in
     let stamps_are : others ≡ stamps = equal_stamps others stamps parts.0 in
-    let answer_is : given ≡ answer = equal_answers given answer parts.1 in
+    let answer_is : given ≡ answer = (decides_answer given answer).0 parts.1 in
     λ i. Told (stamps_are i) (answer_is i)
 
 pub equal_done : (verdict : Verdict) (stamps : List (ObjectId × Stamp)) (answer : Answer) → same_verdict verdict (Done stamps answer) ≡ true → verdict ≡ Done stamps answer
@@ -66,7 +58,7 @@ equal_done (Refused refusal) stamps answer same = absurd (false≢true same)
 equal_done (Done others given) stamps answer same =
     let parts : (same_stamps others stamps ≡ true) × (same_answer given answer ≡ true) = and_parts _ _ same in
     let stamps_are : others ≡ stamps = equal_stamps others stamps parts.0 in
-    let answer_is : given ≡ answer = equal_answers given answer parts.1 in
+    let answer_is : given ≡ answer = (decides_answer given answer).0 parts.1 in
     λ i. Done (stamps_are i) (answer_is i)
 
 -- ---- what fits an act

@@ -40,7 +40,7 @@ use Rattle.qu_safety.specs.Carried.{Carries, Asks, Tells}
 use Rattle.qu_safety.specs.Order.{world_after}
 use Rattle.qu_safety.specs.Views.{WasHeld, HasOpParts, IsPlain, ArePlain, IsOfKept}
 use Rattle.qu_safety.proofs.WorldGrowth.{world_after-none, world_after-next}
-use Rattle.qu_safety.proofs.Each.{each_append, each_at, each_numbered, each_with_numbered, set_here}
+use Rattle.qu_world.proofs.Each.{each_append, each_at, each_numbered, each_with_numbered, set_here}
 use Rattle.qu_safety.proofs.OwnHistories.{IsInPlace, AreInPlace, step-in_place, opening-all_in_place, set-in_place, found_where_named}
 use Rattle.qu_safety.proofs.TrueLetters.{IsMadeOf, IsTrueFrame, IsTrueLetter, IsTrueClient, IsTrueStep, letters-more, clients-more, client_step-true, client_invoke-true, opening-true, replica_step-true}
 use Rattle.qu_safety.proofs.Small.{some_entry}

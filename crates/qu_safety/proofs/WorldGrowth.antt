@@ -1,5 +1,5 @@
 -- A world forgets nothing: what is accepted, established or decided stays so.
-use Rattle.std.proofs.Common.{◌≡◌, ℕ, zero, suc, ◌+◌, ◌<◌, ◌≤◌, Bool, true, false, cond, List, [], ◌∷◌, ◌++◌, length, take, get_or, refl, ap, ◌∙◌, arith, inl, inr}
+use Rattle.std.proofs.Common.{◌≡◌, ℕ, zero, suc, ◌+◌, ◌<◌, ◌≤◌, Bool, true, false, cond, List, [], ◌∷◌, length, take, get_or, refl, ap, ◌∙◌, arith, inl, inr}
 use Rattle.std.specs.Prelude.{count_by, nat_le}
 use Rattle.std.specs.List.{list_any, AllZip}
 use Rattle.std.proofs.lemmas.Bool.{false≢true, cases_Bool, or_cases, or_left, or_right, le-leb, leb-true}
@@ -23,18 +23,14 @@ use Rattle.qu_world.specs.Run.{run_from, run, events_of}
 use Rattle.qu_world.proofs.WorldGrowth.{grows_to-self, run_from-grows}
 use Rattle.qu_safety.specs.Decided.{accepts, is_accepted, is_established, IsDecided}
 use Rattle.qu_safety.specs.Order.{world_after}
-
-run_from-push : (world : WorldState) (events : List Event) (event : Event) → run_from world (events ++ event ∷ []) ≡ world_step (run_from world events) event
-unfolding run_from
-run_from-push world [] event = refl
-run_from-push world (first ∷ later) event = run_from-push (world_step world first) later event
+use Rattle.qu_world.proofs.RunLaws.{run_more}
 
 -- the world after one event more
 pub world_after-next : (trace : Trace) (count : ℕ) (default : Entry) → count < length trace.entries → world_after trace (count + 1) ≡ world_step (world_after trace count) (get_or trace.entries count default).event
 world_after-next trace count default below =
     ap (λ (entries : List Entry). run trace.setup (events_of entries)) (take_more trace.entries count default below) ∙
     ap (run trace.setup) (map-append (λ (entry : Entry). entry.event) (take count trace.entries) (get_or trace.entries count default ∷ [])) ∙
-    run_from-push (opening_world trace.setup) (events_of (take count trace.entries)) (get_or trace.entries count default).event
+    run_more (opening_world trace.setup) (events_of (take count trace.entries)) (get_or trace.entries count default).event
 
 pub world_after-none : (trace : Trace) → world_after trace 0 ≡ opening_world trace.setup
 unfolding run_from

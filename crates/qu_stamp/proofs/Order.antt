@@ -148,11 +148,11 @@ decides_digest a b = (
   λ equal. (bytes_decides a.0 b.0).1 (ap (λ (digest : Digest). digest.0) equal),
 )
 
-same_act-self : (act : Option Digest) → option_eq same_digest act act ≡ true
+pub same_act-self : (act : Option Digest) → option_eq same_digest act act ≡ true
 same_act-self None = refl
 same_act-self (Some digest) = (decides_digest digest digest).1 refl
 
-equal_by_same_act : (a b : Option Digest) → option_eq same_digest a b ≡ true → a ≡ b
+pub equal_by_same_act : (a b : Option Digest) → option_eq same_digest a b ≡ true → a ≡ b
 equal_by_same_act None None alike = refl
 equal_by_same_act None (Some b) alike = absurd (false≢true alike)
 equal_by_same_act (Some a) None alike = absurd (false≢true alike)

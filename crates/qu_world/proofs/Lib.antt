@@ -1,3 +1,4 @@
+pub mod Each
 pub mod LetterLaws
 pub mod Injecting
 pub mod Making

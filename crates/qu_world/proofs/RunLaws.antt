@@ -1,6 +1,6 @@
 -- A run with one event more, and what holds of every world.
 use Rattle.std.proofs.Common.{◌≡◌, ℕ, zero, suc, ◌+◌, ◌<◌, ◌≤◌, Bool, true, false, cond, List, [], ◌∷◌, ◌++◌, length, Option, None, Some, refl, sym, ap, subst, ◌∙◌, arith}
-use Rattle.std.specs.Prelude.{slice_get, slice_set, nat_le, is_some, IfSome, IsSomeAnd}
+use Rattle.std.specs.Prelude.{slice_get, nat_le, is_some, IfSome, IsSomeAnd}
 use Rattle.std.specs.List.{AllByRecursion}
 use Rattle.std.proofs.lemmas.List.{map-append, length-map}
 use Rattle.std.proofs.lemmas.Bool.{leb-false}
@@ -14,7 +14,7 @@ use Rattle.qu_client.specs.declared.state.ClientState.{ClientState}
 use Rattle.qu_client.specs.declared.state.Stepped.{Stepped}
 use Rattle.qu_client.specs.Step.{client_invoke, client_step, client_tick}
 use Rattle.qu_client.specs.Sound.{NumbersWithin}
-use Rattle.qu_client.proofs.Laws.{NumbersWithin-opening, NumbersWithin-step, NumbersWithin-invoke, NumbersWithin-tick, may_invoke}
+use Rattle.qu_client.proofs.Laws.{NumbersWithin-opening, NumbersWithin-step, NumbersWithin-invoke, NumbersWithin-tick, may_invoke, last_within}
 use Rattle.qu_trace.specs.declared.event.Event.{Event}
 use Rattle.qu_trace.specs.declared.event.Event.TheVariants.{Invoke, Deliver, Tick, Inject}
 use Rattle.qu_trace.specs.declared.trace.Entry.{Entry}
@@ -23,15 +23,16 @@ use Rattle.qu_trace.specs.Letters.{letters_of, bytes_sent}
 use Rattle.qu_client.specs.declared.work.Work.{Work}
 use Rattle.qu_world.specs.declared.fail.WorldFail.TheVariants as fails
 use Rattle.qu_world.specs.declared.fail.TheConstants.{EVENT_LIMIT, BYTE_LIMIT}
-use Rattle.qu_world.specs.State.{WorldState, opening_world, opening_clients, numbered, with_numbered, letter_of}
+use Rattle.qu_world.specs.State.{WorldState, opening_world, opening_clients, numbered, letter_of}
 use Rattle.qu_world.specs.Step.{world_step, at_client, at_replica, received, delivered}
 use Rattle.qu_world.specs.Refusals.{refusal_of, refused_at_limit, refused_invocation, refused_delivery, refused_tick, refused_injection, is_party}
 use Rattle.qu_world.specs.Parties.{MayBegin, CanBegin}
 use Rattle.qu_world.specs.Run.{run_from, run, MayHappen, events_of, IsSetup, IsWorld, IsCounted}
+use Rattle.qu_world.proofs.Each.{each_weaker, each_with_numbered, each_numbered}
 
 -- ---- one event more
 
-run_more : (world : WorldState) (events : List Event) (event : Event) → run_from world (events ++ event ∷ []) ≡ world_step (run_from world events) event
+pub run_more : (world : WorldState) (events : List Event) (event : Event) → run_from world (events ++ event ∷ []) ≡ world_step (run_from world events) event
 unfolding run_from
 run_more world [] event = refl
 run_more world (first ∷ later) event = run_more (world_step world first) later event
@@ -109,53 +110,27 @@ IsWorld-step old new event is world may = step_by old new event is (subst (λ at
 
 -- ---- numbers of operations
 
-all_set : {X : Type 0} (P : X → Type 0) (xs : List X) (index : ℕ) (x : X) → AllByRecursion P xs → P x → AllByRecursion P (slice_set xs index x)
-all_set P [] index x all here = all
-all_set P (first ∷ later) zero x all here = (here, all.1)
-all_set P (first ∷ later) (suc index) x all here = (all.0, all_set P later index x all.1 here)
-
-all_got : {X : Type 0} (P : X → Type 0) (xs : List X) (index : ℕ) (x : X) → AllByRecursion P xs → slice_get xs index ≡ Some x → P x
-all_got P [] index x all found = absurd cc
-all_got P (first ∷ later) zero x all found = let e : first ≡ x = cc in subst P e all.0
-all_got P (first ∷ later) (suc index) x all found = all_got P later index x all.1 found
-
-all_weaker : {X : Type 0} (P Q : X → Type 0) (xs : List X) → ((x : X) → P x → Q x) → AllByRecursion P xs → AllByRecursion Q xs
-all_weaker P Q [] weaker all = all
-all_weaker P Q (first ∷ later) weaker all = (weaker first all.0, all_weaker P Q later weaker all.1)
-
-all_with : {X : Type 0} (P : X → Type 0) (xs : List X) (number : ℕ) (x : X) → AllByRecursion P xs → P x → AllByRecursion P (with_numbered xs number x)
-all_with P xs zero x all here = all
-all_with P xs (suc index) x all here = all_set P xs index x all here
-
-all_numbered : {X : Type 0} (P : X → Type 0) (xs : List X) (number : ℕ) (x : X) → AllByRecursion P xs → numbered xs number ≡ Some x → P x
-all_numbered P xs zero x all found = absurd cc
-all_numbered P xs (suc index) x all found = all_got P xs index x all found
-
-last_more : (most : ℕ) (last : Option (ℕ × ℕ)) → IfSome last (λ last. last.0 ≤ most) → IfSome last (λ last. last.0 ≤ most + 1)
-last_more most None within = tt
-last_more most (Some last) within = omega arith
-
 more : (most : ℕ) (work : Option Work) → IfSome work (λ work. work.number ≤ most) → IfSome work (λ work. work.number ≤ most + 1)
 more most None within = tt
 more most (Some work) within = omega arith
 
-within_more : (most : ℕ) (state : ClientState) → NumbersWithin most state → NumbersWithin (most + 1) state
-within_more most state within = record { last = last_more most state.last_request within.last; work = more most state.work within.work }
+pub within_more : (most : ℕ) (state : ClientState) → NumbersWithin most state → NumbersWithin (most + 1) state
+within_more most state within = record { last = last_within most state.last_request within.last; work = more most state.work within.work }
 
 numbers_at : (most : ℕ) (world : WorldState) (event : Event) (me : ClientId) (move : ClientState → Stepped) (found : Option ClientState)
     → numbered world.clients me.0 ≡ found → ((state : ClientState) → NumbersWithin most state → NumbersWithin (most + 1) (move state).state)
     → AllByRecursion (NumbersWithin most) world.clients → AllByRecursion (NumbersWithin (most + 1)) (at_client world event me move found).clients
 numbers_at most world event me move None is moved all =
-    all_weaker (NumbersWithin most) (NumbersWithin (most + 1)) world.clients (within_more most) all
+    each_weaker (NumbersWithin most) (NumbersWithin (most + 1)) world.clients (within_more most) all
 numbers_at most world event me move (Some state) is moved all =
-    all_with (NumbersWithin (most + 1)) world.clients me.0 (move state).state
-    (all_weaker (NumbersWithin most) (NumbersWithin (most + 1)) world.clients (within_more most) all)
-    (moved state (all_numbered (NumbersWithin most) world.clients me.0 state all is))
+    each_with_numbered (NumbersWithin (most + 1)) world.clients me.0 (move state).state
+    (each_weaker (NumbersWithin most) (NumbersWithin (most + 1)) world.clients (within_more most) all)
+    (moved state (each_numbered (NumbersWithin most) world.clients me.0 state all is))
 
 numbers_replica : (most : ℕ) (world : WorldState) (event : Event) (me : ReplicaId) (text : List ℕ) (found : Option ReplicaState)
     → AllByRecursion (NumbersWithin most) world.clients → AllByRecursion (NumbersWithin (most + 1)) (at_replica world event me text found).clients
-numbers_replica most world event me text None all = all_weaker (NumbersWithin most) (NumbersWithin (most + 1)) world.clients (within_more most) all
-numbers_replica most world event me text (Some state) all = all_weaker (NumbersWithin most) (NumbersWithin (most + 1)) world.clients (within_more most) all
+numbers_replica most world event me text None all = each_weaker (NumbersWithin most) (NumbersWithin (most + 1)) world.clients (within_more most) all
+numbers_replica most world event me text (Some state) all = each_weaker (NumbersWithin most) (NumbersWithin (most + 1)) world.clients (within_more most) all
 
 numbers_received : (most : ℕ) (world : WorldState) (event : Event) (to : Party) (text : List ℕ)
     → AllByRecursion (NumbersWithin most) world.clients → AllByRecursion (NumbersWithin (most + 1)) (received world event to text).clients
@@ -166,7 +141,7 @@ numbers_received most world event (party.Client me) text all =
 
 numbers_delivered : (most : ℕ) (world : WorldState) (event : Event) (letter : Option Letter)
     → AllByRecursion (NumbersWithin most) world.clients → AllByRecursion (NumbersWithin (most + 1)) (delivered world event letter).clients
-numbers_delivered most world event None all = all_weaker (NumbersWithin most) (NumbersWithin (most + 1)) world.clients (within_more most) all
+numbers_delivered most world event None all = each_weaker (NumbersWithin most) (NumbersWithin (most + 1)) world.clients (within_more most) all
 numbers_delivered most world event (Some letter) all = numbers_received most world event letter.to letter.text all
 
 -- a step makes the numbers of operations at most one greater
@@ -235,7 +210,7 @@ can_begin clients number who entries (Some state) is all free =
     let idle = idle_by state.work entries free in
     record {
       idle = idle.0;
-      number_left = may_invoke (length entries) state (all_numbered (NumbersWithin (length entries)) clients number state all is) (omega (arith, idle.1));
+      number_left = may_invoke (length entries) state (each_numbered (NumbersWithin (length entries)) clients number state all is) (omega (arith, idle.1));
     }
 
 -- a client that is invoked can begin
