@@ -3,3 +3,4 @@ pub mod Verdict
 pub mod Forms
 pub mod Decoding
 pub mod Blank
+pub mod Signed

@@ -7,6 +7,7 @@ mod formats;
 mod frame;
 mod reading_frame;
 mod reading_verdict;
+mod signing;
 mod verdict;
 mod writing_frame;
 mod writing_verdict;
@@ -15,6 +16,7 @@ pub use blank::{blank_mac, seal};
 pub use decoding::{TEXT_LIMIT, decode, encode};
 pub use formats::formats_are_codes;
 pub use frame::{Body, Frame, Letter};
+pub use signing::{FRAME_TAG, receive, text_digest, with_mac};
 pub use verdict::{ClassCode, Refusal, Verdict};
 
 #[cfg(test)]

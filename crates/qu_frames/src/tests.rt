@@ -8,6 +8,7 @@ use std::test::Fail;
 
 mod reply;
 mod request;
+mod signed;
 
 const STAMP: Stamp = Stamp {
     time: 7,

@@ -6,3 +6,4 @@ pub mod SetLaws
 pub mod Forms
 pub mod Histories
 pub mod Unsealed
+pub mod CulledSets

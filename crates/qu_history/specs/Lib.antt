@@ -3,3 +3,4 @@ pub mod Sets
 pub mod Lasts
 pub mod Forms
 pub mod Text
+pub mod Culled

@@ -1,6 +1,7 @@
 //! Histories of objects at replicas, sealed or not, and the sets of them that a request carries.
 #![tactic(auto)]
 
+mod culling;
 mod entries;
 mod formats;
 mod history;
@@ -13,6 +14,7 @@ mod text;
 mod writing;
 mod writing_sets;
 
+pub use culling::{Culled, HISTORY_TAG};
 pub use formats::formats_are_codes;
 pub use history::{AddFail, HISTORY_LIMIT, History};
 pub use reading_entries::object_from;

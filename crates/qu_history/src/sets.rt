@@ -41,7 +41,7 @@ impl SetOf {
 /// One to eight objects in rising order, each with the histories that some replicas showed of it.
 #[derive(Debug, Drop)]
 pub struct Sets {
-    objects: List<SetOf>,
+    pub(crate) objects: List<SetOf>,
 }
 
 impl Model for Sets {

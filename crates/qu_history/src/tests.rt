@@ -1,4 +1,5 @@
 mod bytes;
+mod culling;
 mod sealed;
 
 use super::*;

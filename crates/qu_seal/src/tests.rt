@@ -1,5 +1,6 @@
 use super::*;
 use qu_base::Digest;
+use sha2::{Digest as Hasher, Sha256};
 
 #[test]
 fn the_digest_of_abc(rt: HostRuntime) {
@@ -14,4 +15,30 @@ fn the_digest_of_abc(rt: HostRuntime) {
 #[test]
 fn a_tag_counts_before_the_empty_text(rt: HostRuntime) {
     assert!(rt; digest(0, b"") != digest(1, b""));
+}
+
+mod keys;
+
+#[test]
+fn the_hmacs_of_known_keys_and_texts(rt: HostRuntime) {
+    let hi_there = [
+        0xb0, 0x34, 0x4c, 0x61, 0xd8, 0xdb, 0x38, 0x53, 0x5c, 0xa8, 0xaf, 0xce, 0xaf, 0x0b, 0xf1,
+        0x2b, 0x88, 0x1d, 0xc2, 0x00, 0xc9, 0x83, 0x3d, 0xa7, 0x26, 0xe9, 0x37, 0x6c, 0x2e, 0x32,
+        0xcf, 0xf7,
+    ];
+    assert_eq!(rt; hmac(&[0x0b; 20], b"Hi There"), hi_there);
+    let nothing = [
+        0x5b, 0xdc, 0xc1, 0x46, 0xbf, 0x60, 0x75, 0x4e, 0x6a, 0x04, 0x24, 0x26, 0x08, 0x95, 0x75,
+        0xc7, 0x5a, 0x00, 0x3f, 0x08, 0x9d, 0x27, 0x39, 0x83, 0x9d, 0xec, 0x58, 0xb9, 0x64, 0xec,
+        0x38, 0x43,
+    ];
+    assert_eq!(rt; hmac(b"Jefe", b"what do ya want for nothing?"), nothing);
+}
+
+#[test]
+fn a_key_of_more_than_a_block_is_replaced_by_its_digest(rt: HostRuntime) {
+    let long = [7; 65];
+    let short = Sha256::digest(&long);
+    assert_eq!(rt; hmac(&long, b"text"), hmac(&short, b"text"));
+    assert!(rt; hmac(&[7; 64], b"text") != hmac(&Sha256::digest(&[7; 64]), b"text"));
 }

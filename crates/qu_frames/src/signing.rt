@@ -1,0 +1,92 @@
+//! Frames whose HMAC their sender makes for one receiver.
+ghost use Rattle.std.specs.Prelude.{◌≡◌, ◌++◌, IfOk};
+ghost use Rattle.qu_frames.specs.Signed.{sender, mac_of, before_mac, text_digest, signed, is_signed, brought};
+
+use super::{Frame, decode, encode};
+use qu_base::{Digest, List, NoMemory, Outbytes, Party, ReadFail};
+use qu_seal::{KeyRing, digest};
+use std::alloc::Global;
+
+/// The tag under which the bytes of a frame before its HMAC are digested.
+pub const FRAME_TAG: u8 = 4;
+
+impl Frame {
+    /// Who sent it, as it says.
+    pub fn sender(&self) -> Party
+        ensures { result ≡ sender self.now }
+    {
+        match self {
+            Frame::Request { client, .. } => Party::Client(*client),
+            Frame::Reply { replica, .. } => Party::Replica(*replica),
+        }
+    }
+
+    /// Its text with the HMAC that its sender makes for this receiver, in the place of its own.
+    #[tactic(auto, unfolding(crate::specs::Signed::signed))]
+    pub fn signed(&self, alloc: Global, keys: &KeyRing, to: Party) -> Result<List<u8>, NoMemory>
+        ensures { IfOk result (λ text. text ≡ signed keys.now to self.now) }
+    {
+        let text = encode(alloc, self)?;
+        let mac = keys.seal_for(self.sender(), to, &text_digest(text.as_slice()));
+        with_mac(alloc, text.as_slice(), &mac)
+    }
+
+    /// Whether its HMAC is right for this receiver, where this is its text.
+    #[tactic(auto, unfolding(crate::specs::Signed::is_signed))]
+    pub fn is_signed(&self, keys: &KeyRing, to: Party, text: &[u8]) -> bool
+        ensures { result ≡ is_signed keys.now to text.now self.now }
+    {
+        keys.verifies(self.sender(), to, &text_digest(text), self.mac())
+    }
+
+    fn mac(&self) -> &[u8; 32]
+        ensures { result.now ≡ mac_of self.now }
+    {
+        match self {
+            Frame::Request { mac, .. } | Frame::Reply { mac, .. } => mac,
+        }
+    }
+}
+
+/// The frame that a text brings to a party: the one that is decoded, where its HMAC is right for the
+/// party. None of any other text.
+#[tactic(auto, unfolding(crate::specs::Signed::brought))]
+pub fn receive(
+    alloc: Global,
+    keys: &KeyRing,
+    me: Party,
+    text: &[u8],
+) -> Result<Option<Frame>, NoMemory>
+    ensures { IfOk result (λ frame. frame ≡ brought keys.now me text.now) }
+{
+    match decode(alloc, text) {
+        Ok(frame) if frame.is_signed(keys, me, text) => Ok(Some(frame)),
+        Ok(_) | Err(ReadFail::Bad(_)) => Ok(None),
+        Err(ReadFail::NoMemory) => Err(NoMemory),
+    }
+}
+
+/// The text of a frame with this HMAC in the place of its own.
+pub fn with_mac(alloc: Global, text: &[u8], mac: &[u8; 32]) -> Result<List<u8>, NoMemory>
+    ensures { IfOk result (λ signed. signed ≡ before_mac text.now ++ mac.now) }
+{
+    let mut out = Outbytes::new(alloc);
+    out.put(before_mac(text))?;
+    out.put(mac)?;
+    Ok(out.done())
+}
+
+/// The digest of the bytes before the HMAC, of which the HMAC is made.
+#[tactic(auto, unfolding(crate::specs::Signed::text_digest))]
+pub fn text_digest(text: &[u8]) -> Digest
+    ensures { result ≡ text_digest text.now }
+{
+    digest(FRAME_TAG, before_mac(text))
+}
+
+/// The bytes before the HMAC, which are the last 32.
+fn before_mac(text: &[u8]) -> &[u8]
+    ensures { result.now ≡ before_mac text.now }
+{
+    &text[..text.len().saturating_sub(32)]
+}

@@ -1,0 +1,139 @@
+ghost use Rattle.std.specs.Prelude.{◌≡◌, ◌++◌, [], ◌∷◌, not, filter, map, IfOk, OnOk};
+ghost use Rattle.std.specs.List.{flat_map};
+ghost use Rattle.std.specs.Option.{option_copied};
+ghost use Rattle.qu_history.specs.Culled.{history_digest, mac_is_right, is_right, culled_set, culled, left_of, left_out};
+
+use super::{History, Sealed, SetOf, Sets};
+use qu_base::{Digest, List, NoMemory, ObjectId, Outbytes, Party, ReplicaId};
+use qu_seal::{KeyRing, digest};
+use std::alloc::Global;
+
+/// The tag under which a history is digested for its HMACs.
+pub const HISTORY_TAG: u8 = 3;
+
+/// What a replica makes of sets: those of the entries whose HMAC for it is right, and which others there were.
+#[derive(Debug, Drop)]
+pub struct Culled {
+    pub sets: Sets,
+    pub left: List<(ObjectId, ReplicaId)>,
+}
+
+impl Culled {
+    /// Equal sets and an equal list.
+    pub fn copy(&self, alloc: Global) -> Result<Culled, NoMemory>
+        ensures { IfOk result (λ found. found ≡ self.now) }
+    {
+        Ok(Culled {
+            sets: self.sets.copy(alloc)?,
+            left: self.left.copy(alloc)?,
+        })
+    }
+}
+
+impl History {
+    /// The digest of which the HMACs of a history are made.
+    #[tactic(auto, unfolding(crate::specs::Culled::history_digest))]
+    pub fn digest(&self, alloc: Global) -> Result<Digest, NoMemory>
+        ensures { IfOk result (λ digest. digest ≡ history_digest self.now) }
+    {
+        let mut out = Outbytes::new(alloc);
+        self.write(&mut out)?;
+        Ok(digest(HISTORY_TAG, out.done().as_slice()))
+    }
+}
+
+impl Sealed {
+    /// Whether it has an HMAC for each replica, and that for this reader is right.
+    #[tactic(auto, unfolding(crate::specs::Culled::is_right))]
+    pub fn is_right(&self, alloc: Global, me: ReplicaId, keys: &KeyRing) -> Result<bool, NoMemory>
+        ensures { IfOk result (λ right. right ≡ is_right keys.now me self.now) }
+    {
+        if self.macs.len() != usize::from(keys.bounds().n()) {
+            return Ok(false);
+        }
+        mac_is_right(
+            alloc,
+            &self.history,
+            me,
+            keys,
+            self.macs.get(usize::from(me.0)),
+        )
+    }
+}
+
+/// Whether the HMAC of a history for this reader is there, and right.
+fn mac_is_right(
+    alloc: Global,
+    history: &History,
+    me: ReplicaId,
+    keys: &KeyRing,
+    mac: Option<&[u8; 32]>,
+) -> Result<bool, NoMemory>
+    ensures { IfOk result (λ right. right ≡ mac_is_right keys.now me history.now (option_copied mac.entry)) }
+{
+    let Some(mac) = mac else {
+        return Ok(false);
+    };
+    let from = Party::Replica(history.replica());
+    let text = history.digest(alloc)?;
+    Ok(keys.verifies(from, Party::Replica(me), &text, mac))
+}
+
+impl Sets {
+    /// The sets without the entries whose HMAC for this reader is wrong, and which entries these are.
+    pub fn cull(&self, alloc: Global, me: ReplicaId, keys: &KeyRing) -> Result<Culled, NoMemory>
+        ensures sets { IfOk result (λ found. found.sets ≡ culled keys.now me self.now) }
+        ensures left { IfOk result (λ found. found.left ≡ left_out keys.now me self.now) }
+    {
+        let mut left = List::new(alloc);
+        let objects = cull_all(alloc, self.objects().as_slice(), me, keys, &mut left)?;
+        Ok(Culled {
+            sets: Sets { objects },
+            left,
+        })
+    }
+}
+
+/// The objects without such entries, which are added to those that are left out.
+#[tactic(auto, unfolding(crate::specs::Culled::culled, crate::specs::Culled::left_out))]
+fn cull_all(
+    alloc: Global,
+    sets: &[SetOf],
+    me: ReplicaId,
+    keys: &KeyRing,
+    left: &mut List<(ObjectId, ReplicaId)>,
+) -> Result<List<SetOf>, NoMemory>
+    ensures stays { IfOk result (λ objects. objects ≡ culled keys.now me sets.now) }
+    ensures left { OnOk result (left.new ≡ left.old ++ left_out keys.now me sets.now) }
+{
+    let mut objects = List::new(alloc);
+    for set in sets {
+        objects.push(cull_set(alloc, set, me, keys, left)?)?;
+    }
+    Ok(objects)
+}
+
+/// The same of one object.
+fn cull_set(
+    alloc: Global,
+    set: &SetOf,
+    me: ReplicaId,
+    keys: &KeyRing,
+    left: &mut List<(ObjectId, ReplicaId)>,
+) -> Result<SetOf, NoMemory>
+    ensures stays { IfOk result (λ found. found ≡ culled_set keys.now me set.now) }
+    ensures left { OnOk result (left.new ≡ left.old ++ left_of keys.now me set.now) }
+{
+    let mut entries = List::new(alloc);
+    for entry in set.entries.as_slice() {
+        if entry.is_right(alloc, me, keys)? {
+            entries.push(entry.copy(alloc)?)?;
+        } else {
+            left.push((set.object, entry.history.replica()))?;
+        }
+    }
+    Ok(SetOf {
+        object: set.object,
+        entries,
+    })
+}
