@@ -1,7 +1,9 @@
-ghost use Rattle.std.specs.Prelude.{◌≡◌, None, Some};
+ghost use Rattle.std.specs.Prelude.{◌≡◌, None, Some, IfOk};
 ghost use Rattle.qu_cli.specs.Report.{status_of};
 
+use qu_base::NoMemory;
 use qu_trace::Trace;
+use std::alloc::Global;
 
 /// How a run of the program ended.
 #[derive(Clone, Copy, Debug, PartialEq, Eq)]
@@ -46,6 +48,20 @@ pub struct Report {
 }
 
 impl Report {
+    /// An equal report.
+    pub fn copy(&self, alloc: Global) -> Result<Report, NoMemory>
+        ensures { IfOk result (λ report. report ≡ self.now) }
+    {
+        let trace = match &self.trace {
+            Some(trace) => Some(trace.copy(alloc)?),
+            None => None,
+        };
+        Ok(Report {
+            status: self.status,
+            trace,
+        })
+    }
+
     /// The report of a run that ended so.
     pub fn with_trace(outcome: Outcome, trace: Trace) -> Report
         ensures status { result.status ≡ status_of outcome }

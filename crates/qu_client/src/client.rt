@@ -39,6 +39,20 @@ pub struct Moved {
 }
 
 impl Moved {
+    /// Equal letters and an equal end.
+    pub fn copy(&self, alloc: Global) -> Result<Moved, NoMemory>
+        ensures { IfOk result (λ moved. moved ≡ self.now) }
+    {
+        let ended = match &self.ended {
+            Some(outcome) => Some(outcome.copy(alloc)?),
+            None => None,
+        };
+        Ok(Moved {
+            letters: Letter::copy_all(alloc, self.letters.as_slice())?,
+            ended,
+        })
+    }
+
     /// What is made where nothing happens.
     fn nothing(alloc: Global) -> Moved
         ensures letters { result.letters ≡ [] }

@@ -32,7 +32,8 @@ impl Kept {
         self.number < other.number || self.number == other.number && self.round < other.round
     }
 
-    fn copy(&self, alloc: Global) -> Result<Kept, NoMemory>
+    /// An equal history of the same answer.
+    pub fn copy(&self, alloc: Global) -> Result<Kept, NoMemory>
         ensures { IfOk result (λ kept. kept ≡ self.now) }
     {
         Ok(Kept {

@@ -126,4 +126,15 @@ impl Letter {
             text: self.text.copy(alloc)?,
         })
     }
+
+    /// Equal letters.
+    pub fn copy_all(alloc: Global, letters: &[Letter]) -> Result<List<Letter>, NoMemory>
+        ensures { IfOk result (λ copies. copies ≡ letters.now) }
+    {
+        let mut copies = List::new(alloc);
+        for letter in letters {
+            copies.push(letter.copy(alloc)?)?;
+        }
+        Ok(copies)
+    }
 }

@@ -1,5 +1,8 @@
-use qu_base::ClientId;
+ghost use Rattle.std.specs.Prelude.{◌≡◌, IfOk};
+
+use qu_base::{ClientId, NoMemory};
 use qu_objects::{Op, Outcome};
+use std::alloc::Global;
 
 /// An operation of a client, as a run shows it.
 #[derive(Debug, Drop)]
@@ -14,6 +17,25 @@ pub struct OpRecord {
     pub reply: Option<(u64, Outcome)>,
 }
 
+impl OpRecord {
+    /// An equal record.
+    pub fn copy(&self, alloc: Global) -> Result<OpRecord, NoMemory>
+        ensures { IfOk result (λ operation. operation ≡ self.now) }
+    {
+        let reply = match &self.reply {
+            Some((event, outcome)) => Some((*event, outcome.copy(alloc)?)),
+            None => None,
+        };
+        Ok(OpRecord {
+            client: self.client,
+            number: self.number,
+            op: self.op.copy(alloc)?,
+            invoked: self.invoked,
+            reply,
+        })
+    }
+}
+
 /// The point at which an operation took effect.
 #[derive(Debug, Drop)]
 pub struct Point {
@@ -23,4 +45,19 @@ pub struct Point {
     pub op: Op,
     /// Whether its client is a faulty one.
     pub faulty: bool,
+}
+
+impl Point {
+    /// An equal point.
+    pub fn copy(&self, alloc: Global) -> Result<Point, NoMemory>
+        ensures { IfOk result (λ point. point ≡ self.now) }
+    {
+        Ok(Point {
+            event: self.event,
+            client: self.client,
+            number: self.number,
+            op: self.op.copy(alloc)?,
+            faulty: self.faulty,
+        })
+    }
 }

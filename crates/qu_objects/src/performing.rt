@@ -12,6 +12,18 @@ pub struct Performed {
     pub answer: Answer,
 }
 
+impl Performed {
+    /// Equal values and an equal answer.
+    pub fn copy(&self, alloc: Global) -> Result<Performed, NoMemory>
+        ensures { IfOk result (λ performed. performed ≡ self.now) }
+    {
+        Ok(Performed {
+            values: self.values.copy(alloc)?,
+            answer: self.answer.copy(alloc)?,
+        })
+    }
+}
+
 /// Performs an act on the values of its objects, given in the order of its parts.
 pub fn perform(alloc: Global, values: &[Value], act: &Act) -> Result<Performed, NoMemory>
     requires { length values.now ≡ length act.now }

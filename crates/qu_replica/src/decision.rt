@@ -15,6 +15,30 @@ pub struct Accepted {
     pub state: ObjState,
 }
 
+impl Accepted {
+    /// An equal candidate with an equal version.
+    pub fn copy(&self, alloc: Global) -> Result<Accepted, NoMemory>
+        ensures { IfOk result (λ accepted. accepted ≡ self.now) }
+    {
+        Ok(Accepted {
+            object: self.object,
+            candidate: self.candidate,
+            state: self.state.copy(alloc)?,
+        })
+    }
+}
+
+/// Equal candidates with equal versions.
+fn copies(alloc: Global, accepted: &[Accepted]) -> Result<List<Accepted>, NoMemory>
+    ensures { IfOk result (λ copies. copies ≡ accepted.now) }
+{
+    let mut copies = List::new(alloc);
+    for one in accepted {
+        copies.push(one.copy(alloc)?)?;
+    }
+    Ok(copies)
+}
+
 /// What a replica makes of a request.
 #[derive(Debug, Drop)]
 pub enum Decision {
@@ -25,6 +49,21 @@ pub enum Decision {
     },
     /// A version upon which the operation rests is missing: nothing changes, and no letter is sent.
     Waits,
+}
+
+impl Decision {
+    /// An equal decision.
+    pub fn copy(&self, alloc: Global) -> Result<Decision, NoMemory>
+        ensures { IfOk result (λ decision. decision ≡ self.now) }
+    {
+        Ok(match self {
+            Decision::Answers { verdict, accepted } => Decision::Answers {
+                verdict: verdict.copy(alloc)?,
+                accepted: copies(alloc, accepted.as_slice())?,
+            },
+            Decision::Waits => Decision::Waits,
+        })
+    }
 }
 
 /// The decision to accept nothing.

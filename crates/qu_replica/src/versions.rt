@@ -1,10 +1,11 @@
-ghost use Rattle.std.specs.Prelude.{◌≡◌, find};
+ghost use Rattle.std.specs.Prelude.{◌≡◌, find, IfOk};
 ghost use Rattle.std.specs.Option.{option_copied};
 ghost use Rattle.qu_replica.specs.Versions.{is_stored, version_at};
 
-use qu_base::ObjectId;
+use qu_base::{NoMemory, ObjectId};
 use qu_objects::ObjState;
 use qu_stamp::Stamp;
+use std::alloc::Global;
 
 /// A version of an object, under the stamp of its candidate.
 #[derive(Debug, Drop)]
@@ -12,6 +13,19 @@ pub struct Stored {
     pub object: ObjectId,
     pub stamp: Stamp,
     pub state: ObjState,
+}
+
+impl Stored {
+    /// An equal version under the same stamp.
+    pub fn copy(&self, alloc: Global) -> Result<Stored, NoMemory>
+        ensures { IfOk result (λ stored. stored ≡ self.now) }
+    {
+        Ok(Stored {
+            object: self.object,
+            stamp: self.stamp,
+            state: self.state.copy(alloc)?,
+        })
+    }
 }
 
 /// The version of an object under this stamp.

@@ -1,6 +1,9 @@
-use qu_base::{ClientId, List};
+ghost use Rattle.std.specs.Prelude.{◌≡◌, IfOk};
+
+use qu_base::{ClientId, List, NoMemory};
 use qu_objects::Op;
 use qu_trace::Setup;
+use std::alloc::Global;
 
 /// What a line of a script says.
 #[derive(Debug, Drop)]
@@ -14,9 +17,38 @@ pub enum Line {
     Flow(Option<u64>),
 }
 
+impl Line {
+    /// An equal line.
+    pub fn copy(&self, alloc: Global) -> Result<Line, NoMemory>
+        ensures { IfOk result (λ line. line ≡ self.now) }
+    {
+        Ok(match self {
+            Line::Call(client, op) => Line::Call(*client, op.copy(alloc)?),
+            Line::Deliver(letters) => Line::Deliver(letters.copy(alloc)?),
+            Line::Flow(most) => Line::Flow(*most),
+        })
+    }
+}
+
 /// A script: who takes part, and the lines behind the setup with their numbers.
 #[derive(Debug, Drop)]
 pub struct Script {
     pub setup: Setup,
     pub lines: List<(u64, Line)>,
+}
+
+impl Script {
+    /// An equal script.
+    pub fn copy(&self, alloc: Global) -> Result<Script, NoMemory>
+        ensures { IfOk result (λ script. script ≡ self.now) }
+    {
+        let mut lines = List::new(alloc);
+        for numbered in self.lines.as_slice() {
+            lines.push((numbered.0, numbered.1.copy(alloc)?))?;
+        }
+        Ok(Script {
+            setup: self.setup.copy(alloc)?,
+            lines,
+        })
+    }
 }

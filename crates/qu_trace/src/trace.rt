@@ -42,9 +42,42 @@ pub struct Entry {
     pub ended: Option<(ClientId, u64, Outcome)>,
 }
 
+impl Entry {
+    /// An equal entry.
+    pub fn copy(&self, alloc: Global) -> Result<Entry, NoMemory>
+        ensures { IfOk result (λ entry. entry ≡ self.now) }
+    {
+        let ended = match &self.ended {
+            Some((client, number, outcome)) => Some((*client, *number, outcome.copy(alloc)?)),
+            None => None,
+        };
+        Ok(Entry {
+            event: self.event.copy(alloc)?,
+            letters: Letter::copy_all(alloc, self.letters.as_slice())?,
+            ended,
+        })
+    }
+}
+
 /// A run, from its setup on. Events are numbered from 1, and so are letters.
 #[derive(Debug, Drop)]
 pub struct Trace {
     pub setup: Setup,
     pub entries: List<Entry>,
+}
+
+impl Trace {
+    /// An equal run.
+    pub fn copy(&self, alloc: Global) -> Result<Trace, NoMemory>
+        ensures { IfOk result (λ trace. trace ≡ self.now) }
+    {
+        let mut entries = List::new(alloc);
+        for entry in self.entries.as_slice() {
+            entries.push(entry.copy(alloc)?)?;
+        }
+        Ok(Trace {
+            setup: self.setup.copy(alloc)?,
+            entries,
+        })
+    }
 }
