@@ -4,14 +4,18 @@ use Rattle.std.proofs.lemmas.List.{take_all}
 use Rattle.std.proofs.lemmas.Bool.{cases_Bool, and_from, and_parts, false≢true, eq-eqb, eqb-true, le-leb, lt-ltb}
 use Rattle.qu_base.specs.declared.party.ClientId.{ClientId}
 use Rattle.qu_base.specs.declared.party.ObjectId.{ObjectId}
+use Rattle.qu_base.specs.declared.party.Digest.{Digest}
+use Rattle.qu_base.specs.declared.party.Party.{Party}
 use Rattle.qu_base.specs.declared.party.Party.TheVariants as party
 use Rattle.qu_base.specs.Thresholds.{replicas}
+use Rattle.qu_seal.specs.Keys.{Ring, seal_of}
 use Rattle.qu_history.specs.declared.sets.SetOf.{SetOf}
 use Rattle.qu_history.specs.declared.sealed.Sealed.{Sealed}
 use Rattle.qu_history.specs.Sets.{histories, are_entries, are_sets_from, are_sets}
 use Rattle.qu_objects.specs.Parts.{are_parts}
 use Rattle.qu_frames.specs.declared.frame.Letter.{Letter}
 use Rattle.qu_frames.specs.Forms.{frame_form}
+use Rattle.qu_frames.specs.Signed.{before_mac, text_digest, signed}
 use Rattle.qu_client.specs.declared.kept.Kept.{Kept}
 use Rattle.qu_client.specs.declared.work.Work.{Work}
 use Rattle.qu_client.specs.State.{kept_of}
@@ -55,15 +59,25 @@ module _ (object : ObjectId) (replica n : ℕ) (kept : List Kept) (entries total
 abbrev pub request : ℕ → ClientId → List ℕ → Letter
 request replica me text = record { from = party.Client me; to = party.Replica (record { 0 = replica }); text = text }
 
-module _ (replica n : ℕ) (me : ClientId) (work : Work) (sets : List SetOf) (letters total : List Letter) (so_far : letters ++ requests_from replica (n - replica) me work sets ≡ total) where
-  -- the next replica's request, with a copy of the text
-  pub requests_from_more : (text copied : List ℕ) (grown : List Letter) → replica < n → text ≡ frame_form.spell (request_of me work sets) → copied ≡ text → grown ≡ letters ++ request replica me copied ∷ [] → grown ++ requests_from (replica + 1) (n - (replica + 1)) me work sets ≡ total
+-- a text with the HMAC of its digest is signed
+signed_so : (keys : Ring) (to : Party) (me : ClientId) (work : Work) (sets : List SetOf) (text : List ℕ) (digest : Digest) (mac made : List ℕ) → text ≡ frame_form.spell (request_of me work sets) → digest ≡ text_digest text
+    → mac ≡ seal_of keys (party.Client me) to digest → made ≡ before_mac text ++ mac → made ≡ signed keys to (request_of me work sets)
+unfolding signed
+signed_so keys to me work sets text digest mac made spelled digests seals is =
+    is ∙ (λ i. before_mac (spelled i) ++ (seals ∙ ap (λ (it : Digest). seal_of keys (party.Client me) to it) (digests ∙ ap text_digest spelled)) i)
+
+module _ (keys : Ring) (replica n : ℕ) (me : ClientId) (work : Work) (sets : List SetOf) (letters total : List Letter) (so_far : letters ++ requests_from keys replica (n - replica) me work sets ≡ total) where
+  -- the next replica's request, with the HMAC for it
+  pub requests_from_more : (text : List ℕ) (digest : Digest) (mac made : List ℕ) (grown : List Letter) → replica < n → text ≡ frame_form.spell (request_of me work sets) → digest ≡ text_digest text
+      → mac ≡ seal_of keys (party.Client me) (party.Replica (record { 0 = replica })) digest → made ≡ before_mac text ++ mac → grown ≡ letters ++ request replica me made ∷ []
+      → grown ++ requests_from keys (replica + 1) (n - (replica + 1)) me work sets ≡ total
   unfolding requests_from
-  requests_from_more text copied grown below spelled same grows =
-      ap (λ front. front ++ requests_from (replica + 1) (n - (replica + 1)) me work sets)
-      (grows ∙ ap (λ that. letters ++ request replica me that ∷ []) (same ∙ spelled)) ∙
-      append_assoc letters (request replica me (frame_form.spell (request_of me work sets)) ∷ []) _ ∙
-      ap (λ count. letters ++ requests_from replica count me work sets) (sym (left_after n replica below)) ∙
+  requests_from_more text digest mac made grown below spelled digests seals is grows =
+      let to : Party = party.Replica (record { 0 = replica }) in
+      ap (λ front. front ++ requests_from keys (replica + 1) (n - (replica + 1)) me work sets)
+      (grows ∙ ap (λ that. letters ++ request replica me that ∷ []) (signed_so keys to me work sets text digest mac made spelled digests seals is)) ∙
+      append_assoc letters (request replica me (signed keys to (request_of me work sets)) ∷ []) _ ∙
+      ap (λ count. letters ++ requests_from keys replica count me work sets) (sym (left_after n replica below)) ∙
       so_far
 
   -- after the last replica
@@ -71,7 +85,7 @@ module _ (replica n : ℕ) (me : ClientId) (work : Work) (sets : List SetOf) (le
   unfolding requests_from
   requests_from_end past =
       let none : n - replica ≡ 0 = omega arith in
-      sym (append-nil letters) ∙ ap (λ count. letters ++ requests_from replica count me work sets) (sym none) ∙ so_far
+      sym (append-nil letters) ∙ ap (λ count. letters ++ requests_from keys replica count me work sets) (sym none) ∙ so_far
 
 -- what is kept of an object and a replica is a history of that object at that replica
 IsOf : ObjectId → ℕ → Sealed → Type 0

@@ -1,7 +1,7 @@
 -- What a step of a client may be: whatever holds of each of these holds of the step.
-use Rattle.std.proofs.Common.{◌≡◌, ℕ, ◌+◌, ◌<◌, ◌≤◌, Bool, true, cond, leb, List, [], ◌∷◌, ◌++◌, Option, None, Some, Result, Ok, Err, refl}
+use Rattle.std.proofs.Common.{◌≡◌, ℕ, ◌+◌, ◌<◌, ◌≤◌, Bool, true, cond, leb, List, [], ◌∷◌, ◌++◌, Option, None, Some, refl}
 use Rattle.std.proofs.lemmas.Bool.{cond_both, leb-false, leb-true, and_parts}
-use Rattle.qu_base.specs.declared.bad_text.BadText.{BadText}
+use Rattle.qu_base.specs.declared.party.Party.TheVariants as party
 use Rattle.qu_base.specs.declared.party.ReplicaId.{ReplicaId}
 use Rattle.qu_base.specs.Thresholds.{quorum}
 use Rattle.qu_objects.specs.declared.answer.Answer.{Answer}
@@ -12,14 +12,14 @@ use Rattle.qu_frames.specs.declared.frame.Frame.{Frame}
 use Rattle.qu_frames.specs.declared.frame.Frame.TheVariants as frame
 use Rattle.qu_frames.specs.declared.frame.Letter.{Letter}
 use Rattle.qu_frames.specs.declared.verdict.Verdict.{Verdict}
-use Rattle.qu_frames.specs.Decoding.{decoded}
+use Rattle.qu_frames.specs.Signed.{brought}
 use Rattle.qu_client.specs.declared.kept.Kept.{Kept}
 use Rattle.qu_client.specs.declared.work.Counted.{Counted}
 use Rattle.qu_client.specs.declared.work.Work.{Work}
 use Rattle.qu_client.specs.declared.work.TheConstants.{LAST_ROUND}
 use Rattle.qu_client.specs.State.{ClientState, keep_all}
 use Rattle.qu_client.specs.Rounds.{sets_of, are_full, asked, halted, begin_round}
-use Rattle.qu_client.specs.Step.{Stepped, stays, goes_on, ends, fitting, identical, next_round, judged, is_asking, counts, counted_in, on_frame, on_decoded, client_step, client_invoke, first_work, next_number}
+use Rattle.qu_client.specs.Step.{Stepped, stays, goes_on, ends, fitting, identical, next_round, judged, is_asking, counts, counted_in, on_frame, on_received, client_step, client_invoke, first_work, next_number}
 
 cond_by : {A : Type 0} (P : A → Type 0) (b : Bool) (x y : A) → P x → P y → P (cond b x y)
 cond_by P b x y first second = cond_both b x y P (λ _. first) (λ _. second)
@@ -95,13 +95,13 @@ module _ (state : ClientState) (P : Stepped → Type 0)
       (λ work is counting. halts kept work (with_verdict work replica verdict).replies is (and_parts _ _ counting).0))
       same
 
-  decoded_cases : (read : Result Frame BadText) → P (on_decoded state read)
-  decoded_cases (Ok frame) = frame_cases frame
-  decoded_cases (Err bad) = same
+  received_cases : (found : Option Frame) → P (on_received state found)
+  received_cases (Some frame) = frame_cases frame
+  received_cases None = same
 
   -- and what a text makes of it
   pub step_cases : (text : List ℕ) → P (client_step state text)
-  step_cases text = decoded_cases (decoded text)
+  step_cases text = received_cases (brought state.keys (party.Client state.me) text)
 
 -- what an invocation makes of a state
 pub invoke_cases : (state : ClientState) (op : Op) (P : Stepped → Type 0) → ((acted : Bool) → P (goes_on (asked state (record (first_work op (next_number state.last_request)) { acted = acted }) (sets_of state.bounds state.kept op)))) → P (goes_on (halted state (first_work op (next_number state.last_request)))) → P (client_invoke state op)

@@ -8,6 +8,7 @@ use Rattle.std.proofs.lemmas.List.Elements.{All-nil, All-cons}
 use Rattle.qu_base.specs.declared.party.ClientId.{ClientId}
 use Rattle.qu_base.specs.declared.party.ReplicaId.{ReplicaId}
 use Rattle.qu_base.specs.Thresholds.{replicas}
+use Rattle.qu_seal.specs.Keys.{Ring}
 use Rattle.qu_history.specs.declared.sets.SetOf.{SetOf}
 use Rattle.qu_objects.specs.declared.op.Op.{Op}
 use Rattle.qu_frames.specs.declared.verdict.Verdict.{Verdict}
@@ -23,7 +24,7 @@ fits_by : (most : ℕ) (last : Option (ℕ × ℕ)) → IfSome last (λ last. la
 fits_by most None within few = tt
 fits_by most (Some last) within few = omega arith
 
--- name and bounds stay
+-- name, keys and bounds stay
 
 pub client_step-me : (state : ClientState) (text : List ℕ) → (client_step state text).state.me ≡ state.me
 client_step-me state text =
@@ -33,6 +34,10 @@ pub client_step-bounds : (state : ClientState) (text : List ℕ) → (client_ste
 client_step-bounds state text =
     step_cases state (λ stepped. stepped.state.bounds ≡ state.bounds) refl (λ _. refl) (λ _ _ _ _ _ _ _ _. refl) (λ _ _. refl) (λ _ _ _ _ _ _ _. refl) (λ _ _ _ _ _ _. refl) text
 
+pub client_step-keys : (state : ClientState) (text : List ℕ) → (client_step state text).state.keys ≡ state.keys
+client_step-keys state text =
+    step_cases state (λ stepped. stepped.state.keys ≡ state.keys) refl (λ _. refl) (λ _ _ _ _ _ _ _ _. refl) (λ _ _. refl) (λ _ _ _ _ _ _ _. refl) (λ _ _ _ _ _ _. refl) text
+
 pub client_invoke-me : (state : ClientState) (op : Op) → (client_invoke state op).state.me ≡ state.me
 client_invoke-me state op =
     invoke_cases state op (λ stepped. stepped.state.me ≡ state.me) (λ _. refl) refl
@@ -41,10 +46,14 @@ pub client_invoke-bounds : (state : ClientState) (op : Op) → (client_invoke st
 client_invoke-bounds state op =
     invoke_cases state op (λ stepped. stepped.state.bounds ≡ state.bounds) (λ _. refl) refl
 
+pub client_invoke-keys : (state : ClientState) (op : Op) → (client_invoke state op).state.keys ≡ state.keys
+client_invoke-keys state op =
+    invoke_cases state op (λ stepped. stepped.state.keys ≡ state.keys) (λ _. refl) refl
+
 -- numbers are at most the number of invocations so far
 
-pub NumbersWithin-opening : (me : ClientId) (bounds : ℕ) → NumbersWithin 0 (opening_state me bounds)
-NumbersWithin-opening me bounds = record { last = tt; work = tt }
+pub NumbersWithin-opening : (me : ClientId) (keys : Ring) (bounds : ℕ) → NumbersWithin 0 (opening_state me keys bounds)
+NumbersWithin-opening me keys bounds = record { last = tt; work = tt }
 
 pub work_within : (most : ℕ) (state : ClientState) (work : Work) → NumbersWithin most state → state.work ≡ Some work → work.number ≤ most
 work_within most state work within is =
@@ -85,8 +94,8 @@ may_invoke most state within few = fits_by most state.last_request within.last f
 
 -- a client stays sound
 
-pub IsSound-opening : (me : ClientId) (bounds : ℕ) → IsSound (opening_state me bounds)
-IsSound-opening me bounds = tt
+pub IsSound-opening : (me : ClientId) (keys : Ring) (bounds : ℕ) → IsSound (opening_state me keys bounds)
+IsSound-opening me keys bounds = tt
 
 pub sound_work : (state : ClientState) (work : Work) → IsSound state → state.work ≡ Some work → IsSoundWork state.last_request work
 sound_work state work sound is =
@@ -147,23 +156,23 @@ client_invoke-last_number state op =
 
 -- a step sends at most one letter to each replica, and no other
 
-length-requests_from : (count replica : ℕ) (me : ClientId) (work : Work) (sets : List SetOf) → length (requests_from replica count me work sets) ≡ count
+length-requests_from : (keys : Ring) (count replica : ℕ) (me : ClientId) (work : Work) (sets : List SetOf) → length (requests_from keys replica count me work sets) ≡ count
 unfolding requests_from
-length-requests_from zero replica me work sets = refl
-length-requests_from (suc count) replica me work sets = ap suc (length-requests_from count (replica + 1) me work sets)
+length-requests_from keys zero replica me work sets = refl
+length-requests_from keys (suc count) replica me work sets = ap suc (length-requests_from keys count (replica + 1) me work sets)
 
-requests_from-to : (count replica all : ℕ) (me : ClientId) (work : Work) (sets : List SetOf) → replica + count ≤ all → All (IsFromTo me all) (requests_from replica count me work sets)
+requests_from-to : (keys : Ring) (count replica all : ℕ) (me : ClientId) (work : Work) (sets : List SetOf) → replica + count ≤ all → All (IsFromTo me all) (requests_from keys replica count me work sets)
 unfolding requests_from
-requests_from-to zero replica all me work sets within = All-nil (IsFromTo me all)
-requests_from-to (suc count) replica all me work sets within =
-    All-cons (IsFromTo me all) _ _ (record { replica = replica; among = omega arith; from = refl; to = refl }) (requests_from-to count (replica + 1) all me work sets (omega arith))
+requests_from-to keys zero replica all me work sets within = All-nil (IsFromTo me all)
+requests_from-to keys (suc count) replica all me work sets within =
+    All-cons (IsFromTo me all) _ _ (record { replica = replica; among = omega arith; from = refl; to = refl }) (requests_from-to keys count (replica + 1) all me work sets (omega arith))
 
 pub client_step-letters : (state : ClientState) (text : List ℕ) → All (IsFromTo state.me (replicas state.bounds)) (client_step state text).letters
 client_step-letters state text =
     let none = All-nil (IsFromTo state.me (replicas state.bounds)) in
     step_cases state (λ stepped. All (IsFromTo state.me (replicas state.bounds)) stepped.letters)
     none (λ _. none) (λ _ _ _ _ _ _ _ _. none) (λ _ _. none)
-    (λ kept work replies acted is asking below. requests_from-to (replicas state.bounds) 0 (replicas state.bounds) state.me _ _ (omega arith))
+    (λ kept work replies acted is asking below. requests_from-to state.keys (replicas state.bounds) 0 (replicas state.bounds) state.me _ _ (omega arith))
     (λ _ _ _ _ _ _. none)
     text
 
@@ -178,7 +187,7 @@ client_step-few state text =
 pub client_invoke-letters : (state : ClientState) (op : Op) → All (IsFromTo state.me (replicas state.bounds)) (client_invoke state op).letters
 client_invoke-letters state op =
     invoke_cases state op (λ stepped. All (IsFromTo state.me (replicas state.bounds)) stepped.letters)
-    (λ acted. requests_from-to (replicas state.bounds) 0 (replicas state.bounds) state.me _ _ (omega arith))
+    (λ acted. requests_from-to state.keys (replicas state.bounds) 0 (replicas state.bounds) state.me _ _ (omega arith))
     (All-nil (IsFromTo state.me (replicas state.bounds)))
 
 pub client_invoke-few : (state : ClientState) (op : Op) → length (client_invoke state op).letters ≤ replicas state.bounds

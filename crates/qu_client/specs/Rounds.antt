@@ -5,6 +5,7 @@ use Rattle.qu_base.specs.declared.party.ClientId.{ClientId}
 use Rattle.qu_base.specs.declared.party.ObjectId.{ObjectId}
 use Rattle.qu_base.specs.declared.party.Party.TheVariants as party
 use Rattle.qu_base.specs.Thresholds.{replicas, quorum}
+use Rattle.qu_seal.specs.Keys.{Ring}
 use Rattle.qu_history.specs.declared.sets.SetOf.{SetOf}
 use Rattle.qu_history.specs.declared.sealed.Sealed.{Sealed}
 use Rattle.qu_history.specs.Sets.{histories, method_at}
@@ -15,7 +16,7 @@ use Rattle.qu_frames.specs.declared.frame.Frame.TheVariants as frame
 use Rattle.qu_frames.specs.declared.frame.Letter.{Letter}
 use Rattle.qu_frames.specs.Body.{body_of}
 use Rattle.qu_frames.specs.Blank.{blank_mac}
-use Rattle.qu_frames.specs.Forms.{frame_form}
+use Rattle.qu_frames.specs.Signed.{signed}
 use Rattle.qu_client.specs.declared.kept.Kept.{Kept}
 use Rattle.qu_client.specs.declared.state.Begun.{Begun}
 use Rattle.qu_client.specs.declared.work.Phase.TheVariants.{Asking, Halted}
@@ -58,18 +59,18 @@ are_full bounds sets = list_all (λ set. not (nat_lt (length set.entries) (quoru
 abbrev pub are_current : ℕ → List SetOf → Bool
 are_current bounds sets = list_all (λ set. is_some (method_at bounds (histories set.entries))) sets
 
--- what is asked in a round
+-- what is asked in a round, before its HMAC is made
 abbrev pub request_of : ClientId → Work → List SetOf → Frame
 request_of me work sets = frame.Request me work.number work.round sets (body_of work.op) blank_mac
 
--- the same request to so many replicas from this one on
-unfoldable pub requests_from : ℕ → ℕ → ClientId → Work → List SetOf → List Letter
-requests_from replica zero me work sets = []
-requests_from replica (suc count) me work sets = (record {
+-- the same request to so many replicas from this one on, signed for each
+unfoldable pub requests_from : Ring → ℕ → ℕ → ClientId → Work → List SetOf → List Letter
+requests_from keys replica zero me work sets = []
+requests_from keys replica (suc count) me work sets = (record {
   from = party.Client me;
   to = party.Replica (record { 0 = replica });
-  text = frame_form.spell (request_of me work sets);
-}) ∷ requests_from (replica + 1) count me work sets
+  text = signed keys (party.Replica (record { 0 = replica })) (request_of me work sets);
+}) ∷ requests_from keys (replica + 1) count me work sets
 
 -- the state and the letters that a round makes of this state
 abbrev pub begun_from : ClientState → Begun → ClientState × List Letter
@@ -80,7 +81,7 @@ begun_from state begun =
 abbrev pub asked : ClientState → Work → List SetOf → ClientState × List Letter
 asked state work sets = (
   record state { last_request = Some (work.number, work.round); work = Some (record work { phase = Asking; replies = [] }) },
-  requests_from 0 (replicas state.bounds) state.me work sets,
+  requests_from state.keys 0 (replicas state.bounds) state.me work sets,
 )
 
 -- nothing is sent, and the operation stays open

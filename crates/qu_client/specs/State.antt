@@ -2,13 +2,14 @@
 use Rattle.std.specs.Prelude.{ℕ, Bool, ◌==◌, ◌&&◌, ◌||◌, nat_lt, if◌then◌else◌, List, [], ◌∷◌, Option, None, Some}
 use Rattle.qu_base.specs.declared.party.ClientId.{ClientId}
 use Rattle.qu_base.specs.declared.party.ObjectId.{ObjectId}
+use Rattle.qu_seal.specs.Keys.{Ring}
 use Rattle.qu_history.specs.History.{ObjectHistory}
 use Rattle.qu_history.specs.declared.sealed.Sealed.{Sealed}
 use Rattle.qu_client.specs.declared.kept.Kept.{Kept}
 pub use Rattle.qu_client.specs.declared.state.ClientState.{ClientState}
 
-abbrev pub opening_state : ClientId → ℕ → ClientState
-opening_state me bounds = record { me = me; bounds = bounds; kept = []; last_request = None; work = None }
+abbrev pub opening_state : ClientId → Ring → ℕ → ClientState
+opening_state me keys bounds = record { me = me; keys = keys; bounds = bounds; kept = []; last_request = None; work = None }
 
 -- an answer to this number and round is older than an answer to that one
 abbrev pub is_older : ℕ → ℕ → ℕ → ℕ → Bool

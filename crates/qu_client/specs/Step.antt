@@ -1,8 +1,8 @@
 -- The client's step: a function from its state and an invocation, a text or a tick to a state,
 -- letters and possibly an end.
-use Rattle.std.specs.Prelude.{ℕ, Bool, true, false, not, ◌+◌, ◌-◌, ◌==◌, ◌&&◌, nat_lt, nat_le, if◌then◌else◌, List, [], ◌∷◌, ◌++◌, length, count_by, max, Option, None, Some, Result, Ok, Err}
+use Rattle.std.specs.Prelude.{ℕ, Bool, true, false, not, ◌+◌, ◌-◌, ◌==◌, ◌&&◌, nat_lt, nat_le, if◌then◌else◌, List, [], ◌∷◌, ◌++◌, length, count_by, max, Option, None, Some}
 use Rattle.std.specs.List.{list_any}
-use Rattle.qu_base.specs.declared.bad_text.BadText.{BadText}
+use Rattle.qu_base.specs.declared.party.Party.TheVariants as party
 use Rattle.qu_base.specs.declared.party.ReplicaId.{ReplicaId}
 use Rattle.qu_base.specs.Thresholds.{replicas, quorum}
 use Rattle.qu_objects.specs.declared.answer.Answer.{Answer}
@@ -16,7 +16,7 @@ use Rattle.qu_frames.specs.declared.frame.Letter.{Letter}
 use Rattle.qu_frames.specs.declared.verdict.Verdict.{Verdict}
 use Rattle.qu_frames.specs.declared.verdict.Verdict.TheVariants as verdict
 use Rattle.qu_frames.specs.Verdict.{same_verdict}
-use Rattle.qu_frames.specs.Decoding.{decoded}
+use Rattle.qu_frames.specs.Signed.{brought}
 use Rattle.qu_client.specs.declared.work.Counted.{Counted}
 use Rattle.qu_client.specs.declared.work.Phase.{Phase}
 use Rattle.qu_client.specs.declared.work.Phase.TheVariants.{Asking, Halted}
@@ -98,13 +98,13 @@ on_frame state (frame.Reply replica client number round verdict culled shown mac
     then counted_in (record state { kept = keep_all number round shown state.kept }) state.work replica number round verdict
     else stays state
 
-abbrev pub on_decoded : ClientState → Result Frame BadText → Stepped
-on_decoded state (Ok frame) = on_frame state frame
-on_decoded state (Err bad) = stays state
+abbrev pub on_received : ClientState → Option Frame → Stepped
+on_received state None = stays state
+on_received state (Some frame) = on_frame state frame
 
--- a text that is no frame is ignored
+-- a text that is no frame, or whose HMAC is wrong, is ignored
 abbrev pub client_step : ClientState → List ℕ → Stepped
-client_step state text = on_decoded state (decoded text)
+client_step state text = on_received state (brought state.keys (party.Client state.me) text)
 
 -- a tick changes nothing
 abbrev pub client_tick : ClientState → Stepped

@@ -6,9 +6,10 @@ use super::rounds::begin_round;
 use super::state::shown_to;
 use super::steps::counted_in;
 use super::{Begun, ClientState, Stepped, Work};
-use qu_base::{Bounds, ClientId, List, NoMemory, ReadFail};
-use qu_frames::{Frame, Letter, decode};
+use qu_base::{Bounds, ClientId, List, NoMemory, Party};
+use qu_frames::{Frame, Letter, receive};
 use qu_objects::{Op, Outcome};
+use qu_seal::KeyRing;
 use std::alloc::Global;
 use std::marker::Model;
 
@@ -82,13 +83,14 @@ impl Model for Client {
 
 impl Client {
     /// A client that was sent nothing yet.
-    pub fn start(alloc: Global, me: ClientId, bounds: Bounds) -> Client
-        ensures { result ≡ opening_state me bounds }
+    pub fn start(alloc: Global, me: ClientId, keys: KeyRing, bounds: Bounds) -> Client
+        ensures { result ≡ opening_state me keys bounds }
     {
         Client {
             alloc,
             state: ClientState {
                 me,
+                keys,
                 bounds,
                 kept: List::new(alloc),
                 last_request: None,
@@ -149,17 +151,18 @@ impl Client {
         Ok(letters)
     }
 
-    /// Takes the bytes of a frame; any others are ignored. Without memory the client is as before.
+    /// Takes the bytes of a frame whose HMAC is right for it; any others are ignored. Without memory
+    /// the client is as before.
     pub fn step(&mut self, text: &[u8]) -> Result<Moved, NoMemory>
         ensures state { OnOk result (self.new ≡ (client_step self.old text.now).state) }
         ensures letters { IfOk result (λ moved. moved.letters ≡ (client_step self.old text.now).letters) }
         ensures ended { IfOk result (λ moved. moved.ended ≡ (client_step self.old text.now).ended) }
         ensures err { OnErr result (self.new ≡ self.old) }
     {
-        match decode(self.alloc, text) {
-            Ok(frame) => self.on_frame(&frame),
-            Err(ReadFail::Bad(_)) => Ok(Moved::nothing(self.alloc)),
-            Err(ReadFail::NoMemory) => Err(NoMemory),
+        let me = Party::Client(self.state.me);
+        match receive(self.alloc, &self.state.keys, me, text)? {
+            Some(frame) => self.on_frame(&frame),
+            None => Ok(Moved::nothing(self.alloc)),
         }
     }
 

@@ -5,9 +5,10 @@ ghost use Rattle.qu_client.specs.Rounds.{is_act, request_of, requests_from, begu
 use super::sets::{are_current, are_full, sets_of};
 use super::{Begun, ClientState, Phase, Work};
 use qu_base::{ClientId, List, NoMemory, Party, ReplicaId};
-use qu_frames::{Body, Frame, Letter, blank_mac, encode};
+use qu_frames::{Body, Frame, Letter, blank_mac, encode, text_digest, with_mac};
 use qu_history::Sets;
 use qu_objects::Op;
+use qu_seal::KeyRing;
 use std::alloc::Global;
 
 /// A round begins from what is kept. Where that is less than a quorum, the replicas' answers show
@@ -46,7 +47,7 @@ fn begin_full(
 fn asked(alloc: Global, state: &ClientState, mut work: Work, sets: &Sets) -> Result<Begun, NoMemory>
     ensures { IfOk result (λ begun. begun_from state.now begun ≡ asked state.now work sets.now) }
 {
-    let letters = requests(alloc, state.me, state.bounds.n(), &work, sets)?;
+    let letters = requests(alloc, &state.keys, state.me, state.bounds.n(), &work, sets)?;
     work.phase = Phase::Asking;
     work.replies = List::new(alloc);
     Ok(Begun {
@@ -78,29 +79,34 @@ fn is_act(op: &Op) -> bool
     }
 }
 
-/// The same request to each replica.
+/// The same request to each replica, signed for it.
 fn requests(
     alloc: Global,
+    keys: &KeyRing,
     me: ClientId,
     replicas: u8,
     work: &Work,
     sets: &Sets,
 ) -> Result<List<Letter>, NoMemory>
-    ensures { IfOk result (λ letters. letters ≡ requests_from 0 replicas me work.now sets.now) }
+    ensures { IfOk result (λ letters. letters ≡ requests_from keys.now 0 replicas me work.now sets.now) }
 {
     let text = request(alloc, me, work, sets)?;
+    let digest = text_digest(text.as_slice());
+    let from = Party::Client(me);
     let mut letters = List::new(alloc);
     for replica in 0..replicas {
+        let to = Party::Replica(ReplicaId(replica));
+        let mac = keys.seal_for(from, to, &digest);
         letters.push(Letter {
-            from: Party::Client(me),
-            to: Party::Replica(ReplicaId(replica)),
-            text: text.copy(alloc)?,
+            from,
+            to,
+            text: with_mac(alloc, text.as_slice(), &mac)?,
         })?;
     }
     Ok(letters)
 }
 
-/// The bytes of what is asked in a round.
+/// The bytes of what is asked in a round, before its HMAC is made.
 fn request(alloc: Global, me: ClientId, work: &Work, sets: &Sets) -> Result<List<u8>, NoMemory>
     ensures { IfOk result (λ text. text ≡ frame_form.spell (request_of me work.now sets.now)) }
 {

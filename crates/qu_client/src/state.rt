@@ -7,12 +7,14 @@ use qu_base::{Bounds, ClientId, List, NoMemory};
 use qu_frames::Letter;
 use qu_history::Sealed;
 use qu_objects::Outcome;
+use qu_seal::KeyRing;
 use std::alloc::Global;
 
 /// What a client holds: the sealed histories that it was sent, and the operation under way.
 #[derive(Debug, Drop)]
 pub struct ClientState {
     pub me: ClientId,
+    pub keys: KeyRing,
     pub bounds: Bounds,
     /// Of each object and replica the newest history that it was sent.
     pub kept: List<Kept>,
@@ -55,6 +57,7 @@ pub fn shown_to(
     };
     Ok(ClientState {
         me: state.me,
+        keys: state.keys,
         bounds: state.bounds,
         kept,
         last_request: state.last_request,

@@ -1,4 +1,4 @@
--- The HMACs of frames and of sealed histories, which are not computed: 32 zero bytes each.
+-- The HMACs of sealed histories, which are not computed, and those of frames before they are: 32 zero bytes each.
 use Rattle.std.specs.Prelude.{ℕ, List, [], ◌∷◌, replicate}
 use Rattle.std.specs.List.{repeat}
 use Rattle.qu_base.specs.Thresholds.{replicas}

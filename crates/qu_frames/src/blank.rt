@@ -5,7 +5,7 @@ use qu_base::{Bounds, List, NoMemory};
 use qu_history::{History, Sealed};
 use std::alloc::Global;
 
-/// The HMAC of a frame or of a history, as long as none is computed: 32 zero bytes.
+/// The HMAC of a history, as long as none is computed, and of a frame before its own is made: 32 zero bytes.
 #[tactic(auto, unfolding(crate::specs::Blank::blank_mac))]
 pub const fn blank_mac() -> [u8; 32]
     ensures { result ≡ blank_mac }

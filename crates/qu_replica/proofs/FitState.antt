@@ -7,6 +7,7 @@ use Rattle.qu_base.specs.declared.party.ObjectId.{ObjectId}
 use Rattle.qu_base.specs.declared.party.ReplicaId.{ReplicaId}
 use Rattle.qu_base.specs.Thresholds.{replicas}
 use Rattle.qu_base.specs.Format.{FitsFrom}
+use Rattle.qu_seal.specs.Keys.{Ring}
 use Rattle.qu_stamp.specs.declared.stamp.Stamp.{Stamp}
 use Rattle.qu_stamp.specs.declared.candidate.Candidate.{Candidate}
 use Rattle.qu_stamp.specs.Stamp.{opening_stamp, is_below, same_stamp}
@@ -143,12 +144,12 @@ opening_versions_fit first (kind ∷ kinds) =
     (record { value = fresh_fits kind; answer = λ other. absurd (false≢true (sym other ∙ same_stamp-self opening_stamp)) }, opening_versions_fit (first + 1) kinds)
 
 -- a replica begins so
-pub opening-fits : (me : ReplicaId) (bounds : ℕ) (kinds : List KindName) → me.0 ≤ 15 → IsTrue (is_mac_count (replicas bounds)) → length kinds ≤ 64 → StateFits (opening_state me bounds kinds)
-opening-fits me bounds kinds within sized few = record {
+pub opening-fits : (me : ReplicaId) (keys : Ring) (bounds : ℕ) (kinds : List KindName) → me.0 ≤ 15 → IsTrue (is_mac_count (replicas bounds)) → length kinds ≤ 64 → StateFits (opening_state me keys bounds kinds)
+opening-fits me keys bounds kinds within sized few = record {
   me = within;
   bounds = sized;
   few = let number : length (opening_histories me 0 kinds) ≡ length kinds = opening_number me 0 kinds in omega (arith, number, few);
-  own = opening-histories me bounds kinds;
+  own = opening-histories me keys bounds kinds;
   histories = opening_histories_fit me 0 kinds;
   versions = opening_versions_fit 0 kinds;
 }

@@ -1,11 +1,11 @@
 -- The letters that answer a text carry frames that fit, and what the replica holds fits after each step.
-use Rattle.std.proofs.Common.{◌≡◌, ℕ, zero, suc, ◌-◌, ◌^◌, ◌≤◌, List, [], ◌∷◌, length, map, replicate, Option, None, Some, Result, Ok, Err, refl, sym, subst, arith}
+use Rattle.std.proofs.Common.{◌≡◌, ℕ, zero, suc, ◌-◌, ◌^◌, ◌≤◌, List, [], ◌∷◌, length, map, replicate, Option, None, Some, refl, sym, subst, arith}
 use Rattle.std.specs.Prelude.{IsTrue, ◌==◌, ◌||◌, slice_get}
 use Rattle.std.specs.List.{cons_option}
 use Rattle.std.proofs.lemmas.Bool.{le-leb, eq-eqb, eqb-true}
 use Rattle.std.proofs.lemmas.List.{length-replicate}
 use Rattle.std.proofs.lemmas.Option.{same_Some}
-use Rattle.qu_base.specs.declared.bad_text.BadText.{BadText}
+use Rattle.qu_base.specs.declared.party.Party.TheVariants as party
 use Rattle.qu_base.specs.declared.party.ClientId.{ClientId}
 use Rattle.qu_base.specs.declared.party.Digest.{Digest}
 use Rattle.qu_base.specs.declared.party.ObjectId.{ObjectId}
@@ -26,13 +26,14 @@ use Rattle.qu_frames.specs.declared.frame.Frame.TheVariants as frame
 use Rattle.qu_frames.specs.declared.verdict.Verdict.{Verdict}
 use Rattle.qu_frames.specs.Blank.{blank_mac, sealed}
 use Rattle.qu_frames.specs.Forms.{objects_of, culled_form, verdict_form, body_form, request_frame, reply_frame, kind_form, frame_form}
-use Rattle.qu_frames.specs.Decoding.{decoded}
+use Rattle.qu_frames.specs.Signed.{with_mac, signature, brought}
+use Rattle.qu_frames.proofs.Signed.{signed_is_spelled, brought_is_decoded}
 use Rattle.qu_frames.proofs.Decoded.{decoded_is_spelled}
 use Rattle.qu_replica.specs.declared.decision.Decision.{Decision}
 use Rattle.qu_replica.specs.declared.decision.Decision.TheVariants.{Answers, Waits}
 use Rattle.qu_replica.specs.State.{ReplicaState, accept_all}
 use Rattle.qu_replica.specs.Rows.{Asked, act_asked, asked_of, decision_on}
-use Rattle.qu_replica.specs.Step.{shown, answer_frame, carried_out, on_frame, on_decoded, replica_step}
+use Rattle.qu_replica.specs.Step.{shown, answer_frame, carried_out, on_frame, on_received, replica_step}
 use Rattle.qu_replica.specs.Growth.{MayDecide}
 use Rattle.qu_replica.specs.Fits.{StateFits, StepFits}
 use Rattle.qu_replica.proofs.Own.{IsOwn, own_history}
@@ -156,13 +157,17 @@ decision-fits state client number round sets asks fits request =
 carried_out-fits : (state : ReplicaState) (client : ClientId) (number round : ℕ) (sets : List SetOf) (asks : Body) (decision : Decision) → StateFits state → RequestFits client number round sets asks
     → MayDecide state decision → DecisionFits decision → StepFits (carried_out state client number round sets decision)
 carried_out-fits state client number round sets asks (Answers verdict accepted) fits request may made =
-    let after : StateFits (accept_all state accepted) = accept_all-fits state accepted fits may made.1 in (
+    let new : ReplicaState = accept_all state accepted in
+    let after : StateFits new = accept_all-fits state accepted fits may made.1 in
+    let frame : Frame = answer_frame new client number round sets verdict in
+    let frame_fits : frame_form.Fits frame = answer-fits new after client number round sets verdict request.low request.high request.word request.from_one request.few request.shown made.0 in
+    let spelled = signed_is_spelled new.keys (party.Client client) frame frame_fits in (
       after,
       (
         record {
-          sent = answer_frame (accept_all state accepted) client number round sets verdict;
-          fits = answer-fits (accept_all state accepted) after client number round sets verdict request.low request.high request.word request.from_one request.few request.shown made.0;
-          text = refl;
+          sent = with_mac frame (signature new.keys (party.Client client) frame);
+          fits = spelled.0;
+          text = spelled.1;
         },
         tt,
       ),
@@ -177,10 +182,12 @@ on_frame-fits state (frame.Request client number round sets asks mac) fits withi
     (decision_on-may state asked asks (body_has_parts (objects_of sets) asks request.asked)) (decision-fits state client number round sets asks fits request)
 on_frame-fits state (frame.Reply replica client number round verdict culled shown mac) fits within = (fits, tt)
 
-pub on_decoded-fits : (state : ReplicaState) (found : Result Frame BadText) → StateFits state → ((received : Frame) → found ≡ Ok received → frame_form.Fits received) → StepFits (on_decoded state found)
-on_decoded-fits state (Ok received) fits within = on_frame-fits state received fits (within received refl)
-on_decoded-fits state (Err bad) fits within = (fits, tt)
+pub on_received-fits : (state : ReplicaState) (found : Option Frame) → StateFits state → ((frame : Frame) → found ≡ Some frame → frame_form.Fits frame) → StepFits (on_received state found)
+on_received-fits state (Some frame) fits within = on_frame-fits state frame fits (within frame refl)
+on_received-fits state None fits within = (fits, tt)
 
 -- whatever the text is
 pub step-fits : (state : ReplicaState) (text : List ℕ) → AreBytes text → StateFits state → StepFits (replica_step state text)
-step-fits state text are fits = on_decoded-fits state (decoded text) fits (λ received given. (decoded_is_spelled text received are given).0)
+step-fits state text are fits =
+    on_received-fits state (brought state.keys (party.Replica state.me) text) fits
+    (λ frame given. (decoded_is_spelled text frame are (brought_is_decoded state.keys (party.Replica state.me) text frame given)).0)

@@ -1,9 +1,9 @@
 -- A replica's state only grows.
-use Rattle.std.proofs.Common.{◌≡◌, ℕ, zero, suc, Bool, true, false, ◌&&◌, cond, List, [], ◌∷◌, ◌++◌, length, Some, Result, Ok, Err, refl, sym, ap, ◌∙◌, append_assoc}
+use Rattle.std.proofs.Common.{◌≡◌, ℕ, zero, suc, Bool, true, false, ◌&&◌, cond, List, [], ◌∷◌, ◌++◌, length, Option, None, Some, refl, sym, ap, ◌∙◌, append_assoc}
 use Rattle.std.specs.Prelude.{◌==◌, slice_get}
 use Rattle.std.proofs.lemmas.List.{append-nil}
 use Rattle.std.proofs.lemmas.Option.{none-some}
-use Rattle.qu_base.specs.declared.bad_text.BadText.{BadText}
+use Rattle.qu_base.specs.declared.party.Party.TheVariants as party
 use Rattle.qu_base.specs.declared.party.ClientId.{ClientId}
 use Rattle.qu_base.specs.declared.party.ObjectId.{ObjectId}
 use Rattle.qu_stamp.specs.declared.stamp.Stamp.{Stamp}
@@ -13,7 +13,7 @@ use Rattle.qu_history.specs.declared.sets.SetOf.{SetOf}
 use Rattle.qu_history.specs.History.{ObjectHistory}
 use Rattle.qu_objects.specs.declared.state.ObjState.{ObjState}
 use Rattle.qu_frames.specs.declared.frame.Frame.{Frame}
-use Rattle.qu_frames.specs.Decoding.{decoded}
+use Rattle.qu_frames.specs.Signed.{brought}
 use Rattle.qu_frames.specs.declared.frame.Frame.TheVariants as frame
 use Rattle.qu_replica.specs.declared.versions.Stored.{Stored}
 use Rattle.qu_replica.specs.declared.decision.Accepted.{Accepted}
@@ -21,7 +21,7 @@ use Rattle.qu_replica.specs.declared.decision.Decision.{Decision}
 use Rattle.qu_replica.specs.declared.decision.Decision.TheVariants.{Answers, Waits}
 use Rattle.qu_replica.specs.State.{ReplicaState, candidates_in, own_candidates, with_candidate, accept, accept_all}
 use Rattle.qu_replica.specs.Rows.{asked_of, decision_on}
-use Rattle.qu_replica.specs.Step.{carried_out, on_frame, on_decoded, replica_step}
+use Rattle.qu_replica.specs.Step.{carried_out, on_frame, on_received, replica_step}
 use Rattle.qu_replica.specs.Versions.{version_at}
 use Rattle.qu_replica.specs.Growth.{Grows}
 
@@ -42,6 +42,7 @@ candidates-with_candidate (suc number) (suc place) candidate (history ∷ later)
 pub grows-self : (state : ReplicaState) → Grows state state
 grows-self state = record {
   me = refl;
+  keys = refl;
   bounds = refl;
   number = refl;
   candidates = λ object. ([], sym (append-nil _));
@@ -51,6 +52,7 @@ grows-self state = record {
 pub grows-chain : (old middle new : ReplicaState) → Grows old middle → Grows middle new → Grows old new
 grows-chain old middle new first second = record {
   me = second.me ∙ first.me;
+  keys = second.keys ∙ first.keys;
   bounds = second.bounds ∙ first.bounds;
   number = second.number ∙ first.number;
   candidates = λ object.
@@ -66,6 +68,7 @@ grows-chain old middle new first second = record {
 pub accept-grows : (state : ReplicaState) (accepted : Accepted) → Grows state (accept state accepted)
 accept-grows state accepted = record {
   me = refl;
+  keys = refl;
   bounds = refl;
   number = length-with_candidate (accepted.object).0 accepted.candidate state.histories;
   candidates = λ object. candidates-with_candidate (accepted.object).0 object.0 accepted.candidate state.histories;
@@ -82,6 +85,9 @@ accept_all-grows state (first ∷ later) =
 pub accept_all-me : (state : ReplicaState) (accepted : List Accepted) → (accept_all state accepted).me ≡ state.me
 accept_all-me state accepted = (accept_all-grows state accepted).me
 
+pub accept_all-keys : (state : ReplicaState) (accepted : List Accepted) → (accept_all state accepted).keys ≡ state.keys
+accept_all-keys state accepted = (accept_all-grows state accepted).keys
+
 pub accept_all-bounds : (state : ReplicaState) (accepted : List Accepted) → (accept_all state accepted).bounds ≡ state.bounds
 accept_all-bounds state accepted = (accept_all-grows state accepted).bounds
 
@@ -95,12 +101,12 @@ on_frame-grows state (frame.Request client number round sets body mac) =
     carried_out-grows state client number round sets (decision_on state (asked_of client number sets body) body)
 on_frame-grows state (frame.Reply replica client number round verdict culled shown mac) = grows-self state
 
-on_decoded-grows : (state : ReplicaState) (found : Result Frame BadText) → Grows state (on_decoded state found).0
-on_decoded-grows state (Ok frame) = on_frame-grows state frame
-on_decoded-grows state (Err bad) = grows-self state
+on_received-grows : (state : ReplicaState) (found : Option Frame) → Grows state (on_received state found).0
+on_received-grows state (Some frame) = on_frame-grows state frame
+on_received-grows state None = grows-self state
 
 pub step-grows : (state : ReplicaState) (text : List ℕ) → Grows state (replica_step state text).0
-step-grows state text = on_decoded-grows state (decoded text)
+step-grows state text = on_received-grows state (brought state.keys (party.Replica state.me) text)
 
 -- a version stays
 pub version_at-append : (object : ObjectId) (stamp : Stamp) (versions more : List Stored) (state : ObjState) → version_at object stamp versions ≡ Some state → version_at object stamp (versions ++ more) ≡ Some state

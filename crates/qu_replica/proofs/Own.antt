@@ -4,6 +4,7 @@ use Rattle.std.specs.Prelude.{◌==◌, nat_le, slice_get}
 use Rattle.std.proofs.lemmas.Bool.{and_parts, and_from, le-leb, leb-true, eqb-true, eq-eqb}
 use Rattle.std.proofs.lemmas.Option.{none-some, same_Some}
 use Rattle.qu_base.specs.declared.party.ReplicaId.{ReplicaId}
+use Rattle.qu_seal.specs.Keys.{Ring}
 use Rattle.qu_stamp.specs.declared.stamp.Stamp.{Stamp}
 use Rattle.qu_stamp.specs.declared.stamp.TheConstants.{LAST_TIME}
 use Rattle.qu_stamp.specs.declared.candidate.Candidate.{Candidate}
@@ -94,5 +95,5 @@ unfolding are_own opening_histories
 are_own_opening me first [] = refl
 are_own_opening me first (kind ∷ kinds) = and_from _ _ (is_own-opening me first) (are_own_opening me (first + 1) kinds)
 
-pub opening-histories : (me : ReplicaId) (bounds : ℕ) (kinds : List KindName) → AreHistories (opening_state me bounds kinds)
-opening-histories me bounds kinds = are_own_opening me 0 kinds
+pub opening-histories : (me : ReplicaId) (keys : Ring) (bounds : ℕ) (kinds : List KindName) → AreHistories (opening_state me keys bounds kinds)
+opening-histories me keys bounds kinds = are_own_opening me 0 kinds

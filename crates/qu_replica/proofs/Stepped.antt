@@ -1,14 +1,14 @@
 -- A replica once it carried out a decision, which may have failed, and what a text makes of it.
-use Rattle.std.proofs.Common.{◌≡◌, ℕ, List, [], Result, Ok, Err, subst, sym, ap}
+use Rattle.std.proofs.Common.{◌≡◌, ℕ, List, [], Option, None, Some, Result, Ok, Err, subst, sym, ap}
 use Rattle.std.specs.Prelude.{OnOk, OnErr}
-use Rattle.qu_base.specs.declared.bad_text.BadText.{BadText}
+use Rattle.qu_base.specs.declared.party.Party.TheVariants as party
 use Rattle.qu_base.specs.declared.party.ClientId.{ClientId}
 use Rattle.qu_history.specs.declared.sets.SetOf.{SetOf}
 use Rattle.qu_frames.specs.declared.frame.Frame.{Frame}
-use Rattle.qu_frames.specs.Decoding.{decoded}
+use Rattle.qu_frames.specs.Signed.{brought}
 use Rattle.qu_replica.specs.declared.decision.Decision.{Decision}
 use Rattle.qu_replica.specs.State.{ReplicaState}
-use Rattle.qu_replica.specs.Step.{carried_out, on_frame, on_decoded, replica_step}
+use Rattle.qu_replica.specs.Step.{carried_out, on_frame, on_received, replica_step}
 use Rattle.qu_replica.specs.Growth.{AreHistories, MayDecide, Grows}
 use Rattle.qu_replica.proofs.Growth.{grows-self, carried_out-grows}
 use Rattle.qu_replica.proofs.Allowed.{carried_out-histories}
@@ -28,12 +28,12 @@ module _ {X E : Type 0} (result : Result X E) (old new : ReplicaState) (client :
         | Err error ↦ λ is same. subst (Grows old) (sym same) (grows-self old)
       ] ok err
 
--- a text with a frame is handled as the frame
-pub step_of_frame : (state : ReplicaState) (text : List ℕ) (frame : Frame) → decoded text ≡ Ok frame → replica_step state text ≡ on_frame state frame
-step_of_frame state text frame is = ap (on_decoded state) is
+-- a text that brings a frame is handled as the frame
+pub step_of_frame : (state : ReplicaState) (text : List ℕ) (frame : Frame) → brought state.keys (party.Replica state.me) text ≡ Some frame → replica_step state text ≡ on_frame state frame
+step_of_frame state text frame is = ap (on_received state) is
 
--- a text without one is ignored
-pub step_of_none : (state : ReplicaState) (text : List ℕ) (bad : BadText) → decoded text ≡ Err bad → replica_step state text ≡ (state, [])
-step_of_none state text bad is = ap (on_decoded state) is
+-- a text that brings none is ignored
+pub step_of_none : (state : ReplicaState) (text : List ℕ) → brought state.keys (party.Replica state.me) text ≡ None → replica_step state text ≡ (state, [])
+step_of_none state text is = ap (on_received state) is
 
 pub ruleset step_laws = (step_of_frame, step_of_none, grows-self)

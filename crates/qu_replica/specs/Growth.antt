@@ -52,6 +52,7 @@ MayDecide state Waits = Unit {0}
 -- more candidates and more versions are held, and nothing is forgotten
 pub record Grows (old new : ReplicaState) : Type 0 where
   pub me : new.me ≡ old.me
+  pub keys : new.keys ≡ old.keys
   pub bounds : new.bounds ≡ old.bounds
   pub number : length new.histories ≡ length old.histories
   pub candidates : (object : ObjectId) → (more : List Candidate) × (own_candidates new object ≡ own_candidates old object ++ more)

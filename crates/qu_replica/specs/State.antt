@@ -2,6 +2,7 @@
 use Rattle.std.specs.Prelude.{ℕ, zero, suc, ◌+◌, List, [], ◌∷◌, ◌++◌, slice_get, Option, None, Some}
 use Rattle.qu_base.specs.declared.party.ObjectId.{ObjectId}
 use Rattle.qu_base.specs.declared.party.ReplicaId.{ReplicaId}
+use Rattle.qu_seal.specs.Keys.{Ring}
 use Rattle.qu_stamp.specs.declared.stamp.Stamp.{Stamp}
 use Rattle.qu_stamp.specs.declared.candidate.Candidate.{Candidate}
 use Rattle.qu_stamp.specs.Stamp.{opening_stamp}
@@ -15,6 +16,7 @@ use Rattle.qu_replica.specs.declared.decision.Accepted.{Accepted}
 
 pub record ReplicaState : Type 0 where
   pub me : ReplicaId
+  pub keys : Ring
   -- the number of replicas that may lie
   pub bounds : ℕ
   -- the histories of objects 0, 1, 2, ..
@@ -62,6 +64,6 @@ opening_versions number (kind ∷ kinds) =
     record { object = record { 0 = number }; stamp = opening_stamp; state = record { value = fresh_value kind; answer = answer.Ok [] } } ∷ opening_versions (number + 1) kinds
 
 -- a replica that has accepted nothing but the opening candidates
-abbrev pub opening_state : ReplicaId → ℕ → List KindName → ReplicaState
-opening_state me bounds kinds =
-    record { me = me; bounds = bounds; histories = opening_histories me 0 kinds; versions = opening_versions 0 kinds }
+abbrev pub opening_state : ReplicaId → Ring → ℕ → List KindName → ReplicaState
+opening_state me keys bounds kinds =
+    record { me = me; keys = keys; bounds = bounds; histories = opening_histories me 0 kinds; versions = opening_versions 0 kinds }

@@ -1,7 +1,6 @@
 -- The replica's step: a function from its state and a text to a state and letters.
-use Rattle.std.specs.Prelude.{ℕ, List, [], ◌∷◌, map, slice_get, Result, Ok, Err}
+use Rattle.std.specs.Prelude.{ℕ, List, [], ◌∷◌, map, slice_get, Option, None, Some}
 use Rattle.std.specs.List.{filter_map}
-use Rattle.qu_base.specs.declared.bad_text.BadText.{BadText}
 use Rattle.qu_base.specs.declared.party.Party.TheVariants as party
 use Rattle.qu_base.specs.declared.party.ClientId.{ClientId}
 use Rattle.qu_history.specs.declared.sets.SetOf.{SetOf}
@@ -11,8 +10,7 @@ use Rattle.qu_frames.specs.declared.frame.Frame.TheVariants as frame
 use Rattle.qu_frames.specs.declared.frame.Letter.{Letter}
 use Rattle.qu_frames.specs.declared.verdict.Verdict.{Verdict}
 use Rattle.qu_frames.specs.Blank.{blank_mac, sealed}
-use Rattle.qu_frames.specs.Forms.{frame_form}
-use Rattle.qu_frames.specs.Decoding.{decoded}
+use Rattle.qu_frames.specs.Signed.{signed, brought}
 use Rattle.qu_replica.specs.declared.decision.Decision.{Decision}
 use Rattle.qu_replica.specs.declared.decision.Decision.TheVariants.{Answers, Waits}
 use Rattle.qu_replica.specs.State.{ReplicaState, accept_all}
@@ -22,17 +20,17 @@ use Rattle.qu_replica.specs.Rows.{asked_of, decision_on}
 unfoldable pub shown : ReplicaState → List SetOf → List ObjectHistory
 shown state sets = filter_map (λ set. slice_get state.histories (set.object).0) sets
 
--- the frame that answers a request: the histories are sealed, and no entry is culled
+-- the frame that answers a request, before its HMAC is made: no entry is culled
 abbrev pub answer_frame : ReplicaState → ClientId → ℕ → ℕ → List SetOf → Verdict → Frame
 answer_frame state client number round sets verdict =
     frame.Reply state.me client number round verdict [] (map (sealed state.bounds) (shown state sets)) blank_mac
 
--- the letter that carries it
+-- the letter that carries it, signed for the client
 abbrev pub reply : ReplicaState → ClientId → ℕ → ℕ → List SetOf → Verdict → Letter
 reply state client number round sets verdict = record {
   from = party.Replica state.me;
   to = party.Client client;
-  text = frame_form.spell (answer_frame state client number round sets verdict);
+  text = signed state.keys (party.Client client) (answer_frame state client number round sets verdict);
 }
 
 abbrev pub carried_out : ReplicaState → ClientId → ℕ → ℕ → List SetOf → Decision → ReplicaState × List Letter
@@ -46,10 +44,10 @@ on_frame state (frame.Request client number round sets body mac) =
     carried_out state client number round sets (decision_on state (asked_of client number sets body) body)
 on_frame state (frame.Reply replica client number round verdict culled shown mac) = (state, [])
 
-abbrev pub on_decoded : ReplicaState → Result Frame BadText → ReplicaState × List Letter
-on_decoded state (Ok frame) = on_frame state frame
-on_decoded state (Err bad) = (state, [])
+abbrev pub on_received : ReplicaState → Option Frame → ReplicaState × List Letter
+on_received state None = (state, [])
+on_received state (Some frame) = on_frame state frame
 
--- a text that is not decoded is ignored
+-- a text that is not decoded, or whose HMAC is wrong, is ignored
 abbrev pub replica_step : ReplicaState → List ℕ → ReplicaState × List Letter
-replica_step state text = on_decoded state (decoded text)
+replica_step state text = on_received state (brought state.keys (party.Replica state.me) text)

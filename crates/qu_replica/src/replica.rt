@@ -14,10 +14,11 @@ mod rows;
 
 use crate::asked::Asked;
 use crate::versions::{self, Stored};
-use qu_base::{Bounds, List, NoMemory, ObjectId, ReadFail, ReplicaId};
-use qu_frames::{Frame, Letter, decode};
+use qu_base::{Bounds, List, NoMemory, ObjectId, Party, ReplicaId};
+use qu_frames::{Frame, Letter, receive};
 use qu_history::History;
 use qu_objects::{KindName, ObjState};
+use qu_seal::KeyRing;
 use qu_stamp::Stamp;
 use std::alloc::Global;
 use std::marker::Model;
@@ -27,6 +28,7 @@ use std::marker::Model;
 pub struct Replica {
     alloc: Global,
     me: ReplicaId,
+    keys: KeyRing,
     bounds: Bounds,
     histories: Vec<History>,
     versions: Vec<Stored>,
@@ -39,7 +41,7 @@ impl Model for Replica {
 
     ghost Value = { ReplicaState };
 
-    ghost view = { λ replica. record { me = replica.me; bounds = replica.bounds; histories = replica.histories.items; versions = replica.versions.items } };
+    ghost view = { λ replica. record { me = replica.me; keys = replica.keys; bounds = replica.bounds; histories = replica.histories.items; versions = replica.versions.items } };
 
     ghost invariant = { λ replica. IsTrue (are_own replica.me 0 replica.histories.items) };
 }
@@ -51,15 +53,17 @@ impl Replica {
     pub fn start(
         alloc: Global,
         me: ReplicaId,
+        keys: KeyRing,
         bounds: Bounds,
         kinds: &[KindName],
     ) -> Result<Replica, NoMemory>
         requires { length kinds.now ≤ 64 }
-        ensures { IfOk result (λ replica. replica ≡ opening_state me bounds kinds.now) }
+        ensures { IfOk result (λ replica. replica ≡ opening_state me keys bounds kinds.now) }
     {
         Ok(Replica {
             alloc,
             me,
+            keys,
             bounds,
             histories: opening::histories(alloc, me, kinds)?,
             versions: opening::versions(alloc, kinds)?,
@@ -89,8 +93,8 @@ impl Replica {
     }
 
     /// Handles a text, and gives the letters that answer it: one to a request that it decides, none
-    /// to one whose version it lacks, to a reply, and to a text that is no frame. Without memory it
-    /// stays as it is.
+    /// to one whose version it lacks, to a reply, to a text that is no frame, and to a frame whose HMAC
+    /// is wrong for it. Without memory it stays as it is.
     #[tactic(auto, using(crate::proofs::Stepped::step_laws))]
     pub fn step(&mut self, text: &[u8]) -> Result<List<Letter>, NoMemory>
         ensures state { OnOk result (self.new ≡ (replica_step self.old text.now).0) }
@@ -99,10 +103,9 @@ impl Replica {
         ensures histories { AreHistories self.new }
         ensures grows { Grows self.old self.new }
     {
-        match decode(self.alloc, text) {
-            Ok(frame) => self.on_frame(&frame),
-            Err(ReadFail::Bad(_)) => Ok(List::new(self.alloc)),
-            Err(ReadFail::NoMemory) => Err(NoMemory),
+        match receive(self.alloc, &self.keys, Party::Replica(self.me), text)? {
+            Some(frame) => self.on_frame(&frame),
+            None => Ok(List::new(self.alloc)),
         }
     }
 

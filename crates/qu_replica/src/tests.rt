@@ -1,10 +1,11 @@
 mod bytes;
 
 use super::*;
-use qu_base::{Bounds, ClientId, List, NoMemory, ObjectId, ReplicaId};
-use qu_frames::{Body, ClassCode, Frame, Refusal, Verdict, blank_mac, decode, encode, seal};
+use qu_base::{Bounds, ClientId, List, NoMemory, ObjectId, Party, ReplicaId};
+use qu_frames::{Body, ClassCode, Frame, Refusal, Verdict, blank_mac, decode, seal};
 use qu_history::{History, SetOf, Sets};
 use qu_objects::{Act, Answer, Ask, Item, KindName, Method, Query, Value, act_digest};
+use qu_seal::KeyRing;
 use qu_stamp::{Candidate, Stamp};
 use std::alloc::Global;
 use std::test::Fail;
@@ -14,10 +15,15 @@ const COUNTER: ObjectId = ObjectId(0);
 /// The number of each request.
 const NUMBER: u64 = 7;
 
+/// The keys of 6 replicas and 2 clients.
+fn keys() -> Result<KeyRing, Fail> {
+    Ok(KeyRing::derive(7, &Bounds::new(1)?, 2))
+}
+
 /// Replica 0 of 6, with one counter.
 fn counter_replica(alloc: Global) -> Result<Replica, Fail> {
     let bounds = Bounds::new(1)?;
-    Ok(Replica::start(alloc, ReplicaId(0), bounds, &[KindName::Counter])?)
+    Ok(Replica::start(alloc, ReplicaId(0), keys()?, bounds, &[KindName::Counter])?)
 }
 
 /// The sets of one object: so many replicas hold the opening candidate alone.
@@ -79,7 +85,7 @@ fn first(alloc: Global) -> Result<Stamp, Fail> {
     })
 }
 
-/// The text of a request in its first round.
+/// The text of a request in its first round, signed for replica 0.
 fn request(alloc: Global, client: ClientId, sets: Sets, body: Body) -> Result<List<u8>, Fail> {
     let frame = Frame::Request {
         client,
@@ -89,7 +95,7 @@ fn request(alloc: Global, client: ClientId, sets: Sets, body: Body) -> Result<Li
         body,
         mac: blank_mac(),
     };
-    Ok(encode(alloc, &frame)?)
+    Ok(frame.signed(alloc, &keys()?, Party::Replica(ReplicaId(0)))?)
 }
 
 /// The verdict of the one reply, and how many candidates each shown history has.

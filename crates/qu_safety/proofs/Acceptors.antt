@@ -21,7 +21,7 @@ use Rattle.qu_client.specs.declared.kept.Kept.{Kept}
 use Rattle.qu_client.specs.State.{kept_of}
 use Rattle.qu_client.specs.Rounds.{objects_of, entries_from, set_of, sets_of}
 use Rattle.qu_trace.specs.declared.trace.Trace.{Trace}
-use Rattle.qu_world.specs.State.{WorldState, opening_replicas, history_at}
+use Rattle.qu_world.specs.State.{WorldState, opening_replicas, history_at, ring_of}
 use Rattle.qu_world.specs.Run.{IsRun}
 use Rattle.qu_safety.specs.Decided.{accepts}
 use Rattle.qu_safety.specs.Order.{world_after}
@@ -31,19 +31,20 @@ use Rattle.qu_safety.proofs.WorldGrowth.{AcceptsMore, HasMore, has_more, world_a
 use Rattle.qu_safety.proofs.Grounds.{is_base}
 use Rattle.qu_safety.proofs.Small.{same_object}
 use Rattle.qu_history.specs.declared.sealed.Sealed.{Sealed}
+use Rattle.qu_seal.specs.Keys.{Ring}
 
 -- ---- a run's replicas are as many as its bounds say
 
-length-opening : (first count bounds : ℕ) (kinds : List KindName) → length (opening_replicas first count bounds kinds) ≡ count
+length-opening : (first count : ℕ) (keys : Ring) (bounds : ℕ) (kinds : List KindName) → length (opening_replicas first count keys bounds kinds) ≡ count
 unfolding opening_replicas
-length-opening first zero bounds kinds = refl
-length-opening first (suc count) bounds kinds = ap suc (length-opening (first + 1) count bounds kinds)
+length-opening first zero keys bounds kinds = refl
+length-opening first (suc count) keys bounds kinds = ap suc (length-opening (first + 1) count keys bounds kinds)
 
 pub all_replicas : (trace : Trace) (count : ℕ) → length (world_after trace count).replicas ≡ replicas trace.setup.bounds
 all_replicas trace count =
     sym (length_all_zip Grows (world_after trace 0).replicas (world_after trace count).replicas (world_after-grows trace 0 count (omega arith)).replicas) ∙
     ap (λ (world : WorldState). length world.replicas) (world_after-none trace) ∙
-    length-opening 0 (replicas trace.setup.bounds) trace.setup.bounds trace.setup.kinds
+    length-opening 0 (replicas trace.setup.bounds) (ring_of trace.setup) trace.setup.bounds trace.setup.kinds
 
 -- ---- what was held is still accepted
 

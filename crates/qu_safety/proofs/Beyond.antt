@@ -16,7 +16,7 @@ use Rattle.qu_objects.specs.declared.kind.KindName.{KindName}
 use Rattle.qu_replica.specs.State.{ReplicaState, candidates_in, own_candidates, opening_histories}
 use Rattle.qu_replica.specs.Growth.{Grows}
 use Rattle.qu_trace.specs.declared.trace.Setup.{Setup}
-use Rattle.qu_world.specs.State.{WorldState, opening_replicas, opening_world}
+use Rattle.qu_world.specs.State.{WorldState, opening_replicas, opening_world, ring_of}
 use Rattle.qu_safety.specs.declared.tracked.Tracked.{Tracked}
 use Rattle.qu_safety.specs.Decided.{accepts}
 use Rattle.qu_safety.specs.Tracker.{is_of, is_tracked, undecided, sizes_from, sizes_of, news_on, news_at, news_from, with_tracked, with_all, AreAccepted}
@@ -24,6 +24,7 @@ use Rattle.qu_world.specs.Growth.{GrowsTo}
 use Rattle.qu_safety.proofs.WorldGrowth.{AcceptsMore, HasMore}
 use Rattle.qu_safety.proofs.Settling.{is_of_equal}
 use Rattle.qu_replica.proofs.FitState.{opening_number}
+use Rattle.qu_seal.specs.Keys.{Ring}
 
 -- ---- tests
 
@@ -162,15 +163,15 @@ each_has-grows objects (old ∷ olds) (new ∷ news) grows few =
     let before : length old.histories ≤ objects = few.0 in
     (omega arith, each_has-grows objects olds news grows.1 few.1)
 
-each_has-opening : (number count bounds : ℕ) (kinds : List KindName) → EachHas (length kinds) (opening_replicas number count bounds kinds)
+each_has-opening : (number count : ℕ) (keys : Ring) (bounds : ℕ) (kinds : List KindName) → EachHas (length kinds) (opening_replicas number count keys bounds kinds)
 unfolding opening_replicas
-each_has-opening number zero bounds kinds = tt
-each_has-opening number (suc count) bounds kinds =
+each_has-opening number zero keys bounds kinds = tt
+each_has-opening number (suc count) keys bounds kinds =
     let same_number : length (opening_histories (record { 0 = number }) 0 kinds) ≡ length kinds = opening_number (record { 0 = number }) 0 kinds in
-    (omega arith, each_has-opening (number + 1) count bounds kinds)
+    (omega arith, each_has-opening (number + 1) count keys bounds kinds)
 
 pub opening_has : (setup : Setup) → EachHas (length setup.kinds) (opening_world setup).replicas
-opening_has setup = each_has-opening 0 (replicas setup.bounds) setup.bounds setup.kinds
+opening_has setup = each_has-opening 0 (replicas setup.bounds) (ring_of setup) setup.bounds setup.kinds
 
 -- the sizes of the replicas that are left, behind those of the earlier ones
 abbrev behind : ℕ → List (List ℕ) → List ReplicaState → List (List ℕ)

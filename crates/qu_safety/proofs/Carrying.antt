@@ -7,10 +7,13 @@ use Rattle.std.proofs.lemmas.Option.{none-some}
 use Rattle.qu_base.specs.declared.bad_text.Why.TheVariants.{Kind}
 use Rattle.qu_base.specs.declared.party.ClientId.{ClientId}
 use Rattle.qu_base.specs.declared.party.ObjectId.{ObjectId}
+use Rattle.qu_base.specs.declared.party.Party.{Party}
+use Rattle.qu_base.specs.declared.party.Party.TheVariants as party
 use Rattle.qu_base.specs.declared.party.ReplicaId.{ReplicaId}
 use Rattle.qu_base.specs.Front.{Front}
 use Rattle.qu_base.specs.Format.{Format, front_of, and_then, number, both, tested, made}
 use Rattle.qu_base.proofs.Formats.{wide8, number-exact, tested-exact, and_then-ok}
+use Rattle.qu_seal.specs.Keys.{Ring}
 use Rattle.qu_history.specs.declared.sealed.Sealed.{Sealed}
 use Rattle.qu_history.specs.declared.sets.SetOf.{SetOf}
 use Rattle.qu_frames.specs.declared.frame.Body.{Body}
@@ -20,7 +23,9 @@ use Rattle.qu_frames.specs.declared.frame.Letter.{Letter}
 use Rattle.qu_frames.specs.declared.verdict.Verdict.{Verdict}
 use Rattle.qu_frames.specs.Forms.{is_version, is_frame_kind, frame_kind, frame_body, request_form, request_fields, request_of, request_frame, reply_form, reply_fields, reply_of, reply_frame, kind_form, frame_form}
 use Rattle.qu_frames.specs.Decoding.{decoded}
+use Rattle.qu_frames.specs.Signed.{mac_of, with_mac, signature, signed}
 use Rattle.qu_frames.proofs.Decoded.{decoded_is_read, one_frame}
+use Rattle.qu_frames.proofs.Signed.{text_with, signed_is_spelled, brought_is_decoded}
 use Rattle.qu_replica.specs.declared.decision.Accepted.{Accepted}
 use Rattle.qu_replica.specs.declared.decision.Decision.TheVariants.{Answers}
 use Rattle.qu_replica.specs.Rows.{asked_of, decision_on}
@@ -30,7 +35,9 @@ use Rattle.qu_client.specs.declared.state.ClientState.{ClientState}
 use Rattle.qu_client.specs.declared.work.Work.{Work}
 use Rattle.qu_client.specs.Rounds as rounds
 use Rattle.qu_world.specs.State.{WorldState, numbered, with_numbered, letter_of}
-use Rattle.qu_safety.specs.Carried.{Carries, Asks, Tells}
+use Rattle.qu_trace.specs.declared.trace.Trace.{Trace}
+use Rattle.qu_safety.specs.Replies.{IsReplyTo}
+use Rattle.qu_safety.specs.Carried.{Carries, Brings, Asks, Tells}
 use Rattle.qu_world.proofs.Each.{set_here}
 
 -- ---- one letter carries one frame
@@ -44,6 +51,25 @@ one_carried letter one other first second =
 pub carried_is : (letter : Letter) (sent other : Frame) → frame_form.Fits sent → letter.text ≡ frame_form.spell sent → Carries letter other → other ≡ sent
 carried_is letter sent other fits spelled carries =
     one_frame sent other fits (ap decoded (sym spelled) ∙ carries)
+
+-- nor one that was signed, but for the HMAC
+pub signed_carries : (letter : Letter) (keys : Ring) (to : Party) (sent other : Frame) → frame_form.Fits sent → letter.text ≡ signed keys to sent → Carries letter other → other ≡ with_mac sent (signature keys to sent)
+signed_carries letter keys to sent other fits spelled carries =
+    let made = signed_is_spelled keys to sent fits in
+    carried_is letter (with_mac sent (signature keys to sent)) other made.0 (spelled ∙ made.1) carries
+
+-- a frame that is signed in the place of 32 bytes is spelled with its signature
+pub signed_spelled : (keys : Ring) (to : Party) (sent : Frame) → length (mac_of sent) ≡ 32 → signed keys to sent ≡ frame_form.spell (with_mac sent (signature keys to sent))
+unfolding signed
+signed_spelled keys to sent size = text_with sent (signature keys to sent) size
+
+-- what is brought to a replica is carried
+pub brings_carries : (state : ReplicaState) (letter : Letter) (sent : Frame) → Brings state letter sent → Carries letter sent
+brings_carries state letter sent brings = brought_is_decoded state.keys (party.Replica state.me) letter.text sent brings
+
+-- the request that a reply answers
+pub reply_asks : (trace : Trace) (at replica : ℕ) (client : ClientId) (number round : ℕ) (verdict : Verdict) (reply : IsReplyTo trace at replica client number round verdict) → Asks reply.letter client number round reply.sets reply.body
+reply_asks trace at replica client number round verdict reply = record { mac = reply.mac; carries = brings_carries reply.old reply.letter (frame.Request client number round reply.sets reply.body reply.mac) reply.brings }
 
 -- what carries a request asks it
 pub asks_so : (letter : Letter) (carried : Frame) (client : ClientId) (number round : ℕ) (sets : List SetOf) (body : Body) (mac : List ℕ)

@@ -29,7 +29,7 @@ use Rattle.qu_safety.proofs.Grounds.{above_held, base_not_below}
 use Rattle.qu_safety.proofs.Views.{view_of_request}
 use Rattle.qu_safety.proofs.WorldGrowth.{AcceptsMore, has_more, world_after-none, world_after-grows}
 use Rattle.qu_safety.proofs.OpeningReplicas.{bounds_are}
-use Rattle.qu_safety.proofs.Carrying.{asks_so}
+use Rattle.qu_safety.proofs.Carrying.{asks_so, brings_carries}
 
 -- what the replicas of a run accept over time; all of them are correct, and no candidate is a barrier
 unfoldable pub setting : Trace → Setting
@@ -105,7 +105,7 @@ module _ (trace : Trace) (is_run : IsRun trace) (have : ArePlain trace.entries) 
       let below : time ≤ length trace.entries = omega arith in
       let view : IsOfKept trace time one.sets (body.Act ((object, one.method) ∷ [])) =
       view_of_request trace is_run have time below delivered.number delivered.letter delivered.is_letter one.client one.number one.round one.sets (body.Act ((object, one.method) ∷ []))
-      (asks_so delivered.letter delivered.carried one.client one.number one.round one.sets (body.Act ((object, one.method) ∷ [])) one.mac delivered.carries one.is_request) in
+      (asks_so delivered.letter delivered.carried one.client one.number one.round one.sets (body.Act ((object, one.method) ∷ [])) one.mac (brings_carries accepted.old delivered.letter delivered.carried delivered.brings) one.is_request) in
       method_is_shown trace is_run time below one.sets (body.Act ((object, one.method) ∷ [])) view object (one.grounds).base
       (ap (λ (bounds : ℕ). method_at bounds (entries_of object one.sets)) (sym (bounds_are trace time place accepted.old accepted.is_old)) ∙ (one.grounds).method)
 

@@ -41,7 +41,7 @@ use Rattle.qu_safety.proofs.Marking.{run_has, found_within}
 use Rattle.qu_safety.proofs.OneCandidate.{one_candidate}
 use Rattle.qu_safety.proofs.StoredValues.{version_held}
 use Rattle.qu_safety.proofs.Values.{Known, IsUpdated, version_cases}
-use Rattle.qu_safety.proofs.Carrying.{asks_so}
+use Rattle.qu_safety.proofs.Carrying.{asks_so, brings_carries}
 
 pub how_updated : (trace : Trace) (object : ObjectId) (candidate : Candidate) (version : ObjState) → HasVersion trace object candidate version → (candidate ≡ opening) ⊎ IsUpdated trace object candidate version
 how_updated trace object candidate version has =
@@ -82,7 +82,7 @@ module _ (trace : Trace) (is_run : IsRun trace) (have : ArePlain trace.entries) 
       let one : AcceptsOne accepted.old accepted.new delivered.carried object = delivered.accepts in
       let request : IsRequestOf trace time one.client one.number (body.Act ((object, one.method) ∷ [])) =
       request_of trace is_run have time (omega arith) delivered.number delivered.letter delivered.is_letter one.client one.number one.round one.sets (body.Act ((object, one.method) ∷ []))
-      (asks_so delivered.letter delivered.carried one.client one.number one.round one.sets (body.Act ((object, one.method) ∷ [])) one.mac delivered.carries one.is_request) in
+      (asks_so delivered.letter delivered.carried one.client one.number one.round one.sets (body.Act ((object, one.method) ∷ [])) one.mac (brings_carries accepted.old delivered.letter delivered.carried delivered.brings) one.is_request) in
       let holding : holds candidate (own_candidates accepted.new object) ≡ true =
       sym (test_at-here (accepts object candidate) (world_after trace (suc time)).replicas place accepted.new accepted.is_new) ∙ new.after in
       let stored = version_held trace known is_run have (suc time) (omega arith) place accepted.new accepted.is_new object candidate holding in

@@ -55,7 +55,7 @@ use Rattle.qu_safety.proofs.StoredValues.{version_is}
 use Rattle.qu_safety.proofs.Verdicts.{IsDone, fits_act, equal_done}
 use Rattle.qu_safety.proofs.WorldGrowth.{has_more, world_after-grows, is_accepted-more}
 use Rattle.qu_safety.proofs.Small.{some_member, some_quorum}
-use Rattle.qu_safety.proofs.Carrying.{tells_as}
+use Rattle.qu_safety.proofs.Carrying.{tells_as, reply_asks}
 
 -- what a completed act rests on: its candidate, established in the world before the event of the reply
 pub record CompletedAct (trace : Trace) (operation : OpRecord) (reply : ℕ) (answer : Answer) : Type 0 where
@@ -112,7 +112,7 @@ module _ (trace : Trace) (is_run : IsRun trace) (have : ArePlain trace.entries) 
       let done : TellsDone reply.new operation.client (act_digest operation.client operation.number ((asks.object, asks.method) ∷ [])) asks.object stamps answer =
       done_in_run trace is_run have at below replica operation.client operation.number round stamps answer reply in
       let request : IsRequestOf trace at operation.client operation.number reply.body =
-      request_of trace is_run have at (omega arith) reply.asked reply.letter reply.is_letter operation.client operation.number round reply.sets reply.body reply.is_request in
+      request_of trace is_run have at (omega arith) reply.asked reply.letter reply.is_letter operation.client operation.number round reply.sets reply.body (reply_asks _ _ _ _ _ _ _ reply) in
       let same : request.operation ≡ operation =
       recorded_op trace request.operation operation request.of_trace among (ap (λ (it : ClientId). it.0) request.of_client) request.of_number in
       record {

@@ -73,6 +73,7 @@ use Rattle.qu_safety.proofs.OpeningReplicas.{bounds_are}
 use Rattle.qu_safety.proofs.PointRequests.{IsReplyIn, reply_in}
 use Rattle.qu_safety.specs.Carried.{Asks, Tells}
 use Rattle.qu_history.specs.declared.sealed.Sealed.{Sealed}
+use Rattle.qu_safety.proofs.Carrying.{reply_asks}
 
 -- ---- what the theorem is given of the run
 
@@ -322,9 +323,9 @@ module _ (trace : Trace) (is_run : IsRun trace) (have : ArePlain trace.entries) 
         let same : (first.sets ≡ mine.sets) × (first.body ≡ mine.body) =
         alike at (omega arith) first.asked mine.asked first.letter mine.letter
         (letter_later trace time at first.asked first.letter order (omega arith) first.is_letter) mine.is_letter
-        client number round first.sets mine.sets first.body mine.body first.is_request mine.is_request in
+        client number round first.sets mine.sets first.body mine.body (reply_asks _ _ _ _ _ _ _ first) (reply_asks _ _ _ _ _ _ _ mine) in
         let view : IsOfKept trace time first.sets first.body =
-        view_of_request trace is_run have time within first.asked first.letter first.is_letter client number round first.sets first.body first.is_request in
+        view_of_request trace is_run have time within first.asked first.letter first.is_letter client number round first.sets first.body (reply_asks _ _ _ _ _ _ _ first) in
         let method : method_at trace.setup.bounds (entries_of object first.sets) ≡ Some base =
         ap (λ (it : List SetOf). method_at trace.setup.bounds (entries_of object it)) same.0 ∙
         ap (λ (it : ℕ). method_at it (entries_of object mine.sets)) (sym (bounds_are trace at member mine.old mine.is_old)) ∙
@@ -358,7 +359,7 @@ module _ (trace : Trace) (is_run : IsRun trace) (have : ArePlain trace.entries) 
         let mine = tells.reply in
         let below : tells.at < length trace.entries = tells.below in
         let request : IsRequestOf trace tells.at client number mine.body =
-        known.request_of tells.at (omega arith) mine.asked mine.letter mine.is_letter client number round mine.sets mine.body mine.is_request in
+        known.request_of tells.at (omega arith) mine.asked mine.letter mine.is_letter client number round mine.sets mine.body (reply_asks _ _ _ _ _ _ _ mine) in
         let same : request.operation ≡ operation =
         recorded_op trace request.operation operation request.of_trace among
         (ap (λ (it : ClientId). it.0) (request.of_client ∙ sym of_client)) (request.of_number ∙ sym of_number) in

@@ -36,10 +36,12 @@ use Rattle.qu_safety.proofs.Replies.{sent_before, letter_stays}
 use Rattle.qu_safety.proofs.Counted.{Answered, AreDifferent, Counts, counts_world, work_answered, with_answered, different_more}
 use Rattle.qu_safety.proofs.Endings.{TextCompletes, EndsAt, operation_ends, EndedBy, ended_so, Completes, completes}
 use Rattle.qu_safety.specs.Carried.{Carries}
-use Rattle.qu_frames.specs.Decoding.{decoded}
 use Rattle.qu_safety.specs.Views.{ArePlain}
 use Rattle.qu_client.proofs.Laws.{sound_work}
 use Rattle.qu_machine.proofs.Equalities.{client_is}
+use Rattle.qu_frames.specs.Signed.{brought}
+use Rattle.qu_frames.proofs.Signed.{brought_is_decoded}
+use Rattle.qu_base.specs.declared.party.Party.TheVariants as party
 
 -- ---- what the theorem is given of the records of operations
 
@@ -204,8 +206,8 @@ by_entry trace is have recorded one operation among index answer entry is_entry 
     absurd (none-some how (sym (no_end_of_invocation state op) ∙ ended.is_end)))
     (λ number letter client state sent found there ends.
     let ended : EndedBy operation.client client operation.number state.work (client_step state letter.text).ended how = ended_so operation.client client operation.number state.work (client_step state letter.text).ended how ends in
-    let text : TextCompletes state (decoded letter.text) answer = completes state letter.text answer ended.is_end in
-    by_letter trace is have recorded one operation among index answer number letter client state _ refl there sent found ended text.carried text.is_frame text.completes)
+    let text : TextCompletes state (brought state.keys (party.Client state.me) letter.text) answer = completes state letter.text answer ended.is_end in
+    by_letter trace is have recorded one operation among index answer number letter client state _ refl there sent found ended text.carried (brought_is_decoded state.keys (party.Client state.me) letter.text text.carried text.is_frame) text.completes)
     (λ client state found there ends.
     let ended : EndedBy operation.client client operation.number state.work (client_tick state).ended how = ended_so operation.client client operation.number state.work (client_tick state).ended how ends in
     absurd (none-some how ended.is_end))

@@ -1,5 +1,5 @@
 -- The verdicts that a client counts were sent by replicas, to the round that is under way.
-use Rattle.std.proofs.Common.{◌≡◌, ◌≢◌, ℕ, zero, suc, ◌+◌, ◌<◌, ◌≤◌, true, false, eqb, List, length, get_or, Option, None, Some, IfSome, refl, sym, ap, subst, ◌∙◌, arith, inl, inr, add-one, slice_get, All, AllPairs, Contains, Result, Ok, Err}
+use Rattle.std.proofs.Common.{◌≡◌, ◌≢◌, ℕ, zero, suc, ◌+◌, ◌<◌, ◌≤◌, true, false, eqb, List, length, get_or, Option, None, Some, IfSome, refl, sym, ap, subst, ◌∙◌, arith, inl, inr, add-one, slice_get, All, AllPairs, Contains}
 use Rattle.std.specs.List.{list_any}
 use Rattle.std.proofs.lemmas.Bool.{not-true, and_parts, eqb-true, cond_both}
 use Rattle.std.proofs.lemmas.List.Elements.{All-nil, All-push, All-weaker, All-contains}
@@ -18,14 +18,14 @@ use Rattle.qu_client.specs.declared.state.Stepped.{Stepped}
 use Rattle.qu_client.specs.declared.work.Counted.{Counted}
 use Rattle.qu_client.specs.declared.work.Work.{Work}
 use Rattle.qu_client.specs.State.{opening_state, keep_all}
-use Rattle.qu_client.specs.Step.{is_asking, counts, on_frame, on_decoded, client_step, client_invoke, client_tick}
+use Rattle.qu_client.specs.Step.{is_asking, counts, on_frame, on_received, client_step, client_invoke, client_tick}
 use Rattle.qu_client.specs.Sound.{IsSound}
 use Rattle.qu_client.proofs.Cases.{with_verdict, counted_cases, invoke_cases}
 use Rattle.qu_client.proofs.Laws.{client_step-me, client_step-bounds, client_invoke-me, client_invoke-bounds, IsSound-opening, IsSound-step, IsSound-invoke, other_replica}
 use Rattle.qu_trace.specs.declared.event.Event.{Event}
 use Rattle.qu_trace.specs.declared.trace.Entry.{Entry}
 use Rattle.qu_trace.specs.declared.trace.Trace.{Trace}
-use Rattle.qu_world.specs.State.{WorldState, opening_world, numbered, with_numbered}
+use Rattle.qu_world.specs.State.{WorldState, opening_world, numbered, with_numbered, ring_of}
 use Rattle.qu_world.specs.Step.{world_step}
 use Rattle.qu_world.specs.Run.{IsRun}
 use Rattle.qu_safety.specs.Order.{world_after}
@@ -37,11 +37,12 @@ use Rattle.qu_safety.proofs.Carrying.{tells_as}
 use Rattle.qu_safety.proofs.Small.{some_entry}
 use Rattle.qu_world.proofs.Each.{with_cases, each_at}
 use Rattle.qu_safety.specs.Carried.{Tells, Carries}
-use Rattle.qu_frames.specs.Decoding.{decoded}
 use Rattle.qu_safety.specs.Views.{IsPlain, ArePlain}
 use Rattle.qu_history.specs.declared.sealed.Sealed.{Sealed}
-use Rattle.qu_base.specs.declared.bad_text.BadText.{BadText}
 use Rattle.qu_machine.proofs.Equalities.{client_is}
+use Rattle.qu_frames.specs.Signed.{brought}
+use Rattle.qu_frames.proofs.Signed.{brought_is_decoded}
+use Rattle.qu_base.specs.declared.party.Party.TheVariants as party
 
 -- the verdict was sent by its replica to this round, before the event of the entry with this index
 pub record Answered (trace : Trace) (before : ℕ) (client : ClientId) (number round : ℕ) (counted : Counted) : Type 0 where
@@ -140,12 +141,13 @@ answered_frame trace is have before letter state sent are (frame.Reply replica c
     (λ work under_way counting below. All-nil (Answered trace (before + 1) state.me work.number (work.round + 1))))
     (λ other. same)
 
-answered_decoded : (trace : Trace) → IsRun trace → ArePlain trace.entries → (before : ℕ) (letter : Letter) (state : ClientState) → SentBefore trace before letter → WorkAnswered trace before state.me state.work → (read : Result Frame BadText) → decoded letter.text ≡ read → WorkAnswered trace (before + 1) state.me (on_decoded state read).state.work
-answered_decoded trace is have before letter state sent are (Ok received) carries = answered_frame trace is have before letter state sent are received carries
-answered_decoded trace is have before letter state sent are (Err bad) carries = work_more trace before state.me state.work are
+answered_brought : (trace : Trace) → IsRun trace → ArePlain trace.entries → (before : ℕ) (letter : Letter) (state : ClientState) → SentBefore trace before letter → WorkAnswered trace before state.me state.work → (found : Option Frame) → brought state.keys (party.Client state.me) letter.text ≡ found → WorkAnswered trace (before + 1) state.me (on_received state found).state.work
+answered_brought trace is have before letter state sent are (Some taken) brings =
+    answered_frame trace is have before letter state sent are taken (brought_is_decoded state.keys (party.Client state.me) letter.text taken brings)
+answered_brought trace is have before letter state sent are None brings = work_more trace before state.me state.work are
 
 answered_step : (trace : Trace) → IsRun trace → ArePlain trace.entries → (before : ℕ) (letter : Letter) (state : ClientState) → SentBefore trace before letter → WorkAnswered trace before state.me state.work → WorkAnswered trace (before + 1) state.me (client_step state letter.text).state.work
-answered_step trace is have before letter state sent are = answered_decoded trace is have before letter state sent are (decoded letter.text) refl
+answered_step trace is have before letter state sent are = answered_brought trace is have before letter state sent are (brought state.keys (party.Client state.me) letter.text) refl
 
 answered_invoke : (trace : Trace) (before : ℕ) (state : ClientState) (op : Op) → WorkAnswered trace before state.me (client_invoke state op).state.work
 answered_invoke trace before state op =
@@ -214,9 +216,9 @@ counts_step trace is have before within each event plain =
 counts_opening : (trace : Trace) → Each (Counts trace 0) (opening_world trace.setup).clients
 counts_opening trace zero state found = absurd (none-some state found)
 counts_opening trace (suc place) state found =
-    let opens : state ≡ opening_state (record { 0 = 1 + place }) trace.setup.bounds = opening_client 1 trace.setup.clients trace.setup.bounds place state found in
-    let holds : Counts trace 0 (suc place) (opening_state (record { 0 = 1 + place }) trace.setup.bounds) =
-    record { me = omega arith; bounds = refl; sound = IsSound-opening (record { 0 = 1 + place }) trace.setup.bounds; answered = tt } in
+    let opens : state ≡ opening_state (record { 0 = 1 + place }) (ring_of trace.setup) trace.setup.bounds = opening_client 1 trace.setup.clients (ring_of trace.setup) trace.setup.bounds place state found in
+    let holds : Counts trace 0 (suc place) (opening_state (record { 0 = 1 + place }) (ring_of trace.setup) trace.setup.bounds) =
+    record { me = omega arith; bounds = refl; sound = IsSound-opening (record { 0 = 1 + place }) (ring_of trace.setup) trace.setup.bounds; answered = tt } in
     subst (Counts trace 0 (suc place)) (sym opens) holds
 
 -- in every world of a run each client counts only what was sent to it

@@ -1,5 +1,5 @@
 -- Where the end of an operation is recorded, and what step of its client made it.
-use Rattle.std.proofs.Common.{◌≡◌, ℕ, suc, ◌+◌, ◌≤◌, true, eqb, ◌&&◌, List, [], ◌∷◌, ◌++◌, Option, None, Some, refl, ap, ◌∙◌, arith, slice_get, All, Contains, Result, Ok, Err}
+use Rattle.std.proofs.Common.{◌≡◌, ℕ, suc, ◌+◌, ◌≤◌, true, eqb, ◌&&◌, List, [], ◌∷◌, ◌++◌, Option, None, Some, refl, ap, ◌∙◌, arith, slice_get, All, Contains}
 use Rattle.std.proofs.lemmas.Bool.{and_parts, eqb-true, cond_both}
 use Rattle.std.proofs.lemmas.List.Elements.{All-nil, All-cons, All-append, All-weaker, All-contains}
 use Rattle.std.proofs.lemmas.Option.{none-some, some_pair_parts, cond_some}
@@ -16,7 +16,7 @@ use Rattle.qu_client.specs.declared.state.ClientState.{ClientState}
 use Rattle.qu_client.specs.declared.state.Stepped.{Stepped}
 use Rattle.qu_client.specs.declared.work.Work.{Work}
 use Rattle.qu_client.specs.State.{keep_all}
-use Rattle.qu_client.specs.Step.{fitting, identical, counts, on_frame, on_decoded, client_step}
+use Rattle.qu_client.specs.Step.{fitting, identical, counts, on_frame, on_received, client_step}
 use Rattle.qu_client.proofs.Cases.{with_verdict, counted_cases}
 use Rattle.qu_machine.specs.declared.record.OpRecord.{OpRecord}
 use Rattle.qu_trace.specs.declared.event.Event.{Event}
@@ -24,11 +24,11 @@ use Rattle.qu_trace.specs.declared.event.Event.TheVariants.{Invoke, Deliver, Tic
 use Rattle.qu_trace.specs.declared.trace.Entry.{Entry}
 use Rattle.qu_trace.specs.Operations.{outcome_in, first_end, end_from, begins_at, begun_by, operations_from, operations_of}
 use Rattle.qu_world.specs.Step.{ended_by}
-use Rattle.qu_frames.specs.Decoding.{decoded}
 use Rattle.qu_history.specs.declared.sealed.Sealed.{Sealed}
-use Rattle.qu_base.specs.declared.bad_text.BadText.{BadText}
 use Rattle.qu_base.specs.declared.party.ObjectId.{ObjectId}
 use Rattle.qu_machine.proofs.Equalities.{client_is}
+use Rattle.qu_frames.specs.Signed.{brought}
+use Rattle.qu_base.specs.declared.party.Party.TheVariants as party
 
 -- ---- where the end is recorded
 
@@ -174,15 +174,15 @@ frame_completes state (frame.Reply replica client number round verdict culled sh
     (λ other ended. absurd (none-some (outcome.Done answer) ended))
     ends
 
--- the text is that of such a frame
-pub record TextCompletes (state : ClientState) (read : Result Frame BadText) (answer : Answer) : Type 0 where
+-- the text brings such a frame
+pub record TextCompletes (state : ClientState) (found : Option Frame) (answer : Answer) : Type 0 where
   pub carried : Frame
-  pub is_frame : read ≡ Ok carried
+  pub is_frame : found ≡ Some carried
   pub completes : Completes state carried answer
 
-decoded_completes : (state : ClientState) (read : Result Frame BadText) (answer : Answer) → (on_decoded state read).ended ≡ Some (outcome.Done answer) → TextCompletes state read answer
-decoded_completes state (Ok received) answer ends = record { carried = received; is_frame = refl; completes = frame_completes state received answer ends }
-decoded_completes state (Err bad) answer ends = absurd (none-some (outcome.Done answer) ends)
+brought_completes : (state : ClientState) (found : Option Frame) (answer : Answer) → (on_received state found).ended ≡ Some (outcome.Done answer) → TextCompletes state found answer
+brought_completes state (Some taken) answer ends = record { carried = taken; is_frame = refl; completes = frame_completes state taken answer ends }
+brought_completes state None answer ends = absurd (none-some (outcome.Done answer) ends)
 
-pub completes : (state : ClientState) (text : List ℕ) (answer : Answer) → (client_step state text).ended ≡ Some (outcome.Done answer) → TextCompletes state (decoded text) answer
-completes state text answer ends = decoded_completes state (decoded text) answer ends
+pub completes : (state : ClientState) (text : List ℕ) (answer : Answer) → (client_step state text).ended ≡ Some (outcome.Done answer) → TextCompletes state (brought state.keys (party.Client state.me) text) answer
+completes state text answer ends = brought_completes state (brought state.keys (party.Client state.me) text) answer ends

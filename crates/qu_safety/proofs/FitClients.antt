@@ -1,10 +1,9 @@
 -- What a client keeps fits its format, as long as what it is sent fits; so what it asks for does.
-use Rattle.std.proofs.Common.{◌≡◌, ℕ, zero, suc, ◌+◌, ◌<◌, ◌≤◌, ◌^◌, eqb, List, [], ◌∷◌, Option, None, Some, IfSome, Result, Ok, Err, refl, sym, ap, subst, ◌∙◌, arith}
+use Rattle.std.proofs.Common.{◌≡◌, ℕ, zero, suc, ◌+◌, ◌<◌, ◌≤◌, ◌^◌, eqb, List, [], ◌∷◌, Option, None, Some, IfSome, Ok, refl, sym, ap, subst, ◌∙◌, arith}
 use Rattle.std.specs.Prelude.{slice_get}
 use Rattle.std.specs.List.{AllByRecursion}
 use Rattle.std.proofs.lemmas.Bool.{cond_both}
 use Rattle.std.proofs.lemmas.Option.{none-some, same_Some}
-use Rattle.qu_base.specs.declared.bad_text.BadText.{BadText}
 use Rattle.qu_base.specs.declared.party.ClientId.{ClientId}
 use Rattle.qu_base.specs.declared.party.ObjectId.{ObjectId}
 use Rattle.qu_base.specs.declared.party.ReplicaId.{ReplicaId}
@@ -23,7 +22,7 @@ use Rattle.qu_client.specs.declared.state.ClientState.{ClientState}
 use Rattle.qu_client.specs.declared.state.Stepped.{Stepped}
 use Rattle.qu_client.specs.declared.work.Work.{Work}
 use Rattle.qu_client.specs.State.{opening_state, is_older, same_source, keep, keep_all}
-use Rattle.qu_client.specs.Step.{counted_in, on_frame, on_decoded, client_step, client_invoke, next_number}
+use Rattle.qu_client.specs.Step.{counted_in, on_frame, on_received, client_step, client_invoke, next_number}
 use Rattle.qu_client.specs.Sound.{NumbersWithin, IsSoundWork, IsSound}
 use Rattle.qu_client.specs.Rounds.{request_of, requests_from}
 use Rattle.qu_client.proofs.Cases.{counted_cases, step_cases, invoke_cases}
@@ -35,6 +34,11 @@ use Rattle.qu_safety.specs.Views.{HasOpParts}
 use Rattle.qu_safety.proofs.Carrying.{AsksFit}
 use Rattle.qu_safety.proofs.FitRequests.{KeptFits, request_fits}
 use Rattle.qu_world.proofs.RunLaws.{within_more}
+use Rattle.qu_frames.specs.Signed.{brought, signature, with_mac}
+use Rattle.qu_seal.specs.Keys.{Ring}
+use Rattle.qu_frames.proofs.Signed.{brought_is_decoded, signed_is_spelled}
+use Rattle.qu_base.specs.declared.party.Party.{Party}
+use Rattle.qu_base.specs.declared.party.Party.TheVariants as party
 
 -- ---- what a reply shows
 
@@ -106,9 +110,9 @@ frame-fit state (frame.Reply replica client number round verdict culled shown ma
     (record { kept = keep_all_fits number round shown state.kept (reply_shown replica client number round verdict culled shown mac fits) holds.kept; work = holds.work }))
     (λ _. holds)
 
-decoded-fit : (state : ClientState) (read : Result Frame BadText) → ((sent : Frame) → read ≡ Ok sent → frame_form.Fits sent) → HoldsFit state → HoldsFit (on_decoded state read).state
-decoded-fit state (Ok received) fits holds = frame-fit state received (fits received refl) holds
-decoded-fit state (Err bad) fits holds = holds
+brought-fit : (state : ClientState) (found : Option Frame) → ((sent : Frame) → found ≡ Some sent → frame_form.Fits sent) → HoldsFit state → HoldsFit (on_received state found).state
+brought-fit state (Some taken) fits holds = frame-fit state taken (fits taken refl) holds
+brought-fit state None fits holds = holds
 
 next_from_one : (last : Option (ℕ × ℕ)) → 1 ≤ next_number last
 next_from_one None = omega arith
@@ -130,14 +134,14 @@ pub record FitClient (bounds most number : ℕ) (state : ClientState) : Type 0 w
   pub within : NumbersWithin most state
   pub holds : HoldsFit state
 
-pub opening_fit : (bounds number : ℕ) (me : ClientId) → 1 ≤ number → number ≤ 64 → me.0 ≡ number → FitClient bounds 0 number (opening_state me bounds)
-opening_fit bounds number me low high is = record {
+pub opening_fit : (keys : Ring) (bounds number : ℕ) (me : ClientId) → 1 ≤ number → number ≤ 64 → me.0 ≡ number → FitClient bounds 0 number (opening_state me keys bounds)
+opening_fit keys bounds number me low high is = record {
   low = low;
   high = high;
   named = is;
   bounds_are = refl;
   sound = tt;
-  within = NumbersWithin-opening me bounds;
+  within = NumbersWithin-opening me keys bounds;
   holds = record { kept = tt; work = tt };
 }
 
@@ -160,7 +164,9 @@ step_fit bounds most number state text fits fit = record {
   bounds_are = client_step-bounds state text ∙ fit.bounds_are;
   sound = IsSound-step state text fit.sound;
   within = NumbersWithin-step most state text fit.within;
-  holds = decoded-fit state (decoded text) fits fit.holds;
+  holds =
+      brought-fit state (brought state.keys (party.Client state.me) text)
+      (λ sent brings. fits sent (brought_is_decoded state.keys (party.Client state.me) text sent brings)) fit.holds;
 }
 
 pub invoke_fit : (bounds most number : ℕ) (state : ClientState) (what : Op) → HasOpParts what → FitClient bounds most number state → FitClient bounds (most + 1) number (client_invoke state what).state
@@ -191,37 +197,40 @@ asks_fit bounds most number state few size fit work is =
 
 -- ---- its letters
 
-requests_fit : (replica count : ℕ) (me : ClientId) (work : Work) (sets : List SetOf) → frame_form.Fits (request_of me work sets) → AllByRecursion LetterFits (requests_from replica count me work sets)
+requests_fit : (keys : Ring) (replica count : ℕ) (me : ClientId) (work : Work) (sets : List SetOf) → frame_form.Fits (request_of me work sets) → AllByRecursion LetterFits (requests_from keys replica count me work sets)
 unfolding requests_from
-requests_fit replica zero me work sets fits = tt
-requests_fit replica (suc count) me work sets fits =
-    (record { sent = request_of me work sets; fits = fits; text = refl }, requests_fit (replica + 1) count me work sets fits)
+requests_fit keys replica zero me work sets fits = tt
+requests_fit keys replica (suc count) me work sets fits =
+    let to : Party = party.Replica (record { 0 = replica }) in
+    let asks : Frame = request_of me work sets in
+    let made = signed_is_spelled keys to asks fits in
+    (record { sent = with_mac asks (signature keys to asks); fits = made.0; text = made.1 }, requests_fit keys (replica + 1) count me work sets fits)
 
 pub step_letters : (state : ClientState) (text : List ℕ) → AsksFit (client_step state text).state → AllByRecursion LetterFits (client_step state text).letters
 step_letters state text =
     step_cases state (λ stepped. AsksFit stepped.state → AllByRecursion LetterFits stepped.letters)
     (λ fits. tt) (λ kept fits. tt) (λ kept work replica number round verdict is counting fits. tt) (λ kept end fits. tt)
-    (λ kept work replies acted is asking more fits. requests_fit 0 (replicas state.bounds) state.me _ _ (fits _ refl))
+    (λ kept work replies acted is asking more fits. requests_fit state.keys 0 (replicas state.bounds) state.me _ _ (fits _ refl))
     (λ kept work replies is asking more fits. tt)
     text
 
 pub invoke_letters : (state : ClientState) (what : Op) → AsksFit (client_invoke state what).state → AllByRecursion LetterFits (client_invoke state what).letters
 invoke_letters state what =
     invoke_cases state what (λ stepped. AsksFit stepped.state → AllByRecursion LetterFits stepped.letters)
-    (λ acted fits. requests_fit 0 (replicas state.bounds) state.me _ _ (fits _ refl))
+    (λ acted fits. requests_fit state.keys 0 (replicas state.bounds) state.me _ _ (fits _ refl))
     (λ fits. tt)
 
 -- ---- all clients at the beginning
 
-opening_from : (bounds first count place number : ℕ) (state : ClientState) → number ≡ first + place → 1 ≤ first → first + count ≤ 65 → slice_get (opening_clients first count bounds) place ≡ Some state → FitClient bounds 0 number state
+opening_from : (keys : Ring) (bounds first count place number : ℕ) (state : ClientState) → number ≡ first + place → 1 ≤ first → first + count ≤ 65 → slice_get (opening_clients first count keys bounds) place ≡ Some state → FitClient bounds 0 number state
 unfolding opening_clients
-opening_from bounds first zero place number state at low high found = absurd (none-some state found)
-opening_from bounds first (suc count) zero number state at low high found =
-    subst (FitClient bounds 0 number) (same_Some (opening_state (record { 0 = first }) bounds) state found)
-    (opening_fit bounds number (record { 0 = first }) (omega arith) (omega arith) (omega arith))
-opening_from bounds first (suc count) (suc place) number state at low high found =
-    opening_from bounds (first + 1) count place number state (omega arith) (omega arith) (omega arith) found
+opening_from keys bounds first zero place number state at low high found = absurd (none-some state found)
+opening_from keys bounds first (suc count) zero number state at low high found =
+    subst (FitClient bounds 0 number) (same_Some (opening_state (record { 0 = first }) keys bounds) state found)
+    (opening_fit keys bounds number (record { 0 = first }) (omega arith) (omega arith) (omega arith))
+opening_from keys bounds first (suc count) (suc place) number state at low high found =
+    opening_from keys bounds (first + 1) count place number state (omega arith) (omega arith) (omega arith) found
 
-pub opening_clients-fit : (bounds count number : ℕ) (state : ClientState) → count ≤ 64 → numbered (opening_clients 1 count bounds) number ≡ Some state → FitClient bounds 0 number state
-opening_clients-fit bounds count zero state few found = absurd (none-some state found)
-opening_clients-fit bounds count (suc place) state few found = opening_from bounds 1 count place (suc place) state (omega arith) (omega arith) (omega arith) found
+pub opening_clients-fit : (keys : Ring) (bounds count number : ℕ) (state : ClientState) → count ≤ 64 → numbered (opening_clients 1 count keys bounds) number ≡ Some state → FitClient bounds 0 number state
+opening_clients-fit keys bounds count zero state few found = absurd (none-some state found)
+opening_clients-fit keys bounds count (suc place) state few found = opening_from keys bounds 1 count place (suc place) state (omega arith) (omega arith) (omega arith) found

@@ -21,7 +21,7 @@ use Rattle.qu_replica.specs.State.{ReplicaState, accept_all, opening_state}
 use Rattle.qu_replica.specs.Step.{carried_out, replica_step}
 use Rattle.qu_replica.proofs.FitDecisions.{DecisionFits}
 use Rattle.qu_replica.proofs.FitState.{opening-fits}
-use Rattle.qu_replica.proofs.FitSteps.{RequestFits, request-fits, decision-fits, answer-fits, on_frame-fits, on_decoded-fits}
+use Rattle.qu_replica.proofs.FitSteps.{RequestFits, request-fits, decision-fits, answer-fits, on_frame-fits, on_received-fits}
 use Rattle.qu_client.specs.declared.state.ClientState.{ClientState}
 use Rattle.qu_client.specs.declared.state.Stepped.{Stepped}
 use Rattle.qu_client.specs.Step.{client_invoke, client_step, client_tick}
@@ -32,7 +32,7 @@ use Rattle.qu_trace.specs.declared.trace.Setup.{Setup}
 use Rattle.qu_trace.specs.declared.trace.Trace.{Trace}
 use Rattle.qu_trace.specs.Letters.{letters_of}
 use Rattle.qu_world.specs.declared.fail.TheConstants.{EVENT_LIMIT}
-use Rattle.qu_world.specs.State.{WorldState, opening_world, opening_replicas, numbered, letter_of}
+use Rattle.qu_world.specs.State.{WorldState, opening_world, opening_replicas, numbered, letter_of, ring_of}
 use Rattle.qu_world.specs.Step.{world_step, unchanged, at_replica, at_client, received, delivered}
 use Rattle.qu_world.specs.Run.{IsSetup, IsRun}
 use Rattle.qu_safety.specs.Carried.{Carries}
@@ -45,6 +45,9 @@ use Rattle.qu_safety.proofs.Ranges.{few_by}
 use Rattle.qu_safety.proofs.Small.{some_entry}
 use Rattle.qu_safety.proofs.WorldGrowth.{world_after-none, world_after-next}
 use Rattle.qu_world.proofs.LetterLaws.{letters-push}
+use Rattle.qu_frames.specs.Signed.{brought}
+use Rattle.qu_seal.specs.Keys.{Ring}
+use Rattle.qu_frames.proofs.Signed.{brought_is_decoded}
 
 -- ---- letters
 
@@ -93,7 +96,9 @@ module _ (bounds most : ℕ) (few : most + 1 < 2 ^ 64) (size : replicas bounds �
   at_replica_fit : (event : Event) (me : ReplicaId) (text : List ℕ) (found : Option ReplicaState) → slice_get world.replicas me.0 ≡ found → ((sent : Frame) → decoded text ≡ Ok sent → frame_form.Fits sent) → FitWorld bounds (most + 1) (at_replica world event me text found)
   at_replica_fit event me text None is fits = unchanged_fit event
   at_replica_fit event me text (Some state) is fits =
-      let step : StepFits (replica_step state text) = on_decoded-fits state (decoded text) (fit.replicas me.0 state is) fits in
+      let step : StepFits (replica_step state text) =
+      on_received-fits state (brought state.keys (party.Replica state.me) text) (fit.replicas me.0 state is)
+      (λ sent brings. fits sent (brought_is_decoded state.keys (party.Replica state.me) text sent brings)) in
       record {
         clients = λ number other found. fit_more bounds most number other (fit.clients number other found);
         replicas = λ place other found. elim (set_cases world.replicas me.0 place (replica_step state text).0 other found) [
@@ -141,20 +146,20 @@ few_replicas : (bounds : ℕ) → bounds ≤ 3 → replicas bounds ≤ 16
 unfolding replicas
 few_replicas bounds few = omega arith
 
-opening_from : (first count bounds : ℕ) (kinds : List KindName) (place : ℕ) (state : ReplicaState) → first + count ≤ 16 → IsTrue (is_mac_count (replicas bounds)) → length kinds ≤ 64 → slice_get (opening_replicas first count bounds kinds) place ≡ Some state → StateFits state
+opening_from : (first count : ℕ) (keys : Ring) (bounds : ℕ) (kinds : List KindName) (place : ℕ) (state : ReplicaState) → first + count ≤ 16 → IsTrue (is_mac_count (replicas bounds)) → length kinds ≤ 64 → slice_get (opening_replicas first count keys bounds kinds) place ≡ Some state → StateFits state
 unfolding opening_replicas
-opening_from first zero bounds kinds place state few sized kinds_few found = absurd (none-some state found)
-opening_from first (suc count) bounds kinds zero state few sized kinds_few found =
-    subst StateFits (same_Some (opening_state (record { 0 = first }) bounds kinds) state found) (opening-fits (record { 0 = first }) bounds kinds (omega arith) sized kinds_few)
-opening_from first (suc count) bounds kinds (suc place) state few sized kinds_few found = opening_from (first + 1) count bounds kinds place state (omega arith) sized kinds_few found
+opening_from first zero keys bounds kinds place state few sized kinds_few found = absurd (none-some state found)
+opening_from first (suc count) keys bounds kinds zero state few sized kinds_few found =
+    subst StateFits (same_Some (opening_state (record { 0 = first }) keys bounds kinds) state found) (opening-fits (record { 0 = first }) keys bounds kinds (omega arith) sized kinds_few)
+opening_from first (suc count) keys bounds kinds (suc place) state few sized kinds_few found = opening_from (first + 1) count keys bounds kinds place state (omega arith) sized kinds_few found
 
 opening_fits : (setup : Setup) → IsSetup setup → FitWorld setup.bounds 0 (opening_world setup)
 unfolding letters_of
 opening_fits setup is =
     let size : replicas setup.bounds ≤ 16 = few_replicas setup.bounds is.few_faults in
     record {
-      clients = λ number state found. opening_clients-fit setup.bounds setup.clients number state is.clients found;
-      replicas = λ place state found. opening_from 0 (replicas setup.bounds) setup.bounds setup.kinds place state (omega arith) (mac_sized setup.bounds is.some_faults is.few_faults) is.kinds found;
+      clients = λ number state found. opening_clients-fit (ring_of setup) setup.bounds setup.clients number state is.clients found;
+      replicas = λ place state found. opening_from 0 (replicas setup.bounds) (ring_of setup) setup.bounds setup.kinds place state (omega arith) (mac_sized setup.bounds is.some_faults is.few_faults) is.kinds found;
       letters = tt;
     }
 

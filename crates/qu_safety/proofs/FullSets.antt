@@ -20,7 +20,7 @@ use Rattle.qu_frames.specs.declared.verdict.Refusal.TheVariants as refusal
 use Rattle.qu_replica.specs.declared.decision.Decision.{Decision}
 use Rattle.qu_replica.specs.State.{ReplicaState, own_candidates}
 use Rattle.qu_replica.specs.Rows.{Asked, asked_of, refuse, row_unknown, row_thin, first_given, objects_of, decide_act}
-use Rattle.qu_replica.specs.Step.{carried_out, on_frame, on_decoded, replica_step}
+use Rattle.qu_replica.specs.Step.{carried_out, on_frame, on_received, replica_step}
 use Rattle.qu_client.specs.Rounds.{are_full}
 use Rattle.qu_trace.specs.declared.event.Event.{Event}
 use Rattle.qu_trace.specs.declared.event.Event.TheVariants.{Deliver}
@@ -114,7 +114,7 @@ delivered_to world event place old new object happened is_old is_new =
     ap (delivered world deliver) happened.is_letter ∙
     ap (λ (to : Party). received world deliver to letter.text) happened.to ∙
     ap (at_replica world deliver (record { 0 = place }) letter.text) is_old in
-    ap (λ it. (on_decoded old it).0) (sym happened.carries) ∙
+    ap (λ it. (on_received old it).0) (sym happened.brings) ∙
     same_Some stepped new (sym (set_here world.replicas place old stepped is_old) ∙ ap (λ (it : WorldState). slice_get it.replicas place) (sym is) ∙ is_new)
 
 -- a letter that made a replica accept a candidate shows such sets

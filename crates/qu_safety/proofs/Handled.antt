@@ -1,5 +1,5 @@
 -- What a replica accepts it handled, and it was made for that act; and a request that was handled was sent.
-use Rattle.std.proofs.Common.{◌≡◌, ℕ, suc, ◌<◌, ◌≤◌, Bool, true, false, not, cond, List, [], ◌∷◌, length, Option, get_or, None, Some, refl, sym, ap, subst, ◌∙◌, arith, add-one, Result, Ok, Err}
+use Rattle.std.proofs.Common.{◌≡◌, ℕ, suc, ◌<◌, ◌≤◌, Bool, true, false, not, cond, List, [], ◌∷◌, length, Option, get_or, None, Some, refl, sym, ap, subst, ◌∙◌, arith, add-one}
 use Rattle.std.specs.Prelude.{slice_get, nat_le, nat_lt, Contains}
 use Rattle.std.specs.List.{list_all}
 use Rattle.std.proofs.lemmas.Bool.{and_parts, and_from, lt-ltb}
@@ -29,10 +29,10 @@ use Rattle.qu_trace.specs.declared.trace.Entry.{Entry}
 use Rattle.qu_trace.specs.declared.trace.Setup.{Setup}
 use Rattle.qu_trace.specs.declared.trace.Trace.{Trace}
 use Rattle.qu_trace.specs.Letters.{letters_of}
-use Rattle.qu_world.specs.State.{WorldState, numbered, letter_of}
+use Rattle.qu_world.specs.State.{WorldState, numbered, letter_of, ring_of}
 use Rattle.qu_world.specs.Step.{world_step}
 use Rattle.qu_world.specs.Run.{IsRun}
-use Rattle.qu_safety.specs.Digested.{Request, is_known, request_in, request_read, request_to, request_by, handled_by, IsHandled, IsMadeFor}
+use Rattle.qu_safety.specs.Digested.{Request, is_known, request_in, request_to, request_by, handled_by, IsHandled, IsMadeFor, request_brought}
 use Rattle.qu_safety.specs.Grounds.{AcceptsOne, IsDelivered}
 use Rattle.qu_safety.specs.Invocations.{IsRequestOf}
 use Rattle.qu_safety.specs.Order.{world_after}
@@ -44,12 +44,15 @@ use Rattle.qu_safety.proofs.Marking.{run_has, found_within}
 use Rattle.qu_safety.proofs.Recording.{entries_after}
 use Rattle.qu_safety.proofs.Replies.{letter_stays}
 use Rattle.qu_safety.proofs.WorldGrowth.{world_after-next}
-use Rattle.qu_safety.specs.Carried.{Asks}
-use Rattle.qu_frames.specs.Decoding.{decoded}
+use Rattle.qu_safety.specs.Carried.{Asks, Brings}
 use Rattle.qu_safety.specs.Views.{IsPlain, ArePlain}
-use Rattle.qu_base.specs.declared.bad_text.BadText.{BadText}
 use Rattle.qu_safety.proofs.Carrying.{asks_so}
 use Rattle.qu_world.proofs.Each.{each_at}
+use Rattle.qu_frames.specs.Signed.{brought}
+use Rattle.qu_seal.specs.Keys.{Ring}
+use Rattle.qu_frames.proofs.Signed.{brought_is_decoded}
+use Rattle.qu_safety.proofs.OpeningReplicas.{keys_are, me_is}
+use Rattle.qu_base.specs.declared.party.ReplicaId.{ReplicaId}
 
 -- ---- what is accepted was handled
 
@@ -66,9 +69,9 @@ all_known setup size few (set ∷ sets) had =
 pub request_handled : (trace : Trace) → IsRun trace → (time : ℕ) → time < length trace.entries → (event : Event) → (asked : ℕ) → event ≡ Deliver asked
     → (place : ℕ) (old : ReplicaState) → slice_get (world_after trace time).replicas place ≡ Some old
     → (letter : Letter) → letter_of (world_after trace time) asked ≡ Some letter → letter.to ≡ party.Replica (record { 0 = place })
-    → (request : Request) (round : ℕ) → Asks letter request.client request.number round request.sets request.body → are_had old request.sets ≡ true
+    → (request : Request) (round : ℕ) (mac : List ℕ) → Brings old letter (frame.Request request.client request.number round request.sets request.body mac) → are_had old request.sets ≡ true
     → handled_by trace event ≡ Some request
-request_handled trace is_run time within event asked is_deliver place old is_old letter is_letter to request round is_request had =
+request_handled trace is_run time within event asked is_deliver place old is_old letter is_letter to request round mac brings had =
     let few : length old.histories ≤ length trace.setup.kinds = found_within (length trace.setup.kinds) (world_after trace time).replicas place old (run_has trace time) is_old in
     let known : list_all (is_known trace.setup) request.sets ≡ true = all_known trace.setup (length old.histories) few request.sets had in
     let there : place < length (world_after trace time).replicas = slice_get_within (world_after trace time).replicas place old is_old in
@@ -78,22 +81,24 @@ request_handled trace is_run time within event asked is_deliver place old is_old
     ap (handled_by trace) is_deliver ∙
     ap (request_by trace.setup) found ∙
     ap (request_to trace.setup letter.text) to ∙
-    ap (λ (test : Bool). cond test (request_read trace.setup (decoded letter.text)) None) among ∙
-    ap (request_read trace.setup) is_request.carries ∙
+    ap (λ (test : Bool). cond test (request_brought trace.setup (brought (ring_of trace.setup) (party.Replica (record { 0 = place })) letter.text)) None) among ∙
+    ap (λ (keys : Ring). request_brought trace.setup (brought keys (party.Replica (record { 0 = place })) letter.text)) (sym (keys_are trace time place old is_old)) ∙
+    ap (λ (me : ReplicaId). request_brought trace.setup (brought old.keys (party.Replica me) letter.text)) (sym (me_is trace time place old is_old)) ∙
+    ap (request_brought trace.setup) brings ∙
     ap (λ (test : Bool). cond test (Some request) None) known
 
 pub handled_upon : (trace : Trace) → IsRun trace → (time : ℕ) → time < length trace.entries → (entry : Entry) → Contains trace.entries entry → (asked : ℕ) → entry.event ≡ Deliver asked
     → (place : ℕ) (old : ReplicaState) → slice_get (world_after trace time).replicas place ≡ Some old
     → (letter : Letter) → letter_of (world_after trace time) asked ≡ Some letter → letter.to ≡ party.Replica (record { 0 = place })
-    → (client : ClientId) (number round : ℕ) (sets : List SetOf) (parts : List (ObjectId × Method)) → Asks letter client number round sets (body.Act parts) → are_had old sets ≡ true
+    → (client : ClientId) (number round : ℕ) (sets : List SetOf) (parts : List (ObjectId × Method)) (mac : List ℕ) → Brings old letter (frame.Request client number round sets (body.Act parts) mac) → are_had old sets ≡ true
     → IsHandled trace client number parts
-handled_upon trace is_run time within entry of_trace asked is_deliver place old is_old letter is_letter to client number round sets parts is_request had = record {
+handled_upon trace is_run time within entry of_trace asked is_deliver place old is_old letter is_letter to client number round sets parts mac brings had = record {
   entry = entry;
   of_trace = of_trace;
   sets = sets;
   handled =
       request_handled trace is_run time within entry.event asked is_deliver place old is_old letter is_letter to
-      (record { client = client; number = number; sets = sets; body = body.Act parts }) round is_request had;
+      (record { client = client; number = number; sets = sets; body = body.Act parts }) round mac brings had;
 }
 
 -- the request upon which a replica accepts a candidate
@@ -108,8 +113,7 @@ upon_handled trace is_run time within event place old new is_old is_new object d
     let one : AcceptsOne old new delivered.carried object = delivered.accepts in
     let upon : IsUpon old one.sets = delivered_upon (world_after trace time) event place old new object delivered is_old is_new in
     request_handled trace is_run time within event delivered.number delivered.is_deliver place old is_old delivered.letter delivered.is_letter delivered.to
-    (request_upon old new delivered.carried object one) one.round
-    (asks_so delivered.letter delivered.carried one.client one.number one.round one.sets (body.Act ((object, one.method) ∷ [])) one.mac delivered.carries one.is_request) upon.had
+    (request_upon old new delivered.carried object one) one.round one.mac (delivered.brings ∙ ap (λ (it : Frame). Some it) one.is_request) upon.had
 
 pub handled : (trace : Trace) → IsRun trace → (time : ℕ) → time < length trace.entries → (entry : Entry) → Contains trace.entries entry → (event : Event) → event ≡ entry.event → (place : ℕ) (old new : ReplicaState)
     → slice_get (world_after trace time).replicas place ≡ Some old → slice_get (world_step (world_after trace time) event).replicas place ≡ Some new → (object : ObjectId) (delivered : IsDelivered (world_after trace time) event place old new object)
@@ -171,22 +175,22 @@ carried setup (frame.Request client number round sets asked mac) request is =
     (round, mac, ap (λ (one : Request). frame.Request one.client one.number round one.sets one.body mac) same)
 carried setup (frame.Reply replica client number round verdict culled shown mac) request is = absurd (none-some request is)
 
-carried_to : (setup : Setup) (text : List ℕ) (to : Party) (request : Request) → request_to setup text to ≡ Some request → request_read setup (decoded text) ≡ Some request
-carried_to setup text (party.Replica me) request is = cond_given (nat_lt me.0 (replicas setup.bounds)) (request_read setup (decoded text)) request is
+carried_to : (setup : Setup) (text : List ℕ) (to : Party) (request : Request) → request_to setup text to ≡ Some request → request_brought setup (brought (ring_of setup) to text) ≡ Some request
+carried_to setup text (party.Replica me) request is = cond_given (nat_lt me.0 (replicas setup.bounds)) (request_brought setup (brought (ring_of setup) (party.Replica me) text)) request is
 carried_to setup text (party.Client me) request is = absurd (none-some request is)
 
--- a frame was decoded that is this request
-carried_so : (setup : Setup) (letter : Letter) (read : Result Frame BadText) (request : Request) → decoded letter.text ≡ read → request_read setup read ≡ Some request
+-- a frame was brought that is this request
+carried_so : (setup : Setup) (letter : Letter) (read : Option Frame) (request : Request) → brought (ring_of setup) letter.to letter.text ≡ read → request_brought setup read ≡ Some request
     → (round : ℕ) × Asks letter request.client request.number round request.sets request.body
-carried_so setup letter (Ok sent) request carries is =
+carried_so setup letter (Some sent) request brings is =
     let it = carried setup sent request is in
-    (it.0, asks_so letter sent request.client request.number it.0 request.sets request.body it.1 carries it.2)
-carried_so setup letter (Err bad) request carries is = absurd (none-some request is)
+    (it.0, asks_so letter sent request.client request.number it.0 request.sets request.body it.1 (brought_is_decoded (ring_of setup) letter.to letter.text sent brings) it.2)
+carried_so setup letter None request brings is = absurd (none-some request is)
 
 sent_by : (trace : Trace) (number : ℕ) (found : Option Letter) (request : Request) → numbered (letters_of trace.entries) number ≡ found → request_by trace.setup found ≡ Some request → IsSent trace request
 sent_by trace number None request found is = absurd (none-some request is)
 sent_by trace number (Some letter) request found is =
-    let it = carried_so trace.setup letter (decoded letter.text) request refl (carried_to trace.setup letter.text letter.to request is) in
+    let it = carried_so trace.setup letter (brought (ring_of trace.setup) letter.to letter.text) request refl (carried_to trace.setup letter.text letter.to request is) in
     record { number = number; letter = letter; is_letter = found; round = it.0; is_request = it.1 }
 
 pub sent : (trace : Trace) (event : Event) → IsPlain event → (request : Request) → handled_by trace event ≡ Some request → IsSent trace request

@@ -1,5 +1,5 @@
 -- What an event of a world adds to a replica, and why: nothing, or what a letter to it makes it accept.
-use Rattle.std.proofs.Common.{◌≡◌, ◌⊎◌, ℕ, zero, suc, List, [], ◌∷◌, Option, None, Some, inl, inr, refl, sym, subst, ap, ◌∙◌, Result, Ok, Err}
+use Rattle.std.proofs.Common.{◌≡◌, ◌⊎◌, ℕ, zero, suc, List, [], ◌∷◌, Option, None, Some, inl, inr, refl, sym, subst, ap, ◌∙◌, Ok}
 use Rattle.std.specs.Prelude.{slice_get, slice_set}
 use Rattle.std.specs.List.{AllZip}
 use Rattle.std.proofs.lemmas.Bool.{cases_eq}
@@ -13,7 +13,7 @@ use Rattle.qu_frames.specs.declared.frame.Frame.{Frame}
 use Rattle.qu_frames.specs.declared.frame.Letter.{Letter}
 use Rattle.qu_replica.specs.State.{ReplicaState, own_candidates}
 use Rattle.qu_replica.specs.Growth.{HasParts, Grows}
-use Rattle.qu_replica.specs.Step.{on_decoded, replica_step}
+use Rattle.qu_replica.specs.Step.{on_received, replica_step}
 use Rattle.qu_client.specs.declared.state.ClientState.{ClientState}
 use Rattle.qu_client.specs.declared.state.Stepped.{Stepped}
 use Rattle.qu_client.specs.Step.{client_invoke, client_step, client_tick}
@@ -28,7 +28,8 @@ use Rattle.qu_world.proofs.Each.{set_here, set_other}
 use Rattle.qu_safety.specs.Carried.{Carries}
 use Rattle.qu_frames.specs.Decoding.{decoded}
 use Rattle.qu_safety.specs.Views.{IsPlain}
-use Rattle.qu_base.specs.declared.bad_text.BadText.{BadText}
+use Rattle.qu_frames.specs.Signed.{brought}
+use Rattle.qu_frames.proofs.Signed.{brought_is_decoded}
 
 -- ---- a replica before an event
 
@@ -73,22 +74,22 @@ client_stays world event me move found place old new is_old is_new =
 record IsTaken (me : ReplicaId) (text : List ℕ) (place : ℕ) (old new : ReplicaState) : Type 0 where
   here : me.0 ≡ place
   frame : Frame
-  is_frame : decoded text ≡ Ok frame
+  is_frame : brought old.keys (party.Replica old.me) text ≡ Some frame
   accepts : AcceptsAlone old new frame
 
--- what a decoded text makes of a replica
-record IsAccepted (read : Result Frame BadText) (old new : ReplicaState) : Type 0 where
+-- what a text makes of a replica that brings it a frame
+record IsAccepted (read : Option Frame) (old new : ReplicaState) : Type 0 where
   frame : Frame
-  is_frame : read ≡ Ok frame
+  is_frame : read ≡ Some frame
   accepts : AcceptsAlone old new frame
 
-text_moves : (old : ReplicaState) (read : Result Frame BadText) → ((frame : Frame) → read ≡ Ok frame → HasParts frame) → ((on_decoded old read).0 ≡ old) ⊎ IsAccepted read old (on_decoded old read).0
-text_moves old (Ok frame) parts =
+text_moves : (old : ReplicaState) (read : Option Frame) → ((frame : Frame) → read ≡ Some frame → HasParts frame) → ((on_received old read).0 ≡ old) ⊎ IsAccepted read old (on_received old read).0
+text_moves old (Some frame) parts =
     elim (step_moves old frame (parts frame refl)) [
       | inl same ↦ inl same
       | inr alone ↦ inr (record { frame = frame; is_frame = refl; accepts = alone })
     ]
-text_moves old (Err bad) parts = inl refl
+text_moves old None parts = inl refl
 
 replica_takes : (world : WorldState) (event : Event) (me : ReplicaId) (text : List ℕ) (found : Option ReplicaState) (place : ℕ) (old new : ReplicaState)
     → slice_get world.replicas me.0 ≡ found → ((frame : Frame) → decoded text ≡ Ok frame → HasParts frame)
@@ -103,7 +104,7 @@ replica_takes world event me text (Some state) place old new is_found parts is_o
           let is_moved : moved ≡ new =
           same_Some moved new (sym (set_here world.replicas me.0 state moved is_found) ∙ ap (slice_get (slice_set world.replicas me.0 moved)) (sym here) ∙ is_new) in
           let is_step : (replica_step old text).0 ≡ new = ap (λ (it : ReplicaState). (replica_step it text).0) (sym is_state) ∙ is_moved in
-          elim (text_moves old (decoded text) parts) [
+          elim (text_moves old (brought old.keys (party.Replica old.me) text) (λ frame brings. parts frame (brought_is_decoded old.keys (party.Replica old.me) text frame brings))) [
             | inl same ↦ inl (sym is_step ∙ same)
             | inr alone ↦ inr (record { here = sym here; frame = alone.frame; is_frame = alone.is_frame; accepts = subst (λ (it : ReplicaState). AcceptsAlone old it alone.frame) is_step alone.accepts })
           ]
@@ -127,7 +128,7 @@ letter_taken world number letter (party.Replica me) place old new is_letter is_t
         is_letter = is_letter;
         to = is_to ∙ ap replica taken.here;
         carried = taken.frame;
-        carries = taken.is_frame;
+        brings = taken.is_frame;
         accepts = taken.accepts;
       })
     ]
@@ -170,7 +171,7 @@ event_accepts world event place old new is_old is_new parts plain object =
           is_letter = moved.is_letter;
           to = moved.to;
           carried = moved.carried;
-          carries = moved.carries;
+          brings = moved.brings;
           accepts = one;
         })
       ]

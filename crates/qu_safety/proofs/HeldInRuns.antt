@@ -8,7 +8,7 @@ use Rattle.qu_replica.specs.State.{ReplicaState}
 use Rattle.qu_trace.specs.declared.event.Event.{Event}
 use Rattle.qu_trace.specs.declared.trace.Entry.{Entry}
 use Rattle.qu_trace.specs.declared.trace.Trace.{Trace}
-use Rattle.qu_world.specs.State.{WorldState, opening_replicas}
+use Rattle.qu_world.specs.State.{WorldState, opening_replicas, ring_of}
 use Rattle.qu_world.specs.Step.{world_step}
 use Rattle.qu_world.specs.Run.{IsRun}
 use Rattle.qu_safety.specs.Order.{world_after}
@@ -19,17 +19,18 @@ use Rattle.qu_safety.proofs.Views.{sent_has_parts}
 use Rattle.qu_world.proofs.Each.{each_at}
 use Rattle.qu_safety.proofs.WorldGrowth.{world_after-none, world_after-next}
 use Rattle.qu_safety.proofs.Small.{some_entry}
+use Rattle.qu_seal.specs.Keys.{Ring}
 
 -- each replica stores versions of what it holds
 abbrev AllOfHeld : WorldState → Type 0
 AllOfHeld world = (place : ℕ) (state : ReplicaState) → slice_get world.replicas place ≡ Some state → AreOfHeld state
 
-opening_from : (first count bounds : ℕ) (kinds : List KindName) (place : ℕ) (state : ReplicaState) → slice_get (opening_replicas first count bounds kinds) place ≡ Some state → AreOfHeld state
+opening_from : (first count : ℕ) (keys : Ring) (bounds : ℕ) (kinds : List KindName) (place : ℕ) (state : ReplicaState) → slice_get (opening_replicas first count keys bounds kinds) place ≡ Some state → AreOfHeld state
 unfolding opening_replicas
-opening_from first zero bounds kinds place state found = absurd (none-some state found)
-opening_from first (suc count) bounds kinds zero state found =
-    subst AreOfHeld (same_Some _ state found) (opening_of_held (record { 0 = first }) bounds kinds)
-opening_from first (suc count) bounds kinds (suc place) state found = opening_from (first + 1) count bounds kinds place state found
+opening_from first zero keys bounds kinds place state found = absurd (none-some state found)
+opening_from first (suc count) keys bounds kinds zero state found =
+    subst AreOfHeld (same_Some _ state found) (opening_of_held (record { 0 = first }) keys bounds kinds)
+opening_from first (suc count) keys bounds kinds (suc place) state found = opening_from (first + 1) count keys bounds kinds place state found
 
 module _ (trace : Trace) (is_run : IsRun trace) (have : ArePlain trace.entries) where
   held_next : (count : ℕ) → count < length trace.entries → AllOfHeld (world_after trace count) → AllOfHeld (world_after trace (count + 1))
@@ -47,7 +48,7 @@ module _ (trace : Trace) (is_run : IsRun trace) (have : ArePlain trace.entries) 
 
   all_held : (count : ℕ) → count ≤ length trace.entries → AllOfHeld (world_after trace count)
   all_held zero within =
-      subst AllOfHeld (sym (world_after-none trace)) (opening_from 0 (replicas trace.setup.bounds) trace.setup.bounds trace.setup.kinds)
+      subst AllOfHeld (sym (world_after-none trace)) (opening_from 0 (replicas trace.setup.bounds) (ring_of trace.setup) trace.setup.bounds trace.setup.kinds)
   all_held (suc count) within =
       subst (λ (at : ℕ). AllOfHeld (world_after trace at)) (add-one count) (held_next count (omega arith) (all_held count (omega arith)))
 

@@ -33,6 +33,7 @@ use Rattle.qu_safety.proofs.Happenings.{event_moves}
 use Rattle.qu_safety.proofs.Performed.{version_of_accepted}
 use Rattle.qu_safety.specs.Carried.{Carries}
 use Rattle.qu_safety.specs.Views.{IsPlain}
+use Rattle.qu_seal.specs.Keys.{Ring}
 
 -- the replica holds a candidate with this stamp
 pub record HoldsUnder (state : ReplicaState) (object : ObjectId) (stamp : Stamp) : Type 0 where
@@ -67,8 +68,8 @@ opening_from me first (kind ∷ kinds) object stamp version found =
           record { place = suc inner.place; at = omega arith; alone = inner.alone; under = inner.under }
     ]
 
-pub opening_of_held : (me : ReplicaId) (bounds : ℕ) (kinds : List KindName) → AreOfHeld (opening_state me bounds kinds)
-opening_of_held me bounds kinds = record {
+pub opening_of_held : (me : ReplicaId) (keys : Ring) (bounds : ℕ) (kinds : List KindName) → AreOfHeld (opening_state me keys bounds kinds)
+opening_of_held me keys bounds kinds = record {
   of_held = λ object stamp version found.
       let begun : IsOpening me 0 kinds object stamp = opening_from me 0 kinds object stamp version found in
       let place : object.0 ≡ begun.place = begun.at ∙ zero-add begun.place in

@@ -30,7 +30,7 @@ use Rattle.qu_trace.specs.declared.trace.Entry.{Entry}
 use Rattle.qu_trace.specs.declared.trace.Trace.{Trace}
 use Rattle.qu_trace.specs.Letters.{letters_of}
 use Rattle.qu_trace.specs.Operations.{invokes, begun_by, record_of}
-use Rattle.qu_world.specs.State.{WorldState, opening_world, opening_clients, numbered, with_numbered, letter_of}
+use Rattle.qu_world.specs.State.{WorldState, opening_world, opening_clients, numbered, with_numbered, letter_of, ring_of}
 use Rattle.qu_world.specs.Step.{world_step, at_client, at_replica, received, delivered, ended_by}
 use Rattle.qu_world.specs.Refusals.{refusal_of}
 use Rattle.qu_world.specs.Run.{IsRun}
@@ -47,6 +47,7 @@ use Rattle.qu_safety.proofs.Carrying.{AsksFit, IsFitStep, numbered_here}
 use Rattle.qu_safety.proofs.Fitting.{fit_step}
 use Rattle.qu_world.proofs.LetterLaws.{letters-push}
 use Rattle.qu_machine.proofs.Equalities.{client_is}
+use Rattle.qu_seal.specs.Keys.{Ring}
 
 letters_next : (trace : Trace) (count : ℕ) (entries : List Entry) (entry : Entry) → All (IsAsked trace count) (letters_of entries) → All (IsAsked trace (count + 1)) entry.letters → All (IsAsked trace (count + 1)) (letters_of (entries ++ entry ∷ []))
 letters_next trace count entries entry old new =
@@ -180,20 +181,20 @@ module _ (trace : Trace) (count : ℕ) (world : WorldState) (shown : IsShown tra
 
 -- ---- runs
 
-opening_from : (trace : Trace) (first many bounds index number : ℕ) (state : ClientState) → number ≡ first + index → slice_get (opening_clients first many bounds) index ≡ Some state → IsClientAt trace 0 0 number state
+opening_from : (trace : Trace) (first many : ℕ) (keys : Ring) (bounds index number : ℕ) (state : ClientState) → number ≡ first + index → slice_get (opening_clients first many keys bounds) index ≡ Some state → IsClientAt trace 0 0 number state
 unfolding opening_clients
-opening_from trace first zero bounds index number state at found = absurd cc
-opening_from trace first (suc many) bounds zero number state at found =
-    subst (IsClientAt trace 0 0 number) (same_Some (opening_state (record { 0 = first }) bounds) state found)
+opening_from trace first zero keys bounds index number state at found = absurd cc
+opening_from trace first (suc many) keys bounds zero number state at found =
+    subst (IsClientAt trace 0 0 number) (same_Some (opening_state (record { 0 = first }) keys bounds) state found)
     (record { named = omega arith; sound = tt; at_work = refl })
-opening_from trace first (suc many) bounds (suc index) number state at found =
-    opening_from trace (first + 1) many bounds index number state (omega arith) found
+opening_from trace first (suc many) keys bounds (suc index) number state at found =
+    opening_from trace (first + 1) many keys bounds index number state (omega arith) found
 
-opening_client : (trace : Trace) (number : ℕ) (state : ClientState) → numbered (opening_clients 1 trace.setup.clients trace.setup.bounds) number ≡ Some state → IsClientAt trace 0 (begun_at trace 0 number) number state
+opening_client : (trace : Trace) (number : ℕ) (state : ClientState) → numbered (opening_clients 1 trace.setup.clients (ring_of trace.setup) trace.setup.bounds) number ≡ Some state → IsClientAt trace 0 (begun_at trace 0 number) number state
 unfolding begun_by
 opening_client trace zero state found = absurd cc
 opening_client trace (suc index) state found =
-    opening_from trace 1 trace.setup.clients trace.setup.bounds index (suc index) state (omega arith) found
+    opening_from trace 1 trace.setup.clients (ring_of trace.setup) trace.setup.bounds index (suc index) state (omega arith) found
 
 opening_shown : (trace : Trace) → IsShown trace 0 (opening_world trace.setup)
 unfolding letters_of

@@ -34,7 +34,7 @@ use Rattle.qu_machine.specs.Machine.{act_values, with_values, values_at}
 use Rattle.qu_replica.specs.State.{ReplicaState, candidates_in, opening_histories, opening_state}
 use Rattle.qu_trace.specs.declared.trace.Trace.{Trace}
 use Rattle.qu_world.specs.Run.{IsRun}
-use Rattle.qu_world.specs.State.{WorldState, opening_replicas}
+use Rattle.qu_world.specs.State.{WorldState, opening_replicas, ring_of}
 use Rattle.qu_objects.specs.Text.{act_digest}
 use Rattle.std.proofs.lemmas.Option.{none-some}
 use Rattle.qu_safety.proofs.OneAct.{ActsAreOne}
@@ -54,6 +54,7 @@ use Rattle.qu_safety.proofs.Values.{Known, one_version, same_method, IsUpdated}
 use Rattle.qu_safety.proofs.WorldGrowth.{world_after-none}
 use Rattle.qu_world.proofs.Each.{set_other}
 use Rattle.qu_machine.proofs.Equalities.{object_is}
+use Rattle.qu_seal.specs.Keys.{Ring}
 
 -- ---- lists
 
@@ -73,14 +74,14 @@ opening_held me number (first ∷ kinds) (suc place) below = opening_held me (nu
 abbrev counted : ObjectId → ReplicaState → ℕ
 counted object state = cond (accepts object opening state) 1 0
 
-all_accept : (object : ObjectId) (number count bounds : ℕ) (kinds : List KindName) → object.0 < length kinds → count_by (accepts object opening) (opening_replicas number count bounds kinds) ≡ count
+all_accept : (object : ObjectId) (number count : ℕ) (keys : Ring) (bounds : ℕ) (kinds : List KindName) → object.0 < length kinds → count_by (accepts object opening) (opening_replicas number count keys bounds kinds) ≡ count
 unfolding opening_replicas
-all_accept object number zero bounds kinds below = refl
-all_accept object number (suc count) bounds kinds below =
-    let here : counted object (opening_state (record { 0 = number }) bounds kinds) ≡ 1 = ap (λ (it : Bool). cond it 1 0) (opening_held (record { 0 = number }) 0 kinds object.0 below) in
-    let there : count_by (accepts object opening) (opening_replicas (number + 1) count bounds kinds) ≡ count = all_accept object (number + 1) count bounds kinds below in
-    let whole : count_by (accepts object opening) (opening_state (record { 0 = number }) bounds kinds ∷ opening_replicas (number + 1) count bounds kinds) ≡ counted object (opening_state (record { 0 = number }) bounds kinds) + count_by (accepts object opening) (opening_replicas (number + 1) count bounds kinds) =
-    sum_by-cons (counted object) (opening_state (record { 0 = number }) bounds kinds) (opening_replicas (number + 1) count bounds kinds) in
+all_accept object number zero keys bounds kinds below = refl
+all_accept object number (suc count) keys bounds kinds below =
+    let here : counted object (opening_state (record { 0 = number }) keys bounds kinds) ≡ 1 = ap (λ (it : Bool). cond it 1 0) (opening_held (record { 0 = number }) 0 kinds object.0 below) in
+    let there : count_by (accepts object opening) (opening_replicas (number + 1) count keys bounds kinds) ≡ count = all_accept object (number + 1) count keys bounds kinds below in
+    let whole : count_by (accepts object opening) (opening_state (record { 0 = number }) keys bounds kinds ∷ opening_replicas (number + 1) count keys bounds kinds) ≡ counted object (opening_state (record { 0 = number }) keys bounds kinds) + count_by (accepts object opening) (opening_replicas (number + 1) count keys bounds kinds) =
+    sum_by-cons (counted object) (opening_state (record { 0 = number }) keys bounds kinds) (opening_replicas (number + 1) count keys bounds kinds) in
     omega (arith, here, there, whole)
 
 module _ (trace : Trace) (is_run : IsRun trace) (have : ArePlain trace.entries) (known : Known trace) (one_act : ActsAreOne trace) where
@@ -101,7 +102,7 @@ module _ (trace : Trace) (is_run : IsRun trace) (have : ArePlain trace.entries) 
   first_top object below =
       let counted : acceptors (setting trace) 0 object opening ≡ count_by (accepts object opening) (world_after trace 0).replicas = acceptors_are trace 0 object opening in
       let all : count_by (accepts object opening) (world_after trace 0).replicas ≡ replicas trace.setup.bounds =
-      ap (λ (world : WorldState). count_by (accepts object opening) world.replicas) (world_after-none trace) ∙ all_accept object 0 (replicas trace.setup.bounds) trace.setup.bounds trace.setup.kinds below in
+      ap (λ (world : WorldState). count_by (accepts object opening) world.replicas) (world_after-none trace) ∙ all_accept object 0 (replicas trace.setup.bounds) (ring_of trace.setup) trace.setup.bounds trace.setup.kinds below in
       record {
         established = omega (arith, counted, all);
         nothing_above = λ other established.

@@ -32,6 +32,7 @@ use Rattle.qu_safety.proofs.Handled.{request_upon, upon_handled}
 use Rattle.qu_safety.proofs.OneAct.{contains_mapped}
 use Rattle.qu_safety.proofs.OneCandidate.{accepted_from}
 use Rattle.qu_safety.proofs.OpeningReplicas.{bounds_are}
+use Rattle.qu_safety.proofs.Carrying.{brings_carries}
 
 -- the text of sets
 abbrev text_of : List SetOf → Text
@@ -47,7 +48,7 @@ module _ (trace : Trace) (is_run : IsRun trace) (plain : ArePlain trace.entries)
       let earlier : it.past < length trace.entries = it.earlier in
       let one : AcceptsOne it.old it.new (it.delivered).carried object = (it.delivered).accepts in
       let fits : frame_form.Fits (it.delivered).carried =
-      carried_in_run trace is_run plain it.past (omega arith) (it.delivered).number (it.delivered).letter (it.delivered).is_letter (it.delivered).carried (it.delivered).carries in
+      carried_in_run trace is_run plain it.past (omega arith) (it.delivered).number (it.delivered).letter (it.delivered).is_letter (it.delivered).carried (brings_carries it.old (it.delivered).letter (it.delivered).carried (it.delivered).brings) in
       (request-fits one.client one.number one.round one.sets (body.Act ((object, one.method) ∷ [])) one.mac (subst (λ (sent : Frame). frame_form.Fits sent) one.is_request fits)).shown
 
   sets_digested : (object : ObjectId) (candidate : Candidate) (it : Origin trace (length trace.entries) object candidate) → Contains (digested trace) (text_of (sets_upon object candidate it))

@@ -1,6 +1,6 @@
 -- A client sends an act upon full sets at most once: it remembers that it did, and no later operation has
 -- the same number.
-use Rattle.std.proofs.Common.{◌≡◌, ◌⊎◌, ℕ, zero, suc, ◌+◌, ◌≤◌, Bool, true, false, not, ◌&&◌, leb, List, [], ◌∷◌, Option, None, Some, refl, sym, ap, subst, ◌∙◌, arith, inl, inr, Result, Ok, Err}
+use Rattle.std.proofs.Common.{◌≡◌, ◌⊎◌, ℕ, zero, suc, ◌+◌, ◌≤◌, Bool, true, false, not, ◌&&◌, leb, List, [], ◌∷◌, Option, None, Some, refl, sym, ap, subst, ◌∙◌, arith, inl, inr}
 use Rattle.std.specs.Prelude.{slice_get}
 use Rattle.std.proofs.lemmas.Bool.{false≢true, cond_both, and_parts}
 use Rattle.std.proofs.lemmas.Option.{none-some, same_Some}
@@ -22,8 +22,7 @@ use Rattle.qu_frames.specs.declared.frame.Frame.TheVariants as frame
 use Rattle.qu_frames.specs.declared.frame.Letter.{Letter}
 use Rattle.qu_frames.specs.declared.verdict.Verdict.{Verdict}
 use Rattle.qu_frames.specs.Body.{body_of}
-use Rattle.qu_frames.specs.Blank.{blank_mac}
-use Rattle.qu_safety.proofs.Carrying.{asks_as, AsksFit, carried_is}
+use Rattle.qu_safety.proofs.Carrying.{asks_as, AsksFit, signed_carries}
 use Rattle.qu_client.specs.declared.kept.Kept.{Kept}
 use Rattle.qu_client.specs.declared.state.ClientState.{ClientState}
 use Rattle.qu_client.specs.declared.state.Stepped.{Stepped}
@@ -32,14 +31,15 @@ use Rattle.qu_client.specs.declared.work.TheConstants.{LAST_ROUND}
 use Rattle.qu_client.specs.declared.work.Work.{Work}
 use Rattle.qu_client.specs.State.{keep_all}
 use Rattle.qu_client.specs.Rounds.{is_act, sets_of, are_full, are_current, request_of, requests_from, asked, halted, begin_full, begin_round}
-use Rattle.qu_client.specs.Step.{stays, goes_on, ends, fitting, identical, is_hopeless, next_round, judged, is_asking, counts, counted_in, on_frame, on_decoded, client_step, client_invoke, next_number, first_work}
+use Rattle.qu_client.specs.Step.{stays, goes_on, ends, fitting, identical, is_hopeless, next_round, judged, is_asking, counts, counted_in, on_frame, on_received, client_step, client_invoke, next_number, first_work}
 use Rattle.qu_client.specs.Sound.{IsSound, last_number}
 use Rattle.qu_client.proofs.Cases.{with_verdict}
 use Rattle.qu_safety.specs.Carried.{Asks}
-use Rattle.qu_frames.specs.Decoding.{decoded}
 use Rattle.qu_frames.specs.Forms.{frame_form}
-use Rattle.qu_base.specs.declared.bad_text.BadText.{BadText}
 use Rattle.qu_client.proofs.Laws.{sound_work}
+use Rattle.qu_frames.specs.Signed.{brought, signed, signature}
+use Rattle.qu_seal.specs.Keys.{Ring}
+use Rattle.qu_base.specs.declared.party.Party.TheVariants as party
 
 -- the item stands somewhere in the list
 abbrev pub StandsIn : {X : Type 0} → List X → X → Type 0
@@ -111,16 +111,16 @@ not_acted true true is first = absurd (false≢true first)
 not_acted true false is first = refl
 not_acted false acted is first = absurd (false≢true is)
 
--- the letters of a round all have one text
-request_at : (first : Letter) (later : List Letter) (sent : List ℕ) (letter : Letter) (place : ℕ) → slice_get (first ∷ later) place ≡ Some letter → first.text ≡ sent → (StandsIn later letter → letter.text ≡ sent) → letter.text ≡ sent
-request_at first later sent letter zero found here there = ap (λ (it : Letter). it.text) (sym (same_Some first letter found)) ∙ here
-request_at first later sent letter (suc place) found here there = there (place, found)
+-- each letter of a round has the text of one frame, signed for its receiver
+request_at : (keys : Ring) (sent : Frame) (first : Letter) (later : List Letter) (letter : Letter) (place : ℕ) → slice_get (first ∷ later) place ≡ Some letter → first.text ≡ signed keys first.to sent → (StandsIn later letter → letter.text ≡ signed keys letter.to sent) → letter.text ≡ signed keys letter.to sent
+request_at keys sent first later letter zero found here there = subst (λ (it : Letter). it.text ≡ signed keys it.to sent) (same_Some first letter found) here
+request_at keys sent first later letter (suc place) found here there = there (place, found)
 
-pub request_is : (replica count : ℕ) (me : ClientId) (work : Work) (sets : List SetOf) (letter : Letter) → StandsIn (requests_from replica count me work sets) letter → letter.text ≡ frame_form.spell (request_of me work sets)
+pub request_is : (keys : Ring) (replica count : ℕ) (me : ClientId) (work : Work) (sets : List SetOf) (letter : Letter) → StandsIn (requests_from keys replica count me work sets) letter → letter.text ≡ signed keys letter.to (request_of me work sets)
 unfolding requests_from
-request_is replica zero me work sets letter stands = absurd (none_stands letter stands)
-request_is replica (suc count) me work sets letter stands =
-    request_at _ (requests_from (replica + 1) count me work sets) (frame_form.spell (request_of me work sets)) letter stands.0 stands.1 refl (request_is (replica + 1) count me work sets letter)
+request_is keys replica zero me work sets letter stands = absurd (none_stands letter stands)
+request_is keys replica (suc count) me work sets letter stands =
+    request_at keys (request_of me work sets) _ (requests_from keys (replica + 1) count me work sets) letter stands.0 stands.1 refl (request_is keys (replica + 1) count me work sets letter)
 
 -- ---- steps that send nothing
 
@@ -175,7 +175,7 @@ module _ (Sent : Letter → Type 0) (bounds : ℕ) (state : ClientState) (work :
     now = record work { acted = acted }
 
     abbrev letters : List Letter
-    letters = requests_from 0 (replicas state.bounds) state.me now sets
+    letters = requests_from state.keys 0 (replicas state.bounds) state.me now sets
 
     -- no earlier letter asks for the act that these ask for
     abbrev IsApart : Type 0
@@ -183,8 +183,8 @@ module _ (Sent : Letter → Type 0) (bounds : ℕ) (state : ClientState) (work :
 
     new_is : (letter : Letter) → StandsIn letters letter → (client : ClientId) (number round : ℕ) (others : List SetOf) (asks : Body) → Asks letter client number round others asks → IsSameRequest client state.me number work.number others sets asks (body_of work.op)
     new_is letter new client number round others asks is =
-        same_request client state.me number work.number round work.round others sets asks (body_of work.op) is.mac blank_mac
-        (carried_is letter (request_of state.me work sets) (frame.Request client number round others asks is.mac) fits (request_is 0 (replicas state.bounds) state.me now sets letter new) is.carries)
+        same_request client state.me number work.number round work.round others sets asks (body_of work.op) is.mac (signature state.keys letter.to (request_of state.me work sets))
+        (signed_carries letter state.keys letter.to (request_of state.me work sets) (frame.Request client number round others asks is.mac) fits (request_is state.keys 0 (replicas state.bounds) state.me now sets letter new) is.carries)
 
     new_apart : IsApart → (old letter : Letter) → Sent old → StandsIn letters letter → (client : ClientId) (number : ℕ) (others besides : List SetOf) (parts more : List (ObjectId × Method)) → IsFullAct bounds client number others parts old → IsFullAct bounds client number besides more letter → ⊥
     new_apart apart old letter sent new client number others besides parts more one two =
@@ -296,12 +296,12 @@ frame-once Sent bounds state (frame.Reply replica client number round verdict cu
     (λ _. counted_once Sent bounds (record state { kept = kept }) state.work replica number round verdict refl is_bounds sound (record { up_to = once.up_to; unasked = once.unasked }))
     (λ _ fits. quiet Sent bounds state.me state None once)
 
-decoded-once : (Sent : Letter → Type 0) (bounds : ℕ) (state : ClientState) (read : Result Frame BadText) → state.bounds ≡ bounds → IsSound state → IsOnce Sent bounds state → IsOnceIf Sent bounds state.me (on_decoded state read)
-decoded-once Sent bounds state (Ok received) is_bounds sound once = frame-once Sent bounds state received is_bounds sound once
-decoded-once Sent bounds state (Err bad) is_bounds sound once = λ fits. quiet Sent bounds state.me state None once
+brought-once : (Sent : Letter → Type 0) (bounds : ℕ) (state : ClientState) (found : Option Frame) → state.bounds ≡ bounds → IsSound state → IsOnce Sent bounds state → IsOnceIf Sent bounds state.me (on_received state found)
+brought-once Sent bounds state (Some taken) is_bounds sound once = frame-once Sent bounds state taken is_bounds sound once
+brought-once Sent bounds state None is_bounds sound once = λ fits. quiet Sent bounds state.me state None once
 
 pub client_step-once : (Sent : Letter → Type 0) (bounds : ℕ) (state : ClientState) (text : List ℕ) → state.bounds ≡ bounds → IsSound state → IsOnce Sent bounds state → IsOnceIf Sent bounds state.me (client_step state text)
-client_step-once Sent bounds state text = decoded-once Sent bounds state (decoded text)
+client_step-once Sent bounds state text = brought-once Sent bounds state (brought state.keys (party.Client state.me) text)
 
 pub client_tick-once : (Sent : Letter → Type 0) (bounds : ℕ) (state : ClientState) → IsOnce Sent bounds state → IsOnceStep Sent bounds state.me (stays state)
 client_tick-once Sent bounds state once = quiet Sent bounds state.me state None once

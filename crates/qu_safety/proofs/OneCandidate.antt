@@ -37,7 +37,7 @@ use Rattle.qu_safety.proofs.OpeningReplicas.{bounds_are}
 use Rattle.qu_safety.proofs.Origins.{origin}
 use Rattle.qu_safety.proofs.Values.{same_candidate}
 use Rattle.qu_safety.specs.Carried.{Asks}
-use Rattle.qu_safety.proofs.Carrying.{asks_so, asks_as}
+use Rattle.qu_safety.proofs.Carrying.{asks_so, asks_as, brings_carries}
 
 -- ---- where an accepted candidate came from
 
@@ -115,7 +115,7 @@ asked_by trace is_run object candidate came =
       round = one.round;
       sets = one.sets;
       method = one.method;
-      is_request = asks_so (came.delivered).letter (came.delivered).carried one.client one.number one.round one.sets (body.Act ((object, one.method) ∷ [])) one.mac (came.delivered).carries one.is_request;
+      is_request = asks_so (came.delivered).letter (came.delivered).carried one.client one.number one.round one.sets (body.Act ((object, one.method) ∷ [])) one.mac (brings_carries came.old (came.delivered).letter (came.delivered).carried (came.delivered).brings) one.is_request;
       full = accepted_upon_full trace (length trace.entries) object candidate came;
       stamp = ap (λ (it : Candidate). it.stamp) (sym came.is_candidate) ∙ why.stamp;
       made = made_for trace came.old came.new (came.delivered).carried object one candidate came.is_candidate was;

@@ -1,5 +1,5 @@
 -- In every run the requests of one act upon full sets are one: they have the same sets and parts.
-use Rattle.std.proofs.Common.{◌≡◌, ◌⊎◌, ℕ, zero, suc, ◌+◌, ◌<◌, ◌≤◌, true, List, [], ◌∷◌, ◌++◌, length, get_or, Option, None, Some, refl, sym, ap, subst, ◌∙◌, arith, add-one, add-zero, inl, inr, Result, Ok, Err, map}
+use Rattle.std.proofs.Common.{◌≡◌, ◌⊎◌, ℕ, zero, suc, ◌+◌, ◌<◌, ◌≤◌, true, List, [], ◌∷◌, ◌++◌, length, get_or, Option, None, Some, refl, sym, ap, subst, ◌∙◌, arith, add-one, add-zero, inl, inr, map}
 use Rattle.std.specs.Prelude.{slice_get}
 use Rattle.std.proofs.lemmas.Option.{none-some, same_Some}
 use Rattle.qu_base.specs.declared.party.ClientId.{ClientId}
@@ -18,9 +18,9 @@ use Rattle.qu_replica.specs.declared.decision.Decision.{Decision}
 use Rattle.qu_replica.specs.declared.decision.Decision.TheVariants.{Answers, Waits}
 use Rattle.qu_replica.specs.State.{ReplicaState, accept_all}
 use Rattle.qu_replica.specs.Rows.{asked_of, decision_on}
-use Rattle.qu_frames.specs.Blank.{blank_mac, sealed}
+use Rattle.qu_frames.specs.Blank.{sealed}
 use Rattle.qu_replica.specs.Step as replica
-use Rattle.qu_replica.specs.Step.{shown, reply, carried_out, replica_step}
+use Rattle.qu_replica.specs.Step.{shown, reply, carried_out, replica_step, answer_frame}
 use Rattle.qu_client.specs.declared.state.ClientState.{ClientState}
 use Rattle.qu_client.specs.declared.state.Stepped.{Stepped}
 use Rattle.qu_client.specs.State.{opening_state}
@@ -34,7 +34,7 @@ use Rattle.qu_trace.specs.declared.trace.Entry.{Entry}
 use Rattle.qu_trace.specs.declared.trace.Setup.{Setup}
 use Rattle.qu_trace.specs.declared.trace.Trace.{Trace}
 use Rattle.qu_trace.specs.Letters.{letters_of}
-use Rattle.qu_world.specs.State.{WorldState, opening_world, opening_clients, numbered, with_numbered, letter_of}
+use Rattle.qu_world.specs.State.{WorldState, opening_world, opening_clients, numbered, with_numbered, letter_of, ring_of}
 use Rattle.qu_world.specs.Step.{world_step, unchanged, at_replica, at_client, received, delivered}
 use Rattle.qu_world.specs.Run.{IsRun}
 use Rattle.qu_safety.specs.Order.{world_after}
@@ -43,12 +43,13 @@ use Rattle.qu_safety.proofs.WorldGrowth.{world_after-none, world_after-next}
 use Rattle.qu_safety.proofs.OnceSent.{StandsIn, none_stands, IsOnce, AreAlike, OrNew, IsOnceStep, client_step-once, client_tick-once, client_invoke-once, once_more, once_of}
 use Rattle.qu_safety.proofs.Small.{some_entry}
 use Rattle.qu_safety.specs.Carried.{Asks}
-use Rattle.qu_frames.specs.Decoding.{decoded}
 use Rattle.qu_safety.specs.Views.{IsPlain, ArePlain}
-use Rattle.qu_base.specs.declared.bad_text.BadText.{BadText}
-use Rattle.qu_safety.proofs.Carrying.{AsksFit, IsFitStep, numbered_here, no_request}
+use Rattle.qu_safety.proofs.Carrying.{AsksFit, IsFitStep, numbered_here, no_request, signed_spelled}
 use Rattle.qu_safety.proofs.Fitting.{fit_step}
 use Rattle.qu_world.proofs.LetterLaws.{letters-push}
+use Rattle.qu_frames.specs.Signed.{brought, signature}
+use Rattle.qu_replica.proofs.FitSteps.{blank_sized}
+use Rattle.qu_seal.specs.Keys.{Ring}
 
 -- ---- places
 
@@ -151,19 +152,21 @@ answered state client number round sets Waits letter stands = absurd (none_stand
 answered state client number round sets (Answers verdict accepted) letter stands =
     answer_at (reply (accept_all state accepted) client number round sets verdict) letter stands.0 stands.1
     (let new : ReplicaState = accept_all state accepted in
-    no_request (reply new client number round sets verdict) new.me client number round verdict [] (map (sealed new.bounds) (shown new sets)) blank_mac refl)
+    let frame : Frame = answer_frame new client number round sets verdict in
+    let to : Party = party.Client client in
+    no_request (reply new client number round sets verdict) new.me client number round verdict [] (map (sealed new.bounds) (shown new sets)) (signature new.keys to frame) (signed_spelled new.keys to frame blank_sized))
 
 frame_asks : (state : ReplicaState) (sent : Frame) (letter : Letter) → StandsIn (replica.on_frame state sent).1 letter → (client : ClientId) (number round : ℕ) (sets : List SetOf) (asks : Body) → Asks letter client number round sets asks → ⊥
 frame_asks state (frame.Request client number round sets asks mac) letter stands =
     answered state client number round sets (decision_on state (asked_of client number sets asks) asks) letter stands
 frame_asks state (frame.Reply replica client number round verdict culled shown mac) letter stands = absurd (none_stands letter stands)
 
-decoded_asks : (state : ReplicaState) (read : Result Frame BadText) (letter : Letter) → StandsIn (replica.on_decoded state read).1 letter → (client : ClientId) (number round : ℕ) (sets : List SetOf) (asks : Body) → Asks letter client number round sets asks → ⊥
-decoded_asks state (Ok sent) letter stands = frame_asks state sent letter stands
-decoded_asks state (Err bad) letter stands = absurd (none_stands letter stands)
+brought_asks : (state : ReplicaState) (found : Option Frame) (letter : Letter) → StandsIn (replica.on_received state found).1 letter → (client : ClientId) (number round : ℕ) (sets : List SetOf) (asks : Body) → Asks letter client number round sets asks → ⊥
+brought_asks state (Some sent) letter stands = frame_asks state sent letter stands
+brought_asks state None letter stands = absurd (none_stands letter stands)
 
 pub replica_asks : (state : ReplicaState) (text : List ℕ) (letter : Letter) → StandsIn (replica_step state text).1 letter → (client : ClientId) (number round : ℕ) (sets : List SetOf) (asks : Body) → Asks letter client number round sets asks → ⊥
-replica_asks state text letter stands = decoded_asks state (decoded text) letter stands
+replica_asks state text letter stands = brought_asks state (brought state.keys (party.Replica state.me) text) letter stands
 
 module _ (bounds : ℕ) where
   unchanged-once : (world : WorldState) (event : Event) → IsOnceWorld bounds world → IsOnceWorld bounds (unchanged world event)
@@ -229,37 +232,37 @@ module _ (bounds : ℕ) where
 
 -- ---- all worlds of a run
 
-pub opening_client : (first count bounds place : ℕ) (state : ClientState) → slice_get (opening_clients first count bounds) place ≡ Some state → state ≡ opening_state (record { 0 = first + place }) bounds
+pub opening_client : (first count : ℕ) (keys : Ring) (bounds place : ℕ) (state : ClientState) → slice_get (opening_clients first count keys bounds) place ≡ Some state → state ≡ opening_state (record { 0 = first + place }) keys bounds
 unfolding opening_clients
-opening_client first zero bounds place state found = absurd (none-some state found)
-opening_client first (suc count) bounds zero state found =
-    sym (same_Some _ state found) ∙ ap (λ (it : ℕ). opening_state (record { 0 = it }) bounds) (sym (add-zero first))
-opening_client first (suc count) bounds (suc place) state found =
+opening_client first zero keys bounds place state found = absurd (none-some state found)
+opening_client first (suc count) keys bounds zero state found =
+    sym (same_Some _ state found) ∙ ap (λ (it : ℕ). opening_state (record { 0 = it }) keys bounds) (sym (add-zero first))
+opening_client first (suc count) keys bounds (suc place) state found =
     let sum : (first + 1) + place ≡ first + suc place = omega arith in
-    opening_client (first + 1) count bounds place state found ∙ ap (λ (it : ℕ). opening_state (record { 0 = it }) bounds) sum
+    opening_client (first + 1) count keys bounds place state found ∙ ap (λ (it : ℕ). opening_state (record { 0 = it }) keys bounds) sum
 
-opening_at : (bounds : ℕ) (number : ℕ) (me : ClientId) → me.0 ≡ number → IsClientAt bounds number (opening_state me bounds)
-opening_at bounds number me is = record { me = is; bounds_are = refl; sound = tt }
+opening_at : (keys : Ring) (bounds : ℕ) (number : ℕ) (me : ClientId) → me.0 ≡ number → IsClientAt bounds number (opening_state me keys bounds)
+opening_at keys bounds number me is = record { me = is; bounds_are = refl; sound = tt }
 
-opening_once : (Sent : Letter → Type 0) (bounds : ℕ) (me : ClientId) → ((letter : Letter) → Sent letter → ⊥) → IsOnce Sent bounds (opening_state me bounds)
-opening_once Sent bounds me none = record {
+opening_once : (Sent : Letter → Type 0) (keys : Ring) (bounds : ℕ) (me : ClientId) → ((letter : Letter) → Sent letter → ⊥) → IsOnce Sent bounds (opening_state me keys bounds)
+opening_once Sent keys bounds me none = record {
   up_to = λ letter sent. absurd (none letter sent);
   unasked = λ work is. absurd (none-some work is);
 }
 
-pub opening_clients-at : (count bounds number : ℕ) (state : ClientState) → numbered (opening_clients 1 count bounds) number ≡ Some state → state ≡ opening_state (record { 0 = number }) bounds
-opening_clients-at count bounds zero state found = absurd (none-some state found)
-opening_clients-at count bounds (suc place) state found =
+pub opening_clients-at : (count : ℕ) (keys : Ring) (bounds number : ℕ) (state : ClientState) → numbered (opening_clients 1 count keys bounds) number ≡ Some state → state ≡ opening_state (record { 0 = number }) keys bounds
+opening_clients-at count keys bounds zero state found = absurd (none-some state found)
+opening_clients-at count keys bounds (suc place) state found =
     let sum : 1 + place ≡ suc place = omega arith in
-    opening_client 1 count bounds place state found ∙ ap (λ (it : ℕ). opening_state (record { 0 = it }) bounds) sum
+    opening_client 1 count keys bounds place state found ∙ ap (λ (it : ℕ). opening_state (record { 0 = it }) keys bounds) sum
 
 opening_world-once : (setup : Setup) → IsOnceWorld setup.bounds (opening_world setup)
 unfolding letters_of
 opening_world-once setup = record {
   clients_are = λ number state is.
-      subst (IsClientAt setup.bounds number) (sym (opening_clients-at setup.clients setup.bounds number state is)) (opening_at setup.bounds number (record { 0 = number }) refl);
+      subst (IsClientAt setup.bounds number) (sym (opening_clients-at setup.clients (ring_of setup) setup.bounds number state is)) (opening_at (ring_of setup) setup.bounds number (record { 0 = number }) refl);
   once = λ number state is.
-      subst (IsOnce (StandsIn []) setup.bounds) (sym (opening_clients-at setup.clients setup.bounds number state is)) (opening_once (StandsIn []) setup.bounds (record { 0 = number }) none_stands);
+      subst (IsOnce (StandsIn []) setup.bounds) (sym (opening_clients-at setup.clients (ring_of setup) setup.bounds number state is)) (opening_once (StandsIn []) (ring_of setup) setup.bounds (record { 0 = number }) none_stands);
   alike = λ first second one. absurd (none_stands first one);
 }
 

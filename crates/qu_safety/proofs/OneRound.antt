@@ -22,7 +22,7 @@ use Rattle.qu_trace.specs.declared.trace.Entry.{Entry}
 use Rattle.qu_trace.specs.declared.trace.Setup.{Setup}
 use Rattle.qu_trace.specs.declared.trace.Trace.{Trace}
 use Rattle.qu_trace.specs.Letters.{letters_of}
-use Rattle.qu_world.specs.State.{WorldState, opening_world, numbered, with_numbered, letter_of}
+use Rattle.qu_world.specs.State.{WorldState, opening_world, numbered, with_numbered, letter_of, ring_of}
 use Rattle.qu_world.specs.Step.{world_step, unchanged, at_replica, at_client, received, delivered}
 use Rattle.qu_world.specs.Run.{IsRun}
 use Rattle.qu_safety.specs.Order.{world_after}
@@ -36,6 +36,7 @@ use Rattle.qu_safety.specs.Views.{IsPlain, ArePlain}
 use Rattle.qu_safety.proofs.Carrying.{AsksFit, IsFitStep, numbered_here}
 use Rattle.qu_safety.proofs.Fitting.{fit_step}
 use Rattle.qu_world.proofs.Each.{each_at}
+use Rattle.qu_seal.specs.Keys.{Ring}
 
 -- ---- what holds of all clients and letters
 
@@ -136,14 +137,14 @@ module _ (bounds : ℕ) (world : WorldState) (once : AreOnce (StandsIn (letters_
 
 -- ---- all worlds of a run
 
-opening_within : (Sent : Letter → Type 0) (me : ClientId) (bounds : ℕ) → AreWithin Sent (opening_state me bounds)
-opening_within Sent me bounds work is = absurd (none-some work is)
+opening_within : (Sent : Letter → Type 0) (me : ClientId) (keys : Ring) (bounds : ℕ) → AreWithin Sent (opening_state me keys bounds)
+opening_within Sent me keys bounds work is = absurd (none-some work is)
 
 opening_world-round : (setup : Setup) → IsRoundWorld (opening_world setup)
 unfolding letters_of
 opening_world-round setup = record {
   within = λ number state is.
-      subst (AreWithin (StandsIn [])) (sym (opening_clients-at setup.clients setup.bounds number state is)) (opening_within (StandsIn []) (record { 0 = number }) setup.bounds);
+      subst (AreWithin (StandsIn [])) (sym (opening_clients-at setup.clients (ring_of setup) setup.bounds number state is)) (opening_within (StandsIn []) (record { 0 = number }) (ring_of setup) setup.bounds);
   alike = λ first second one. absurd (none_stands first one);
 }
 

@@ -1,5 +1,5 @@
 -- What the replicas of a run begin with: the opening candidates, and the bounds of the setup, which they keep.
-use Rattle.std.proofs.Common.{◌≡◌, ℕ, zero, suc, ◌+◌, true, List, [], ◌∷◌, Some, sym, ap, ◌∙◌, arith, inl, inr}
+use Rattle.std.proofs.Common.{◌≡◌, ℕ, zero, suc, ◌+◌, true, List, [], ◌∷◌, Some, sym, ap, ◌∙◌, arith, inl, inr, zero-add, add-zero}
 use Rattle.std.specs.Prelude.{slice_get}
 use Rattle.std.proofs.lemmas.Bool.{false≢true, or_cases}
 use Rattle.std.proofs.lemmas.Option.{none-some, same_Some}
@@ -13,16 +13,17 @@ use Rattle.qu_history.specs.History.{holds}
 use Rattle.qu_objects.specs.declared.kind.KindName.{KindName}
 use Rattle.qu_replica.specs.State.{ReplicaState, candidates_in, own_candidates, opening_histories, opening_state}
 use Rattle.qu_trace.specs.declared.trace.Trace.{Trace}
-use Rattle.qu_world.specs.State.{WorldState, opening_replicas}
+use Rattle.qu_world.specs.State.{WorldState, opening_replicas, ring_of}
 use Rattle.qu_safety.specs.Order.{world_after}
 use Rattle.qu_safety.proofs.WorldGrowth.{world_after-none, world_after-grows}
 use Rattle.qu_safety.proofs.Happenings.{WasBefore, grown_from}
+use Rattle.qu_seal.specs.Keys.{Ring}
 
-pub opening_replica : (number count bounds : ℕ) (kinds : List KindName) (place : ℕ) (state : ReplicaState) → slice_get (opening_replicas number count bounds kinds) place ≡ Some state → (me : ReplicaId) × (state ≡ opening_state me bounds kinds)
+pub opening_replica : (number count : ℕ) (keys : Ring) (bounds : ℕ) (kinds : List KindName) (place : ℕ) (state : ReplicaState) → slice_get (opening_replicas number count keys bounds kinds) place ≡ Some state → (me : ReplicaId) × (state ≡ opening_state me keys bounds kinds)
 unfolding opening_replicas
-opening_replica number zero bounds kinds place state found = absurd (none-some state found)
-opening_replica number (suc count) bounds kinds zero state found = (record { 0 = number }, sym (same_Some _ state found))
-opening_replica number (suc count) bounds kinds (suc place) state found = opening_replica (number + 1) count bounds kinds place state found
+opening_replica number zero keys bounds kinds place state found = absurd (none-some state found)
+opening_replica number (suc count) keys bounds kinds zero state found = (record { 0 = number }, sym (same_Some _ state found))
+opening_replica number (suc count) keys bounds kinds (suc place) state found = opening_replica (number + 1) count keys bounds kinds place state found
 
 -- what is held at the beginning
 opening_held : (me : ReplicaId) (first : ℕ) (kinds : List KindName) (place : ℕ) (candidate : Candidate) → holds candidate (candidates_in (slice_get (opening_histories me first kinds) place)) ≡ true → candidate ≡ opening
@@ -37,20 +38,48 @@ opening_held me first (kind ∷ kinds) (suc place) candidate held = opening_held
 
 pub opening_holds : (trace : Trace) (place : ℕ) (state : ReplicaState) → slice_get (world_after trace 0).replicas place ≡ Some state → (object : ObjectId) (candidate : Candidate) → holds candidate (own_candidates state object) ≡ true → candidate ≡ opening
 opening_holds trace place state is_state object candidate held =
-    let found : slice_get (opening_replicas 0 (replicas trace.setup.bounds) trace.setup.bounds trace.setup.kinds) place ≡ Some state =
+    let found : slice_get (opening_replicas 0 (replicas trace.setup.bounds) (ring_of trace.setup) trace.setup.bounds trace.setup.kinds) place ≡ Some state =
     ap (λ (world : WorldState). slice_get world.replicas place) (sym (world_after-none trace)) ∙ is_state in
-    let is : (me : ReplicaId) × (state ≡ opening_state me trace.setup.bounds trace.setup.kinds) = opening_replica 0 (replicas trace.setup.bounds) trace.setup.bounds trace.setup.kinds place state found in
+    let is : (me : ReplicaId) × (state ≡ opening_state me (ring_of trace.setup) trace.setup.bounds trace.setup.kinds) = opening_replica 0 (replicas trace.setup.bounds) (ring_of trace.setup) trace.setup.bounds trace.setup.kinds place state found in
     opening_held is.0 0 trace.setup.kinds object.0 candidate
     (ap (λ (it : ReplicaState). holds candidate (own_candidates it object)) (sym is.1) ∙ held)
 
--- ---- the bounds of the replicas
+-- ---- the name, the keys and the bounds of the replicas
 
 -- the bounds of each replica of a run are those of its setup
 pub bounds_are : (trace : Trace) (count place : ℕ) (state : ReplicaState) → slice_get (world_after trace count).replicas place ≡ Some state → state.bounds ≡ trace.setup.bounds
 bounds_are trace count place state is_state =
     let before : WasBefore (world_after trace 0).replicas place state =
     grown_from (world_after trace 0).replicas (world_after trace count).replicas place state (world_after-grows trace 0 count (omega arith)).replicas is_state in
-    let found : slice_get (opening_replicas 0 (replicas trace.setup.bounds) trace.setup.bounds trace.setup.kinds) place ≡ Some before.old =
+    let found : slice_get (opening_replicas 0 (replicas trace.setup.bounds) (ring_of trace.setup) trace.setup.bounds trace.setup.kinds) place ≡ Some before.old =
     ap (λ (world : WorldState). slice_get world.replicas place) (sym (world_after-none trace)) ∙ before.is_old in
-    let is : (me : ReplicaId) × (before.old ≡ opening_state me trace.setup.bounds trace.setup.kinds) = opening_replica 0 (replicas trace.setup.bounds) trace.setup.bounds trace.setup.kinds place before.old found in
+    let is : (me : ReplicaId) × (before.old ≡ opening_state me (ring_of trace.setup) trace.setup.bounds trace.setup.kinds) = opening_replica 0 (replicas trace.setup.bounds) (ring_of trace.setup) trace.setup.bounds trace.setup.kinds place before.old found in
     (before.grows).bounds ∙ ap (λ (it : ReplicaState). it.bounds) is.1
+
+-- its keys are those of the run
+pub keys_are : (trace : Trace) (count place : ℕ) (state : ReplicaState) → slice_get (world_after trace count).replicas place ≡ Some state → state.keys ≡ ring_of trace.setup
+keys_are trace count place state is_state =
+    let before : WasBefore (world_after trace 0).replicas place state =
+    grown_from (world_after trace 0).replicas (world_after trace count).replicas place state (world_after-grows trace 0 count (omega arith)).replicas is_state in
+    let found : slice_get (opening_replicas 0 (replicas trace.setup.bounds) (ring_of trace.setup) trace.setup.bounds trace.setup.kinds) place ≡ Some before.old =
+    ap (λ (world : WorldState). slice_get world.replicas place) (sym (world_after-none trace)) ∙ before.is_old in
+    let is : (me : ReplicaId) × (before.old ≡ opening_state me (ring_of trace.setup) trace.setup.bounds trace.setup.kinds) = opening_replica 0 (replicas trace.setup.bounds) (ring_of trace.setup) trace.setup.bounds trace.setup.kinds place before.old found in
+    (before.grows).keys ∙ ap (λ (it : ReplicaState). it.keys) is.1
+
+opening_name : (number count : ℕ) (keys : Ring) (bounds : ℕ) (kinds : List KindName) (place : ℕ) (state : ReplicaState) → slice_get (opening_replicas number count keys bounds kinds) place ≡ Some state → state.me ≡ record { 0 = number + place }
+unfolding opening_replicas
+opening_name number zero keys bounds kinds place state found = absurd (none-some state found)
+opening_name number (suc count) keys bounds kinds zero state found =
+    ap (λ (it : ReplicaState). it.me) (sym (same_Some _ state found)) ∙ ap (λ (it : ℕ). (let me : ReplicaId = record { 0 = it } in me)) (sym (add-zero number))
+opening_name number (suc count) keys bounds kinds (suc place) state found =
+    let sum : (number + 1) + place ≡ number + suc place = omega arith in
+    opening_name (number + 1) count keys bounds kinds place state found ∙ ap (λ (it : ℕ). (let me : ReplicaId = record { 0 = it } in me)) sum
+
+-- its name is its place
+pub me_is : (trace : Trace) (count place : ℕ) (state : ReplicaState) → slice_get (world_after trace count).replicas place ≡ Some state → state.me ≡ record { 0 = place }
+me_is trace count place state is_state =
+    let before : WasBefore (world_after trace 0).replicas place state =
+    grown_from (world_after trace 0).replicas (world_after trace count).replicas place state (world_after-grows trace 0 count (omega arith)).replicas is_state in
+    let found : slice_get (opening_replicas 0 (replicas trace.setup.bounds) (ring_of trace.setup) trace.setup.bounds trace.setup.kinds) place ≡ Some before.old =
+    ap (λ (world : WorldState). slice_get world.replicas place) (sym (world_after-none trace)) ∙ before.is_old in
+    (before.grows).me ∙ opening_name 0 (replicas trace.setup.bounds) (ring_of trace.setup) trace.setup.bounds trace.setup.kinds place before.old found ∙ ap (λ (it : ℕ). (let me : ReplicaId = record { 0 = it } in me)) (zero-add place)

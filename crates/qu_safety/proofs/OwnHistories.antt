@@ -1,10 +1,9 @@
 -- The history at each place of a replica is its own, of the object with that number. So a history
 -- that a replica has is found where its own names point.
-use Rattle.std.proofs.Common.{◌≡◌, ℕ, zero, suc, ◌+◌, List, [], ◌∷◌, ◌++◌, Option, Some, Result, Ok, Err, refl, sym, ap, subst, ◌∙◌, arith, inl, inr, add-zero, zero-add}
+use Rattle.std.proofs.Common.{◌≡◌, ℕ, zero, suc, ◌+◌, List, [], ◌∷◌, ◌++◌, Option, Some, refl, sym, ap, subst, ◌∙◌, arith, inl, inr, add-zero, zero-add, None}
 use Rattle.std.specs.Prelude.{slice_get, slice_set}
 use Rattle.std.specs.Option.{option_and_then}
 use Rattle.std.proofs.lemmas.Option.{none-some, same_Some}
-use Rattle.qu_base.specs.declared.bad_text.BadText.{BadText}
 use Rattle.qu_base.specs.declared.party.ClientId.{ClientId}
 use Rattle.qu_base.specs.declared.party.ObjectId.{ObjectId}
 use Rattle.qu_base.specs.declared.party.ReplicaId.{ReplicaId}
@@ -14,16 +13,18 @@ use Rattle.qu_history.specs.History.{ObjectHistory}
 use Rattle.qu_objects.specs.declared.kind.KindName.{KindName}
 use Rattle.qu_frames.specs.declared.frame.Frame.{Frame}
 use Rattle.qu_frames.specs.declared.frame.Frame.TheVariants as frame
-use Rattle.qu_frames.specs.Decoding.{decoded}
 use Rattle.qu_replica.specs.declared.decision.Accepted.{Accepted}
 use Rattle.qu_replica.specs.declared.decision.Decision.{Decision}
 use Rattle.qu_replica.specs.declared.decision.Decision.TheVariants.{Answers, Waits}
 use Rattle.qu_replica.specs.State.{ReplicaState, with_candidate, accept, accept_all, opening_state}
 use Rattle.qu_replica.specs.Rows.{asked_of, decision_on}
-use Rattle.qu_replica.specs.Step.{carried_out, on_frame, on_decoded, replica_step}
+use Rattle.qu_replica.specs.Step.{carried_out, on_frame, on_received, replica_step}
 use Rattle.qu_replica.proofs.Own.{IsOwn, own_history, opening-histories}
 use Rattle.qu_world.specs.State.{WorldState, opening_replicas, history_at}
 use Rattle.qu_world.proofs.Each.{set_cases}
+use Rattle.qu_frames.specs.Signed.{brought}
+use Rattle.qu_seal.specs.Keys.{Ring}
+use Rattle.qu_base.specs.declared.party.Party.TheVariants as party
 
 -- a history of this replica and of the object with this number
 pub record IsOf (me : ReplicaId) (place : ℕ) (history : ObjectHistory) : Type 0 where
@@ -93,35 +94,35 @@ frame-in_place place state (frame.Request client number round sets body mac) in_
     carried_out-in_place place state client number round sets (decision_on state (asked_of client number sets body) body) in_place
 frame-in_place place state (frame.Reply replica client number round verdict culled shown mac) in_place = in_place
 
-decoded-in_place : (place : ℕ) (state : ReplicaState) (read : Result Frame BadText) → IsInPlace place state → IsInPlace place (on_decoded state read).0
-decoded-in_place place state (Ok received) in_place = frame-in_place place state received in_place
-decoded-in_place place state (Err bad) in_place = in_place
+brought-in_place : (place : ℕ) (state : ReplicaState) (found : Option Frame) → IsInPlace place state → IsInPlace place (on_received state found).0
+brought-in_place place state (Some taken) in_place = frame-in_place place state taken in_place
+brought-in_place place state None in_place = in_place
 
 pub step-in_place : (place : ℕ) (state : ReplicaState) (text : List ℕ) → IsInPlace place state → IsInPlace place (replica_step state text).0
-step-in_place place state text in_place = decoded-in_place place state (decoded text) in_place
+step-in_place place state text in_place = brought-in_place place state (brought state.keys (party.Replica state.me) text) in_place
 
 -- ---- all replicas of a world
 
-opening-in_place : (me : ReplicaId) (bounds : ℕ) (kinds : List KindName) → IsInPlace me.0 (opening_state me bounds kinds)
-opening-in_place me bounds kinds = record {
+opening-in_place : (me : ReplicaId) (keys : Ring) (bounds : ℕ) (kinds : List KindName) → IsInPlace me.0 (opening_state me keys bounds kinds)
+opening-in_place me keys bounds kinds = record {
   me = refl;
   own = λ place history found.
-      let own : IsOwn me place history = own_history (opening_state me bounds kinds) place history (opening-histories me bounds kinds) found in
+      let own : IsOwn me place history = own_history (opening_state me keys bounds kinds) place history (opening-histories me keys bounds kinds) found in
       record { object = own.object; replica = own.replica };
 }
 
-opening_from : (first count bounds : ℕ) (kinds : List KindName) (number : ℕ) (state : ReplicaState) → slice_get (opening_replicas first count bounds kinds) number ≡ Some state → IsInPlace (first + number) state
+opening_from : (first count : ℕ) (keys : Ring) (bounds : ℕ) (kinds : List KindName) (number : ℕ) (state : ReplicaState) → slice_get (opening_replicas first count keys bounds kinds) number ≡ Some state → IsInPlace (first + number) state
 unfolding opening_replicas
-opening_from first zero bounds kinds number state found = absurd (none-some state found)
-opening_from first (suc count) bounds kinds zero state found =
-    rw add-zero (subst (IsInPlace first) (same_Some _ state found) (opening-in_place (record { 0 = first }) bounds kinds))
-opening_from first (suc count) bounds kinds (suc number) state found =
+opening_from first zero keys bounds kinds number state found = absurd (none-some state found)
+opening_from first (suc count) keys bounds kinds zero state found =
+    rw add-zero (subst (IsInPlace first) (same_Some _ state found) (opening-in_place (record { 0 = first }) keys bounds kinds))
+opening_from first (suc count) keys bounds kinds (suc number) state found =
     let sum : (first + 1) + number ≡ first + suc number = omega arith in
-    subst (λ (it : ℕ). IsInPlace it state) sum (opening_from (first + 1) count bounds kinds number state found)
+    subst (λ (it : ℕ). IsInPlace it state) sum (opening_from (first + 1) count keys bounds kinds number state found)
 
-pub opening-all_in_place : (count bounds : ℕ) (kinds : List KindName) → AreInPlace (opening_replicas 0 count bounds kinds)
-opening-all_in_place count bounds kinds = λ number state found.
-    subst (λ (it : ℕ). IsInPlace it state) (zero-add number) (opening_from 0 count bounds kinds number state found)
+pub opening-all_in_place : (count : ℕ) (keys : Ring) (bounds : ℕ) (kinds : List KindName) → AreInPlace (opening_replicas 0 count keys bounds kinds)
+opening-all_in_place count keys bounds kinds = λ number state found.
+    subst (λ (it : ℕ). IsInPlace it state) (zero-add number) (opening_from 0 count keys bounds kinds number state found)
 
 pub set-in_place : (states : List ReplicaState) (number : ℕ) (new : ReplicaState) → AreInPlace states → IsInPlace number new → AreInPlace (slice_set states number new)
 set-in_place states number new all here = λ other state found.

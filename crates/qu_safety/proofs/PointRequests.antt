@@ -51,7 +51,7 @@ use Rattle.qu_safety.proofs.Recorded.{recorded_op}
 use Rattle.qu_safety.proofs.Replying.{reply_sent}
 use Rattle.qu_safety.proofs.Taking.{effect_once}
 use Rattle.qu_safety.proofs.WorldGrowth.{accepted_by_decided}
-use Rattle.qu_safety.proofs.Carrying.{asks_as, tells_as, asks_so, one_carried}
+use Rattle.qu_safety.proofs.Carrying.{asks_as, tells_as, asks_so, one_carried, brings_carries, reply_asks}
 use Rattle.qu_safety.proofs.Small.{same_deliver, same_point}
 use Rattle.qu_safety.specs.Carried.{Asks, Tells}
 use Rattle.qu_frames.specs.Decoding.{decoded}
@@ -131,7 +131,7 @@ module _ (trace : Trace) (is_run : IsRun trace) (have : ArePlain trace.entries) 
         asks = body.Act ((object, one.method) ∷ []);
         is_request =
             asks_as delivered.letter one.client client one.number number one.round one.round one.sets (body.Act ((object, one.method) ∷ [])) (body.Act ((object, one.method) ∷ [])) same_client same_number refl refl
-            (asks_so delivered.letter delivered.carried one.client one.number one.round one.sets (body.Act ((object, one.method) ∷ [])) one.mac delivered.carries one.is_request);
+            (asks_so delivered.letter delivered.carried one.client one.number one.round one.sets (body.Act ((object, one.method) ∷ [])) one.mac (brings_carries accepted.old delivered.letter delivered.carried delivered.brings) one.is_request);
       }
 
   -- an update takes effect where a candidate of it is established
@@ -168,7 +168,7 @@ module _ (trace : Trace) (is_run : IsRun trace) (have : ArePlain trace.entries) 
     round = round;
     sets = reply.sets;
     asks = reply.body;
-    is_request = reply.is_request;
+    is_request = reply_asks trace time replica client number round verdict reply;
   }
 
   sends_asked : (client : ClientId) (number round time : ℕ) (found : Option Entry) → slice_get trace.entries time ≡ found → sends_answer client number round found ≡ true → IsAskedAt trace time client number

@@ -1,5 +1,5 @@
 -- Replies are sent by replicas, and what is delivered was sent before.
-use Rattle.std.proofs.Common.{◌≡◌, ℕ, zero, suc, ◌+◌, ◌-◌, ◌<◌, ◌≤◌, List, [], ◌∷◌, length, take, Some, refl, sym, ap, subst, ◌∙◌, arith, inl, inr, slice_get, All, Contains, Result, Ok, Err}
+use Rattle.std.proofs.Common.{◌≡◌, ℕ, zero, suc, ◌+◌, ◌-◌, ◌<◌, ◌≤◌, List, [], ◌∷◌, length, take, Some, refl, sym, ap, subst, ◌∙◌, arith, inl, inr, slice_get, All, Contains, None, Option}
 use Rattle.std.specs.List.{AllZip}
 use Rattle.std.proofs.lemmas.Bool.{cases_lt}
 use Rattle.std.proofs.lemmas.List.{take_all}
@@ -17,14 +17,13 @@ use Rattle.qu_frames.specs.declared.frame.Frame.TheVariants as frame
 use Rattle.qu_frames.specs.declared.frame.Letter.{Letter}
 use Rattle.qu_frames.specs.declared.verdict.Verdict.{Verdict}
 use Rattle.qu_frames.specs.Body.{body_of}
-use Rattle.qu_frames.specs.Blank.{blank_mac}
 use Rattle.qu_replica.specs.declared.decision.Accepted.{Accepted}
 use Rattle.qu_replica.specs.declared.decision.Decision.{Decision}
 use Rattle.qu_replica.specs.declared.decision.Decision.TheVariants.{Answers, Waits}
 use Rattle.qu_replica.specs.State.{ReplicaState, accept_all}
 use Rattle.qu_replica.specs.Growth.{Grows}
 use Rattle.qu_replica.specs.Rows.{asked_of, decision_on}
-use Rattle.qu_replica.specs.Step.{answer_frame, reply, carried_out, on_frame, on_decoded}
+use Rattle.qu_replica.specs.Step.{answer_frame, reply, carried_out, on_frame, on_received}
 use Rattle.qu_replica.proofs.Growth.{accept_all-me}
 use Rattle.qu_client.specs.declared.state.ClientState.{ClientState}
 use Rattle.qu_client.specs.declared.work.Work.{Work}
@@ -34,7 +33,7 @@ use Rattle.qu_client.proofs.Cases.{step_cases, invoke_cases}
 use Rattle.qu_trace.specs.declared.trace.Entry.{Entry}
 use Rattle.qu_trace.specs.declared.trace.Trace.{Trace}
 use Rattle.qu_trace.specs.Letters.{letters_of}
-use Rattle.qu_world.specs.State.{WorldState, opening_world, opening_replicas, numbered, letter_of}
+use Rattle.qu_world.specs.State.{WorldState, opening_world, opening_replicas, numbered, letter_of, ring_of}
 use Rattle.qu_world.specs.Growth.{GrowsTo}
 use Rattle.qu_world.specs.Run.{IsRun}
 use Rattle.qu_world.proofs.LetterLaws.{slice_get-append_left, slice_get-append_right}
@@ -43,27 +42,29 @@ use Rattle.qu_safety.proofs.WorldGrowth.{world_after-none, world_after-grows}
 use Rattle.qu_safety.proofs.Recording.{entries_after, entry_cases}
 use Rattle.qu_safety.proofs.LaterLetters.{letter_later}
 use Rattle.qu_safety.specs.Carried.{Tells}
-use Rattle.qu_frames.specs.Decoding.{decoded}
 use Rattle.qu_frames.specs.Forms.{frame_form}
 use Rattle.qu_safety.specs.Views.{ArePlain}
 use Rattle.qu_history.specs.declared.sealed.Sealed.{Sealed}
-use Rattle.qu_base.specs.declared.bad_text.BadText.{BadText}
-use Rattle.qu_safety.proofs.Carrying.{AnswersFit, carried_is, no_reply}
+use Rattle.qu_safety.proofs.Carrying.{AnswersFit, no_reply, signed_spelled, signed_carries, brings_carries}
 use Rattle.qu_safety.proofs.Fitting.{fit_step}
+use Rattle.qu_frames.specs.Signed.{brought, signed, signature, with_mac}
+use Rattle.qu_seal.specs.Keys.{Ring}
+use Rattle.qu_replica.proofs.FitSteps.{blank_sized}
+use Rattle.qu_base.specs.declared.party.Party.{Party}
 
 -- ---- the names of replicas
 
-replica_name : (number count bounds : ℕ) (kinds : List KindName) (news : List ReplicaState) → AllZip Grows (opening_replicas number count bounds kinds) news → (place : ℕ) (state : ReplicaState) → slice_get news place ≡ Some state → (state.me).0 < number + count
+replica_name : (number count : ℕ) (keys : Ring) (bounds : ℕ) (kinds : List KindName) (news : List ReplicaState) → AllZip Grows (opening_replicas number count keys bounds kinds) news → (place : ℕ) (state : ReplicaState) → slice_get news place ≡ Some state → (state.me).0 < number + count
 unfolding opening_replicas
-replica_name number zero bounds kinds [] grows place state found = absurd (none-some state found)
-replica_name number zero bounds kinds (new ∷ news) grows place state found = absurd grows
-replica_name number (suc count) bounds kinds [] grows place state found = absurd grows
-replica_name number (suc count) bounds kinds (new ∷ news) grows zero state found =
+replica_name number zero keys bounds kinds [] grows place state found = absurd (none-some state found)
+replica_name number zero keys bounds kinds (new ∷ news) grows place state found = absurd grows
+replica_name number (suc count) keys bounds kinds [] grows place state found = absurd grows
+replica_name number (suc count) keys bounds kinds (new ∷ news) grows zero state found =
     let same : new ≡ state = same_Some new state found in
     let name : (state.me).0 ≡ number = ap (λ (it : ReplicaState). (it.me).0) (sym same) ∙ ap (λ (it : ReplicaId). it.0) grows.0.me in
     omega arith
-replica_name number (suc count) bounds kinds (new ∷ news) grows (suc place) state found =
-    let below : (state.me).0 < (number + 1) + count = replica_name (number + 1) count bounds kinds news grows.1 place state found in
+replica_name number (suc count) keys bounds kinds (new ∷ news) grows (suc place) state found =
+    let below : (state.me).0 < (number + 1) + count = replica_name (number + 1) count keys bounds kinds news grows.1 place state found in
     omega arith
 
 -- a replica's name is below the number of replicas
@@ -72,7 +73,7 @@ replica_within trace index place state found =
     let grows : GrowsTo (opening_world trace.setup) (world_after trace index) =
     subst (λ (world : WorldState). GrowsTo world (world_after trace index)) (world_after-none trace) (world_after-grows trace 0 index (omega arith)) in
     let below : (state.me).0 < 0 + replicas trace.setup.bounds =
-    replica_name 0 (replicas trace.setup.bounds) trace.setup.bounds trace.setup.kinds (world_after trace index).replicas grows.replicas place state found in
+    replica_name 0 (replicas trace.setup.bounds) (ring_of trace.setup) trace.setup.bounds trace.setup.kinds (world_after trace index).replicas grows.replicas place state found in
     omega arith
 
 -- ---- who sends replies
@@ -89,8 +90,9 @@ by_replica bound state client number round sets (Answers verdict accepted) fits 
     let new : ReplicaState = accept_all state accepted in
     All-cons (RepliesWithin bound) (reply new client number round sets verdict) []
     (λ replica to asked turn told shown tells.
-    let is : frame.Reply replica to asked turn told tells.culled shown tells.mac ≡ answer_frame new client number round sets verdict =
-    carried_is (reply new client number round sets verdict) (answer_frame new client number round sets verdict) _ (fits verdict accepted refl) refl tells.carries in
+    let sent : Frame = answer_frame new client number round sets verdict in
+    let is : frame.Reply replica to asked turn told tells.culled shown tells.mac ≡ with_mac sent (signature new.keys (party.Client client) sent) =
+    signed_carries (reply new client number round sets verdict) new.keys (party.Client client) sent _ (fits verdict accepted refl) refl tells.carries in
     let named : replica ≡ new.me = cc in
     subst (λ (it : ReplicaId). it.0 < bound) (sym (named ∙ accept_all-me state accepted)) below)
     (All-nil (RepliesWithin bound))
@@ -101,34 +103,36 @@ frame_replies bound state (frame.Request client number round sets body mac) fits
     by_replica bound state client number round sets (decision_on state (asked_of client number sets body) body) fits below
 frame_replies bound state (frame.Reply replica client number round verdict culled shown mac) fits below = All-nil (RepliesWithin bound)
 
-decoded_replies : (bound : ℕ) (state : ReplicaState) (read : Result Frame BadText) → ((sent : Frame) → read ≡ Ok sent → AnswersFit state sent) → (state.me).0 < bound → All (RepliesWithin bound) (on_decoded state read).1
-decoded_replies bound state (Ok received) fits below = frame_replies bound state received (fits received refl) below
-decoded_replies bound state (Err bad) fits below = All-nil (RepliesWithin bound)
+brought_replies : (bound : ℕ) (state : ReplicaState) (found : Option Frame) → ((sent : Frame) → found ≡ Some sent → AnswersFit state sent) → (state.me).0 < bound → All (RepliesWithin bound) (on_received state found).1
+brought_replies bound state (Some taken) fits below = frame_replies bound state taken (fits taken refl) below
+brought_replies bound state None fits below = All-nil (RepliesWithin bound)
 
 -- requests are no replies
-by_client : (bound replica count : ℕ) (me : ClientId) (work : Work) (sets : List SetOf) → All (RepliesWithin bound) (requests_from replica count me work sets)
+by_client : (bound : ℕ) (keys : Ring) (replica count : ℕ) (me : ClientId) (work : Work) (sets : List SetOf) → All (RepliesWithin bound) (requests_from keys replica count me work sets)
 unfolding requests_from
-by_client bound replica zero me work sets = All-nil (RepliesWithin bound)
-by_client bound replica (suc count) me work sets =
+by_client bound keys replica zero me work sets = All-nil (RepliesWithin bound)
+by_client bound keys replica (suc count) me work sets =
     All-cons (RepliesWithin bound) _ _
     (λ from client number round verdict shown tells.
-    absurd (no_reply (record { from = party.Client me; to = party.Replica (record { 0 = replica }); text = frame_form.spell (request_of me work sets) })
-    me work.number work.round sets (body_of work.op) blank_mac refl from client number round verdict shown tells))
-    (by_client bound (replica + 1) count me work sets)
+    let to : Party = party.Replica (record { 0 = replica }) in
+    let sent : Frame = request_of me work sets in
+    absurd (no_reply (record { from = party.Client me; to = to; text = signed keys to sent })
+    me work.number work.round sets (body_of work.op) (signature keys to sent) (signed_spelled keys to sent blank_sized) from client number round verdict shown tells))
+    (by_client bound keys (replica + 1) count me work sets)
 
 step_replies : (bound : ℕ) (state : ClientState) (text : List ℕ) → All (RepliesWithin bound) (client_step state text).letters
 step_replies bound state text =
     let none : All (RepliesWithin bound) [] = All-nil (RepliesWithin bound) in
     step_cases state (λ stepped. All (RepliesWithin bound) stepped.letters)
     none (λ _. none) (λ _ _ _ _ _ _ _ _. none) (λ _ _. none)
-    (λ kept work replies acted is asking below. by_client bound 0 (replicas state.bounds) state.me _ _)
+    (λ kept work replies acted is asking below. by_client bound state.keys 0 (replicas state.bounds) state.me _ _)
     (λ _ _ _ _ _ _. none)
     text
 
 invoke_replies : (bound : ℕ) (state : ClientState) (op : Op) → All (RepliesWithin bound) (client_invoke state op).letters
 invoke_replies bound state op =
     invoke_cases state op (λ stepped. All (RepliesWithin bound) stepped.letters)
-    (λ acted. by_client bound 0 (replicas state.bounds) state.me _ _) (All-nil (RepliesWithin bound))
+    (λ acted. by_client bound state.keys 0 (replicas state.bounds) state.me _ _) (All-nil (RepliesWithin bound))
 
 -- each reply among a run's letters is from one of its replicas
 pub replies_within : (trace : Trace) → IsRun trace → ArePlain trace.entries → (index : ℕ) (entry : Entry) → slice_get trace.entries index ≡ Some entry → All (RepliesWithin (replicas trace.setup.bounds)) entry.letters
@@ -139,7 +143,8 @@ replies_within trace is have index entry is_entry =
     entry_cases trace is have index entry is_entry (λ (made : Entry). All (RepliesWithin bound) made.letters)
     (λ event. none)
     (λ number letter me state sent found.
-    decoded_replies bound state (decoded letter.text) (λ carried carries. (fit_step trace is have index below).answers me state found number letter carried sent carries)
+    brought_replies bound state (brought state.keys (party.Replica state.me) letter.text)
+    (λ taken brings. (fit_step trace is have index below).answers me state found number letter taken sent (brings_carries state letter taken brings))
     (replica_within trace index me.0 state found))
     (λ client op state found. invoke_replies bound state op)
     (λ number letter client state sent found. step_replies bound state letter.text)

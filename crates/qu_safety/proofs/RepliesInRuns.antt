@@ -1,5 +1,5 @@
 -- What the replies of a run say is true of the replicas that sent them.
-use Rattle.std.proofs.Common.{◌≡◌, ℕ, ◌<◌, List, [], ◌∷◌, length, IsTrue, refl, sym, subst, ap, ◌∙◌, arith, None}
+use Rattle.std.proofs.Common.{◌≡◌, ℕ, ◌<◌, List, [], ◌∷◌, length, IsTrue, refl, sym, subst, ap, ◌∙◌, arith, None, Some}
 use Rattle.std.proofs.lemmas.Bool.{false≢true}
 use Rattle.qu_base.specs.declared.party.ClientId.{ClientId}
 use Rattle.qu_base.specs.declared.party.ObjectId.{ObjectId}
@@ -19,11 +19,11 @@ use Rattle.qu_replica.specs.declared.decision.Decision.TheVariants.{Answers}
 use Rattle.qu_replica.specs.State.{ReplicaState, accept_all}
 use Rattle.qu_replica.specs.Growth.{has_parts}
 use Rattle.qu_replica.specs.Rows.{asked_of, row_unknown, objects_of, decision_on}
-use Rattle.qu_replica.specs.Step.{on_decoded, carried_out, replica_step}
+use Rattle.qu_replica.specs.Step.{on_received, carried_out, replica_step}
 use Rattle.qu_trace.specs.declared.trace.Trace.{Trace}
 use Rattle.qu_world.specs.Run.{IsRun}
 use Rattle.qu_machine.proofs.Firsts.{contains_at}
-use Rattle.qu_safety.proofs.Carrying.{asks_as}
+use Rattle.qu_safety.proofs.Carrying.{reply_asks}
 use Rattle.qu_safety.proofs.FullSets.{not_unknown}
 use Rattle.qu_safety.proofs.Handled.{handled_upon}
 use Rattle.qu_safety.specs.Digested.{IsHandled}
@@ -33,7 +33,8 @@ use Rattle.qu_safety.proofs.HeldInRuns.{held_versions}
 use Rattle.qu_safety.proofs.HeldVersions.{AreOfHeld}
 use Rattle.qu_safety.proofs.TrueReplies.{done_is_true, act_is_not_told, told_is_true, told_accepts_nothing, query_is_not_done, done_is_known}
 use Rattle.qu_safety.proofs.Views.{request_has_parts}
-use Rattle.qu_safety.specs.Carried.{Asks}
+use Rattle.qu_safety.specs.Carried.{Brings}
+use Rattle.qu_frames.specs.declared.frame.Frame.TheVariants as frame
 use Rattle.qu_frames.specs.declared.frame.Letter.{Letter}
 
 -- ---- bodies
@@ -74,15 +75,15 @@ told_to_ask state client number sets (body.Ask (first ∷ second ∷ later)) acc
 
 -- what the replica becomes, where its decision is known
 after_decision : (old new : ReplicaState) (letter : Letter) (client : ClientId) (number round : ℕ) (sets : List SetOf) (asks : Body) (given : Verdict) (accepted : List Accepted)
-    → new ≡ (replica_step old letter.text).0 → Asks letter client number round sets asks
+    → new ≡ (replica_step old letter.text).0 → (mac : List ℕ) → Brings old letter (frame.Request client number round sets asks mac)
     → decision_on old (asked_of client number sets asks) asks ≡ Answers given accepted → new ≡ accept_all old accepted
-after_decision old new letter client number round sets asks given accepted step is decided =
-    step ∙ ap (λ it. (on_decoded old it).0) is.carries ∙ ap (λ (it : Decision). (carried_out old client number round sets it).0) decided
+after_decision old new letter client number round sets asks given accepted step mac brings decided =
+    step ∙ ap (λ it. (on_received old it).0) brings ∙ ap (λ (it : Decision). (carried_out old client number round sets it).0) decided
 
 module _ (trace : Trace) (is_run : IsRun trace) (have : ArePlain trace.entries) (at : ℕ) (below : at < length trace.entries) (replica : ℕ) (client : ClientId) (number round : ℕ) where
   body_has_parts : (given : Verdict) (reply : IsReplyTo trace at replica client number round given) → IsTrue (has_parts reply.body)
   body_has_parts given reply =
-      request_has_parts trace is_run have at (omega arith) reply.asked reply.letter reply.is_letter client number round reply.sets reply.body reply.is_request
+      request_has_parts trace is_run have at (omega arith) reply.asked reply.letter reply.is_letter client number round reply.sets reply.body (reply_asks trace at replica client number round given reply)
 
   old_of_held : (given : Verdict) (reply : IsReplyTo trace at replica client number round given) → AreOfHeld reply.old
   old_of_held given reply = held_versions trace is_run have at (omega arith) replica reply.old reply.is_old
@@ -97,7 +98,7 @@ module _ (trace : Trace) (is_run : IsRun trace) (have : ArePlain trace.entries) 
     done_in_run reply =
         let act : IsActOn reply.body = act_of_done reply in
         let is_new : reply.new ≡ accept_all reply.old reply.accepted =
-        after_decision reply.old reply.new reply.letter client number round reply.sets reply.body (verdict.Done stamps answer) reply.accepted reply.step reply.is_request reply.decided in
+        after_decision reply.old reply.new reply.letter client number round reply.sets reply.body (verdict.Done stamps answer) reply.accepted reply.step reply.mac reply.brings reply.decided in
         subst (λ (it : ReplicaState). TellsDone it client (act_digest client number ((act.object, act.method) ∷ [])) act.object stamps answer) (sym is_new)
         (done_is_true reply.old client number reply.sets act.object act.method reply.accepted stamps answer (old_of_held (verdict.Done stamps answer) reply)
         (ap (λ (it : Body). decision_on reply.old (asked_of client number reply.sets it) it) (sym act.is_act) ∙ reply.decided))
@@ -111,7 +112,7 @@ module _ (trace : Trace) (is_run : IsRun trace) (have : ArePlain trace.entries) 
         done_is_known reply.old (asked_of client number reply.sets (body.Act parts)) parts (objects_of parts) stamps answer reply.accepted
         (ap (λ (it : Body). decision_on reply.old (asked_of client number reply.sets it) it) (sym act.is_act) ∙ reply.decided) in
         handled_upon trace is_run at below reply.entry (contains_at trace.entries at reply.entry reply.is_entry) reply.asked reply.is_deliver replica reply.old reply.is_old
-        reply.letter reply.is_letter reply.to client number round reply.sets parts (asks_as reply.letter client client number number round round reply.sets reply.body (body.Act parts) refl refl refl act.is_act reply.is_request)
+        reply.letter reply.is_letter reply.to client number round reply.sets parts reply.mac (reply.brings ∙ ap (λ (it : Body). Some (frame.Request client number round reply.sets it reply.mac)) act.is_act)
         (not_unknown reply.old (asked_of client number reply.sets (body.Act parts)) known)
 
     -- an answer is told to a query, from what the replica has, and the replica stays as it is
@@ -132,5 +133,5 @@ module _ (trace : Trace) (is_run : IsRun trace) (have : ArePlain trace.entries) 
         let none : reply.accepted ≡ [] =
         told_accepts_nothing reply.old client number reply.sets query.object query.ask reply.accepted stamps answer
         (ap (λ (it : Body). decision_on reply.old (asked_of client number reply.sets it) it) (sym query.is_ask) ∙ reply.decided) in
-        after_decision reply.old reply.new reply.letter client number round reply.sets reply.body (verdict.Told stamps answer) reply.accepted reply.step reply.is_request reply.decided ∙
+        after_decision reply.old reply.new reply.letter client number round reply.sets reply.body (verdict.Told stamps answer) reply.accepted reply.step reply.mac reply.brings reply.decided ∙
         ap (accept_all reply.old) none

@@ -1,5 +1,5 @@
 -- Only a replica that is handed a request sends a reply, and the reply's verdict is what it decided.
-use Rattle.std.proofs.Common.{◌≡◌, ℕ, zero, suc, ◌+◌, ◌<◌, List, [], ◌∷◌, ◌++◌, length, get_or, Option, None, Some, refl, sym, subst, ap, ◌∙◌, arith, map, Result, Ok, Err}
+use Rattle.std.proofs.Common.{◌≡◌, ℕ, zero, suc, ◌+◌, ◌<◌, List, [], ◌∷◌, ◌++◌, length, get_or, Option, None, Some, refl, sym, subst, ap, ◌∙◌, arith, map}
 use Rattle.std.specs.Prelude.{slice_get, Contains}
 use Rattle.std.specs.List.{AllByRecursion}
 use Rattle.std.proofs.lemmas.Option.{none-some, same_Some, get_or_from_slice_get}
@@ -17,13 +17,13 @@ use Rattle.qu_frames.specs.declared.frame.Frame.TheVariants as frame
 use Rattle.qu_frames.specs.declared.frame.Letter.{Letter}
 use Rattle.qu_frames.specs.declared.verdict.Verdict.{Verdict}
 use Rattle.qu_frames.specs.Body.{body_of}
-use Rattle.qu_frames.specs.Blank.{blank_mac, sealed}
+use Rattle.qu_frames.specs.Blank.{sealed}
 use Rattle.qu_replica.specs.declared.decision.Accepted.{Accepted}
 use Rattle.qu_replica.specs.declared.decision.Decision.{Decision}
 use Rattle.qu_replica.specs.declared.decision.Decision.TheVariants.{Answers, Waits}
 use Rattle.qu_replica.specs.State.{ReplicaState, accept_all}
 use Rattle.qu_replica.specs.Rows.{asked_of, decision_on}
-use Rattle.qu_replica.specs.Step.{answer_frame, reply, carried_out, on_frame, on_decoded, replica_step}
+use Rattle.qu_replica.specs.Step.{answer_frame, reply, carried_out, on_frame, on_received, replica_step}
 use Rattle.qu_replica.specs.Step as own
 use Rattle.qu_client.specs.declared.state.ClientState.{ClientState}
 use Rattle.qu_client.specs.declared.state.Stepped.{Stepped}
@@ -47,13 +47,14 @@ use Rattle.qu_safety.proofs.Entries.{entry_recorded}
 use Rattle.qu_safety.proofs.OwnHistories.{IsInPlace, step-in_place}
 use Rattle.qu_safety.proofs.Views.{true_world}
 use Rattle.qu_safety.proofs.WorldGrowth.{world_after-next}
-use Rattle.qu_safety.specs.Carried.{Tells, Carries, Asks}
-use Rattle.qu_frames.specs.Decoding.{decoded}
+use Rattle.qu_safety.specs.Carried.{Tells, Carries, Brings}
 use Rattle.qu_frames.specs.Forms.{frame_form}
 use Rattle.qu_history.specs.declared.sealed.Sealed.{Sealed}
-use Rattle.qu_base.specs.declared.bad_text.BadText.{BadText}
-use Rattle.qu_safety.proofs.Carrying.{asks_so, AnswersFit, carried_is, no_reply}
+use Rattle.qu_safety.proofs.Carrying.{AnswersFit, no_reply, signed_spelled, signed_carries, brings_carries}
 use Rattle.qu_safety.proofs.Fitting.{fit_step}
+use Rattle.qu_frames.specs.Signed.{brought, signed, signature}
+use Rattle.qu_seal.specs.Keys.{Ring}
+use Rattle.qu_replica.proofs.FitSteps.{blank_sized}
 
 -- ---- clients send requests
 
@@ -65,21 +66,23 @@ IsNoReply letter =
 abbrev SendsNoReply : Stepped → Type 0
 SendsNoReply stepped = AllByRecursion IsNoReply stepped.letters
 
-requests : (replica count : ℕ) (me : ClientId) (work : Work) (sets : List SetOf) → AllByRecursion IsNoReply (requests_from replica count me work sets)
+requests : (keys : Ring) (replica count : ℕ) (me : ClientId) (work : Work) (sets : List SetOf) → AllByRecursion IsNoReply (requests_from keys replica count me work sets)
 unfolding requests_from
-requests replica zero me work sets = tt
-requests replica (suc count) me work sets = (
-  no_reply (record { from = party.Client me; to = party.Replica (record { 0 = replica }); text = frame_form.spell (request_of me work sets) }) me work.number work.round sets (body_of work.op) blank_mac refl,
-  requests (replica + 1) count me work sets,
-)
+requests keys replica zero me work sets = tt
+requests keys replica (suc count) me work sets =
+    let to : Party = party.Replica (record { 0 = replica }) in
+    let sent : Frame = request_of me work sets in (
+      no_reply (record { from = party.Client me; to = to; text = signed keys to sent }) me work.number work.round sets (body_of work.op) (signature keys to sent) (signed_spelled keys to sent blank_sized),
+      requests keys (replica + 1) count me work sets,
+    )
 
 invoke_requests : (state : ClientState) (op : Op) → SendsNoReply (client_invoke state op)
-invoke_requests state op = invoke_cases state op SendsNoReply (λ acted. requests 0 (replicas state.bounds) state.me _ _) tt
+invoke_requests state op = invoke_cases state op SendsNoReply (λ acted. requests state.keys 0 (replicas state.bounds) state.me _ _) tt
 
 step_requests : (state : ClientState) (text : List ℕ) → SendsNoReply (client_step state text)
 step_requests state text =
     step_cases state SendsNoReply tt (λ kept. tt) (λ kept work replica number round verdict is counting. tt) (λ kept end. tt)
-    (λ kept work replies acted is asking more. requests 0 (replicas state.bounds) state.me _ _)
+    (λ kept work replies acted is asking more. requests state.keys 0 (replicas state.bounds) state.me _ _)
     (λ kept work replies is asking more. tt) text
 
 -- ---- who sends a reply
@@ -206,9 +209,11 @@ module _ (replica : ReplicaId) (client : ClientId) (number round : ℕ) (verdict
   carried_reply state other asked turn sets body mac (Answers given accepted) fits is (suc place) sent found is_reply = absurd (none-some sent found)
   carried_reply state other asked turn sets body mac (Answers given accepted) fits is zero sent found is_reply =
       let new : ReplicaState = accept_all state accepted in
-      let is_sent : sent.text ≡ frame_form.spell (answer_frame new other asked turn sets given) = ap (λ (it : Letter). it.text) (sym (same_Some (reply new other asked turn sets given) sent found)) in
-      let same = same_reply new.me other asked turn given [] (map (sealed new.bounds) (own.shown new sets)) blank_mac
-      (sym (carried_is sent (answer_frame new other asked turn sets given) (frame.Reply replica client number round verdict culled shown seal) (fits given accepted refl) is_sent is_reply)) in
+      let to : Party = party.Client other in
+      let made : Frame = answer_frame new other asked turn sets given in
+      let is_sent : sent.text ≡ signed new.keys to made = ap (λ (it : Letter). it.text) (sym (same_Some (reply new other asked turn sets given) sent found)) in
+      let same = same_reply new.me other asked turn given [] (map (sealed new.bounds) (own.shown new sets)) (signature new.keys to made)
+      (sym (signed_carries sent new.keys to made (frame.Reply replica client number round verdict culled shown seal) (fits given accepted refl) is_sent is_reply)) in
       decided_by state other asked turn sets body mac accepted given is same.0 same.1 same.2 same.3 same.4
       (ap (λ (it : Decision). ((carried_out state other asked turn sets it).0).me) is ∙ same.0)
 
@@ -222,26 +227,28 @@ module _ (replica : ReplicaId) (client : ClientId) (number round : ℕ) (verdict
 record IsDecidedUpon (state : ReplicaState) (letter : Letter) (replica : ReplicaId) (client : ClientId) (number round : ℕ) (verdict : Verdict) : Type 0 where
   sets : List SetOf
   body : Body
-  is_request : Asks letter client number round sets body
+  mac : List ℕ
+  brings : Brings state letter (frame.Request client number round sets body mac)
   accepted : List Accepted
   decided : decision_on state (asked_of client number sets body) body ≡ Answers verdict accepted
   from : replica ≡ ((replica_step state letter.text).0).me
 
-decided_upon : (state : ReplicaState) (letter : Letter) (replica : ReplicaId) (client : ClientId) (number round : ℕ) (verdict : Verdict) (shown : List Sealed) (read : Result Frame BadText) → decoded letter.text ≡ read
+decided_upon : (state : ReplicaState) (letter : Letter) (replica : ReplicaId) (client : ClientId) (number round : ℕ) (verdict : Verdict) (shown : List Sealed) (read : Option Frame) → brought state.keys (party.Replica state.me) letter.text ≡ read
     → ((carried : Frame) → Carries letter carried → AnswersFit state carried)
     → (place : ℕ) (sent : Letter) → slice_get (replica_step state letter.text).1 place ≡ Some sent → Tells sent replica client number round verdict shown → IsDecidedUpon state letter replica client number round verdict
-decided_upon state letter replica client number round verdict shown (Err bad) read fits place sent found tells =
-    absurd (none-some sent (ap (λ it. slice_get (on_decoded state it).1 place) (sym read) ∙ found))
-decided_upon state letter replica client number round verdict shown (Ok taken) read fits place sent found tells =
+decided_upon state letter replica client number round verdict shown None read fits place sent found tells =
+    absurd (none-some sent (ap (λ it. slice_get (on_received state it).1 place) (sym read) ∙ found))
+decided_upon state letter replica client number round verdict shown (Some taken) read fits place sent found tells =
     let made : IsDecidedOn state taken replica client number round verdict =
-    reply_decided replica client number round verdict tells.culled shown tells.mac state taken (fits taken read) place sent (ap (λ it. slice_get (on_decoded state it).1 place) (sym read) ∙ found) tells.carries in
+    reply_decided replica client number round verdict tells.culled shown tells.mac state taken (fits taken (brings_carries state letter taken read)) place sent (ap (λ it. slice_get (on_received state it).1 place) (sym read) ∙ found) tells.carries in
     record {
       sets = made.sets;
       body = made.body;
-      is_request = asks_so letter taken client number round made.sets made.body made.mac read made.is_request;
+      mac = made.mac;
+      brings = read ∙ ap (λ (it : Frame). Some it) made.is_request;
       accepted = made.accepted;
       decided = made.decided;
-      from = made.from ∙ ap (λ it. ((on_decoded state it).0).me) (sym read);
+      from = made.from ∙ ap (λ it. ((on_received state it).0).me) (sym read);
     }
 
 -- ---- the replies of a run
@@ -265,7 +272,7 @@ reply_sent trace is_run have at below entry is_entry letter holding replica clie
     let stands : slice_get (sends.entry).letters place ≡ Some letter = ap (λ (it : Entry). slice_get it.letters place) recorded ∙ at_contains entry.letters letter holding in
     let answer : IsAnswer old new entry.event place letter = sends.replies place letter stands replica client number round verdict shown is in
     let made : IsDecidedUpon answer.state answer.letter replica client number round verdict =
-    decided_upon answer.state answer.letter replica client number round verdict shown (decoded (answer.letter).text) refl
+    decided_upon answer.state answer.letter replica client number round verdict shown (brought (answer.state).keys (party.Replica (answer.state).me) (answer.letter).text) refl
     (λ carried carries. (fit_step trace is_run have at below).answers answer.me answer.state answer.is_state answer.asked answer.letter carried answer.is_letter carries) place letter answer.sent_by is in
     let in_place : IsInPlace (answer.me).0 (replica_step answer.state (answer.letter).text).0 =
     step-in_place (answer.me).0 answer.state (answer.letter).text ((true_world trace is_run have at (omega arith)).replicas (answer.me).0 answer.state answer.is_state) in
@@ -285,7 +292,8 @@ reply_sent trace is_run have at below entry is_entry letter holding replica clie
       to = answer.to;
       sets = made.sets;
       body = made.body;
-      is_request = made.is_request;
+      mac = made.mac;
+      brings = made.brings;
       step = refl;
       accepted = made.accepted;
       decided = made.decided;

@@ -1,5 +1,5 @@
 -- What a client asks for, step by step: its requests are those of the operation under way.
-use Rattle.std.proofs.Common.{◌≡◌, ℕ, zero, suc, ◌+◌, ◌≤◌, eqb, true, List, [], map, Option, None, Some, sym, ap, subst, ◌∙◌, arith, Result, Ok, Err, refl}
+use Rattle.std.proofs.Common.{◌≡◌, ℕ, zero, suc, ◌+◌, ◌≤◌, eqb, true, List, [], map, Option, None, Some, sym, ap, subst, ◌∙◌, arith, refl}
 use Rattle.std.specs.List.{All}
 use Rattle.std.proofs.lemmas.Bool.{cond_both, and_parts}
 use Rattle.std.proofs.lemmas.List.Elements.{All-nil, All-cons}
@@ -16,30 +16,32 @@ use Rattle.qu_frames.specs.declared.frame.Frame.TheVariants as frame
 use Rattle.qu_frames.specs.declared.frame.Letter.{Letter}
 use Rattle.qu_frames.specs.declared.verdict.Verdict.{Verdict}
 use Rattle.qu_frames.specs.Body.{body_of}
-use Rattle.qu_frames.specs.Blank.{blank_mac, sealed}
+use Rattle.qu_frames.specs.Blank.{sealed}
 use Rattle.qu_replica.specs.declared.decision.Decision.{Decision}
 use Rattle.qu_replica.specs.declared.decision.Decision.TheVariants.{Answers, Waits}
 use Rattle.qu_replica.specs.State.{ReplicaState, accept_all}
 use Rattle.qu_replica.specs.Rows.{asked_of, decision_on}
-use Rattle.qu_replica.specs.Step.{shown, reply, carried_out, replica_step}
+use Rattle.qu_replica.specs.Step.{shown, reply, carried_out, replica_step, answer_frame}
 use Rattle.qu_replica.specs.Step as replica
 use Rattle.qu_client.specs.declared.state.Stepped.{Stepped}
 use Rattle.qu_client.specs.declared.work.Work.{Work}
 use Rattle.qu_client.specs.declared.state.ClientState.{ClientState}
 use Rattle.qu_client.specs.State.{keep_all}
 use Rattle.qu_client.specs.Rounds.{request_of, requests_from}
-use Rattle.qu_client.specs.Step.{on_frame, on_decoded, client_step, client_invoke, counted_in, counts, is_asking, next_number}
+use Rattle.qu_client.specs.Step.{on_frame, on_received, client_step, client_invoke, counted_in, counts, is_asking, next_number}
 use Rattle.qu_client.specs.Sound.{IsSoundWork, IsSound, last_number}
 use Rattle.qu_client.proofs.Cases.{counted_cases, invoke_cases}
 use Rattle.qu_client.proofs.Laws.{client_step-me, client_invoke-me, IsSound-step, IsSound-invoke, sound_work}
 use Rattle.qu_trace.specs.declared.trace.Trace.{Trace}
 use Rattle.qu_safety.specs.Invocations.{IsRequestOf}
 use Rattle.qu_safety.specs.Carried.{Carries}
-use Rattle.qu_frames.specs.Decoding.{decoded}
 use Rattle.qu_frames.specs.Forms.{frame_form}
 use Rattle.qu_history.specs.declared.sealed.Sealed.{Sealed}
-use Rattle.qu_base.specs.declared.bad_text.BadText.{BadText}
-use Rattle.qu_safety.proofs.Carrying.{AsksFit, carried_is, no_request}
+use Rattle.qu_safety.proofs.Carrying.{AsksFit, no_request, signed_spelled, signed_carries}
+use Rattle.qu_frames.specs.Signed.{brought, signed, signature}
+use Rattle.qu_seal.specs.Keys.{Ring}
+use Rattle.qu_replica.proofs.FitSteps.{blank_sized}
+use Rattle.qu_base.specs.declared.party.Party.{Party}
 
 -- ---- letters
 
@@ -69,16 +71,18 @@ of_operation_later trace count more (frame.Reply replica client number round ver
 pub asked_later : (trace : Trace) (count more : ℕ) (letter : Letter) → count ≤ more → IsAsked trace count letter → IsAsked trace more letter
 asked_later trace count more letter order is = record { asked = λ carried carries. of_operation_later trace count more carried order (is.asked carried carries) }
 
-requests_asked : (trace : Trace) (count replica many : ℕ) (me : ClientId) (work : Work) (sets : List SetOf) → frame_form.Fits (request_of me work sets) → IsRequestOf trace count me work.number (body_of work.op) → All (IsAsked trace count) (requests_from replica many me work sets)
+requests_asked : (trace : Trace) (count : ℕ) (keys : Ring) (replica many : ℕ) (me : ClientId) (work : Work) (sets : List SetOf) → frame_form.Fits (request_of me work sets) → IsRequestOf trace count me work.number (body_of work.op) → All (IsAsked trace count) (requests_from keys replica many me work sets)
 unfolding requests_from
-requests_asked trace count replica zero me work sets fits is = All-nil (IsAsked trace count)
-requests_asked trace count replica (suc many) me work sets fits is =
+requests_asked trace count keys replica zero me work sets fits is = All-nil (IsAsked trace count)
+requests_asked trace count keys replica (suc many) me work sets fits is =
     All-cons (IsAsked trace count) _ _
-    (record {
+    (let to : Party = party.Replica (record { 0 = replica }) in
+    let sent : Frame = request_of me work sets in
+    record {
       asked = λ carried carries. subst (IsOfOperation trace count)
-          (sym (carried_is (record { from = party.Client me; to = party.Replica (record { 0 = replica }); text = frame_form.spell (request_of me work sets) }) (request_of me work sets) carried fits refl carries)) is;
+          (sym (signed_carries (record { from = party.Client me; to = to; text = signed keys to sent }) keys to sent carried fits refl carries)) is;
     })
-    (requests_asked trace count (replica + 1) many me work sets fits is)
+    (requests_asked trace count keys (replica + 1) many me work sets fits is)
 
 -- a reply is no request
 reply_asked : (trace : Trace) (count : ℕ) (letter : Letter) (replica : ReplicaId) (to : ClientId) (number round : ℕ) (verdict : Verdict) (culled : List (ObjectId × ReplicaId)) (shown : List Sealed) (mac : List ℕ)
@@ -91,7 +95,11 @@ carried_asked : (trace : Trace) (count : ℕ) (state : ReplicaState) (client : C
 carried_asked trace count state client number round sets (Answers verdict accepted) =
     let new : ReplicaState = accept_all state accepted in
     All-cons (IsAsked trace count) (reply new client number round sets verdict) []
-    (record { asked = reply_asked trace count (reply new client number round sets verdict) new.me client number round verdict [] (map (sealed new.bounds) (shown new sets)) blank_mac refl })
+    (let frame : Frame = answer_frame new client number round sets verdict in
+    let to : Party = party.Client client in
+    record {
+      asked = reply_asked trace count (reply new client number round sets verdict) new.me client number round verdict [] (map (sealed new.bounds) (shown new sets)) (signature new.keys to frame) (signed_spelled new.keys to frame blank_sized);
+    })
     (All-nil (IsAsked trace count))
 carried_asked trace count state client number round sets Waits = All-nil (IsAsked trace count)
 
@@ -101,12 +109,12 @@ frame_asked trace count state (frame.Request client number round sets body mac) 
     carried_asked trace count state client number round sets (decision_on state (asked_of client number sets body) body)
 frame_asked trace count state (frame.Reply replica client number round verdict culled shown mac) = All-nil (IsAsked trace count)
 
-decoded_asked : (trace : Trace) (count : ℕ) (state : ReplicaState) (read : Result Frame BadText) → All (IsAsked trace count) (replica.on_decoded state read).1
-decoded_asked trace count state (Ok sent) = frame_asked trace count state sent
-decoded_asked trace count state (Err bad) = All-nil (IsAsked trace count)
+brought_asked : (trace : Trace) (count : ℕ) (state : ReplicaState) (found : Option Frame) → All (IsAsked trace count) (replica.on_received state found).1
+brought_asked trace count state (Some sent) = frame_asked trace count state sent
+brought_asked trace count state None = All-nil (IsAsked trace count)
 
 pub replica_asked : (trace : Trace) (count : ℕ) (state : ReplicaState) (text : List ℕ) → All (IsAsked trace count) (replica_step state text).1
-replica_asked trace count state text = decoded_asked trace count state (decoded text)
+replica_asked trace count state text = brought_asked trace count state (brought state.keys (party.Replica state.me) text)
 
 -- ---- clients
 
@@ -170,7 +178,7 @@ module _ (trace : Trace) (count begun : ℕ) (state : ClientState) (sound : IsSo
       (λ work is counting spent fits. record { at_work = ended work replica number round is counting; letters = none_asked })
       (λ work acted is counting below fits. record {
         at_work = record { latest = (working work is).latest; request = (working work is).request };
-        letters = requests_asked trace count 0 (replicas state.bounds) state.me _ _ (fits _ refl) (working work is).request;
+        letters = requests_asked trace count state.keys 0 (replicas state.bounds) state.me _ _ (fits _ refl) (working work is).request;
       })
       (λ work is counting below fits. record { at_work = record { latest = (working work is).latest; request = (working work is).request }; letters = none_asked })
 
@@ -182,12 +190,12 @@ frame_at trace count begun state (frame.Reply replica client number round verdic
     (λ _ fit. record { at_work = at; letters = All-nil (IsAsked trace count) })
     fits
 
-decoded_at : (trace : Trace) (count begun : ℕ) (state : ClientState) (read : Result Frame BadText) → IsSound state → IsAtWork trace count begun state.me state.last_request state.work → AsksFit (on_decoded state read).state → IsStepAt trace count begun state.me (on_decoded state read)
-decoded_at trace count begun state (Ok sent) sound at fits = frame_at trace count begun state sent sound at fits
-decoded_at trace count begun state (Err bad) sound at fits = record { at_work = at; letters = All-nil (IsAsked trace count) }
+brought_at : (trace : Trace) (count begun : ℕ) (state : ClientState) (found : Option Frame) → IsSound state → IsAtWork trace count begun state.me state.last_request state.work → AsksFit (on_received state found).state → IsStepAt trace count begun state.me (on_received state found)
+brought_at trace count begun state (Some sent) sound at fits = frame_at trace count begun state sent sound at fits
+brought_at trace count begun state None sound at fits = record { at_work = at; letters = All-nil (IsAsked trace count) }
 
 step_at : (trace : Trace) (count begun : ℕ) (state : ClientState) (text : List ℕ) → IsSound state → IsAtWork trace count begun state.me state.last_request state.work → AsksFit (client_step state text).state → IsStepAt trace count begun state.me (client_step state text)
-step_at trace count begun state text = decoded_at trace count begun state (decoded text)
+step_at trace count begun state text = brought_at trace count begun state (brought state.keys (party.Client state.me) text)
 
 named_at_work : (trace : Trace) (count begun : ℕ) (old new : ClientId) (last : Option (ℕ × ℕ)) (work : Option Work) → new ≡ old → IsAtWork trace count begun old last work → IsAtWork trace count begun new last work
 named_at_work trace count begun old new last work same at = rw same at
@@ -218,7 +226,7 @@ module _ (trace : Trace) (count begun : ℕ) (state : ClientState) (op : Op) (la
       invoke_cases state op (λ stepped. AsksFit stepped.state → IsStepAt trace count (begun + 1) state.me stepped)
       (λ acted fits. record {
         at_work = record { latest = next_is state.last_request begun last; request = next_request };
-        letters = requests_asked trace count 0 (replicas state.bounds) state.me _ _ (fits _ refl) next_request;
+        letters = requests_asked trace count state.keys 0 (replicas state.bounds) state.me _ _ (fits _ refl) next_request;
       })
       (λ fits. record { at_work = record { latest = next_is state.last_request begun last; request = next_request }; letters = All-nil (IsAsked trace count) })
 

@@ -10,8 +10,7 @@ use Rattle.qu_frames.specs.declared.frame.Body.{Body}
 use Rattle.qu_frames.specs.declared.frame.Frame.TheVariants as frame
 use Rattle.qu_frames.specs.declared.frame.Letter.{Letter}
 use Rattle.qu_frames.specs.Body.{body_of}
-use Rattle.qu_frames.specs.Blank.{blank_mac}
-use Rattle.qu_safety.proofs.Carrying.{asks_as, AsksFit, carried_is}
+use Rattle.qu_safety.proofs.Carrying.{asks_as, AsksFit, signed_carries}
 use Rattle.qu_client.specs.declared.state.ClientState.{ClientState}
 use Rattle.qu_client.specs.declared.state.Stepped.{Stepped}
 use Rattle.qu_client.specs.declared.work.Phase.TheVariants.{Asking, Halted}
@@ -23,6 +22,7 @@ use Rattle.qu_client.proofs.Cases.{with_verdict, step_cases, invoke_cases}
 use Rattle.qu_safety.proofs.OnceSent.{StandsIn, none_stands, AreUpTo, OrNew, IsSameRequest, same_request, request_is, next_is}
 use Rattle.qu_safety.specs.Carried.{Asks}
 use Rattle.qu_frames.specs.Forms.{frame_form}
+use Rattle.qu_frames.specs.Signed.{signature, with_mac}
 
 -- the requests of one operation and round are one
 abbrev pub AreOneRound : (Letter → Type 0) → Type 0
@@ -86,19 +86,19 @@ module _ (Sent : Letter → Type 0) (state : ClientState) (work : Work) (below :
 
   module _ (sets : List SetOf) (fits : frame_form.Fits (request_of state.me work sets)) where
     abbrev letters : List Letter
-    letters = requests_from 0 (replicas state.bounds) state.me work sets
+    letters = requests_from state.keys 0 (replicas state.bounds) state.me work sets
 
-    new_same : (letter : Letter) → StandsIn letters letter → (client : ClientId) (number round : ℕ) (others : List SetOf) (asks : Body) (is : Asks letter client number round others asks) → frame.Request client number round others asks is.mac ≡ request_of state.me work sets
+    new_same : (letter : Letter) → StandsIn letters letter → (client : ClientId) (number round : ℕ) (others : List SetOf) (asks : Body) (is : Asks letter client number round others asks) → frame.Request client number round others asks is.mac ≡ with_mac (request_of state.me work sets) (signature state.keys letter.to (request_of state.me work sets))
     new_same letter new client number round others asks is =
-        carried_is letter (request_of state.me work sets) (frame.Request client number round others asks is.mac) fits (request_is 0 (replicas state.bounds) state.me work sets letter new) is.carries
+        signed_carries letter state.keys letter.to (request_of state.me work sets) (frame.Request client number round others asks is.mac) fits (request_is state.keys 0 (replicas state.bounds) state.me work sets letter new) is.carries
 
     new_is : (letter : Letter) → StandsIn letters letter → (client : ClientId) (number round : ℕ) (others : List SetOf) (asks : Body) → Asks letter client number round others asks → IsSameRequest client state.me number work.number others sets asks (body_of work.op)
     new_is letter new client number round others asks is =
-        same_request client state.me number work.number round work.round others sets asks (body_of work.op) is.mac blank_mac (new_same letter new client number round others asks is)
+        same_request client state.me number work.number round work.round others sets asks (body_of work.op) is.mac (signature state.keys letter.to (request_of state.me work sets)) (new_same letter new client number round others asks is)
 
     new_round : (letter : Letter) → StandsIn letters letter → (client : ClientId) (number round : ℕ) (others : List SetOf) (asks : Body) → Asks letter client number round others asks → round ≡ work.round
     new_round letter new client number round others asks is =
-        same_round client state.me number work.number round work.round others sets asks (body_of work.op) is.mac blank_mac (new_same letter new client number round others asks is)
+        same_round client state.me number work.number round work.round others sets asks (body_of work.op) is.mac (signature state.keys letter.to (request_of state.me work sets)) (new_same letter new client number round others asks is)
 
     -- no earlier request is of this round
     new_apart : (old letter : Letter) → Sent old → StandsIn letters letter → (client : ClientId) (number round : ℕ) (others besides : List SetOf) (asks more : Body) → Asks old client number round others asks → Asks letter client number round besides more → ⊥

@@ -27,7 +27,7 @@ use Rattle.qu_replica.proofs.Growth.{version_at-grows}
 use Rattle.qu_trace.specs.declared.event.Event.{Event}
 use Rattle.qu_trace.specs.declared.trace.Entry.{Entry}
 use Rattle.qu_trace.specs.declared.trace.Trace.{Trace}
-use Rattle.qu_world.specs.State.{WorldState, letter_of}
+use Rattle.qu_world.specs.State.{WorldState, letter_of, ring_of}
 use Rattle.qu_world.specs.Step.{world_step}
 use Rattle.qu_world.specs.Run.{IsRun}
 use Rattle.qu_chain.proofs.Counting.{test_at-here}
@@ -55,8 +55,8 @@ use Rattle.qu_safety.proofs.WorldGrowth.{world_after-none, world_after-next, wor
 use Rattle.qu_safety.proofs.Small.{some_entry}
 use Rattle.qu_safety.proofs.OpeningReplicas.{opening_replica}
 use Rattle.qu_safety.proofs.Chained.{somewhere_accepted}
-use Rattle.qu_safety.specs.Carried.{Carries, Asks}
-use Rattle.qu_safety.proofs.Carrying.{asks_so}
+use Rattle.qu_safety.specs.Carried.{Carries, Asks, Brings}
+use Rattle.qu_safety.proofs.Carrying.{asks_so, brings_carries}
 use Rattle.qu_frames.specs.declared.frame.Frame.{Frame}
 
 -- the replica stores the version of the candidate
@@ -121,15 +121,15 @@ begun_from me first (kind ∷ kinds) object zero candidate at held =
 begun_from me first (kind ∷ kinds) object (suc place) candidate at held =
     later_begun first kind kinds object place candidate at (begun_from me (first + 1) kinds object place candidate (omega arith) held)
 
-begun_stores : (trace : Trace) (me : ReplicaId) (object : ObjectId) (candidate : Candidate) → IsBegun 0 trace.setup.kinds object object.0 candidate → Stores trace object (opening_state me trace.setup.bounds trace.setup.kinds) candidate
+begun_stores : (trace : Trace) (me : ReplicaId) (object : ObjectId) (candidate : Candidate) → IsBegun 0 trace.setup.kinds object object.0 candidate → Stores trace object (opening_state me (ring_of trace.setup) trace.setup.bounds trace.setup.kinds) candidate
 begun_stores trace me object candidate begun =
-    subst (Stores trace object (opening_state me trace.setup.bounds trace.setup.kinds)) begun.alone
+    subst (Stores trace object (opening_state me (ring_of trace.setup) trace.setup.bounds trace.setup.kinds)) begun.alone
     (fresh_version begun.kind, begun.fresh, HasVersion.of_opening begun.kind begun.is_kind)
 
-opening-versioned : (trace : Trace) (me : ReplicaId) → IsVersioned trace (opening_state me trace.setup.bounds trace.setup.kinds)
+opening-versioned : (trace : Trace) (me : ReplicaId) → IsVersioned trace (opening_state me (ring_of trace.setup) trace.setup.bounds trace.setup.kinds)
 opening-versioned trace me = record {
   bounds = refl;
-  of_held = opening_of_held me trace.setup.bounds trace.setup.kinds;
+  of_held = opening_of_held me (ring_of trace.setup) trace.setup.bounds trace.setup.kinds;
   stores = λ object candidate held. begun_stores trace me object candidate (begun_from me 0 trace.setup.kinds object object.0 candidate (omega arith) held);
 }
 
@@ -154,9 +154,9 @@ module _ (trace : Trace) (known : Known trace) (is_run : IsRun trace) (have : Ar
       le-leb (quorum world.setup.bounds) (count_by (accepts object candidate) world.replicas + world.setup.bounds) (rw bounds (omega arith)) in
       still_accepted object candidate (accepted_by_decided world object candidate (IsDecided.by_acceptors candidate established))
 
-  module _ (number : ℕ) (letter : Letter) (sent : letter_of (world_after trace count) number ≡ Some letter) (carried : Frame) (carries : Carries letter carried) (place : ℕ) (old new : ReplicaState) (is_old : slice_get (world_after trace count).replicas place ≡ Some old) (before : IsVersioned trace old) (object : ObjectId) (one : AcceptsOne old new carried object) where
+  module _ (number : ℕ) (letter : Letter) (sent : letter_of (world_after trace count) number ≡ Some letter) (carried : Frame) (place : ℕ) (old new : ReplicaState) (brings : Brings old letter carried) (is_old : slice_get (world_after trace count).replicas place ≡ Some old) (before : IsVersioned trace old) (object : ObjectId) (one : AcceptsOne old new carried object) where
     asks : Asks letter one.client one.number one.round one.sets (body.Act ((object, one.method) ∷ []))
-    asks = asks_so letter carried one.client one.number one.round one.sets (body.Act ((object, one.method) ∷ [])) one.mac carries one.is_request
+    asks = asks_so letter carried one.client one.number one.round one.sets (body.Act ((object, one.method) ∷ [])) one.mac (brings_carries old letter carried brings) one.is_request
 
     view : IsOfKept trace count one.sets (body.Act ((object, one.method) ∷ []))
     view = view_of_request trace is_run have count within number letter sent one.client one.number one.round one.sets (body.Act ((object, one.method) ∷ [])) asks
@@ -213,7 +213,7 @@ module _ (trace : Trace) (known : Known trace) (is_run : IsRun trace) (have : Ar
   one_handled : (moved : IsMoved (world_after trace count) event place old new) (object : ObjectId) (one : AcceptsOne old new moved.carried object) → IsHandled trace one.client one.number ((object, one.method) ∷ [])
   one_handled moved object one =
       handled trace is_run count below entry of_trace event event_is place old new is_old is_new object
-      (record { number = moved.number; is_deliver = moved.is_deliver; letter = moved.letter; is_letter = moved.is_letter; to = moved.to; carried = moved.carried; carries = moved.carries; accepts = one })
+      (record { number = moved.number; is_deliver = moved.is_deliver; letter = moved.letter; is_letter = moved.is_letter; to = moved.to; carried = moved.carried; brings = moved.brings; accepts = one })
 
   one_stores : (moved : IsMoved (world_after trace count) event place old new) (object : ObjectId) → AcceptsOne old new moved.carried object
       → (candidate : Candidate) → holds candidate (own_candidates new object) ≡ true → Stores trace object new candidate
@@ -223,7 +223,7 @@ module _ (trace : Trace) (known : Known trace) (is_run : IsRun trace) (have : Ar
         | inr last ↦ elim (or_cases (same one.candidate candidate) false last) [
           | inl is ↦
               subst (Stores trace object new) (equal_by_same one.candidate candidate is)
-              (accepted_stores trace known is_run have count within moved.number moved.letter moved.is_letter moved.carried moved.carries place old new is_old before object one (one_handled moved object one))
+              (accepted_stores trace known is_run have count within moved.number moved.letter moved.is_letter moved.carried place old new moved.brings is_old before object one (one_handled moved object one))
           | inr never ↦ absurd (false≢true never)
         ]
       ]
@@ -255,8 +255,8 @@ AreVersioned trace count = (place : ℕ) (state : ReplicaState) → slice_get (w
 
 versioned_none : (trace : Trace) → AreVersioned trace 0
 versioned_none trace = λ place state is_state.
-    let begun : (me : ReplicaId) × (state ≡ opening_state me trace.setup.bounds trace.setup.kinds) =
-    opening_replica 0 _ trace.setup.bounds trace.setup.kinds place state (ap (λ (world : WorldState). slice_get world.replicas place) (sym (world_after-none trace)) ∙ is_state) in
+    let begun : (me : ReplicaId) × (state ≡ opening_state me (ring_of trace.setup) trace.setup.bounds trace.setup.kinds) =
+    opening_replica 0 _ (ring_of trace.setup) trace.setup.bounds trace.setup.kinds place state (ap (λ (world : WorldState). slice_get world.replicas place) (sym (world_after-none trace)) ∙ is_state) in
     subst (IsVersioned trace) (sym begun.1) (opening-versioned trace begun.0)
 
 versioned_next : (trace : Trace) → Known trace → IsRun trace → ArePlain trace.entries → (count : ℕ) → count < length trace.entries → AreVersioned trace count → AreVersioned trace (count + 1)

@@ -26,7 +26,7 @@ use Rattle.qu_safety.specs.Grounds.{IsDelivered}
 use Rattle.qu_safety.proofs.Accepting.{Acceptance}
 use Rattle.qu_safety.proofs.ChainLaws.{setting, accepted_of, laws}
 use Rattle.qu_safety.proofs.Established.{Established, Rests, same_accepted, accepted_by_established, last_established, below_prior, ancestor_established, IsTop}
-use Rattle.qu_safety.proofs.Carrying.{one_carried}
+use Rattle.qu_safety.proofs.Carrying.{one_carried, brings_carries}
 use Rattle.qu_safety.proofs.Small.{same_deliver}
 use Rattle.qu_frames.specs.Decoding.{decoded}
 
@@ -62,7 +62,8 @@ module _ (trace : Trace) (is_run : IsRun trace) (have : ArePlain trace.entries) 
       same_Some here.letter there.letter (sym here.is_letter ∙ ap (letter_of (world_after trace time)) number ∙ there.is_letter) in
       let places : place ≡ elsewhere = same_place place elsewhere (sym here.to ∙ ap (λ (it : Letter). it.to) letter ∙ there.to) in
       let carried : here.carried ≡ there.carried =
-      one_carried here.letter here.carried there.carried here.carries (ap (λ (it : Letter). decoded it.text) letter ∙ there.carries) in
+      one_carried here.letter here.carried there.carried (brings_carries one.old here.letter here.carried here.brings)
+      (ap (λ (it : Letter). decoded it.text) letter ∙ brings_carries two.old there.letter there.carried there.brings) in
       let objects : object ≡ other =
       sym (ap (λ (it : Frame). act_object it object) (here.accepts).is_request) ∙ ap (λ (it : Frame). act_object it object) carried ∙ ap (λ (it : Frame). act_object it object) (there.accepts).is_request in
       record {

@@ -1,10 +1,9 @@
 -- A client that keeps only histories that were held sends only those; so does a replica that shows
 -- its own.
-use Rattle.std.proofs.Common.{◌≡◌, ℕ, zero, suc, ◌+◌, List, [], ◌∷◌, map, Option, None, Some, IfSome, Result, Ok, Err, refl, sym, ap, subst}
+use Rattle.std.proofs.Common.{◌≡◌, ℕ, zero, suc, ◌+◌, List, [], ◌∷◌, map, Option, None, Some, IfSome, Ok, refl, sym, ap, subst}
 use Rattle.std.specs.Prelude.{slice_get}
 use Rattle.std.specs.List.{AllByRecursion, cons_option}
 use Rattle.std.proofs.lemmas.Bool.{cond_both}
-use Rattle.qu_base.specs.declared.bad_text.BadText.{BadText}
 use Rattle.qu_base.specs.declared.party.ClientId.{ClientId}
 use Rattle.qu_base.specs.declared.party.Party.TheVariants as party
 use Rattle.qu_base.specs.declared.party.ReplicaId.{ReplicaId}
@@ -36,12 +35,16 @@ use Rattle.qu_client.specs.declared.state.ClientState.{ClientState}
 use Rattle.qu_client.specs.declared.state.Stepped.{Stepped}
 use Rattle.qu_client.specs.State.{opening_state, is_older, same_source, keep, keep_all}
 use Rattle.qu_client.specs.Rounds.{sets_of, request_of, requests_from, asked}
-use Rattle.qu_client.specs.Step.{goes_on, counted_in, on_frame, on_decoded, client_step, client_invoke}
+use Rattle.qu_client.specs.Step.{goes_on, counted_in, on_frame, on_received, client_step, client_invoke}
 use Rattle.qu_client.proofs.Cases.{counted_cases, invoke_cases}
 use Rattle.qu_safety.specs.Views.{HasOpParts}
 use Rattle.qu_safety.specs.Carried.{Carries}
 use Rattle.qu_world.proofs.Each.{each_weaker}
-use Rattle.qu_safety.proofs.Carrying.{carried_is, AsksFit, AnswersFit}
+use Rattle.qu_safety.proofs.Carrying.{AsksFit, AnswersFit, signed_carries}
+use Rattle.qu_frames.specs.Signed.{brought, signed}
+use Rattle.qu_seal.specs.Keys.{Ring}
+use Rattle.qu_frames.proofs.Signed.{brought_is_decoded}
+use Rattle.qu_base.specs.declared.party.Party.{Party}
 
 -- the sets and the body of a request: made of kept histories that were held
 pub record IsMadeOf (Held : ObjectHistory → Type 0) (bounds : ℕ) (sets : List SetOf) (body : Body) : Type 0 where
@@ -122,19 +125,21 @@ module _ (Held : ObjectHistory → Type 0) (bounds : ℕ) where
       let new : Kept = record { sealed = sealed; number = number; round = round } in
       keep_all-held number round later (keep new kept) held.1 (keep-held new kept held.0 each)
 
-  requests-true : (replica count : ℕ) (me : ClientId) (work : Work) (sets : List SetOf) → frame_form.Fits (request_of me work sets) → IsMadeOf Held bounds sets (body_of work.op) → AllByRecursion (IsTrueLetter Held bounds) (requests_from replica count me work sets)
+  requests-true : (keys : Ring) (replica count : ℕ) (me : ClientId) (work : Work) (sets : List SetOf) → frame_form.Fits (request_of me work sets) → IsMadeOf Held bounds sets (body_of work.op) → AllByRecursion (IsTrueLetter Held bounds) (requests_from keys replica count me work sets)
   unfolding requests_from
-  requests-true replica zero me work sets fits made = tt
-  requests-true replica (suc count) me work sets fits made = (
-    λ sent carries. subst (IsTrueFrame Held bounds) (sym (carried_is (record { from = party.Client me; to = party.Replica (record { 0 = replica }); text = frame_form.spell (request_of me work sets) }) (request_of me work sets) sent fits refl carries)) made,
-    requests-true (replica + 1) count me work sets fits made,
-  )
+  requests-true keys replica zero me work sets fits made = tt
+  requests-true keys replica (suc count) me work sets fits made =
+      let to : Party = party.Replica (record { 0 = replica }) in
+      let asks : Frame = request_of me work sets in (
+        λ sent carries. subst (IsTrueFrame Held bounds) (sym (signed_carries (record { from = party.Client me; to = to; text = signed keys to asks }) keys to asks sent fits refl carries)) made,
+        requests-true keys (replica + 1) count me work sets fits made,
+      )
 
   -- all replicas are asked, by the sets of what is kept
   asked-true : (state : ClientState) (work : Work) → frame_form.Fits (request_of state.me work (sets_of state.bounds state.kept work.op)) → IsTrueClient Held bounds state → HasOpParts work.op → IsTrueStep Held bounds (goes_on (asked state work (sets_of state.bounds state.kept work.op)))
   asked-true state work fits client parts = record {
     state = record { bounds_are = client.bounds_are; kept = client.kept; work = parts };
-    letters = requests-true 0 (replicas state.bounds) state.me work (sets_of state.bounds state.kept work.op) fits (record {
+    letters = requests-true state.keys 0 (replicas state.bounds) state.me work (sets_of state.bounds state.kept work.op) fits (record {
       kept = state.kept;
       op = work.op;
       parts = parts;
@@ -170,12 +175,13 @@ module _ (Held : ObjectHistory → Type 0) (bounds : ℕ) where
       (λ _ fit. record { state = client_is; letters = tt })
       fits
 
-  client_decoded-true : (state : ClientState) (read : Result Frame BadText) → ((sent : Frame) → read ≡ Ok sent → IsTrueFrame Held bounds sent) → IsTrueClient Held bounds state → AsksFit (on_decoded state read).state → IsTrueStep Held bounds (on_decoded state read)
-  client_decoded-true state (Ok received) true_frame client_is fits = client_frame-true state received (true_frame received refl) client_is fits
-  client_decoded-true state (Err bad) true_frame client_is fits = record { state = client_is; letters = tt }
+  client_brought-true : (state : ClientState) (found : Option Frame) → ((sent : Frame) → found ≡ Some sent → IsTrueFrame Held bounds sent) → IsTrueClient Held bounds state → AsksFit (on_received state found).state → IsTrueStep Held bounds (on_received state found)
+  client_brought-true state (Some taken) true_frame client_is fits = client_frame-true state taken (true_frame taken refl) client_is fits
+  client_brought-true state None true_frame client_is fits = record { state = client_is; letters = tt }
 
   pub client_step-true : (state : ClientState) (text : List ℕ) → ((sent : Frame) → decoded text ≡ Ok sent → IsTrueFrame Held bounds sent) → IsTrueClient Held bounds state → AsksFit (client_step state text).state → IsTrueStep Held bounds (client_step state text)
-  client_step-true state text = client_decoded-true state (decoded text)
+  client_step-true state text true_frame =
+      client_brought-true state (brought state.keys (party.Client state.me) text) (λ sent brings. true_frame sent (brought_is_decoded state.keys (party.Client state.me) text sent brings))
 
   pub client_invoke-true : (state : ClientState) (op : Op) → HasOpParts op → IsTrueClient Held bounds state → AsksFit (client_invoke state op).state → IsTrueStep Held bounds (client_invoke state op)
   client_invoke-true state op parts client =
@@ -183,8 +189,8 @@ module _ (Held : ObjectHistory → Type 0) (bounds : ℕ) where
       (λ acted fits. asked-true state _ (fits _ refl) client parts)
       (λ fits. record { state = record { bounds_are = client.bounds_are; kept = client.kept; work = parts }; letters = tt })
 
-  pub opening-true : (me : ClientId) → IsTrueClient Held bounds (opening_state me bounds)
-  opening-true me = record { bounds_are = refl; kept = tt; work = tt }
+  pub opening-true : (me : ClientId) (keys : Ring) → IsTrueClient Held bounds (opening_state me keys bounds)
+  opening-true me keys = record { bounds_are = refl; kept = tt; work = tt }
 
 -- ---- the steps of a replica
 
@@ -208,7 +214,7 @@ module _ (Held : ObjectHistory → Type 0) (bounds : ℕ) where
       → ((place : ℕ) (history : ObjectHistory) → slice_get (carried_out state client number round sets decision).0.histories place ≡ Some history → Held history) → AllByRecursion (IsTrueLetter Held bounds) (carried_out state client number round sets decision).1
   carried_out-true state client number round sets (Answers verdict accepted) fits has =
       let new : ReplicaState = accept_all state accepted in (
-        λ sent carries. subst (IsTrueFrame Held bounds) (sym (carried_is (reply new client number round sets verdict) (answer_frame new client number round sets verdict) sent (fits verdict accepted refl) refl carries))
+        λ sent carries. subst (IsTrueFrame Held bounds) (sym (signed_carries (reply new client number round sets verdict) new.keys (party.Client client) (answer_frame new client number round sets verdict) sent (fits verdict accepted refl) refl carries))
             (sealed-held new.bounds (shown new sets) (shown-held new sets has)),
         tt,
       )
@@ -220,9 +226,10 @@ module _ (Held : ObjectHistory → Type 0) (bounds : ℕ) where
       carried_out-true state client number round sets (decision_on state (asked_of client number sets body) body) fits has
   replica_frame-true state (frame.Reply replica client number round verdict culled shown mac) fits has = tt
 
-  replica_decoded-true : (state : ReplicaState) (read : Result Frame BadText) → ((sent : Frame) → read ≡ Ok sent → AnswersFit state sent) → ((place : ℕ) (history : ObjectHistory) → slice_get (replica.on_decoded state read).0.histories place ≡ Some history → Held history) → AllByRecursion (IsTrueLetter Held bounds) (replica.on_decoded state read).1
-  replica_decoded-true state (Ok received) fits has = replica_frame-true state received (fits received refl) has
-  replica_decoded-true state (Err bad) fits has = tt
+  replica_brought-true : (state : ReplicaState) (found : Option Frame) → ((sent : Frame) → found ≡ Some sent → AnswersFit state sent) → ((place : ℕ) (history : ObjectHistory) → slice_get (replica.on_received state found).0.histories place ≡ Some history → Held history) → AllByRecursion (IsTrueLetter Held bounds) (replica.on_received state found).1
+  replica_brought-true state (Some taken) fits has = replica_frame-true state taken (fits taken refl) has
+  replica_brought-true state None fits has = tt
 
   pub replica_step-true : (state : ReplicaState) (text : List ℕ) → ((sent : Frame) → decoded text ≡ Ok sent → AnswersFit state sent) → ((place : ℕ) (history : ObjectHistory) → slice_get (replica_step state text).0.histories place ≡ Some history → Held history) → AllByRecursion (IsTrueLetter Held bounds) (replica_step state text).1
-  replica_step-true state text = replica_decoded-true state (decoded text)
+  replica_step-true state text fits =
+      replica_brought-true state (brought state.keys (party.Replica state.me) text) (λ sent brings. fits sent (brought_is_decoded state.keys (party.Replica state.me) text sent brings))

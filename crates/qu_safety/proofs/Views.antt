@@ -33,7 +33,7 @@ use Rattle.qu_trace.specs.declared.trace.Entry.{Entry}
 use Rattle.qu_trace.specs.declared.trace.Setup.{Setup}
 use Rattle.qu_trace.specs.declared.trace.Trace.{Trace}
 use Rattle.qu_trace.specs.Letters.{letters_of}
-use Rattle.qu_world.specs.State.{WorldState, opening_world, opening_clients, numbered, letter_of, history_at}
+use Rattle.qu_world.specs.State.{WorldState, opening_world, opening_clients, numbered, letter_of, history_at, ring_of}
 use Rattle.qu_world.specs.Step.{world_step, unchanged, at_replica, at_client, received, delivered}
 use Rattle.qu_world.specs.Run.{IsRun}
 use Rattle.qu_safety.specs.Carried.{Carries, Asks, Tells}
@@ -46,6 +46,7 @@ use Rattle.qu_safety.proofs.TrueLetters.{IsMadeOf, IsTrueFrame, IsTrueLetter, Is
 use Rattle.qu_safety.proofs.Small.{some_entry}
 use Rattle.qu_safety.proofs.Carrying.{AsksFit, AnswersFit, IsFitStep, numbered_here}
 use Rattle.qu_safety.proofs.Fitting.{fit_step}
+use Rattle.qu_seal.specs.Keys.{Ring}
 
 -- each history in a letter or with a client was held, and what the replicas have is in its place
 pub record IsTrueWorld (Held : ObjectHistory → Type 0) (bounds : ℕ) (world : WorldState) : Type 0 where
@@ -130,16 +131,16 @@ module _ (Held : ObjectHistory → Type 0) (bounds : ℕ) where
       (λ state is fit. record { state = is; letters = tt }) fits before
   world_step-true world (Inject to text) parts fits before now = absurd parts
 
-  opening_clients-true : (number count : ℕ) → AllByRecursion (IsTrueClient Held bounds) (opening_clients number count bounds)
+  opening_clients-true : (keys : Ring) (number count : ℕ) → AllByRecursion (IsTrueClient Held bounds) (opening_clients number count keys bounds)
   unfolding opening_clients
-  opening_clients-true number zero = tt
-  opening_clients-true number (suc count) = (opening-true Held bounds (record { 0 = number }), opening_clients-true (number + 1) count)
+  opening_clients-true keys number zero = tt
+  opening_clients-true keys number (suc count) = (opening-true Held bounds (record { 0 = number }) keys, opening_clients-true keys (number + 1) count)
 
 opening_world-true : (Held : ObjectHistory → Type 0) (setup : Setup) → IsTrueWorld Held setup.bounds (opening_world setup)
 unfolding letters_of
 opening_world-true Held setup = record {
-  replicas = opening-all_in_place (replicas setup.bounds) setup.bounds setup.kinds;
-  clients = opening_clients-true Held setup.bounds 1 setup.clients;
+  replicas = opening-all_in_place (replicas setup.bounds) (ring_of setup) setup.bounds setup.kinds;
+  clients = opening_clients-true Held setup.bounds (ring_of setup) 1 setup.clients;
   letters = tt;
 }
 

@@ -1,7 +1,8 @@
 -- What the bytes of a letter carry.
-use Rattle.std.specs.Prelude.{◌≡◌, ℕ, List, Ok}
+use Rattle.std.specs.Prelude.{◌≡◌, ℕ, List, Some, Ok}
 use Rattle.qu_base.specs.declared.party.ClientId.{ClientId}
 use Rattle.qu_base.specs.declared.party.ObjectId.{ObjectId}
+use Rattle.qu_base.specs.declared.party.Party.TheVariants as party
 use Rattle.qu_base.specs.declared.party.ReplicaId.{ReplicaId}
 use Rattle.qu_history.specs.declared.sealed.Sealed.{Sealed}
 use Rattle.qu_history.specs.declared.sets.SetOf.{SetOf}
@@ -11,10 +12,16 @@ use Rattle.qu_frames.specs.declared.frame.Frame.TheVariants as frame
 use Rattle.qu_frames.specs.declared.frame.Letter.{Letter}
 use Rattle.qu_frames.specs.declared.verdict.Verdict.{Verdict}
 use Rattle.qu_frames.specs.Decoding.{decoded}
+use Rattle.qu_frames.specs.Signed.{brought}
+use Rattle.qu_replica.specs.State.{ReplicaState}
 
 -- the letter's text is decoded to this frame
 abbrev pub Carries : Letter → Frame → Type 0
 Carries letter sent = decoded letter.text ≡ Ok sent
+
+-- the replica handles the letter as this frame, whose HMAC is right for it
+abbrev pub Brings : ReplicaState → Letter → Frame → Type 0
+Brings state letter sent = brought state.keys (party.Replica state.me) letter.text ≡ Some sent
 
 -- it carries this request, whatever its HMAC
 pub record Asks (letter : Letter) (client : ClientId) (number round : ℕ) (sets : List SetOf) (body : Body) : Type 0 where

@@ -1,8 +1,7 @@
 -- The requests that replicas handle in a run, the texts that are digested for them, and the premise that no two
 -- of these texts have one digest.
-use Rattle.std.specs.Prelude.{◌≡◌, ℕ, Bool, nat_lt, if◌then◌else◌, List, [], ◌∷◌, length, Option, None, Some, Result, Ok, Err, IsTrue, Contains}
+use Rattle.std.specs.Prelude.{◌≡◌, ℕ, Bool, nat_lt, if◌then◌else◌, List, [], ◌∷◌, length, Option, None, Some, IsTrue, Contains}
 use Rattle.std.specs.List.{list_all, flat_map}
-use Rattle.qu_base.specs.declared.bad_text.BadText.{BadText}
 use Rattle.qu_base.specs.declared.party.ClientId.{ClientId}
 use Rattle.qu_base.specs.declared.party.ObjectId.{ObjectId}
 use Rattle.qu_base.specs.declared.party.Party.{Party}
@@ -19,7 +18,7 @@ use Rattle.qu_frames.specs.declared.frame.Body.TheVariants as body
 use Rattle.qu_frames.specs.declared.frame.Frame.{Frame}
 use Rattle.qu_frames.specs.declared.frame.Frame.TheVariants as frame
 use Rattle.qu_frames.specs.declared.frame.Letter.{Letter}
-use Rattle.qu_frames.specs.Decoding.{decoded}
+use Rattle.qu_frames.specs.Signed.{brought}
 use Rattle.qu_trace.specs.declared.event.Event.{Event}
 use Rattle.qu_trace.specs.declared.event.Event.TheVariants.{Invoke, Deliver, Tick, Inject}
 use Rattle.qu_trace.specs.declared.trace.Entry.{Entry}
@@ -27,7 +26,7 @@ use Rattle.qu_trace.specs.declared.trace.Setup.{Setup}
 use Rattle.qu_trace.specs.declared.trace.Trace.{Trace}
 use Rattle.qu_trace.specs.Injections.{no_injection}
 use Rattle.qu_trace.specs.Letters.{letters_of}
-use Rattle.qu_world.specs.State.{numbered}
+use Rattle.qu_world.specs.State.{ring_of, numbered}
 
 -- ---- which request an event hands to a replica
 
@@ -48,14 +47,15 @@ request_in setup (frame.Request client number round sets body mac) =
     if list_all (is_known setup) sets then Some (record { client = client; number = number; sets = sets; body = body }) else None
 request_in setup (frame.Reply replica client number round verdict culled shown mac) = None
 
--- the same of what was decoded
-abbrev pub request_read : Setup → Result Frame BadText → Option Request
-request_read setup (Ok sent) = request_in setup sent
-request_read setup (Err bad) = None
+-- the same of a frame that was brought, if there is one
+abbrev pub request_brought : Setup → Option Frame → Option Request
+request_brought setup None = None
+request_brought setup (Some sent) = request_in setup sent
 
 -- the request that a text brings to a replica of the setup
 abbrev pub request_to : Setup → List ℕ → Party → Option Request
-request_to setup text (party.Replica me) = if nat_lt me.0 (replicas setup.bounds) then request_read setup (decoded text) else None
+request_to setup text (party.Replica me) =
+    if nat_lt me.0 (replicas setup.bounds) then request_brought setup (brought (ring_of setup) (party.Replica me) text) else None
 request_to setup text (party.Client me) = None
 
 abbrev pub request_by : Setup → Option Letter → Option Request

@@ -20,7 +20,7 @@ use Rattle.qu_replica.specs.Versions.{version_at}
 use Rattle.qu_trace.specs.declared.event.Event.{Event}
 use Rattle.qu_trace.specs.declared.event.Event.TheVariants.{Deliver}
 use Rattle.qu_world.specs.State.{WorldState, letter_of}
-use Rattle.qu_safety.specs.Carried.{Carries}
+use Rattle.qu_safety.specs.Carried.{Brings}
 
 -- why a replica in this state accepts a candidate on an object upon a request: the sets show a base that
 -- a quorum holds and that nothing shown is above, and the replica itself has nothing above what is shown
@@ -68,7 +68,7 @@ pub record IsMoved (world : WorldState) (event : Event) (place : ℕ) (old new :
   pub is_letter : letter_of world number ≡ Some letter
   pub to : letter.to ≡ party.Replica (record { 0 = place })
   pub carried : Frame
-  pub carries : Carries letter carried
+  pub brings : Brings old letter carried
   pub accepts : AcceptsAlone old new carried
 
 -- the same, of an object on which it accepts the candidate
@@ -79,5 +79,5 @@ pub record IsDelivered (world : WorldState) (event : Event) (place : ℕ) (old n
   pub is_letter : letter_of world number ≡ Some letter
   pub to : letter.to ≡ party.Replica (record { 0 = place })
   pub carried : Frame
-  pub carries : Carries letter carried
+  pub brings : Brings old letter carried
   pub accepts : AcceptsOne old new carried object

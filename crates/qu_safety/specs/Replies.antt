@@ -15,6 +15,7 @@ use Rattle.qu_objects.specs.declared.query.Ask.{Ask}
 use Rattle.qu_objects.specs.declared.state.ObjState.{ObjState}
 use Rattle.qu_objects.specs.Perform.{told_answer}
 use Rattle.qu_frames.specs.declared.frame.Body.{Body}
+use Rattle.qu_frames.specs.declared.frame.Frame.TheVariants as frame
 use Rattle.qu_frames.specs.declared.frame.Letter.{Letter}
 use Rattle.qu_frames.specs.declared.verdict.Verdict.{Verdict}
 use Rattle.qu_replica.specs.declared.decision.Accepted.{Accepted}
@@ -27,7 +28,7 @@ use Rattle.qu_trace.specs.declared.event.Event.TheVariants.{Deliver}
 use Rattle.qu_trace.specs.declared.trace.Entry.{Entry}
 use Rattle.qu_trace.specs.declared.trace.Trace.{Trace}
 use Rattle.qu_world.specs.State.{letter_of}
-use Rattle.qu_safety.specs.Carried.{Asks}
+use Rattle.qu_safety.specs.Carried.{Brings}
 use Rattle.qu_safety.specs.Order.{world_after}
 
 -- a replica that tells Done has the candidate of the update, whose digest is `act`, and tells the answer that is
@@ -69,7 +70,8 @@ pub record IsReplyTo (trace : Trace) (at : ℕ) (replica : ℕ) (client : Client
   pub to : letter.to ≡ party.Replica (record { 0 = replica })
   pub sets : List SetOf
   pub body : Body
-  pub is_request : Asks letter client number round sets body
+  pub mac : List ℕ
+  pub brings : Brings old letter (frame.Request client number round sets body mac)
   pub step : new ≡ (replica_step old letter.text).0
   pub accepted : List Accepted
   pub decided : decision_on old (asked_of client number sets body) body ≡ Answers verdict accepted

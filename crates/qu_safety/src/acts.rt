@@ -1,15 +1,18 @@
 ghost use Rattle.std.specs.Prelude.{◌≡◌, [], ◌++◌, IfOk, OnOk};
 ghost use Rattle.std.specs.List.{list_all, list_any, cons_option};
-ghost use Rattle.qu_frames.specs.Decoding.{decoded};
-ghost use Rattle.qu_safety.specs.Digested.{is_known, request_in, request_read, request_to, handled_by};
+ghost use Rattle.qu_frames.specs.Signed.{brought};
+ghost use Rattle.qu_world.specs.State.{ring_of};
+ghost use Rattle.qu_world.specs.Run.{IsSetup};
+ghost use Rattle.qu_safety.specs.Digested.{is_known, request_in, request_brought, request_to, handled_by};
 ghost use Rattle.qu_objects.specs.declared.op.Op.TheVariants as op;
 ghost use Rattle.qu_machine.specs.PointTests.{same_op};
 ghost use Rattle.qu_safety.specs.Points.{act_in, handled_acts, is_act};
 
-use qu_base::{ClientId, List, NoMemory, Party, ReadFail};
-use qu_frames::{Body, Frame, decode};
+use qu_base::{ClientId, List, NoMemory, Party};
+use qu_frames::{Body, Frame, receive};
 use qu_history::Sets;
 use qu_objects::Act;
+use qu_seal::KeyRing;
 use qu_trace::{Event, Setup, Trace};
 use qu_world::letter_at;
 use std::alloc::Global;
@@ -17,6 +20,7 @@ use std::alloc::Global;
 /// Each act that a replica handled, with its client and its number, in the order of the events.
 #[tactic(auto, unfolding(crate::specs::Points::handled_acts))]
 pub fn handled_acts(alloc: Global, trace: &Trace) -> Result<List<(ClientId, u64, Act)>, NoMemory>
+    requires { IsSetup trace.now.setup }
     ensures { IfOk result (λ acts. acts ≡ handled_acts trace.now) }
 {
     let mut acts = List::new(alloc);
@@ -33,6 +37,7 @@ fn add_act(
     trace: &Trace,
     event: &Event,
 ) -> Result<(), NoMemory>
+    requires { IsSetup trace.now.setup }
     ensures { OnOk result (acts.new ≡ acts.old ++ cons_option (act_in (handled_by trace.now event.now)) []) }
 {
     if let Some(act) = handled_act(alloc, trace, event)? {
@@ -47,6 +52,7 @@ fn handled_act(
     trace: &Trace,
     event: &Event,
 ) -> Result<Option<(ClientId, u64, Act)>, NoMemory>
+    requires { IsSetup trace.now.setup }
     ensures { IfOk result (λ act. act ≡ act_in (handled_by trace.now event.now)) }
 {
     match event {
@@ -66,26 +72,29 @@ fn act_to(
     text: &[u8],
     to: Party,
 ) -> Result<Option<(ClientId, u64, Act)>, NoMemory>
+    requires { IsSetup setup.now }
     ensures { IfOk result (λ act. act ≡ act_in (request_to setup.now text.now to)) }
 {
     match to {
-        Party::Replica(me) if me.0 < setup.bounds.n() => act_read(alloc, setup, text),
+        Party::Replica(me) if me.0 < setup.bounds.n() => act_brought(alloc, setup, text, to),
         Party::Replica(_) | Party::Client(_) => Ok(None),
     }
 }
 
-/// The same of its text.
-fn act_read(
+/// The same of a text that reaches a party which handles it.
+fn act_brought(
     alloc: Global,
     setup: &Setup,
     text: &[u8],
+    to: Party,
 ) -> Result<Option<(ClientId, u64, Act)>, NoMemory>
-    ensures { IfOk result (λ act. act ≡ act_in (request_read setup.now (decoded text.now))) }
+    requires { IsSetup setup.now }
+    ensures { IfOk result (λ act. act ≡ act_in (request_brought setup.now (brought (ring_of setup.now) to text.now))) }
 {
-    match decode(alloc, text) {
-        Ok(frame) => act_in(alloc, setup, &frame),
-        Err(ReadFail::Bad(_)) => Ok(None),
-        Err(ReadFail::NoMemory) => Err(NoMemory),
+    let keys = KeyRing::derive(setup.seed, &setup.bounds, setup.clients);
+    match receive(alloc, &keys, to, text)? {
+        Some(frame) => act_in(alloc, setup, &frame),
+        None => Ok(None),
     }
 }
 

@@ -10,7 +10,7 @@ use std::alloc::Global;
 #[derive(Debug, Drop)]
 pub struct Setup {
     pub bounds: Bounds,
-    /// For keys and waits, once there are any.
+    /// For the keys, and for waits once there are any.
     pub seed: u64,
     /// Clients have the numbers from 1 to this one.
     pub clients: u16,

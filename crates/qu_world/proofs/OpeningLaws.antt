@@ -1,5 +1,6 @@
 -- One more party is started.
 use Rattle.std.proofs.Common.{◌≡◌, ℕ, suc, ◌+◌, ◌-◌, ◌<◌, ◌≤◌, List, [], ◌∷◌, ◌++◌, refl, sym, ap, ◌∙◌, append_assoc, append-nil, arith}
+use Rattle.qu_seal.specs.Keys.{Ring}
 use Rattle.qu_objects.specs.declared.kind.KindName.{KindName}
 use Rattle.qu_replica.specs.State as replica
 use Rattle.qu_client.specs.State as client
@@ -7,58 +8,58 @@ use Rattle.qu_client.specs.declared.state.ClientState.{ClientState}
 use Rattle.qu_world.specs.State.{opening_replicas, opening_clients}
 
 -- the first of those that are left, and the others
-pub replicas_more : (number count at bounds : ℕ) (kinds : List KindName) → at < count
-    → opening_replicas number (count - at) bounds kinds
-    ≡ replica.opening_state (record { 0 = number }) bounds kinds ∷ opening_replicas (number + 1) (count - (at + 1)) bounds kinds
+pub replicas_more : (number count at : ℕ) (keys : Ring) (bounds : ℕ) (kinds : List KindName) → at < count
+    → opening_replicas number (count - at) keys bounds kinds
+    ≡ replica.opening_state (record { 0 = number }) keys bounds kinds ∷ opening_replicas (number + 1) (count - (at + 1)) keys bounds kinds
 unfolding opening_replicas
-replicas_more number count at bounds kinds more =
+replicas_more number count at keys bounds kinds more =
     let e : count - at ≡ suc (count - (at + 1)) = omega arith in rw e refl
 
-pub replicas_none : (number count at bounds : ℕ) (kinds : List KindName) → count ≤ at → opening_replicas number (count - at) bounds kinds ≡ []
+pub replicas_none : (number count at : ℕ) (keys : Ring) (bounds : ℕ) (kinds : List KindName) → count ≤ at → opening_replicas number (count - at) keys bounds kinds ≡ []
 unfolding opening_replicas
-replicas_none number count at bounds kinds none = let e : count - at ≡ 0 = omega arith in rw e refl
+replicas_none number count at keys bounds kinds none = let e : count - at ≡ 0 = omega arith in rw e refl
 
-pub clients_more : (number count at bounds : ℕ) → at < count
-    → opening_clients number (count - at) bounds
-    ≡ client.opening_state (record { 0 = number }) bounds ∷ opening_clients (number + 1) (count - (at + 1)) bounds
+pub clients_more : (number count at : ℕ) (keys : Ring) (bounds : ℕ) → at < count
+    → opening_clients number (count - at) keys bounds
+    ≡ client.opening_state (record { 0 = number }) keys bounds ∷ opening_clients (number + 1) (count - (at + 1)) keys bounds
 unfolding opening_clients
-clients_more number count at bounds more =
+clients_more number count at keys bounds more =
     let e : count - at ≡ suc (count - (at + 1)) = omega arith in rw e refl
 
-pub clients_none : (number count at bounds : ℕ) → count ≤ at → opening_clients number (count - at) bounds ≡ []
+pub clients_none : (number count at : ℕ) (keys : Ring) (bounds : ℕ) → count ≤ at → opening_clients number (count - at) keys bounds ≡ []
 unfolding opening_clients
-clients_none number count at bounds none = let e : count - at ≡ 0 = omega arith in rw e refl
+clients_none number count at keys bounds none = let e : count - at ≡ 0 = omega arith in rw e refl
 
 -- one more replica was started
-pub replica_started : (started new all : List replica.ReplicaState) (state : replica.ReplicaState) (number count bounds : ℕ) (kinds : List KindName) → number < count
-    → started ++ opening_replicas number (count - number) bounds kinds ≡ all
-    → state ≡ replica.opening_state (record { 0 = number }) bounds kinds → new ≡ started ++ state ∷ []
-    → new ++ opening_replicas (number + 1) (count - (number + 1)) bounds kinds ≡ all
-replica_started started new all state number count bounds kinds more so_far is new_is =
-    ap (λ front. front ++ opening_replicas (number + 1) (count - (number + 1)) bounds kinds) new_is
-    ∙ append_assoc started (state ∷ []) (opening_replicas (number + 1) (count - (number + 1)) bounds kinds)
-    ∙ ap (λ first. started ++ first ∷ opening_replicas (number + 1) (count - (number + 1)) bounds kinds) is
-    ∙ ap (λ rest. started ++ rest) (sym (replicas_more number count number bounds kinds more))
+pub replica_started : (started new all : List replica.ReplicaState) (state : replica.ReplicaState) (number count : ℕ) (keys : Ring) (bounds : ℕ) (kinds : List KindName) → number < count
+    → started ++ opening_replicas number (count - number) keys bounds kinds ≡ all
+    → state ≡ replica.opening_state (record { 0 = number }) keys bounds kinds → new ≡ started ++ state ∷ []
+    → new ++ opening_replicas (number + 1) (count - (number + 1)) keys bounds kinds ≡ all
+replica_started started new all state number count keys bounds kinds more so_far is new_is =
+    ap (λ front. front ++ opening_replicas (number + 1) (count - (number + 1)) keys bounds kinds) new_is
+    ∙ append_assoc started (state ∷ []) (opening_replicas (number + 1) (count - (number + 1)) keys bounds kinds)
+    ∙ ap (λ first. started ++ first ∷ opening_replicas (number + 1) (count - (number + 1)) keys bounds kinds) is
+    ∙ ap (λ rest. started ++ rest) (sym (replicas_more number count number keys bounds kinds more))
     ∙ so_far
 
-pub replicas_started : (started all : List replica.ReplicaState) (number count bounds : ℕ) (kinds : List KindName) → count ≤ number
-    → started ++ opening_replicas number (count - number) bounds kinds ≡ all → started ≡ all
-replicas_started started all number count bounds kinds none so_far =
-    sym (append-nil started) ∙ ap (λ rest. started ++ rest) (sym (replicas_none number count number bounds kinds none)) ∙ so_far
+pub replicas_started : (started all : List replica.ReplicaState) (number count : ℕ) (keys : Ring) (bounds : ℕ) (kinds : List KindName) → count ≤ number
+    → started ++ opening_replicas number (count - number) keys bounds kinds ≡ all → started ≡ all
+replicas_started started all number count keys bounds kinds none so_far =
+    sym (append-nil started) ∙ ap (λ rest. started ++ rest) (sym (replicas_none number count number keys bounds kinds none)) ∙ so_far
 
 -- one more client was started
-pub client_started : (started new all : List ClientState) (state : ClientState) (before count bounds : ℕ) → before < count
-    → started ++ opening_clients (before + 1) (count - before) bounds ≡ all
-    → state ≡ client.opening_state (record { 0 = before + 1 }) bounds → new ≡ started ++ state ∷ []
-    → new ++ opening_clients (before + 1 + 1) (count - (before + 1)) bounds ≡ all
-client_started started new all state before count bounds more so_far is new_is =
-    ap (λ front. front ++ opening_clients (before + 1 + 1) (count - (before + 1)) bounds) new_is
-    ∙ append_assoc started (state ∷ []) (opening_clients (before + 1 + 1) (count - (before + 1)) bounds)
-    ∙ ap (λ first. started ++ first ∷ opening_clients (before + 1 + 1) (count - (before + 1)) bounds) is
-    ∙ ap (λ rest. started ++ rest) (sym (clients_more (before + 1) count before bounds more))
+pub client_started : (started new all : List ClientState) (state : ClientState) (before count : ℕ) (keys : Ring) (bounds : ℕ) → before < count
+    → started ++ opening_clients (before + 1) (count - before) keys bounds ≡ all
+    → state ≡ client.opening_state (record { 0 = before + 1 }) keys bounds → new ≡ started ++ state ∷ []
+    → new ++ opening_clients (before + 1 + 1) (count - (before + 1)) keys bounds ≡ all
+client_started started new all state before count keys bounds more so_far is new_is =
+    ap (λ front. front ++ opening_clients (before + 1 + 1) (count - (before + 1)) keys bounds) new_is
+    ∙ append_assoc started (state ∷ []) (opening_clients (before + 1 + 1) (count - (before + 1)) keys bounds)
+    ∙ ap (λ first. started ++ first ∷ opening_clients (before + 1 + 1) (count - (before + 1)) keys bounds) is
+    ∙ ap (λ rest. started ++ rest) (sym (clients_more (before + 1) count before keys bounds more))
     ∙ so_far
 
-pub clients_started : (started all : List ClientState) (before count bounds : ℕ) → count ≤ before
-    → started ++ opening_clients (before + 1) (count - before) bounds ≡ all → started ≡ all
-clients_started started all before count bounds none so_far =
-    sym (append-nil started) ∙ ap (λ rest. started ++ rest) (sym (clients_none (before + 1) count before bounds none)) ∙ so_far
+pub clients_started : (started all : List ClientState) (before count : ℕ) (keys : Ring) (bounds : ℕ) → count ≤ before
+    → started ++ opening_clients (before + 1) (count - before) keys bounds ≡ all → started ≡ all
+clients_started started all before count keys bounds none so_far =
+    sym (append-nil started) ∙ ap (λ rest. started ++ rest) (sym (clients_none (before + 1) count before keys bounds none)) ∙ so_far

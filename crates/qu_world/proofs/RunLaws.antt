@@ -1,6 +1,6 @@
 -- A run with one event more, and what holds of every world.
 use Rattle.std.proofs.Common.{◌≡◌, ℕ, zero, suc, ◌+◌, ◌<◌, ◌≤◌, Bool, true, false, cond, List, [], ◌∷◌, ◌++◌, length, Option, None, Some, refl, sym, ap, subst, ◌∙◌, arith}
-use Rattle.std.specs.Prelude.{slice_get, nat_le, is_some, IfSome, IsSomeAnd}
+use Rattle.std.specs.Prelude.{slice_get, slice_set, nat_le, is_some, IfSome, IsSomeAnd}
 use Rattle.std.specs.List.{AllByRecursion}
 use Rattle.std.proofs.lemmas.List.{map-append, length-map}
 use Rattle.std.proofs.lemmas.Bool.{leb-false}
@@ -8,6 +8,7 @@ use Rattle.qu_base.specs.declared.party.ClientId.{ClientId}
 use Rattle.qu_base.specs.declared.party.ReplicaId.{ReplicaId}
 use Rattle.qu_base.specs.declared.party.Party.{Party}
 use Rattle.qu_base.specs.declared.party.Party.TheVariants as party
+use Rattle.qu_seal.specs.Keys.{Ring}
 use Rattle.qu_frames.specs.declared.frame.Letter.{Letter}
 use Rattle.qu_replica.specs.State.{ReplicaState}
 use Rattle.qu_client.specs.declared.state.ClientState.{ClientState}
@@ -23,7 +24,7 @@ use Rattle.qu_trace.specs.Letters.{letters_of, bytes_sent}
 use Rattle.qu_client.specs.declared.work.Work.{Work}
 use Rattle.qu_world.specs.declared.fail.WorldFail.TheVariants as fails
 use Rattle.qu_world.specs.declared.fail.TheConstants.{EVENT_LIMIT, BYTE_LIMIT}
-use Rattle.qu_world.specs.State.{WorldState, opening_world, opening_clients, numbered, letter_of}
+use Rattle.qu_world.specs.State.{WorldState, ring_of, opening_world, opening_clients, numbered, with_numbered, letter_of}
 use Rattle.qu_world.specs.Step.{world_step, at_client, at_replica, received, delivered}
 use Rattle.qu_world.specs.Refusals.{refusal_of, refused_at_limit, refused_invocation, refused_delivery, refused_tick, refused_injection, is_party}
 use Rattle.qu_world.specs.Parties.{MayBegin, CanBegin}
@@ -165,10 +166,10 @@ numbers_from [] most total world is all =
 numbers_from (event ∷ later) most total world is all =
     numbers_from later (most + 1) total (world_step world event) (omega arith) (numbers_step most world event all)
 
-numbers_opening : (number count bounds : ℕ) → AllByRecursion (NumbersWithin 0) (opening_clients number count bounds)
+numbers_opening : (number count : ℕ) (keys : Ring) (bounds : ℕ) → AllByRecursion (NumbersWithin 0) (opening_clients number count keys bounds)
 unfolding opening_clients
-numbers_opening number zero bounds = tt
-numbers_opening number (suc count) bounds = (NumbersWithin-opening (record { 0 = number }) bounds, numbers_opening (number + 1) count bounds)
+numbers_opening number zero keys bounds = tt
+numbers_opening number (suc count) keys bounds = (NumbersWithin-opening (record { 0 = number }) keys bounds, numbers_opening (number + 1) count keys bounds)
 
 -- the numbers of operations are at most the number of events
 pub numbers_world : (world : WorldState) → IsWorld world → AllByRecursion (NumbersWithin (length world.entries)) world.clients
@@ -177,7 +178,7 @@ numbers_world world is =
     let count : length (events_of world.entries) ≡ length world.entries = simp length-map in
     subst P is.is_run
     (numbers_from (events_of world.entries) 0 (length world.entries) (opening_world world.setup) (omega arith)
-    (numbers_opening 1 world.setup.clients world.setup.bounds))
+    (numbers_opening 1 world.setup.clients (ring_of world.setup) world.setup.bounds))
 
 -- ---- what may happen
 

@@ -6,33 +6,40 @@ use qu_base::{Bounds, ClientId, NoMemory, ReplicaId};
 use qu_client::Client;
 use qu_objects::KindName;
 use qu_replica::Replica;
+use qu_seal::KeyRing;
 use std::alloc::Global;
 
 /// The replicas of a run, as they begin.
 pub fn start_replicas(
     alloc: Global,
+    keys: KeyRing,
     bounds: Bounds,
     kinds: &[KindName],
 ) -> Result<Vec<Replica>, NoMemory>
     requires { length kinds.now ≤ 64 }
-    ensures { IfOk result (λ started. started.items ≡ opening_replicas 0 (replicas bounds) bounds kinds.now) }
+    ensures { IfOk result (λ started. started.items ≡ opening_replicas 0 (replicas bounds) keys bounds kinds.now) }
 {
     let mut started = Vec::new(alloc);
     let count = bounds.n();
     for number in 0..count {
-        started.push(Replica::start(alloc, ReplicaId(number), bounds, kinds)?)?;
+        started.push(Replica::start(alloc, ReplicaId(number), keys, bounds, kinds)?)?;
     }
     Ok(started)
 }
 
 /// So many clients of a run, as they begin; the first has number 1.
-pub fn start_clients(alloc: Global, bounds: Bounds, count: u16) -> Result<Vec<Client>, NoMemory>
+pub fn start_clients(
+    alloc: Global,
+    keys: KeyRing,
+    bounds: Bounds,
+    count: u16,
+) -> Result<Vec<Client>, NoMemory>
     requires { count ≤ 64 }
-    ensures { IfOk result (λ started. started.items ≡ opening_clients 1 count bounds) }
+    ensures { IfOk result (λ started. started.items ≡ opening_clients 1 count keys bounds) }
 {
     let mut started = Vec::new(alloc);
     for before in 0..count {
-        started.push(Client::start(alloc, ClientId(before + 1), bounds))?;
+        started.push(Client::start(alloc, ClientId(before + 1), keys, bounds))?;
     }
     Ok(started)
 }

@@ -18,6 +18,7 @@ use qu_base::{ClientId, List, NoMemory, ObjectId, ReplicaId};
 use qu_client::Client;
 use qu_history::History;
 use qu_replica::Replica;
+use qu_seal::KeyRing;
 use qu_trace::{Event, Setup, Trace};
 use std::alloc::Global;
 use std::marker::Model;
@@ -52,8 +53,10 @@ impl World {
         requires { IsSetup setup }
         ensures { IfOk result (λ world. world ≡ opening_world setup) }
     {
-        let replicas = start_replicas(alloc, setup.bounds, setup.kinds.as_slice())?;
-        let clients = start_clients(alloc, setup.bounds, setup.clients)?;
+        let bounds = setup.bounds;
+        let keys = KeyRing::derive(setup.seed, &bounds, setup.clients);
+        let replicas = start_replicas(alloc, keys, bounds, setup.kinds.as_slice())?;
+        let clients = start_clients(alloc, keys, bounds, setup.clients)?;
         let entries = List::new(alloc);
         Ok(World {
             alloc,

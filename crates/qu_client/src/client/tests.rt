@@ -1,17 +1,27 @@
 use super::*;
 use qu_base::{Bounds, Digest, ObjectId, Party, ReplicaId};
-use qu_frames::{Refusal, Verdict, blank_mac, decode, encode};
+use qu_frames::{Refusal, Verdict, blank_mac, decode};
 use qu_history::{History, Sealed};
 use qu_objects::{Act, Answer, Item, Method};
+use qu_seal::KeyRing;
 use qu_stamp::Stamp;
 use std::test::Fail;
 
 const COUNTER: ObjectId = ObjectId(0);
 
-/// A client of six replicas, of which one may lie.
-fn client(alloc: Global) -> Result<Client, &'static str> {
-    let bounds = Bounds::new(1).ok().ok_or("no bounds")?;
-    Ok(Client::start(alloc, ClientId(7), bounds))
+/// Six replicas, of which one may lie.
+fn bounds() -> Result<Bounds, NoMemory> {
+    Bounds::new(1).ok().ok_or(NoMemory)
+}
+
+/// The keys of these replicas and of all clients.
+fn keys() -> Result<KeyRing, NoMemory> {
+    Ok(KeyRing::derive(7, &bounds()?, 64))
+}
+
+/// Client 7 of these replicas.
+fn client(alloc: Global) -> Result<Client, NoMemory> {
+    Ok(Client::start(alloc, ClientId(7), keys()?, bounds()?))
 }
 
 /// Begins to add to the counter.
@@ -37,7 +47,8 @@ fn opening(alloc: Global, replica: u8, mac: [u8; 32]) -> Result<Sealed, NoMemory
     Ok(Sealed { history, macs })
 }
 
-/// A replica's answer to a round of a client's operation 1, which shows a history with this HMAC.
+/// A replica's answer to a round of a client's operation 1, which shows a history with this HMAC, signed
+/// for client 7.
 fn reply_to(
     alloc: Global,
     client: ClientId,
@@ -58,7 +69,7 @@ fn reply_to(
         shown,
         mac: blank_mac(),
     };
-    encode(alloc, &frame)
+    frame.signed(alloc, &keys()?, Party::Client(ClientId(7)))
 }
 
 fn reply(alloc: Global, replica: u8, round: u8, verdict: Verdict) -> Result<List<u8>, NoMemory> {
@@ -121,9 +132,7 @@ fn requests(alloc: Global, letters: &List<Letter>) -> Result<List<(u8, u8, usize
 
 /// A client in round 2, which five replicas let it begin.
 fn in_round_two(alloc: Global) -> Result<(Client, List<Letter>), NoMemory> {
-    let Ok(mut client) = client(alloc) else {
-        return Err(NoMemory);
-    };
+    let mut client = client(alloc)?;
     let Ok(mut letters) = invoke(&mut client) else {
         return Err(NoMemory);
     };

@@ -9,7 +9,7 @@ use crate::Stored;
 use crate::asked::Asked;
 use crate::decision::{Accepted, Decision};
 use qu_base::{List, NoMemory, ObjectId, Party};
-use qu_frames::{Frame, Letter, Verdict, blank_mac, encode, seal};
+use qu_frames::{Frame, Letter, Verdict, blank_mac, seal};
 use qu_history::{AddFail, History, Sealed};
 
 impl Replica {
@@ -71,12 +71,13 @@ impl Replica {
             shown: self.shown(asked, accepted)?,
             mac: blank_mac(),
         };
+        let to = Party::Client(asked.client);
         List::one(
             self.alloc,
             Letter {
                 from: Party::Replica(self.me),
-                to: Party::Client(asked.client),
-                text: encode(self.alloc, &frame)?,
+                to,
+                text: frame.signed(self.alloc, &self.keys, to)?,
             },
         )
     }

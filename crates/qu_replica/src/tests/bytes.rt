@@ -1,11 +1,21 @@
-use super::{COUNTER, add_five, counter_replica, first, request, sets};
+use super::{COUNTER, add_five, counter_replica, first, keys, request, sets};
 use crate::Replica;
-use qu_base::{ClientId, List};
-use qu_frames::{Frame, blank_mac, decode, encode};
+use qu_base::{ClientId, List, Party, ReplicaId};
+use qu_frames::{Frame, blank_mac, decode, encode, receive, text_digest, with_mac};
 use std::alloc::Global;
 use std::test::Fail;
 
-/// The first request of client 1: 5 is added to object 0, of which no history was shown.
+const CLIENT: Party = Party::Client(ClientId(1));
+
+const REPLICA: Party = Party::Replica(ReplicaId(0));
+
+/// The text with the HMAC that one party makes for another.
+fn signed(alloc: Global, from: Party, to: Party, text: &[u8]) -> Result<List<u8>, Fail> {
+    let mac = keys()?.seal_for(from, to, &text_digest(text));
+    Ok(with_mac(alloc, text, &mac)?)
+}
+
+/// The first request of client 1 without its HMAC: 5 is added to object 0, of which no history was shown.
 fn first_request() -> [u8; 62] {
     let mut text = [0; 62];
     text[0] = 1;
@@ -21,7 +31,7 @@ fn first_request() -> [u8; 62] {
     text
 }
 
-/// The reply of replica 0, which refuses these sets as thin and shows its opening history.
+/// The reply of replica 0 without its HMAC, which refuses these sets as thin and shows its opening history.
 fn thin_reply() -> [u8; 339] {
     let mut text = [0; 339];
     text[0] = 1;
@@ -62,28 +72,26 @@ fn is_ignored(replica: &mut Replica, text: &[u8]) -> Result<bool, Fail> {
     Ok(letters.is_empty() && history.len() == 1)
 }
 
+/// The first request, signed for replica 0.
+fn signed_request(alloc: Global) -> Result<List<u8>, Fail> {
+    signed(alloc, CLIENT, REPLICA, first_request().as_slice())
+}
+
 /// The first request with another byte at this place, and as it is behind its end.
 fn with_byte(alloc: Global, place: usize) -> Result<List<u8>, Fail> {
     let mut other = List::new(alloc);
-    for (index, byte) in first_request().iter().enumerate() {
+    for (index, byte) in signed_request(alloc)?.iter().enumerate() {
         other.push(if index == place { 77 } else { *byte })?;
     }
     Ok(other)
 }
 
-/// How many HMACs each shown history of a reply has, where all are blank and nothing is culled.
+/// How many HMACs each shown history of a reply has, where these are blank and nothing is culled.
 fn blank_macs(alloc: Global, text: &[u8]) -> Result<List<usize>, Fail> {
     match decode(alloc, text) {
-        Ok(
-            Frame::Reply {
-                culled,
-                shown,
-                mac,
-                ..
-            },
-        ) => {
+        Ok(Frame::Reply { culled, shown, .. }) => {
             let mut counts = List::new(alloc);
-            let mut blank = culled.is_empty() && mac == blank_mac();
+            let mut blank = culled.is_empty();
             for sealed in shown.as_slice() {
                 for other in sealed.macs.as_slice() {
                     blank = blank && *other == blank_mac();
@@ -111,8 +119,28 @@ fn is_spelling(alloc: Global, text: &[u8]) -> Result<bool, Fail> {
 #[test]
 fn the_reply_has_one_spelling(rt: HostRuntime) -> Result<(), Fail> {
     let mut replica = counter_replica(rt.alloc())?;
-    let text = answer(rt.alloc(), &mut replica, first_request().as_slice())?;
-    assert_eq!(rt; text.as_slice(), thin_reply().as_slice());
+    let asked = signed_request(rt.alloc())?;
+    let text = answer(rt.alloc(), &mut replica, asked.as_slice())?;
+    let reply = signed(rt.alloc(), REPLICA, CLIENT, thin_reply().as_slice())?;
+    assert_eq!(rt; text.as_slice(), reply.as_slice());
+    assert!(rt; receive(rt.alloc(), &keys()?, CLIENT, text.as_slice())?.is_some());
+    Ok(())
+}
+
+#[test]
+fn a_request_with_a_wrong_hmac_is_ignored(rt: HostRuntime) -> Result<(), Fail> {
+    let mut replica = counter_replica(rt.alloc())?;
+    let request = first_request();
+    assert!(rt; is_ignored(&mut replica, request.as_slice())?);
+    for (from, to) in [
+        (Party::Client(ClientId(2)), REPLICA),
+        (CLIENT, Party::Replica(ReplicaId(1))),
+    ] {
+        let other = signed(rt.alloc(), from, to, request.as_slice())?;
+        assert!(rt; is_ignored(&mut replica, other.as_slice())?);
+    }
+    let right = signed_request(rt.alloc())?;
+    assert!(rt; !is_ignored(&mut replica, right.as_slice())?);
     Ok(())
 }
 
@@ -161,8 +189,8 @@ fn other_texts_are_ignored(rt: HostRuntime) -> Result<(), Fail> {
 #[test]
 fn a_reply_is_ignored(rt: HostRuntime) -> Result<(), Fail> {
     let mut replica = counter_replica(rt.alloc())?;
-    let reply = thin_reply();
-    assert!(rt; decode(rt.alloc(), reply.as_slice()).is_ok());
+    let reply = signed(rt.alloc(), REPLICA, REPLICA, thin_reply().as_slice())?;
+    assert!(rt; receive(rt.alloc(), &keys()?, REPLICA, reply.as_slice())?.is_some());
     assert!(rt; is_ignored(&mut replica, reply.as_slice())?);
     Ok(())
 }

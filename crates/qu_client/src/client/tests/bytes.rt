@@ -1,16 +1,24 @@
-use super::{client, done, in_round_two, invoke, reply, reply_to, thin};
+use super::{client, done, in_round_two, invoke, keys, reply, reply_to, thin};
 use crate::Client;
-use qu_base::{ClientId, List, NoMemory};
-use qu_frames::{Frame, Verdict, blank_mac, decode};
+use qu_base::{ClientId, List, NoMemory, Party, ReplicaId};
+use qu_frames::{Frame, Verdict, blank_mac, decode, receive, text_digest, with_mac};
 use qu_objects::{Answer, Item};
 use std::alloc::Global;
 use std::test::Fail;
 
-/// The first request of client 7: 2 is added to object 0, of which no history was shown.
+/// The first request of client 7 without its HMAC: 2 is added to object 0, of which no history was shown.
 const FIRST: [u8; 62] = [
     1, 1, 0, 7, 0, 0, 0, 0, 0, 0, 0, 1, 1, 1, 0, 0, 0, 1, 1, 0, 0, 1, 0, 0, 0, 0, 0, 0, 0, 2, 0, 0,
     0, 0, 0, 0, 0, 0, 0, 0, 0, 0, 0, 0, 0, 0, 0, 0, 0, 0, 0, 0, 0, 0, 0, 0, 0, 0, 0, 0, 0, 0,
 ];
+
+const CLIENT: Party = Party::Client(ClientId(7));
+
+/// A text with the HMAC that one party makes for another.
+fn signed(alloc: Global, from: Party, to: Party, text: &[u8]) -> Result<List<u8>, NoMemory> {
+    let mac = keys()?.seal_for(from, to, &text_digest(text));
+    with_mac(alloc, text, &mac)
+}
 
 /// Whether nothing comes of a text.
 fn is_ignored(client: &mut Client, text: &[u8]) -> Result<bool, NoMemory> {
@@ -36,8 +44,27 @@ fn the_request_has_one_spelling(rt: HostRuntime) -> Result<(), Fail> {
     let letters = invoke(&mut client)?;
     assert_eq!(rt; letters.len(), 6);
     for letter in letters.as_slice() {
-        assert_eq!(rt; letter.text.as_slice(), FIRST.as_slice());
+        let request = signed(rt.alloc(), CLIENT, letter.to, FIRST.as_slice())?;
+        assert_eq!(rt; letter.text.as_slice(), request.as_slice());
+        let text = letter.text.as_slice();
+        assert!(rt; receive(rt.alloc(), &keys()?, letter.to, text)?.is_some());
     }
+    Ok(())
+}
+
+#[test]
+fn a_reply_with_a_wrong_hmac_is_ignored(rt: HostRuntime) -> Result<(), Fail> {
+    let mut client = client(rt.alloc())?;
+    invoke(&mut client)?;
+    let text = reply(rt.alloc(), 0, 1, thin())?;
+    for (from, to) in [
+        (Party::Replica(ReplicaId(1)), CLIENT),
+        (Party::Replica(ReplicaId(0)), Party::Client(ClientId(6))),
+    ] {
+        let other = signed(rt.alloc(), from, to, text.as_slice())?;
+        assert!(rt; is_ignored(&mut client, other.as_slice())?);
+    }
+    assert!(rt; !is_ignored(&mut client, text.as_slice())?);
     Ok(())
 }
 
@@ -63,7 +90,8 @@ fn a_reply_cut_at_any_length_is_ignored(rt: HostRuntime) -> Result<(), Fail> {
 fn what_is_no_reply_to_the_client_is_ignored(rt: HostRuntime) -> Result<(), Fail> {
     let mut client = client(rt.alloc())?;
     invoke(&mut client)?;
-    assert!(rt; is_ignored(&mut client, FIRST.as_slice())?);
+    let request = signed(rt.alloc(), CLIENT, CLIENT, FIRST.as_slice())?;
+    assert!(rt; is_ignored(&mut client, request.as_slice())?);
     for other in [1, 6, 8, 64] {
         let text = reply_to(rt.alloc(), ClientId(other), 0, 1, thin(), blank_mac())?;
         assert!(rt; is_ignored(&mut client, text.as_slice())?, "for {other}");
