@@ -16,7 +16,6 @@ use qu_trace::Trace;
 use std::alloc::Global;
 
 /// Runs a script and reports the run, or tells why there is none.
-#[tactic(auto, using(crate::proofs::Premises::serial_run))]
 pub fn simulate(alloc: Global, script: &[u8]) -> Result<Answer, NoMemory>
     ensures { IfOk result (IsAnswer Command.Sim script.now) }
 {

@@ -20,11 +20,10 @@ use Rattle.qu_world.specs.State.{WorldState}
 use Rattle.qu_world.specs.Step.{world_step}
 use Rattle.qu_safety.specs.Decided.{accepts}
 use Rattle.qu_safety.specs.Order.{world_after}
-use Rattle.qu_safety.specs.Views.{IsPlain, ArePlain}
+use Rattle.qu_safety.specs.Views.{ArePlain}
 use Rattle.qu_safety.specs.Grounds.{IsDelivered}
 use Rattle.qu_safety.proofs.Happenings.{WasBefore, was_before, event_accepts}
 use Rattle.qu_safety.proofs.Views.{sent_has_parts}
-use Rattle.qu_world.proofs.Each.{each_at}
 use Rattle.qu_safety.proofs.WorldGrowth.{world_after-next}
 use Rattle.qu_safety.proofs.OpeningReplicas.{opening_holds}
 
@@ -48,7 +47,7 @@ pub record StepAt (trace : Trace) (at place : ℕ) (new : ReplicaState) (object 
   pub is_old : slice_get (world_after trace at).replicas place ≡ Some old
   pub adds : (own_candidates new object ≡ own_candidates old object) ⊎ IsDelivered (world_after trace at) event place old new object
 
-pub step_at : (trace : Trace) → IsRun trace → ArePlain trace.entries → (at : ℕ) → at < length trace.entries → (place : ℕ) (new : ReplicaState) → slice_get (world_after trace (suc at)).replicas place ≡ Some new → (object : ObjectId) → StepAt trace at place new object
+pub step_at : (trace : Trace) → IsRun trace → ArePlain trace → (at : ℕ) → at < length trace.entries → (place : ℕ) (new : ReplicaState) → slice_get (world_after trace (suc at)).replicas place ≡ Some new → (object : ObjectId) → StepAt trace at place new object
 step_at trace is_run have at within place new is_new object =
     let event : Event = (get_or trace.entries at some_entry).event in
     let next : world_after trace (suc at) ≡ world_step (world_after trace at) event =
@@ -63,7 +62,7 @@ step_at trace is_run have at within place new is_new object =
       is_old = before.is_old;
       adds = event_accepts (world_after trace at) event place before.old new before.is_old found
           (λ number letter sent. sent_has_parts trace is_run have at (omega arith) number letter sent)
-          (each_at (λ (entry : Entry). IsPlain entry.event) trace.entries at some_entry have within) object;
+          (have.plain_at at some_entry within) object;
     }
 
 -- what is held now and was not before is what was added
@@ -90,7 +89,7 @@ pub record Acceptance (trace : Trace) (at : ℕ) (object : ObjectId) (place : �
   pub delivered : IsDelivered (world_after trace at) event place old new object
   pub candidate_is : (delivered.accepts).candidate ≡ candidate
 
-pub acceptance : (trace : Trace) → IsRun trace → ArePlain trace.entries → (at : ℕ) → at < length trace.entries → (object : ObjectId) (place : ℕ) (candidate : Candidate)
+pub acceptance : (trace : Trace) → IsRun trace → ArePlain trace → (at : ℕ) → at < length trace.entries → (object : ObjectId) (place : ℕ) (candidate : Candidate)
     → test_at (accepts object candidate) (world_after trace (suc at)).replicas place ≡ true → test_at (accepts object candidate) (world_after trace at).replicas place ≡ false
     → Acceptance trace at object place candidate
 acceptance trace is_run have at within object place candidate after before =

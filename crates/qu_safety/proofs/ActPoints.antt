@@ -38,7 +38,7 @@ pub record StandsBefore (trace : Trace) (operation : OpRecord) (reply : ℕ) : T
   pub stands : Stands operation point
   pub before : point.event < reply
 
-module _ (trace : Trace) (is_run : IsRun trace) (have : ArePlain trace.entries) (one_act : ActsAreOne trace) where
+module _ (trace : Trace) (is_run : IsRun trace) (have : ArePlain trace) (one_act : ActsAreOne trace) where
   -- no replica begins with a candidate that has a time
   not_at_first : (object : ObjectId) (candidate : Candidate) → 1 ≤ (candidate.stamp).time → is_established (world_after trace 0) object candidate ≡ false
   unfolding setting
@@ -101,7 +101,7 @@ module _ (trace : Trace) (is_run : IsRun trace) (have : ArePlain trace.entries) 
         (is_established_by trace is_run have end object candidate established)
 
 -- a completed act has a point before its reply
-pub act_has_point : (trace : Trace) → IsRun trace → ArePlain trace.entries → ActsAreOne trace → (operation : OpRecord) → Contains (operations_of trace.entries) operation → (reply : ℕ) (answer : Answer) → operation.reply ≡ Some (reply, outcome.Done answer)
+pub act_has_point : (trace : Trace) → IsRun trace → ArePlain trace → ActsAreOne trace → (operation : OpRecord) → Contains (operations_of trace.entries) operation → (reply : ℕ) (answer : Answer) → operation.reply ≡ Some (reply, outcome.Done answer)
     → (act : List (ObjectId × Method)) → operation.op ≡ op.Act act → StandsBefore trace operation reply
 act_has_point trace is_run have one_act operation among reply answer replied act is_act =
     let done : CompletedAct trace operation reply answer = completed_act trace is_run have operation among reply answer replied act is_act in

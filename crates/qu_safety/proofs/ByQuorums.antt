@@ -29,7 +29,7 @@ use Rattle.qu_safety.proofs.CompletedQueries.{IsTold, told_by_fit, ToldBefore, t
 use Rattle.qu_safety.proofs.KnownRuns.{completion}
 use Rattle.qu_safety.proofs.Small.{some_member, some_quorum}
 
-module _ (trace : Trace) (is_run : IsRun trace) (have : ArePlain trace.entries) where
+module _ (trace : Trace) (is_run : IsRun trace) (have : ArePlain trace) where
   told_from : (operation : OpRecord) (reply round : ℕ) (object : ObjectId) (stamp : Stamp) (answer : Answer) (stamps : List (ObjectId × Stamp)) → stamps ≡ (object, stamp) ∷ []
       → (replica : ℕ) → ToldBefore trace operation.client operation.number round (reply - 1) stamps answer replica → ToldFrom trace operation reply round object stamp answer replica
   told_from operation reply round object stamp answer stamps are replica tells =

@@ -91,7 +91,7 @@ more_at object candidate (old ∷ olds) [] place more accepted = absurd more
 more_at object candidate (old ∷ olds) (new ∷ news) zero more accepted = more.0 object candidate accepted
 more_at object candidate (old ∷ olds) (new ∷ news) (suc place) more accepted = more_at object candidate olds news place more.1 accepted
 
-module _ (trace : Trace) (is_run : IsRun trace) (have : ArePlain trace.entries) where
+module _ (trace : Trace) (is_run : IsRun trace) (have : ArePlain trace) where
   pub accepted_of : (time : ℕ) (object : ObjectId) (place : ℕ) (candidate : Candidate) → IsNew (setting trace) time object place candidate → Acceptance trace time object place candidate
   unfolding setting
   accepted_of time object place candidate new = acceptance trace is_run have time new.step object place candidate new.after new.before

@@ -51,7 +51,7 @@ accepted_somewhere object candidate (state ∷ later) some =
           record { place = suc found.place; within = omega arith; accepted = found.accepted }
     ]
 
-module _ (trace : Trace) (is_run : IsRun trace) (have : ArePlain trace.entries) where
+module _ (trace : Trace) (is_run : IsRun trace) (have : ArePlain trace) where
   -- the step at which a candidate was accepted that a replica has by then
   pub record Origin (end : ℕ) (object : ObjectId) (place : ℕ) (candidate : Candidate) : Type 0 where
     pub time : ℕ

@@ -54,7 +54,7 @@ pub held_within : (candidate : Candidate) (histories : List ObjectHistory) (plac
 held_within candidate histories place None is holding = absurd (false≢true holding)
 held_within candidate histories place (Some history) is holding = slice_get_within histories place history is
 
-module _ (trace : Trace) (is_run : IsRun trace) (have : ArePlain trace.entries) (known : Known trace) (one_act : ActsAreOne trace) where
+module _ (trace : Trace) (is_run : IsRun trace) (have : ArePlain trace) (known : Known trace) (one_act : ActsAreOne trace) where
   pub established_cases : (time : ℕ) (object : ObjectId) (candidate : Candidate) → Established trace is_run have time object candidate ⊎ ¬ (Established trace is_run have time object candidate)
   established_cases time object candidate = elim (cases_Bool (is_established (world_after trace time) object candidate)) [
     | inl is ↦ inl (established_of trace time object candidate is)

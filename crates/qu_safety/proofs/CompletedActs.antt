@@ -101,7 +101,7 @@ record HasCandidate (trace : Trace) (operation : OpRecord) (answer : Answer) (st
   has : HasVersion trace object candidate version
   answer_is : answer ≡ version.answer
 
-module _ (trace : Trace) (is_run : IsRun trace) (have : ArePlain trace.entries) (operation : OpRecord) (among : Contains (operations_of trace.entries) operation) (answer : Answer) (stamps : List (ObjectId × Stamp)) where
+module _ (trace : Trace) (is_run : IsRun trace) (have : ArePlain trace) (operation : OpRecord) (among : Contains (operations_of trace.entries) operation) (answer : Answer) (stamps : List (ObjectId × Stamp)) where
   abbrev Has : ℕ → ℕ → Type 0
   Has time replica = HasCandidate trace operation answer stamps time replica
 
@@ -213,7 +213,7 @@ module _ (trace : Trace) (is_run : IsRun trace) (have : ArePlain trace.entries) 
       }
 
 -- of every completed act
-pub completed_act : (trace : Trace) → IsRun trace → ArePlain trace.entries → (operation : OpRecord) → Contains (operations_of trace.entries) operation → (reply : ℕ) (answer : Answer) → operation.reply ≡ Some (reply, outcome.Done answer)
+pub completed_act : (trace : Trace) → IsRun trace → ArePlain trace → (operation : OpRecord) → Contains (operations_of trace.entries) operation → (reply : ℕ) (answer : Answer) → operation.reply ≡ Some (reply, outcome.Done answer)
     → (act : List (ObjectId × Method)) → operation.op ≡ op.Act act → CompletedAct trace operation reply answer
 completed_act trace is_run have operation among reply answer replied act is_act =
     let done : IsCompleted trace operation reply answer = completion trace is_run have operation among reply answer replied in

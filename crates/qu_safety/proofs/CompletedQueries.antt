@@ -136,7 +136,7 @@ record IsAnsweredAt (trace : Trace) (client : ClientId) (number round at : ℕ) 
   told : Verdict
   reply : IsReplyTo trace at replica client number round told
 
-answered_with : (trace : Trace) → IsRun trace → ArePlain trace.entries → (client : ClientId) (number round at : ℕ) (found : Option Entry) → slice_get trace.entries at ≡ found → sends_answer client number round found ≡ true → IsAnsweredAt trace client number round at
+answered_with : (trace : Trace) → IsRun trace → ArePlain trace → (client : ClientId) (number round at : ℕ) (found : Option Entry) → slice_get trace.entries at ≡ found → sends_answer client number round found ≡ true → IsAnsweredAt trace client number round at
 answered_with trace is_run have client number round at None is passed = absurd (false≢true passed)
 answered_with trace is_run have client number round at (Some entry) is passed =
     let any : Any (λ (letter : Letter). answers client number round letter ≡ true) entry.letters = Any-from_list_any (answers client number round) entry.letters passed in
@@ -150,7 +150,7 @@ answered_with trace is_run have client number round at (Some entry) is passed =
       reply = reply_sent trace is_run have at below entry is letter (any.0, any.2, any.3) answer.replica client number round answer.verdict answer.shown answer.is_reply;
     }
 
-answered_at : (trace : Trace) → IsRun trace → ArePlain trace.entries → (client : ClientId) (number round at : ℕ) → answers_at trace client number round (suc at) ≡ true → IsAnsweredAt trace client number round at
+answered_at : (trace : Trace) → IsRun trace → ArePlain trace → (client : ClientId) (number round at : ℕ) → answers_at trace client number round (suc at) ≡ true → IsAnsweredAt trace client number round at
 answered_at trace is_run have client number round at passed =
     answered_with trace is_run have client number round at (slice_get trace.entries at) refl passed
 
@@ -186,7 +186,7 @@ pub record ToldBefore (trace : Trace) (client : ClientId) (number round before :
   pub is_ask : reply.body ≡ body.Ask ((object, ask) ∷ [])
   pub tells : TellsQuery reply.old reply.sets object ask stamps answer
 
-pub tells_by_reply : (trace : Trace) → IsRun trace → ArePlain trace.entries → (client : ClientId) (number round before : ℕ) (given : Verdict) (answer : Answer) (told : IsTold given answer) (replica : ℕ) → Replied trace before client number round given replica → ToldBefore trace client number round before told.stamps answer replica
+pub tells_by_reply : (trace : Trace) → IsRun trace → ArePlain trace → (client : ClientId) (number round before : ℕ) (given : Verdict) (answer : Answer) (told : IsTold given answer) (replica : ℕ) → Replied trace before client number round given replica → ToldBefore trace client number round before told.stamps answer replica
 tells_by_reply trace is_run have client number round before given answer told replica replied =
     let at : ℕ = replied.at in
     let it = replied.replied in
@@ -235,7 +235,7 @@ asks_in (body.Ask parts) = parts
 
 -- ---- the point of the query
 
-module _ (trace : Trace) (is_run : IsRun trace) (have : ArePlain trace.entries) where
+module _ (trace : Trace) (is_run : IsRun trace) (have : ArePlain trace) where
   -- where the query took effect, and the greatest candidate established before, whose value it answers
   pub record CompletedQuery (operation : OpRecord) (reply : ℕ) (answer : Answer) : Type 0 where
     pub object : ObjectId

@@ -1,5 +1,5 @@
 -- A completed operation was answered by a quorum.
-use Rattle.std.proofs.Common.{◌≡◌, ◌≢◌, ℕ, suc, ◌+◌, ◌-◌, ◌<◌, ◌≤◌, Bool, true, eqb, List, [], ◌∷◌, length, map, filter, get_or, None, Some, refl, sym, ap, subst, ◌∙◌, arith, slice_get, All, AllPairs, Contains, Ok}
+use Rattle.std.proofs.Common.{◌≡◌, ◌≢◌, ℕ, suc, ◌+◌, ◌-◌, ◌<◌, ◌≤◌, Bool, true, eqb, List, [], ◌∷◌, length, map, filter, get_or, None, Some, refl, sym, ap, subst, ◌∙◌, arith, slice_get, All, AllPairs, Contains, Ok, Option}
 use Rattle.std.proofs.lemmas.Bool.{and_parts, eqb-true, cond_both}
 use Rattle.std.proofs.lemmas.List.{length-map, get_or-map}
 use Rattle.std.proofs.lemmas.List.Elements.{All-nil, All-cons, All-head, All-tail, All-map}
@@ -23,7 +23,8 @@ use Rattle.qu_client.specs.declared.work.Work.{Work}
 use Rattle.qu_client.specs.Step.{fitting, identical, is_asking, counts, client_invoke, client_step, client_tick}
 use Rattle.qu_client.proofs.Cases.{with_verdict, invoke_cases}
 use Rattle.qu_machine.specs.declared.record.OpRecord.{OpRecord}
-use Rattle.qu_trace.specs.declared.event.Event.TheVariants.{Deliver}
+use Rattle.qu_trace.specs.declared.event.Event.{Event}
+use Rattle.qu_trace.specs.declared.event.Event.TheVariants.{Invoke, Deliver, Tick, Inject}
 use Rattle.qu_trace.specs.declared.trace.Entry.{Entry}
 use Rattle.qu_trace.specs.declared.trace.Trace.{Trace}
 use Rattle.qu_trace.specs.Operations.{outcome_in, operations_of}
@@ -35,13 +36,18 @@ use Rattle.qu_safety.proofs.Recording.{entry_cases}
 use Rattle.qu_safety.proofs.Replies.{sent_before, letter_stays}
 use Rattle.qu_safety.proofs.Counted.{Answered, AreDifferent, Counts, counts_world, work_answered, with_answered, different_more}
 use Rattle.qu_safety.proofs.Endings.{TextCompletes, EndsAt, operation_ends, EndedBy, ended_so, Completes, completes}
-use Rattle.qu_safety.specs.Carried.{Carries}
+use Rattle.qu_safety.specs.Carried.{Carries, handed}
 use Rattle.qu_safety.specs.Views.{ArePlain}
 use Rattle.qu_client.proofs.Laws.{sound_work}
 use Rattle.qu_machine.proofs.Equalities.{client_is}
 use Rattle.qu_frames.specs.Signed.{brought}
 use Rattle.qu_frames.proofs.Signed.{brought_is_decoded}
 use Rattle.qu_base.specs.declared.party.Party.TheVariants as party
+use Rattle.qu_base.specs.declared.party.Party.{Party}
+use Rattle.std.specs.Prelude.{option_map}
+use Rattle.qu_frames.specs.Decoding.{decoded}
+use Rattle.qu_trace.specs.Letters.{letters_of}
+use Rattle.qu_safety.proofs.Handing.{hand}
 
 -- ---- what the theorem is given of the records of operations
 
@@ -139,14 +145,31 @@ counting_round work replica number round counting =
     let third = and_parts (eqb round work.round) _ second.1 in
     eqb-true round work.round third.0
 
+-- the round of the answer that an event hands over
+round_of_letter : (trace : Trace) → IsRun trace → (index : ℕ) → index ≤ length trace.entries → (number : ℕ) (to : Party) (text : List ℕ) (found : Option Letter) → letter_of (world_after trace index) number ≡ found → option_map hand found ≡ Some (to, text)
+    → round_of (numbered (letters_of trace.entries) number) ≡ round_in (decoded text)
+round_of_letter trace is index within number to text None sent given = absurd (none-some (to, text) given)
+round_of_letter trace is index within number to text (Some letter) sent given =
+    ap round_of (letter_stays trace is index within number letter sent) ∙
+    ap (λ (it : Party × List ℕ). round_in (decoded it.1)) (same_Some (letter.to, letter.text) (to, text) given)
+
+round_handed : (trace : Trace) → IsRun trace → (index : ℕ) → index ≤ length trace.entries → (entry : Entry) (to : Party) (text : List ℕ) → handed (world_after trace index) entry.event ≡ Some (to, text) → delivered_round trace (Some entry) ≡ round_in (decoded text)
+round_handed trace is index within entry to text given = by_event entry.event given
+  where
+    by_event : (event : Event) → handed (world_after trace index) event ≡ Some (to, text) → delivered_round trace (Some (record entry { event = event })) ≡ round_in (decoded text)
+    by_event (Invoke client op) none = absurd (none-some (to, text) none)
+    by_event (Deliver number) hands = round_of_letter trace is index within number to text (letter_of (world_after trace index) number) refl hands
+    by_event (Tick client) none = absurd (none-some (to, text) none)
+    by_event (Inject who other) hands = ap (λ (it : Party × List ℕ). round_in (decoded it.1)) (same_Some (who, other) (to, text) hands)
+
 -- the letter at this event completed the operation that its client had under way
-by_letter : (trace : Trace) → IsRun trace → ArePlain trace.entries → WorkIsRecorded trace → IsOneRecord trace → (operation : OpRecord) → Contains (operations_of trace.entries) operation → (index : ℕ) (answer : Answer)
+by_letter : (trace : Trace) → IsRun trace → ArePlain trace → WorkIsRecorded trace → IsOneRecord trace → (operation : OpRecord) → Contains (operations_of trace.entries) operation → (index : ℕ) (answer : Answer)
     → (number : ℕ) (letter : Letter) (client : ClientId) (state : ClientState) (made : Entry)
-    → made.event ≡ Deliver number → slice_get trace.entries index ≡ Some made
+    → handed (world_after trace index) made.event ≡ Some (letter.to, letter.text) → slice_get trace.entries index ≡ Some made
     → letter_of (world_after trace index) number ≡ Some letter → numbered (world_after trace index).clients client.0 ≡ Some state
     → EndedBy operation.client client operation.number state.work (client_step state letter.text).ended (outcome.Done answer)
     → (carried : Frame) → Carries letter carried → Completes state carried answer → IsCompleted trace operation (suc index) answer
-by_letter trace is have recorded one operation among index answer number letter client state made event is_entry sent found ended carried carries done =
+by_letter trace is have recorded one operation among index answer number letter client state made hands is_entry sent found ended carried carries done =
     let below : index < length trace.entries = slice_get_within trace.entries index made is_entry in
     let holds : Counts trace index client.0 state = counts_world trace is have index (omega arith) client.0 state found in
     let work : Work = done.work in
@@ -175,8 +198,7 @@ by_letter trace is have recorded one operation among index answer number letter 
       fits = ap (λ (it : Op). fitting it done.verdict) of_op ∙ done.fits;
       delivered =
           ap (delivered_round trace) is_entry ∙
-          ap (λ it. delivered_round trace (Some (record made { event = it }))) event ∙
-          ap round_of (letter_stays trace is index (omega arith) number letter sent) ∙
+          round_handed trace is index (omega arith) made letter.to letter.text hands ∙
           reply_round letter (frame.Reply done.replica state.me done.number done.round done.verdict done.culled done.shown done.mac) work.round (carries ∙ ap Ok done.is_reply) (ap (λ (it : ℕ). Some it) (counting_round work done.replica done.number done.round done.counting));
       members = agreeing done.verdict replies;
       different = agreeing_different done.verdict replies different;
@@ -194,27 +216,27 @@ no_end_of_invocation : (state : ClientState) (op : Op) → (client_invoke state 
 no_end_of_invocation state op = invoke_cases state op (λ stepped. stepped.ended ≡ None) (λ acted. refl) refl
 
 -- the entry that records the end was made by a letter
-by_entry : (trace : Trace) → IsRun trace → ArePlain trace.entries → WorkIsRecorded trace → IsOneRecord trace → (operation : OpRecord) → Contains (operations_of trace.entries) operation → (index : ℕ) (answer : Answer) (entry : Entry) → slice_get trace.entries index ≡ Some entry → outcome_in operation.client operation.number entry.ended ≡ Some (outcome.Done answer) → IsCompleted trace operation (suc index) answer
+by_entry : (trace : Trace) → IsRun trace → ArePlain trace → WorkIsRecorded trace → IsOneRecord trace → (operation : OpRecord) → Contains (operations_of trace.entries) operation → (index : ℕ) (answer : Answer) (entry : Entry) → slice_get trace.entries index ≡ Some entry → outcome_in operation.client operation.number entry.ended ≡ Some (outcome.Done answer) → IsCompleted trace operation (suc index) answer
 by_entry trace is have recorded one operation among index answer entry is_entry =
     let how = outcome.Done answer in
     let Q : Entry → Type 0 = λ made. slice_get trace.entries index ≡ Some made → outcome_in operation.client operation.number made.ended ≡ Some how → IsCompleted trace operation (suc index) answer in
     entry_cases trace is have index entry is_entry Q
     (λ event there ends. absurd (none-some how ends))
-    (λ number letter me state sent found there ends. absurd (none-some how ends))
+    (λ event number letter me state sent hands found there ends. absurd (none-some how ends))
     (λ client op state found there ends.
     let ended : EndedBy operation.client client operation.number state.work (client_invoke state op).ended how = ended_so operation.client client operation.number state.work (client_invoke state op).ended how ends in
     absurd (none-some how (sym (no_end_of_invocation state op) ∙ ended.is_end)))
-    (λ number letter client state sent found there ends.
+    (λ event number letter client state sent hands found there ends.
     let ended : EndedBy operation.client client operation.number state.work (client_step state letter.text).ended how = ended_so operation.client client operation.number state.work (client_step state letter.text).ended how ends in
     let text : TextCompletes state (brought state.keys (party.Client state.me) letter.text) answer = completes state letter.text answer ended.is_end in
-    by_letter trace is have recorded one operation among index answer number letter client state _ refl there sent found ended text.carried (brought_is_decoded state.keys (party.Client state.me) letter.text text.carried text.is_frame) text.completes)
+    by_letter trace is have recorded one operation among index answer number letter client state _ hands there sent found ended text.carried (brought_is_decoded state.keys (party.Client state.me) letter.text text.carried text.is_frame) text.completes)
     (λ client state found there ends.
     let ended : EndedBy operation.client client operation.number state.work (client_tick state).ended how = ended_so operation.client client operation.number state.work (client_tick state).ended how ends in
     absurd (none-some how ended.is_end))
     is_entry
 
 -- a completed operation was answered by a quorum of different replicas with one verdict, in one round
-pub completed : (trace : Trace) → IsRun trace → ArePlain trace.entries → WorkIsRecorded trace → IsOneRecord trace → (operation : OpRecord) → Contains (operations_of trace.entries) operation → (event : ℕ) (answer : Answer) → operation.reply ≡ Some (event, outcome.Done answer) → IsCompleted trace operation event answer
+pub completed : (trace : Trace) → IsRun trace → ArePlain trace → WorkIsRecorded trace → IsOneRecord trace → (operation : OpRecord) → Contains (operations_of trace.entries) operation → (event : ℕ) (answer : Answer) → operation.reply ≡ Some (event, outcome.Done answer) → IsCompleted trace operation event answer
 completed trace is have recorded one operation among event answer replied =
     let ends : EndsAt trace.entries 1 operation.client operation.number event (outcome.Done answer) = operation_ends trace.entries operation among event (outcome.Done answer) replied in
     let at : event ≡ 1 + ends.index = ends.is_at in

@@ -35,7 +35,7 @@ use Rattle.qu_safety.proofs.Replies.{RepliesWithin, replies_within, SentBefore, 
 use Rattle.qu_safety.proofs.OneRequest.{opening_client}
 use Rattle.qu_safety.proofs.Carrying.{tells_as}
 use Rattle.qu_safety.proofs.Small.{some_entry}
-use Rattle.qu_world.proofs.Each.{with_cases, each_at}
+use Rattle.qu_world.proofs.Each.{with_cases}
 use Rattle.qu_safety.specs.Carried.{Tells, Carries}
 use Rattle.qu_safety.specs.Views.{IsPlain, ArePlain}
 use Rattle.qu_history.specs.declared.sealed.Sealed.{Sealed}
@@ -70,7 +70,7 @@ answered_more trace before client number round counted answered = record {
 }
 
 -- a delivered reply was sent so
-pub answered_by : (trace : Trace) → IsRun trace → ArePlain trace.entries → (before : ℕ) (letter : Letter) (client : ClientId) (number round : ℕ) (counted : Counted) (shown : List Sealed) → SentBefore trace before letter → Tells letter counted.replica client number round counted.verdict shown → Answered trace before client number round counted
+pub answered_by : (trace : Trace) → IsRun trace → ArePlain trace → (before : ℕ) (letter : Letter) (client : ClientId) (number round : ℕ) (counted : Counted) (shown : List Sealed) → SentBefore trace before letter → Tells letter counted.replica client number round counted.verdict shown → Answered trace before client number round counted
 answered_by trace is have before letter client number round counted shown sent is_reply =
     let entry : Entry = sent.there.entry in
     let replies : All (RepliesWithin (replicas trace.setup.bounds)) entry.letters = replies_within trace is have sent.at entry sent.there.is_entry in
@@ -108,7 +108,7 @@ pub work_answered : (trace : Trace) (before : ℕ) (client : ClientId) (found : 
 work_answered trace before client found work is are = subst (WorkAnswered trace before client) is are
 
 -- the verdicts with one more that counts
-pub with_answered : (trace : Trace) → IsRun trace → ArePlain trace.entries → (before : ℕ) (letter : Letter) (client : ClientId) (work : Work) (replica : ReplicaId) (number round : ℕ) (verdict : Verdict) (shown : List Sealed) → SentBefore trace before letter → Tells letter replica client number round verdict shown → counts work replica number round ≡ true → AreAnswered trace before client work → AreAnswered trace before client (with_verdict work replica verdict)
+pub with_answered : (trace : Trace) → IsRun trace → ArePlain trace → (before : ℕ) (letter : Letter) (client : ClientId) (work : Work) (replica : ReplicaId) (number round : ℕ) (verdict : Verdict) (shown : List Sealed) → SentBefore trace before letter → Tells letter replica client number round verdict shown → counts work replica number round ≡ true → AreAnswered trace before client work → AreAnswered trace before client (with_verdict work replica verdict)
 with_answered trace is have before letter client work replica number round verdict shown sent is_reply counting are =
     let first = and_parts (is_asking work.phase) _ counting in
     let second = and_parts (eqb number work.number) _ first.1 in
@@ -121,7 +121,7 @@ with_answered trace is have before letter client work replica number round verdi
     (answered_by trace is have before letter client work.number work.round (record { replica = replica; verdict = verdict }) shown sent this)
 
 -- what a delivered letter makes of them
-answered_frame : (trace : Trace) → IsRun trace → ArePlain trace.entries → (before : ℕ) (letter : Letter) (state : ClientState) → SentBefore trace before letter → WorkAnswered trace before state.me state.work → (received : Frame) → Carries letter received → WorkAnswered trace (before + 1) state.me (on_frame state received).state.work
+answered_frame : (trace : Trace) → IsRun trace → ArePlain trace → (before : ℕ) (letter : Letter) (state : ClientState) → SentBefore trace before letter → WorkAnswered trace before state.me state.work → (received : Frame) → Carries letter received → WorkAnswered trace (before + 1) state.me (on_frame state received).state.work
 answered_frame trace is have before letter state sent are (frame.Request client number round sets body mac) is_frame = work_more trace before state.me state.work are
 answered_frame trace is have before letter state sent are (frame.Reply replica client number round verdict culled shown mac) is_frame =
     let P : Stepped → Type 0 = λ stepped. WorkAnswered trace (before + 1) state.me stepped.state.work in
@@ -141,12 +141,12 @@ answered_frame trace is have before letter state sent are (frame.Reply replica c
     (λ work under_way counting below. All-nil (Answered trace (before + 1) state.me work.number (work.round + 1))))
     (λ other. same)
 
-answered_brought : (trace : Trace) → IsRun trace → ArePlain trace.entries → (before : ℕ) (letter : Letter) (state : ClientState) → SentBefore trace before letter → WorkAnswered trace before state.me state.work → (found : Option Frame) → brought state.keys (party.Client state.me) letter.text ≡ found → WorkAnswered trace (before + 1) state.me (on_received state found).state.work
+answered_brought : (trace : Trace) → IsRun trace → ArePlain trace → (before : ℕ) (letter : Letter) (state : ClientState) → SentBefore trace before letter → WorkAnswered trace before state.me state.work → (found : Option Frame) → brought state.keys (party.Client state.me) letter.text ≡ found → WorkAnswered trace (before + 1) state.me (on_received state found).state.work
 answered_brought trace is have before letter state sent are (Some taken) brings =
     answered_frame trace is have before letter state sent are taken (brought_is_decoded state.keys (party.Client state.me) letter.text taken brings)
 answered_brought trace is have before letter state sent are None brings = work_more trace before state.me state.work are
 
-answered_step : (trace : Trace) → IsRun trace → ArePlain trace.entries → (before : ℕ) (letter : Letter) (state : ClientState) → SentBefore trace before letter → WorkAnswered trace before state.me state.work → WorkAnswered trace (before + 1) state.me (client_step state letter.text).state.work
+answered_step : (trace : Trace) → IsRun trace → ArePlain trace → (before : ℕ) (letter : Letter) (state : ClientState) → SentBefore trace before letter → WorkAnswered trace before state.me state.work → WorkAnswered trace (before + 1) state.me (client_step state letter.text).state.work
 answered_step trace is have before letter state sent are = answered_brought trace is have before letter state sent are (brought state.keys (party.Client state.me) letter.text) refl
 
 answered_invoke : (trace : Trace) (before : ℕ) (state : ClientState) (op : Op) → WorkAnswered trace before state.me (client_invoke state op).state.work
@@ -190,19 +190,19 @@ counts_with : (trace : Trace) (before number : ℕ) (clients : List ClientState)
 counts_with trace before number clients new each here =
     each_with (Counts trace (before + 1)) clients number new (λ other state found. counts_more trace before other state (each other state found)) here
 
-counts_step : (trace : Trace) → IsRun trace → ArePlain trace.entries → (before : ℕ) → before ≤ length trace.entries → Each (Counts trace before) (world_after trace before).clients → (event : Event) → IsPlain event → Each (Counts trace (before + 1)) (world_step (world_after trace before) event).clients
+counts_step : (trace : Trace) → IsRun trace → ArePlain trace → (before : ℕ) → before ≤ length trace.entries → Each (Counts trace before) (world_after trace before).clients → (event : Event) → IsPlain (world_after trace before) event → Each (Counts trace (before + 1)) (world_step (world_after trace before) event).clients
 counts_step trace is have before within each event plain =
     let clients : List ClientState = (world_after trace before).clients in
     let stay : Each (Counts trace (before + 1)) clients = λ number state found. counts_more trace before number state (each number state found) in
     world_cases (world_after trace before) (λ (new : WorldState). Each (Counts trace (before + 1)) new.clients)
     (λ event. stay)
-    (λ number letter me state sent found. stay)
+    (λ event number letter me state sent hands found. stay)
     (λ client op state found.
     let holds : Counts trace before client.0 state = each client.0 state found in
     counts_with trace before client.0 clients (client_invoke state op).state each
     (counts_moved trace before client.0 state (client_invoke state op).state (client_invoke-me state op) (client_invoke-bounds state op)
     (IsSound-invoke state op) (answered_invoke trace (before + 1) state op) holds))
-    (λ number letter client state sent found.
+    (λ event number letter client state sent hands found.
     let holds : Counts trace before client.0 state = each client.0 state found in
     counts_with trace before client.0 clients (client_step state letter.text).state each
     (counts_moved trace before client.0 state (client_step state letter.text).state (client_step-me state letter.text) (client_step-bounds state letter.text)
@@ -222,7 +222,7 @@ counts_opening trace (suc place) state found =
     subst (Counts trace 0 (suc place)) (sym opens) holds
 
 -- in every world of a run each client counts only what was sent to it
-pub counts_world : (trace : Trace) → IsRun trace → ArePlain trace.entries → (count : ℕ) → count ≤ length trace.entries → Each (Counts trace count) (world_after trace count).clients
+pub counts_world : (trace : Trace) → IsRun trace → ArePlain trace → (count : ℕ) → count ≤ length trace.entries → Each (Counts trace count) (world_after trace count).clients
 counts_world trace is have zero within =
     subst (λ (world : WorldState). Each (Counts trace 0) world.clients) (sym (world_after-none trace)) (counts_opening trace)
 counts_world trace is have (suc count) within =
@@ -230,7 +230,7 @@ counts_world trace is have (suc count) within =
     let default : Entry = some_entry trace.entries (omega arith) in
     let after : Each (Counts trace (count + 1)) (world_after trace (count + 1)).clients =
     subst (λ (world : WorldState). Each (Counts trace (count + 1)) world.clients) (sym (world_after-next trace count default (omega arith)))
-    (counts_step trace is have count (omega arith) before (get_or trace.entries count default).event (each_at (λ (entry : Entry). IsPlain entry.event) trace.entries count default have (omega arith))) in
+    (counts_step trace is have count (omega arith) before (get_or trace.entries count default).event (have.plain_at count default (omega arith))) in
     subst (λ (it : ℕ). Each (Counts trace it) (world_after trace it).clients) (add-one count) after
 
 -- ---- the verdicts that count are of different replicas

@@ -55,7 +55,7 @@ unfolding count
 gained zero more fewer below = absurd (omega arith)
 gained (suc n) more fewer below = gained_by n more fewer (more n) (fewer n) refl refl below (gained n more fewer)
 
-module _ (trace : Trace) (is_run : IsRun trace) (have : ArePlain trace.entries) where
+module _ (trace : Trace) (is_run : IsRun trace) (have : ArePlain trace) where
   -- established after so many events
   abbrev pub Established : ℕ → ObjectId → Candidate → Type 0
   Established time object candidate = IsEstablished (setting trace) time object candidate

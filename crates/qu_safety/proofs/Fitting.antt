@@ -39,7 +39,7 @@ use Rattle.qu_safety.specs.Carried.{Carries}
 use Rattle.qu_safety.specs.Order.{world_after}
 use Rattle.qu_safety.specs.Views.{IsPlain, ArePlain}
 use Rattle.qu_safety.proofs.Carrying.{carried_is, AsksFit, AnswersFit, IsFitStep}
-use Rattle.qu_world.proofs.Each.{each_append, each_at, each_numbered, set_cases, with_cases}
+use Rattle.qu_world.proofs.Each.{each_append, each_numbered, set_cases, with_cases}
 use Rattle.qu_safety.proofs.FitClients.{FitClient, fit_more, step_fit, invoke_fit, asks_fit, step_letters, invoke_letters, opening_clients-fit}
 use Rattle.qu_safety.proofs.Ranges.{few_by}
 use Rattle.qu_safety.proofs.Small.{some_entry}
@@ -48,6 +48,7 @@ use Rattle.qu_world.proofs.LetterLaws.{letters-push}
 use Rattle.qu_frames.specs.Signed.{brought}
 use Rattle.qu_seal.specs.Keys.{Ring}
 use Rattle.qu_frames.proofs.Signed.{brought_is_decoded}
+use Rattle.qu_safety.proofs.Handing.{injected_cases}
 
 -- ---- letters
 
@@ -120,7 +121,7 @@ module _ (bounds most : ℕ) (few : most + 1 < 2 ^ 64) (size : replicas bounds �
   delivered_fit number (Some letter) is =
       received_fit (Deliver number) letter.to letter.text (carried_fits letter (each_numbered LetterFits (letters_of world.entries) number letter fit.letters is))
 
-  step_world : (event : Event) → IsPlain event → FitWorld bounds (most + 1) (world_step world event)
+  step_world : (event : Event) → IsPlain world event → FitWorld bounds (most + 1) (world_step world event)
   step_world (Invoke client what) plain =
       at_client_fit (Invoke client what) client (λ (state : ClientState). client_invoke state what) (numbered world.clients client.0) refl
       (λ state before. invoke_fit bounds most client.0 state what plain.1 before)
@@ -130,7 +131,9 @@ module _ (bounds most : ℕ) (few : most + 1 < 2 ^ 64) (size : replicas bounds �
       at_client_fit (Tick client) client client_tick (numbered world.clients client.0) refl
       (λ state before. fit_more bounds most client.0 state before)
       (λ state asks. tt)
-  step_world (Inject to text) plain = absurd plain
+  step_world (Inject to text) plain =
+      injected_cases world to text (λ (event : Event) (new : WorldState). FitWorld bounds (most + 1) new) (unchanged_fit (Inject to text))
+      (λ number letter is. received_fit (Inject letter.to letter.text) letter.to letter.text (carried_fits letter (each_numbered LetterFits (letters_of world.entries) number letter fit.letters is))) plain
 
 -- ---- the beginning
 
@@ -165,12 +168,12 @@ opening_fits setup is =
 
 -- ---- runs
 
-below_word : (trace : Trace) → IsRun trace → ArePlain trace.entries → (count : ℕ) → count ≤ length trace.entries → count < 2 ^ 64
+below_word : (trace : Trace) → IsRun trace → ArePlain trace → (count : ℕ) → count ≤ length trace.entries → count < 2 ^ 64
 below_word trace is_run plain count within =
     let few : length trace.entries ≤ EVENT_LIMIT = few_by trace is_run plain (length trace.entries) refl in
     omega arith
 
-fit_world : (trace : Trace) → IsRun trace → ArePlain trace.entries → (count : ℕ) → count ≤ length trace.entries → FitWorld trace.setup.bounds count (world_after trace count)
+fit_world : (trace : Trace) → IsRun trace → ArePlain trace → (count : ℕ) → count ≤ length trace.entries → FitWorld trace.setup.bounds count (world_after trace count)
 fit_world trace is_run plain zero within =
     subst (FitWorld trace.setup.bounds 0) (sym (world_after-none trace)) (opening_fits trace.setup is_run.setup)
 fit_world trace is_run plain (suc count) within =
@@ -179,12 +182,12 @@ fit_world trace is_run plain (suc count) within =
     let few : count + 1 < 2 ^ 64 = below_word trace is_run plain (count + 1) (omega arith) in
     let after : FitWorld trace.setup.bounds (count + 1) (world_step (world_after trace count) (get_or trace.entries count default).event) =
     step_world trace.setup.bounds count few (few_replicas trace.setup.bounds (is_run.setup).few_faults) (world_after trace count) before (get_or trace.entries count default).event
-    (each_at (λ (entry : Entry). IsPlain entry.event) trace.entries count default plain (omega arith)) in
+    (plain.plain_at count default (omega arith)) in
     subst (λ (many : ℕ). FitWorld trace.setup.bounds many (world_after trace many)) (add-one count)
     (subst (FitWorld trace.setup.bounds (count + 1)) (sym (world_after-next trace count default (omega arith))) after)
 
 -- what a letter of a run carries, fits
-pub carried_in_run : (trace : Trace) → IsRun trace → ArePlain trace.entries → (count : ℕ) → count ≤ length trace.entries → (number : ℕ) (letter : Letter) → letter_of (world_after trace count) number ≡ Some letter
+pub carried_in_run : (trace : Trace) → IsRun trace → ArePlain trace → (count : ℕ) → count ≤ length trace.entries → (number : ℕ) (letter : Letter) → letter_of (world_after trace count) number ≡ Some letter
     → (carried : Frame) → Carries letter carried → frame_form.Fits carried
 carried_in_run trace is_run plain count within number letter is carried carries =
     let fit : FitWorld trace.setup.bounds count (world_after trace count) = fit_world trace is_run plain count within in
@@ -202,7 +205,7 @@ answers_fit state (frame.Request client number round sets body mac) fits within 
 answers_fit state (frame.Reply replica client number round verdict culled shown mac) fits within = tt
 
 -- what an event makes the parties send fits
-pub fit_step : (trace : Trace) → IsRun trace → ArePlain trace.entries → (count : ℕ) → count < length trace.entries → IsFitStep (world_after trace count) (world_after trace (count + 1))
+pub fit_step : (trace : Trace) → IsRun trace → ArePlain trace → (count : ℕ) → count < length trace.entries → IsFitStep (world_after trace count) (world_after trace (count + 1))
 fit_step trace is_run plain count below =
     let before : FitWorld trace.setup.bounds count (world_after trace count) = fit_world trace is_run plain count (omega arith) in
     let after : FitWorld trace.setup.bounds (count + 1) (world_after trace (count + 1)) = fit_world trace is_run plain (count + 1) (omega arith) in

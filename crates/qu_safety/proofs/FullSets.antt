@@ -23,16 +23,16 @@ use Rattle.qu_replica.specs.Rows.{Asked, asked_of, refuse, row_unknown, row_thin
 use Rattle.qu_replica.specs.Step.{carried_out, on_frame, on_received, replica_step}
 use Rattle.qu_client.specs.Rounds.{are_full}
 use Rattle.qu_trace.specs.declared.event.Event.{Event}
-use Rattle.qu_trace.specs.declared.event.Event.TheVariants.{Deliver}
 use Rattle.qu_trace.specs.declared.trace.Trace.{Trace}
 use Rattle.qu_world.specs.State.{WorldState}
-use Rattle.qu_world.specs.Step.{world_step, at_replica, received, delivered}
+use Rattle.qu_world.specs.Step.{world_step, at_replica, received}
 use Rattle.qu_safety.specs.Grounds.{AcceptsOne, IsDelivered}
 use Rattle.qu_safety.specs.Order.{world_after}
 use Rattle.qu_safety.specs.Origins.{Origin}
 use Rattle.qu_safety.proofs.OpeningReplicas.{bounds_are}
 use Rattle.qu_safety.proofs.Acceptance.{accepted_in, AcceptsNothing, unknown, thin, carried, stays}
 use Rattle.qu_world.proofs.Each.{set_here}
+use Rattle.qu_safety.proofs.Handing.{handed_step}
 
 -- ---- the rows
 
@@ -107,13 +107,11 @@ upon_by old new taken object accepts is =
 delivered_to : (world : WorldState) (event : Event) (place : ℕ) (old new : ReplicaState) (object : ObjectId) (happened : IsDelivered world event place old new object) → slice_get world.replicas place ≡ Some old → slice_get (world_step world event).replicas place ≡ Some new → (on_frame old happened.carried).0 ≡ new
 delivered_to world event place old new object happened is_old is_new =
     let letter : Letter = happened.letter in
-    let deliver : Event = Deliver happened.number in
     let stepped : ReplicaState = (replica_step old letter.text).0 in
-    let is : world_step world event ≡ at_replica world deliver (record { 0 = place }) letter.text (Some old) =
-    ap (world_step world) happened.is_deliver ∙
-    ap (delivered world deliver) happened.is_letter ∙
-    ap (λ (to : Party). received world deliver to letter.text) happened.to ∙
-    ap (at_replica world deliver (record { 0 = place }) letter.text) is_old in
+    let is : world_step world event ≡ at_replica world event (record { 0 = place }) letter.text (Some old) =
+    handed_step world event letter.to letter.text happened.is_handed ∙
+    ap (λ (to : Party). received world event to letter.text) happened.to ∙
+    ap (at_replica world event (record { 0 = place }) letter.text) is_old in
     ap (λ it. (on_received old it).0) (sym happened.brings) ∙
     same_Some stepped new (sym (set_here world.replicas place old stepped is_old) ∙ ap (λ (it : WorldState). slice_get it.replicas place) (sym is) ∙ is_new)
 

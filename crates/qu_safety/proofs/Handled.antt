@@ -1,12 +1,12 @@
 -- What a replica accepts it handled, and it was made for that act; and a request that was handled was sent.
-use Rattle.std.proofs.Common.{◌≡◌, ℕ, suc, ◌<◌, ◌≤◌, Bool, true, false, not, cond, List, [], ◌∷◌, length, Option, get_or, None, Some, refl, sym, ap, subst, ◌∙◌, arith, add-one}
-use Rattle.std.specs.Prelude.{slice_get, nat_le, nat_lt, Contains}
+use Rattle.std.proofs.Common.{◌≡◌, ℕ, suc, ◌<◌, ◌≤◌, Bool, true, false, not, cond, List, [], ◌∷◌, length, Option, get_or, None, Some, refl, sym, ap, subst, ◌∙◌, arith, add-one, inl, inr}
+use Rattle.std.specs.Prelude.{slice_get, nat_le, nat_lt, Contains, option_map}
 use Rattle.std.specs.List.{list_all}
 use Rattle.std.proofs.lemmas.Bool.{and_parts, and_from, lt-ltb}
 use Rattle.std.proofs.lemmas.Bool.Decides.{nat_tests}
 use Rattle.std.proofs.lemmas.List.{take_all}
 use Rattle.std.proofs.lemmas.List.Elements.{Contains-get_or}
-use Rattle.std.proofs.lemmas.Option.{none-some, cond_some, slice_get_within}
+use Rattle.std.proofs.lemmas.Option.{none-some, cond_some, slice_get_within, same_Some}
 use Rattle.qu_base.specs.declared.party.ClientId.{ClientId}
 use Rattle.qu_base.specs.declared.party.ObjectId.{ObjectId}
 use Rattle.qu_base.specs.declared.party.Party.{Party}
@@ -44,15 +44,16 @@ use Rattle.qu_safety.proofs.Marking.{run_has, found_within}
 use Rattle.qu_safety.proofs.Recording.{entries_after}
 use Rattle.qu_safety.proofs.Replies.{letter_stays}
 use Rattle.qu_safety.proofs.WorldGrowth.{world_after-next}
-use Rattle.qu_safety.specs.Carried.{Asks, Brings}
+use Rattle.qu_safety.specs.Carried.{Asks, Brings, handed}
 use Rattle.qu_safety.specs.Views.{IsPlain, ArePlain}
 use Rattle.qu_safety.proofs.Carrying.{asks_so}
-use Rattle.qu_world.proofs.Each.{each_at}
 use Rattle.qu_frames.specs.Signed.{brought}
 use Rattle.qu_seal.specs.Keys.{Ring}
 use Rattle.qu_frames.proofs.Signed.{brought_is_decoded}
 use Rattle.qu_safety.proofs.OpeningReplicas.{keys_are, me_is}
 use Rattle.qu_base.specs.declared.party.ReplicaId.{ReplicaId}
+use Rattle.qu_safety.proofs.Plain.{setup_after}
+use Rattle.qu_safety.proofs.Handing.{hand}
 
 -- ---- what is accepted was handled
 
@@ -65,21 +66,33 @@ all_known setup size few (set ∷ sets) had =
     let parts : (not (nat_le size (set.object).0) ≡ true) × (list_all (λ (it : SetOf). not (nat_le size (it.object).0)) sets ≡ true) = and_parts _ _ had in
     and_from _ _ (one_known size (set.object).0 (length setup.kinds) few parts.0) (all_known setup size few sets parts.1)
 
+-- the request that an event hands to a replica
+request_of_letter : (trace : Trace) → IsRun trace → (time : ℕ) → time ≤ length trace.entries → (number : ℕ) (to : Party) (text : List ℕ) (found : Option Letter) → letter_of (world_after trace time) number ≡ found → option_map hand found ≡ Some (to, text)
+    → handled_by trace (Deliver number) ≡ request_to trace.setup text to
+request_of_letter trace is_run time within number to text None sent given = absurd (none-some (to, text) given)
+request_of_letter trace is_run time within number to text (Some letter) sent given =
+    ap (request_by trace.setup) (letter_stays trace is_run time within number letter sent) ∙
+    ap (λ (it : Party × List ℕ). request_to trace.setup it.1 it.0) (same_Some (letter.to, letter.text) (to, text) given)
+
+request_handed : (trace : Trace) → IsRun trace → (time : ℕ) → time ≤ length trace.entries → (event : Event) (to : Party) (text : List ℕ) → handed (world_after trace time) event ≡ Some (to, text) → handled_by trace event ≡ request_to trace.setup text to
+request_handed trace is_run time within (Invoke client op) to text none = absurd (none-some (to, text) none)
+request_handed trace is_run time within (Deliver number) to text hands = request_of_letter trace is_run time within number to text (letter_of (world_after trace time) number) refl hands
+request_handed trace is_run time within (Tick client) to text none = absurd (none-some (to, text) none)
+request_handed trace is_run time within (Inject who other) to text hands = ap (λ (it : Party × List ℕ). request_to trace.setup it.1 it.0) (same_Some (who, other) (to, text) hands)
+
 -- a replica handles a request that shows it objects that it has
-pub request_handled : (trace : Trace) → IsRun trace → (time : ℕ) → time < length trace.entries → (event : Event) → (asked : ℕ) → event ≡ Deliver asked
+pub request_handled : (trace : Trace) → IsRun trace → (time : ℕ) → time < length trace.entries → (event : Event)
     → (place : ℕ) (old : ReplicaState) → slice_get (world_after trace time).replicas place ≡ Some old
-    → (letter : Letter) → letter_of (world_after trace time) asked ≡ Some letter → letter.to ≡ party.Replica (record { 0 = place })
+    → (letter : Letter) → handed (world_after trace time) event ≡ Some (letter.to, letter.text) → letter.to ≡ party.Replica (record { 0 = place })
     → (request : Request) (round : ℕ) (mac : List ℕ) → Brings old letter (frame.Request request.client request.number round request.sets request.body mac) → are_had old request.sets ≡ true
     → handled_by trace event ≡ Some request
-request_handled trace is_run time within event asked is_deliver place old is_old letter is_letter to request round mac brings had =
+request_handled trace is_run time within event place old is_old letter hands to request round mac brings had =
     let few : length old.histories ≤ length trace.setup.kinds = found_within (length trace.setup.kinds) (world_after trace time).replicas place old (run_has trace time) is_old in
     let known : list_all (is_known trace.setup) request.sets ≡ true = all_known trace.setup (length old.histories) few request.sets had in
     let there : place < length (world_after trace time).replicas = slice_get_within (world_after trace time).replicas place old is_old in
     let all : length (world_after trace time).replicas ≡ replicas trace.setup.bounds = all_replicas trace time in
     let among : nat_lt place (replicas trace.setup.bounds) ≡ true = lt-ltb _ _ (omega (arith, there, all)) in
-    let found : numbered (letters_of trace.entries) asked ≡ Some letter = letter_stays trace is_run time (omega arith) asked letter is_letter in
-    ap (handled_by trace) is_deliver ∙
-    ap (request_by trace.setup) found ∙
+    request_handed trace is_run time (omega arith) event letter.to letter.text hands ∙
     ap (request_to trace.setup letter.text) to ∙
     ap (λ (test : Bool). cond test (request_brought trace.setup (brought (ring_of trace.setup) (party.Replica (record { 0 = place })) letter.text)) None) among ∙
     ap (λ (keys : Ring). request_brought trace.setup (brought keys (party.Replica (record { 0 = place })) letter.text)) (sym (keys_are trace time place old is_old)) ∙
@@ -87,17 +100,17 @@ request_handled trace is_run time within event asked is_deliver place old is_old
     ap (request_brought trace.setup) brings ∙
     ap (λ (test : Bool). cond test (Some request) None) known
 
-pub handled_upon : (trace : Trace) → IsRun trace → (time : ℕ) → time < length trace.entries → (entry : Entry) → Contains trace.entries entry → (asked : ℕ) → entry.event ≡ Deliver asked
+pub handled_upon : (trace : Trace) → IsRun trace → (time : ℕ) → time < length trace.entries → (entry : Entry) → Contains trace.entries entry
     → (place : ℕ) (old : ReplicaState) → slice_get (world_after trace time).replicas place ≡ Some old
-    → (letter : Letter) → letter_of (world_after trace time) asked ≡ Some letter → letter.to ≡ party.Replica (record { 0 = place })
+    → (letter : Letter) → handed (world_after trace time) entry.event ≡ Some (letter.to, letter.text) → letter.to ≡ party.Replica (record { 0 = place })
     → (client : ClientId) (number round : ℕ) (sets : List SetOf) (parts : List (ObjectId × Method)) (mac : List ℕ) → Brings old letter (frame.Request client number round sets (body.Act parts) mac) → are_had old sets ≡ true
     → IsHandled trace client number parts
-handled_upon trace is_run time within entry of_trace asked is_deliver place old is_old letter is_letter to client number round sets parts mac brings had = record {
+handled_upon trace is_run time within entry of_trace place old is_old letter hands to client number round sets parts mac brings had = record {
   entry = entry;
   of_trace = of_trace;
   sets = sets;
   handled =
-      request_handled trace is_run time within entry.event asked is_deliver place old is_old letter is_letter to
+      request_handled trace is_run time within entry.event place old is_old letter hands to
       (record { client = client; number = number; sets = sets; body = body.Act parts }) round mac brings had;
 }
 
@@ -112,7 +125,7 @@ pub upon_handled : (trace : Trace) → IsRun trace → (time : ℕ) → time < l
 upon_handled trace is_run time within event place old new is_old is_new object delivered =
     let one : AcceptsOne old new delivered.carried object = delivered.accepts in
     let upon : IsUpon old one.sets = delivered_upon (world_after trace time) event place old new object delivered is_old is_new in
-    request_handled trace is_run time within event delivered.number delivered.is_deliver place old is_old delivered.letter delivered.is_letter delivered.to
+    request_handled trace is_run time within event place old is_old delivered.letter delivered.is_handed delivered.to
     (request_upon old new delivered.carried object one) one.round one.mac (delivered.brings ∙ ap (λ (it : Frame). Some it) one.is_request) upon.had
 
 pub handled : (trace : Trace) → IsRun trace → (time : ℕ) → time < length trace.entries → (entry : Entry) → Contains trace.entries entry → (event : Event) → event ≡ entry.event → (place : ℕ) (old new : ReplicaState)
@@ -193,26 +206,37 @@ sent_by trace number (Some letter) request found is =
     let it = carried_so trace.setup letter (brought (ring_of trace.setup) letter.to letter.text) request refl (carried_to trace.setup letter.text letter.to request is) in
     record { number = number; letter = letter; is_letter = found; round = it.0; is_request = it.1 }
 
-pub sent : (trace : Trace) (event : Event) → IsPlain event → (request : Request) → handled_by trace event ≡ Some request → IsSent trace request
-sent trace (Invoke client op) plain request is = absurd (none-some request is)
-sent trace (Deliver number) plain request is = sent_by trace number (numbered (letters_of trace.entries) number) request refl is
-sent trace (Tick client) plain request is = absurd (none-some request is)
-sent trace (Inject to text) plain request is = absurd plain
+-- injected bytes that are handled were sent
+sent_before : (trace : Trace) → IsRun trace → (time : ℕ) → time ≤ length trace.entries → (to : Party) (text : List ℕ) → IsPlain (world_after trace time) (Inject to text) → (request : Request) → request_to trace.setup text to ≡ Some request → IsSent trace request
+sent_before trace is_run time within to text (inl ignored) request is =
+    let none : brought (ring_of trace.setup) to text ≡ None = ap (λ (setup : Setup). brought (ring_of setup) to text) (sym (setup_after trace time)) ∙ ignored.nothing in
+    absurd (none-some request (ap (request_brought trace.setup) (sym none) ∙ carried_to trace.setup text to request is))
+sent_before trace is_run time within to text (inr sent) request is =
+    let letter : Letter = sent.letter in
+    let given : request_to trace.setup letter.text letter.to ≡ Some request =
+    ap (λ (it : List ℕ). request_to trace.setup it letter.to) sent.text_is ∙ ap (request_to trace.setup text) sent.to_is ∙ is in
+    sent_by trace sent.number (Some letter) request (letter_stays trace is_run time within sent.number letter sent.is_letter) given
+
+pub sent : (trace : Trace) → IsRun trace → (time : ℕ) → time ≤ length trace.entries → (event : Event) → IsPlain (world_after trace time) event → (request : Request) → handled_by trace event ≡ Some request → IsSent trace request
+sent trace is_run time within (Invoke client op) plain request is = absurd (none-some request is)
+sent trace is_run time within (Deliver number) plain request is = sent_by trace number (numbered (letters_of trace.entries) number) request refl is
+sent trace is_run time within (Tick client) plain request is = absurd (none-some request is)
+sent trace is_run time within (Inject to text) plain request is = sent_before trace is_run time within to text plain request is
 
 -- each entry of a plain trace is plain
-pub plain_among : (entries : List Entry) (entry : Entry) → ArePlain entries → Contains entries entry → IsPlain entry.event
-plain_among entries entry plain among =
-    subst (λ (it : Entry). IsPlain it.event) among.2 (each_at (λ (it : Entry). IsPlain it.event) entries among.0 entry plain among.1)
+pub plain_among : (trace : Trace) (entry : Entry) → ArePlain trace → (among : Contains trace.entries entry) → IsPlain (world_after trace among.0) entry.event
+plain_among trace entry plain among =
+    subst (λ (it : Entry). IsPlain (world_after trace among.0) it.event) among.2 (plain.plain_at among.0 entry among.1)
 
 -- so it is one of an operation
-pub asked_by : (trace : Trace) → IsRun trace → ArePlain trace.entries → (request : Request) → IsSent trace request → IsRequestOf trace (length trace.entries) request.client request.number request.body
+pub asked_by : (trace : Trace) → IsRun trace → ArePlain trace → (request : Request) → IsSent trace request → IsRequestOf trace (length trace.entries) request.client request.number request.body
 asked_by trace is_run have request it =
     let last : ℕ = length trace.entries in
     let all : (world_after trace last).entries ≡ trace.entries = entries_after trace is_run last (omega arith) ∙ take_all last trace.entries (omega arith) in
     request_of trace is_run have last (omega arith) it.number it.letter (ap (λ (entries : List Entry). numbered (letters_of entries) it.number) all ∙ it.is_letter)
     request.client request.number it.round request.sets request.body it.is_request
 
-pub asked_by_handled : (trace : Trace) → IsRun trace → ArePlain trace.entries → (client : ClientId) (number : ℕ) (parts : List (ObjectId × Method)) → IsHandled trace client number parts → IsRequestOf trace (length trace.entries) client number (body.Act parts)
+pub asked_by_handled : (trace : Trace) → IsRun trace → ArePlain trace → (client : ClientId) (number : ℕ) (parts : List (ObjectId × Method)) → IsHandled trace client number parts → IsRequestOf trace (length trace.entries) client number (body.Act parts)
 asked_by_handled trace is_run have client number parts it =
     let request : Request = record { client = client; number = number; sets = it.sets; body = body.Act parts } in
-    asked_by trace is_run have request (sent trace (it.entry).event (plain_among trace.entries it.entry have it.of_trace) request it.handled)
+    asked_by trace is_run have request (sent trace is_run (it.of_trace).0 (let below : (it.of_trace).0 < length trace.entries = (it.of_trace).1 in omega arith) (it.entry).event (plain_among trace it.entry have it.of_trace) request it.handled)

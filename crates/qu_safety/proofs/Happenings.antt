@@ -25,11 +25,12 @@ use Rattle.qu_world.proofs.WorldGrowth.{world_step-grows}
 use Rattle.qu_safety.specs.Grounds.{AcceptsAlone, IsMoved, IsDelivered}
 use Rattle.qu_safety.proofs.Acceptance.{step_moves, accepts_on}
 use Rattle.qu_world.proofs.Each.{set_here, set_other}
-use Rattle.qu_safety.specs.Carried.{Carries}
+use Rattle.qu_safety.specs.Carried.{Carries, handed}
 use Rattle.qu_frames.specs.Decoding.{decoded}
 use Rattle.qu_safety.specs.Views.{IsPlain}
 use Rattle.qu_frames.specs.Signed.{brought}
 use Rattle.qu_frames.proofs.Signed.{brought_is_decoded}
+use Rattle.qu_safety.proofs.Handing.{letter_handed, injected_cases}
 
 -- ---- a replica before an event
 
@@ -111,21 +112,21 @@ replica_takes world event me text (Some state) place old new is_found parts is_o
       | inr apart ↦ inl (stays world.replicas (slice_set world.replicas me.0 moved) place old new (set_other world.replicas me.0 place moved apart) is_old is_new)
     ]
 
-letter_taken : (world : WorldState) (number : ℕ) (letter : Letter) (to : Party) (place : ℕ) (old new : ReplicaState)
-    → letter_of world number ≡ Some letter → letter.to ≡ to → ((carried : Frame) → Carries letter carried → HasParts carried)
-    → slice_get world.replicas place ≡ Some old → slice_get (received world (Deliver number) to letter.text).replicas place ≡ Some new
-    → (new ≡ old) ⊎ IsMoved world (Deliver number) place old new
-letter_taken world number letter (party.Client me) place old new is_letter is_to parts is_old is_new =
-    inl (client_stays world (Deliver number) me (λ (state : ClientState). client_step state letter.text) (numbered world.clients me.0) place old new is_old is_new)
-letter_taken world number letter (party.Replica me) place old new is_letter is_to parts is_old is_new =
+letter_taken : (world : WorldState) (event : Event) (number : ℕ) (letter : Letter) (to : Party) (place : ℕ) (old new : ReplicaState)
+    → letter_of world number ≡ Some letter → handed world event ≡ Some (letter.to, letter.text) → letter.to ≡ to → ((carried : Frame) → Carries letter carried → HasParts carried)
+    → slice_get world.replicas place ≡ Some old → slice_get (received world event to letter.text).replicas place ≡ Some new
+    → (new ≡ old) ⊎ IsMoved world event place old new
+letter_taken world event number letter (party.Client me) place old new is_letter hands is_to parts is_old is_new =
+    inl (client_stays world event me (λ (state : ClientState). client_step state letter.text) (numbered world.clients me.0) place old new is_old is_new)
+letter_taken world event number letter (party.Replica me) place old new is_letter hands is_to parts is_old is_new =
     let replica : ℕ → Party = λ it. party.Replica (record { 0 = it }) in
-    elim (replica_takes world (Deliver number) me letter.text (slice_get world.replicas me.0) place old new refl parts is_old is_new) [
+    elim (replica_takes world event me letter.text (slice_get world.replicas me.0) place old new refl parts is_old is_new) [
       | inl same ↦ inl same
       | inr taken ↦ inr (record {
         number = number;
-        is_deliver = refl;
         letter = letter;
         is_letter = is_letter;
+        is_handed = hands;
         to = is_to ∙ ap replica taken.here;
         carried = taken.frame;
         brings = taken.is_frame;
@@ -139,18 +140,22 @@ letter_delivered : (world : WorldState) (number : ℕ) (found : Option Letter) (
     → (new ≡ old) ⊎ IsMoved world (Deliver number) place old new
 letter_delivered world number None place old new is_found parts is_old is_new = inl (stays world.replicas world.replicas place old new refl is_old is_new)
 letter_delivered world number (Some letter) place old new is_found parts is_old is_new =
-    letter_taken world number letter letter.to place old new is_found refl (parts letter refl) is_old is_new
+    letter_taken world (Deliver number) number letter letter.to place old new is_found (letter_handed world number letter is_found) refl (parts letter refl) is_old is_new
 
 -- an event leaves a replica as it is, or delivers to it what adds one candidate
 pub event_moves : (world : WorldState) (event : Event) (place : ℕ) (old new : ReplicaState)
     → slice_get world.replicas place ≡ Some old → slice_get (world_step world event).replicas place ≡ Some new
     → ((number : ℕ) (letter : Letter) → letter_of world number ≡ Some letter → (carried : Frame) → Carries letter carried → HasParts carried)
-    → IsPlain event → (new ≡ old) ⊎ IsMoved world event place old new
+    → IsPlain world event → (new ≡ old) ⊎ IsMoved world event place old new
 event_moves world (Invoke client op) place old new is_old is_new parts plain =
     inl (client_stays world (Invoke client op) client (λ (state : ClientState). client_invoke state op) (numbered world.clients client.0) place old new is_old is_new)
 event_moves world (Deliver number) place old new is_old is_new parts plain =
     letter_delivered world number (letter_of world number) place old new refl (parts number) is_old is_new
-event_moves world (Inject to text) place old new is_old is_new parts plain = absurd plain
+event_moves world (Inject to text) place old new is_old is_new parts plain =
+    injected_cases world to text (λ (event : Event) (made : WorldState). slice_get made.replicas place ≡ Some new → (new ≡ old) ⊎ IsMoved world event place old new)
+    (λ is. inl (stays world.replicas world.replicas place old new refl is_old is))
+    (λ number letter is_letter is. letter_taken world (Inject letter.to letter.text) number letter letter.to place old new is_letter refl refl (parts number letter is_letter) is_old is)
+    plain is_new
 event_moves world (Tick client) place old new is_old is_new parts plain =
     inl (client_stays world (Tick client) client client_tick (numbered world.clients client.0) place old new is_old is_new)
 
@@ -158,7 +163,7 @@ event_moves world (Tick client) place old new is_old is_new parts plain =
 pub event_accepts : (world : WorldState) (event : Event) (place : ℕ) (old new : ReplicaState)
     → slice_get world.replicas place ≡ Some old → slice_get (world_step world event).replicas place ≡ Some new
     → ((number : ℕ) (letter : Letter) → letter_of world number ≡ Some letter → (carried : Frame) → Carries letter carried → HasParts carried)
-    → IsPlain event → (object : ObjectId) → (own_candidates new object ≡ own_candidates old object) ⊎ IsDelivered world event place old new object
+    → IsPlain world event → (object : ObjectId) → (own_candidates new object ≡ own_candidates old object) ⊎ IsDelivered world event place old new object
 event_accepts world event place old new is_old is_new parts plain object =
     elim (event_moves world event place old new is_old is_new parts plain) [
       | inl same ↦ inl (ap (λ (it : ReplicaState). own_candidates it object) same)
@@ -166,9 +171,9 @@ event_accepts world event place old new is_old is_new parts plain object =
         | inl same ↦ inl same
         | inr one ↦ inr (record {
           number = moved.number;
-          is_deliver = moved.is_deliver;
           letter = moved.letter;
           is_letter = moved.is_letter;
+          is_handed = moved.is_handed;
           to = moved.to;
           carried = moved.carried;
           brings = moved.brings;

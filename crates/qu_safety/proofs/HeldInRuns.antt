@@ -12,11 +12,10 @@ use Rattle.qu_world.specs.State.{WorldState, opening_replicas, ring_of}
 use Rattle.qu_world.specs.Step.{world_step}
 use Rattle.qu_world.specs.Run.{IsRun}
 use Rattle.qu_safety.specs.Order.{world_after}
-use Rattle.qu_safety.specs.Views.{IsPlain, ArePlain}
+use Rattle.qu_safety.specs.Views.{ArePlain}
 use Rattle.qu_safety.proofs.Happenings.{WasBefore, was_before}
 use Rattle.qu_safety.proofs.HeldVersions.{AreOfHeld, opening_of_held, event_of_held}
 use Rattle.qu_safety.proofs.Views.{sent_has_parts}
-use Rattle.qu_world.proofs.Each.{each_at}
 use Rattle.qu_safety.proofs.WorldGrowth.{world_after-none, world_after-next}
 use Rattle.qu_safety.proofs.Small.{some_entry}
 use Rattle.qu_seal.specs.Keys.{Ring}
@@ -32,7 +31,7 @@ opening_from first (suc count) keys bounds kinds zero state found =
     subst AreOfHeld (same_Some _ state found) (opening_of_held (record { 0 = first }) keys bounds kinds)
 opening_from first (suc count) keys bounds kinds (suc place) state found = opening_from (first + 1) count keys bounds kinds place state found
 
-module _ (trace : Trace) (is_run : IsRun trace) (have : ArePlain trace.entries) where
+module _ (trace : Trace) (is_run : IsRun trace) (have : ArePlain trace) where
   held_next : (count : ℕ) → count < length trace.entries → AllOfHeld (world_after trace count) → AllOfHeld (world_after trace (count + 1))
   held_next count below before =
       let default : Entry = some_entry trace.entries (omega arith) in
@@ -42,7 +41,7 @@ module _ (trace : Trace) (is_run : IsRun trace) (have : ArePlain trace.entries) 
       let was : WasBefore (world_after trace count).replicas place new = was_before (world_after trace count) event place new is_new in
       event_of_held (world_after trace count) event place was.old new was.is_old is_new
       (λ number letter sent. sent_has_parts trace is_run have count (omega arith) number letter sent)
-      (each_at (λ (entry : Entry). IsPlain entry.event) trace.entries count default have below)
+      (have.plain_at count default below)
       (before place was.old was.is_old) in
       subst AllOfHeld (sym (world_after-next trace count default below)) step
 
@@ -53,5 +52,5 @@ module _ (trace : Trace) (is_run : IsRun trace) (have : ArePlain trace.entries) 
       subst (λ (at : ℕ). AllOfHeld (world_after trace at)) (add-one count) (held_next count (omega arith) (all_held count (omega arith)))
 
 -- each version that a replica of a run stores is that of a candidate that it holds
-pub held_versions : (trace : Trace) → IsRun trace → ArePlain trace.entries → (count : ℕ) → count ≤ length trace.entries → (place : ℕ) (state : ReplicaState) → slice_get (world_after trace count).replicas place ≡ Some state → AreOfHeld state
+pub held_versions : (trace : Trace) → IsRun trace → ArePlain trace → (count : ℕ) → count ≤ length trace.entries → (place : ℕ) (state : ReplicaState) → slice_get (world_after trace count).replicas place ≡ Some state → AreOfHeld state
 held_versions trace is_run have count within place state is_state = all_held trace is_run have count within place state is_state

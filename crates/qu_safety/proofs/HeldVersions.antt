@@ -128,7 +128,7 @@ still_of_held old new received alone are = record {
 pub event_of_held : (world : WorldState) (event : Event) (place : ℕ) (old new : ReplicaState)
     → slice_get world.replicas place ≡ Some old → slice_get (world_step world event).replicas place ≡ Some new
     → ((number : ℕ) (letter : Letter) → letter_of world number ≡ Some letter → (carried : Frame) → Carries letter carried → HasParts carried)
-    → IsPlain event
+    → IsPlain world event
     → AreOfHeld old → AreOfHeld new
 event_of_held world event place old new is_old is_new parts plain are =
     elim (event_moves world event place old new is_old is_new parts plain) [

@@ -10,7 +10,7 @@ use Rattle.qu_safety.specs.Views.{ArePlain}
 use Rattle.qu_safety.proofs.Established.{Established, is_established_by, established_by_decided, Establishes, establishes, Rests, rests, IsTop}
 use Rattle.qu_safety.proofs.Tops.{AreOne, one_accepted, base_is_top}
 
-module _ (trace : Trace) (is_run : IsRun trace) (have : ArePlain trace.entries) where
+module _ (trace : Trace) (is_run : IsRun trace) (have : ArePlain trace) where
   established_after : (time : ℕ) (object : ObjectId) (candidate : Candidate) → IsDecidedBy trace time object candidate → Established trace is_run have (suc time) object candidate
   established_after time object candidate by =
       let within : time < length trace.entries = by.happened in

@@ -40,7 +40,7 @@ use Rattle.qu_safety.proofs.WorldGrowth.{world_after-next, world_after-none}
 use Rattle.qu_safety.proofs.Beginning.{operation_begun, begun_one, begun_same, happens, IsFree, may_invoke}
 use Rattle.qu_safety.proofs.Requesting.{IsAsked, asked_later, replica_asked, IsUnderWay, IsAtWork, IsClientAt, client_later, client_steps, client_step-asked, client_begins, client_begins-asked}
 use Rattle.qu_safety.proofs.Small.{some_entry}
-use Rattle.qu_world.proofs.Each.{with_cases, each_at}
+use Rattle.qu_world.proofs.Each.{with_cases}
 use Rattle.qu_safety.specs.Carried.{Asks}
 use Rattle.qu_safety.specs.Views.{IsPlain, ArePlain}
 use Rattle.qu_safety.proofs.Carrying.{AsksFit, IsFitStep, numbered_here}
@@ -48,6 +48,7 @@ use Rattle.qu_safety.proofs.Fitting.{fit_step}
 use Rattle.qu_world.proofs.LetterLaws.{letters-push}
 use Rattle.qu_machine.proofs.Equalities.{client_is}
 use Rattle.qu_seal.specs.Keys.{Ring}
+use Rattle.qu_safety.proofs.Handing.{injected_cases}
 
 letters_next : (trace : Trace) (count : ℕ) (entries : List Entry) (entry : Entry) → All (IsAsked trace count) (letters_of entries) → All (IsAsked trace (count + 1)) entry.letters → All (IsAsked trace (count + 1)) (letters_of (entries ++ entry ∷ []))
 letters_next trace count entries entry old new =
@@ -159,7 +160,7 @@ module _ (trace : Trace) (count : ℕ) (world : WorldState) (shown : IsShown tra
 
   -- the next event of the trace
   module _ (default : Entry) (below : count < length trace.entries) where
-    event_shown : (event : Event) → (get_or trace.entries count default).event ≡ event → refusal_of world event ≡ None → IsPlain event → IsFitStep world (world_step world event) → IsShown trace (count + 1) (world_step world event)
+    event_shown : (event : Event) → (get_or trace.entries count default).event ≡ event → refusal_of world event ≡ None → IsPlain world event → IsFitStep world (world_step world event) → IsShown trace (count + 1) (world_step world event)
     event_shown (Invoke client what) is may plain fits =
         invoked_shown client what (may_invoke world client what may)
         (λ number other. begun_same trace.entries count default (record { 0 = number }) below (ap (invokes (record { 0 = number })) is ∙ ne_eqb number client.0 other))
@@ -175,7 +176,13 @@ module _ (trace : Trace) (count : ℕ) (world : WorldState) (shown : IsShown tra
         fits
     event_shown (Deliver number) is may plain fits =
         delivered_shown (Deliver number) (λ it. begun_same trace.entries count default (record { 0 = it }) below (ap (invokes (record { 0 = it })) is)) (letter_of world number) fits
-    event_shown (Inject to text) is may plain fits = absurd plain
+    event_shown (Inject to text) is may plain fits =
+        let quiet : (number : ℕ) → begun_at trace (count + 1) number ≡ begun_at trace count number =
+        λ it. begun_same trace.entries count default (record { 0 = it }) below (ap (invokes (record { 0 = it })) is) in
+        injected_cases world to text (λ (event : Event) (new : WorldState). IsFitStep world new → IsShown trace (count + 1) new)
+        (λ fit. idle_shown (Inject to text) quiet)
+        (λ number letter sent fit. received_shown (Inject letter.to letter.text) quiet letter.to letter.text fit)
+        plain fits
     event_shown (Tick client) is may plain fits =
         ticked_shown (Tick client) (λ it. begun_same trace.entries count default (record { 0 = it }) below (ap (invokes (record { 0 = it })) is)) client fits
 
@@ -200,14 +207,14 @@ opening_shown : (trace : Trace) → IsShown trace 0 (opening_world trace.setup)
 unfolding letters_of
 opening_shown trace = record { clients = opening_client trace; letters = All-nil (IsAsked trace 0) }
 
-world_shown : (trace : Trace) → IsRun trace → ArePlain trace.entries → (count : ℕ) → count ≤ length trace.entries → IsShown trace count (world_after trace count)
+world_shown : (trace : Trace) → IsRun trace → ArePlain trace → (count : ℕ) → count ≤ length trace.entries → IsShown trace count (world_after trace count)
 world_shown trace is have zero within = subst (IsShown trace 0) (sym (world_after-none trace)) (opening_shown trace)
 world_shown trace is have (suc count) within =
     let default : Entry = some_entry trace.entries (omega arith) in
     let before : IsShown trace count (world_after trace count) = world_shown trace is have count (omega arith) in
     let after : IsShown trace (count + 1) (world_step (world_after trace count) (get_or trace.entries count default).event) =
     event_shown trace count (world_after trace count) before default (omega arith) (get_or trace.entries count default).event refl (happens trace is count default (omega arith))
-    (each_at (λ (entry : Entry). IsPlain entry.event) trace.entries count default have (omega arith))
+    (have.plain_at count default (omega arith))
     (subst (IsFitStep (world_after trace count)) (world_after-next trace count default (omega arith)) (fit_step trace is have count (omega arith))) in
     subst (λ (many : ℕ). IsShown trace many (world_after trace many)) (add-one count)
     (subst (IsShown trace (count + 1)) (sym (world_after-next trace count default (omega arith))) after)
@@ -221,7 +228,7 @@ numbered_asked trace count zero letters letter all found = absurd cc
 numbered_asked trace count (suc index) letters letter all found = asked_by trace count letters index letter all found
 
 -- each request that was sent is one of an operation, which began before
-pub request_of : (trace : Trace) → IsRun trace → ArePlain trace.entries → (count : ℕ) → count ≤ length trace.entries → (number : ℕ) (letter : Letter) → letter_of (world_after trace count) number ≡ Some letter
+pub request_of : (trace : Trace) → IsRun trace → ArePlain trace → (count : ℕ) → count ≤ length trace.entries → (number : ℕ) (letter : Letter) → letter_of (world_after trace count) number ≡ Some letter
     → (client : ClientId) (asked round : ℕ) (sets : List SetOf) (body : Body) → Asks letter client asked round sets body → IsRequestOf trace count client asked body
 request_of trace is have count within number letter found client asked round sets body request =
     let shown : IsShown trace count (world_after trace count) = world_shown trace is have count within in
@@ -229,7 +236,7 @@ request_of trace is have count within number letter found client asked round set
     sent.asked (frame.Request client asked round sets body request.mac) request.carries
 
 -- and so is the work of each client
-pub work_of : (trace : Trace) → IsRun trace → ArePlain trace.entries → (count : ℕ) → count ≤ length trace.entries → (client : ClientId) (state : ClientState) → numbered (world_after trace count).clients client.0 ≡ Some state
+pub work_of : (trace : Trace) → IsRun trace → ArePlain trace → (count : ℕ) → count ≤ length trace.entries → (client : ClientId) (state : ClientState) → numbered (world_after trace count).clients client.0 ≡ Some state
     → (work : Work) → state.work ≡ Some work → IsRequestOf trace count client work.number (body_of work.op)
 work_of trace is have count within client state found work working =
     let shown : IsShown trace count (world_after trace count) = world_shown trace is have count within in

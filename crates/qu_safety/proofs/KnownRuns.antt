@@ -19,14 +19,14 @@ use Rattle.qu_safety.proofs.Recorded.{recorded_op}
 use Rattle.qu_safety.proofs.Values.{Known}
 
 -- what the versions of a run rest on
-pub known : (trace : Trace) → IsRun trace → ArePlain trace.entries → Known trace
+pub known : (trace : Trace) → IsRun trace → ArePlain trace → Known trace
 known trace is_run have = record {
   one_prior = one_prior trace is_run have;
   request_of = request_of trace is_run have;
 }
 
 -- what a client has under way is an operation of the trace
-work_recorded : (trace : Trace) → IsRun trace → ArePlain trace.entries → WorkIsRecorded trace
+work_recorded : (trace : Trace) → IsRun trace → ArePlain trace → WorkIsRecorded trace
 work_recorded trace is_run have count within client state found work working =
     let request : IsRequestOf trace count client work.number (body_of work.op) = work_of trace is_run have count within client state found work working in
     record {
@@ -43,6 +43,6 @@ one_record trace first second one two clients numbers =
     recorded_op trace first second one two (ap (λ (it : ClientId). it.0) clients) numbers
 
 -- an operation that completed was answered by a quorum
-pub completion : (trace : Trace) → IsRun trace → ArePlain trace.entries → (operation : OpRecord) → Contains (operations_of trace.entries) operation → (event : ℕ) (answer : Answer) → operation.reply ≡ Some (event, outcome.Done answer) → IsCompleted trace operation event answer
+pub completion : (trace : Trace) → IsRun trace → ArePlain trace → (operation : OpRecord) → Contains (operations_of trace.entries) operation → (event : ℕ) (answer : Answer) → operation.reply ≡ Some (event, outcome.Done answer) → IsCompleted trace operation event answer
 completion trace is_run have operation among event answer replied =
     completed trace is_run have (work_recorded trace is_run have) (one_record trace) operation among event answer replied

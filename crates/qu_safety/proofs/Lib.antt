@@ -69,8 +69,9 @@ pub mod Numbered
 pub mod CompletedActs
 pub mod ActPoints
 pub mod SerialOrder
-pub mod PartsLaws
+pub mod Keyed
 pub mod Plain
+pub mod Handing
 pub mod InTurn
 pub mod ByQuorums
 pub mod Handled

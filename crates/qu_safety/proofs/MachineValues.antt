@@ -84,7 +84,7 @@ all_accept object number (suc count) keys bounds kinds below =
     sum_by-cons (counted object) (opening_state (record { 0 = number }) keys bounds kinds) (opening_replicas (number + 1) count keys bounds kinds) in
     omega (arith, here, there, whole)
 
-module _ (trace : Trace) (is_run : IsRun trace) (have : ArePlain trace.entries) (known : Known trace) (one_act : ActsAreOne trace) where
+module _ (trace : Trace) (is_run : IsRun trace) (have : ArePlain trace) (known : Known trace) (one_act : ActsAreOne trace) where
   -- the value of an object after so many events
   pub record ValueAt (time : ℕ) (object : ObjectId) (values : List Value) : Type 0 where
     pub candidate : Candidate

@@ -38,7 +38,7 @@ use Rattle.qu_safety.proofs.Carrying.{brings_carries}
 abbrev text_of : List SetOf → Text
 text_of sets = record { tag = 2; bytes = sets_text sets }
 
-module _ (trace : Trace) (is_run : IsRun trace) (plain : ArePlain trace.entries) where
+module _ (trace : Trace) (is_run : IsRun trace) (plain : ArePlain trace) where
   -- the sets upon which a candidate was accepted
   abbrev sets_upon : (object : ObjectId) (candidate : Candidate) → Origin trace (length trace.entries) object candidate → List SetOf
   sets_upon object candidate it = ((it.delivered).accepts).sets

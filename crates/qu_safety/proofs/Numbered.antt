@@ -39,7 +39,7 @@ operation_numbered entries operation among =
     subst IsNumbered among.2 (all_numbered [] 1 entries among.0 operation among.1)
 
 -- an accepted candidate with an act is not the opening one, so it comes after its base
-pub act_late : (trace : Trace) → IsRun trace → ArePlain trace.entries → (object : ObjectId) (candidate : Candidate) → is_accepted (last_world trace) object candidate ≡ true → (act : Digest) → (candidate.stamp).act ≡ Some act → 1 ≤ (candidate.stamp).time
+pub act_late : (trace : Trace) → IsRun trace → ArePlain trace → (object : ObjectId) (candidate : Candidate) → is_accepted (last_world trace) object candidate ≡ true → (act : Digest) → (candidate.stamp).act ≡ Some act → 1 ≤ (candidate.stamp).time
 act_late trace is_run have object candidate accepted act of_act =
     elim (accepted_in_the_end trace is_run have object candidate accepted) [
       | inl is ↦ absurd (none-some act (sym (ap (λ (it : Candidate). (it.stamp).act) is) ∙ of_act))

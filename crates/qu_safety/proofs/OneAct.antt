@@ -67,7 +67,7 @@ pub act_by : (parts : List (ObjectId × Method)) (what : Op) → body.Act parts 
 act_by parts (op.Act act) same = cc
 act_by parts (op.Query query) same = absurd (cc)
 
-fit : (trace : Trace) → IsRun trace → ArePlain trace.entries → (client : ClientId) (number : ℕ) (parts : List (ObjectId × Method)) → IsHandled trace client number parts → IsFit client number parts
+fit : (trace : Trace) → IsRun trace → ArePlain trace → (client : ClientId) (number : ℕ) (parts : List (ObjectId × Method)) → IsHandled trace client number parts → IsFit client number parts
 fit trace is_run have client number parts it =
     let request : IsRequestOf trace (length trace.entries) client number (body.Act parts) = asked_by_handled trace is_run have client number parts it in
     let fits : Fits request.operation = operation_fits trace is_run have request.operation request.of_trace in
@@ -89,7 +89,7 @@ abbrev pub ActsAreOne : Trace → Type 0
 ActsAreOne trace = (client other : ClientId) (number turn : ℕ) (parts others : List (ObjectId × Method))
     → IsHandled trace client number parts → IsHandled trace other turn others → act_digest client number parts ≡ act_digest other turn others → (client ≡ other) × (number ≡ turn) × (parts ≡ others)
 
-pub acts_are_one : (trace : Trace) → IsRun trace → ArePlain trace.entries → NoCollision trace → ActsAreOne trace
+pub acts_are_one : (trace : Trace) → IsRun trace → ArePlain trace → NoCollision trace → ActsAreOne trace
 acts_are_one trace is_run have no_collision client other number turn parts others one two same =
     let first : IsFit client number parts = fit trace is_run have client number parts one in
     let second : IsFit other turn others = fit trace is_run have other turn others two in

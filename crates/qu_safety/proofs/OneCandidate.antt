@@ -57,13 +57,13 @@ not_opening trace count object candidate act of_act (inl begins) = absurd (none-
 not_opening trace count object candidate act of_act (inr came) = came
 
 -- an accepted candidate is the opening one, or has an origin
-pub accepted_from : (trace : Trace) → IsRun trace → ArePlain trace.entries → (object : ObjectId) (candidate : Candidate) → IsTrue (is_accepted (last_world trace) object candidate) → (candidate ≡ opening) ⊎ Origin trace (length trace.entries) object candidate
+pub accepted_from : (trace : Trace) → IsRun trace → ArePlain trace → (object : ObjectId) (candidate : Candidate) → IsTrue (is_accepted (last_world trace) object candidate) → (candidate ≡ opening) ⊎ Origin trace (length trace.entries) object candidate
 accepted_from trace is_run have object candidate accepted =
     let found : (place : ℕ) × (state : ReplicaState) × (slice_get (last_world trace).replicas place ≡ Some state) × (accepts object candidate state ≡ true) = any_place (accepts object candidate) (last_world trace).replicas accepted in
     origin trace is_run have (length trace.entries) (omega arith) found.0 found.1 found.2 object candidate found.3
 
 -- with an act it has an origin
-pub accepted_origin : (trace : Trace) → IsRun trace → ArePlain trace.entries → (object : ObjectId) (candidate : Candidate) → IsTrue (is_accepted (last_world trace) object candidate) → (act : Digest) → (candidate.stamp).act ≡ Some act → Origin trace (length trace.entries) object candidate
+pub accepted_origin : (trace : Trace) → IsRun trace → ArePlain trace → (object : ObjectId) (candidate : Candidate) → IsTrue (is_accepted (last_world trace) object candidate) → (act : Digest) → (candidate.stamp).act ≡ Some act → Origin trace (length trace.entries) object candidate
 accepted_origin trace is_run have object candidate accepted act of_act =
     not_opening trace (length trace.entries) object candidate act of_act (accepted_from trace is_run have object candidate accepted)
 
@@ -135,7 +135,7 @@ one_made trace object other first second one two clients numbers sets parts =
     (one.prior ∙ ap (λ (it : Candidate). it.stamp) bases ∙ sym two.prior)
 
 -- what was accepted with one act digest is one candidate of one object
-pub one_candidate : (trace : Trace) → IsRun trace → ArePlain trace.entries → ActsAreOne trace → (object other : ObjectId) (first second : Candidate) → IsTrue (is_accepted (last_world trace) object first) → IsTrue (is_accepted (last_world trace) other second)
+pub one_candidate : (trace : Trace) → IsRun trace → ArePlain trace → ActsAreOne trace → (object other : ObjectId) (first second : Candidate) → IsTrue (is_accepted (last_world trace) object first) → IsTrue (is_accepted (last_world trace) other second)
     → (act : Digest) → (first.stamp).act ≡ Some act → (second.stamp).act ≡ Some act → (object ≡ other) × (first ≡ second)
 one_candidate trace is_run have one_act object other first second accepted besides act of_first of_second =
     let one : IsAsked trace object first = asked_by trace is_run object first (accepted_origin trace is_run have object first accepted act of_first) in

@@ -38,7 +38,7 @@ use Rattle.qu_world.specs.State.{WorldState, opening_world, opening_clients, num
 use Rattle.qu_world.specs.Step.{world_step, unchanged, at_replica, at_client, received, delivered}
 use Rattle.qu_world.specs.Run.{IsRun}
 use Rattle.qu_safety.specs.Order.{world_after}
-use Rattle.qu_world.proofs.Each.{with_cases, each_at}
+use Rattle.qu_world.proofs.Each.{with_cases}
 use Rattle.qu_safety.proofs.WorldGrowth.{world_after-none, world_after-next}
 use Rattle.qu_safety.proofs.OnceSent.{StandsIn, none_stands, IsOnce, AreAlike, OrNew, IsOnceStep, client_step-once, client_tick-once, client_invoke-once, once_more, once_of}
 use Rattle.qu_safety.proofs.Small.{some_entry}
@@ -50,6 +50,7 @@ use Rattle.qu_world.proofs.LetterLaws.{letters-push}
 use Rattle.qu_frames.specs.Signed.{brought, signature}
 use Rattle.qu_replica.proofs.FitSteps.{blank_sized}
 use Rattle.qu_seal.specs.Keys.{Ring}
+use Rattle.qu_safety.proofs.Handing.{injected_cases}
 
 -- ---- places
 
@@ -213,7 +214,7 @@ module _ (bounds : ℕ) where
   delivered-once world event None fits before = unchanged-once world event before
   delivered-once world event (Some letter) fits before = received-once world event letter.to letter.text fits before
 
-  world_step-once : (world : WorldState) (event : Event) → IsPlain event → IsFitStep world (world_step world event) → IsOnceWorld bounds world → IsOnceWorld bounds (world_step world event)
+  world_step-once : (world : WorldState) (event : Event) → IsPlain world event → IsFitStep world (world_step world event) → IsOnceWorld bounds world → IsOnceWorld bounds (world_step world event)
   world_step-once world (Invoke client operation) plain fits before =
       at_client-once world (Invoke client operation) client (λ (state : ClientState). client_invoke state operation) (numbered world.clients client.0) refl
       (λ number state at once fit. (
@@ -225,7 +226,11 @@ module _ (bounds : ℕ) where
         },
       )) fits before
   world_step-once world (Deliver number) plain fits before = delivered-once world (Deliver number) (letter_of world number) fits before
-  world_step-once world (Inject to text) plain fits before = absurd plain
+  world_step-once world (Inject to text) plain fits before =
+      injected_cases world to text (λ (event : Event) (new : WorldState). IsFitStep world new → IsOnceWorld bounds new)
+      (λ fit. unchanged-once world (Inject to text) before)
+      (λ number letter sent fit. received-once world (Inject letter.to letter.text) letter.to letter.text fit before)
+      plain fits
   world_step-once world (Tick client) plain fits before =
       at_client-once world (Tick client) client client_tick (numbered world.clients client.0) refl
       (λ number state at once fit. (client_tick-once (StandsIn (letters_of world.entries)) bounds state once, at)) fits before
@@ -266,22 +271,22 @@ opening_world-once setup = record {
   alike = λ first second one. absurd (none_stands first one);
 }
 
-once_next : (trace : Trace) → IsRun trace → ArePlain trace.entries → (count : ℕ) → count < length trace.entries → IsOnceWorld trace.setup.bounds (world_after trace count) → IsOnceWorld trace.setup.bounds (world_after trace (count + 1))
+once_next : (trace : Trace) → IsRun trace → ArePlain trace → (count : ℕ) → count < length trace.entries → IsOnceWorld trace.setup.bounds (world_after trace count) → IsOnceWorld trace.setup.bounds (world_after trace (count + 1))
 once_next trace is_run have count below before =
     let default : Entry = some_entry trace.entries (omega arith) in
     let event : Event = (get_or trace.entries count default).event in
     subst (IsOnceWorld trace.setup.bounds) (sym (world_after-next trace count default below))
-    (world_step-once trace.setup.bounds (world_after trace count) event (each_at (λ (entry : Entry). IsPlain entry.event) trace.entries count default have below)
+    (world_step-once trace.setup.bounds (world_after trace count) event (have.plain_at count default below)
     (subst (IsFitStep (world_after trace count)) (world_after-next trace count default below) (fit_step trace is_run have count below)) before)
 
-pub once_world : (trace : Trace) → IsRun trace → ArePlain trace.entries → (count : ℕ) → count ≤ length trace.entries → IsOnceWorld trace.setup.bounds (world_after trace count)
+pub once_world : (trace : Trace) → IsRun trace → ArePlain trace → (count : ℕ) → count ≤ length trace.entries → IsOnceWorld trace.setup.bounds (world_after trace count)
 once_world trace is_run have zero within = subst (IsOnceWorld trace.setup.bounds) (sym (world_after-none trace)) (opening_world-once trace.setup)
 once_world trace is_run have (suc count) within =
     subst (λ (at : ℕ). IsOnceWorld trace.setup.bounds (world_after trace at)) (add-one count)
     (once_next trace is_run have count (omega arith) (once_world trace is_run have count (omega arith)))
 
 -- two requests of one act upon full sets have the same sets and parts
-pub one_full_request : (trace : Trace) → IsRun trace → ArePlain trace.entries → (count : ℕ) → count ≤ length trace.entries → (first second : ℕ) (a b : Letter) → letter_of (world_after trace count) first ≡ Some a → letter_of (world_after trace count) second ≡ Some b → (client : ClientId) (number : ℕ) (round turn : ℕ) (sets others : List SetOf) (parts more : List (ObjectId × Method)) → Asks a client number round sets (body.Act parts) → Asks b client number turn others (body.Act more) → are_full trace.setup.bounds sets ≡ true → are_full trace.setup.bounds others ≡ true → (sets ≡ others) × (parts ≡ more)
+pub one_full_request : (trace : Trace) → IsRun trace → ArePlain trace → (count : ℕ) → count ≤ length trace.entries → (first second : ℕ) (a b : Letter) → letter_of (world_after trace count) first ≡ Some a → letter_of (world_after trace count) second ≡ Some b → (client : ClientId) (number : ℕ) (round turn : ℕ) (sets others : List SetOf) (parts more : List (ObjectId × Method)) → Asks a client number round sets (body.Act parts) → Asks b client number turn others (body.Act more) → are_full trace.setup.bounds sets ≡ true → are_full trace.setup.bounds others ≡ true → (sets ≡ others) × (parts ≡ more)
 one_full_request trace is_run have count within first second a b one two client number round turn sets others parts more is_a is_b full_a full_b =
     (once_world trace is_run have count within).alike a b
     (numbered_stands (letters_of (world_after trace count).entries) first a one) (numbered_stands (letters_of (world_after trace count).entries) second b two)

@@ -35,8 +35,8 @@ use Rattle.qu_safety.specs.Carried.{Asks}
 use Rattle.qu_safety.specs.Views.{IsPlain, ArePlain}
 use Rattle.qu_safety.proofs.Carrying.{AsksFit, IsFitStep, numbered_here}
 use Rattle.qu_safety.proofs.Fitting.{fit_step}
-use Rattle.qu_world.proofs.Each.{each_at}
 use Rattle.qu_seal.specs.Keys.{Ring}
+use Rattle.qu_safety.proofs.Handing.{injected_cases}
 
 -- ---- what holds of all clients and letters
 
@@ -125,12 +125,16 @@ module _ (bounds : ℕ) (world : WorldState) (once : AreOnce (StandsIn (letters_
   delivered-round event None fits = unchanged-round world event before
   delivered-round event (Some letter) fits = received-round event letter.to letter.text fits
 
-  world_step-round : (event : Event) → IsPlain event → IsFitStep world (world_step world event) → IsRoundWorld (world_step world event)
+  world_step-round : (event : Event) → IsPlain world event → IsFitStep world (world_step world event) → IsRoundWorld (world_step world event)
   world_step-round (Invoke client operation) plain fits =
       at_client-round (Invoke client operation) client (λ (state : ClientState). client_invoke state operation) (numbered world.clients client.0) refl
       (λ number state at known within fit. (client_invoke-once Sent bounds state operation at.bounds_are known fit, client_invoke-round Sent state operation known.up_to fit)) fits
   world_step-round (Deliver number) plain fits = delivered-round (Deliver number) (letter_of world number) fits
-  world_step-round (Inject to text) plain fits = absurd plain
+  world_step-round (Inject to text) plain fits =
+      injected_cases world to text (λ (event : Event) (new : WorldState). IsFitStep world new → IsRoundWorld new)
+      (λ fit. unchanged-round world (Inject to text) before)
+      (λ number letter sent fit. received-round (Inject letter.to letter.text) letter.to letter.text fit)
+      plain fits
   world_step-round (Tick client) plain fits =
       at_client-round (Tick client) client client_tick (numbered world.clients client.0) refl
       (λ number state at known within fit. (client_tick-once Sent bounds state known, client_tick-round Sent state within)) fits
@@ -148,23 +152,23 @@ opening_world-round setup = record {
   alike = λ first second one. absurd (none_stands first one);
 }
 
-round_next : (trace : Trace) → IsRun trace → ArePlain trace.entries → (count : ℕ) → count < length trace.entries → IsRoundWorld (world_after trace count) → IsRoundWorld (world_after trace (count + 1))
+round_next : (trace : Trace) → IsRun trace → ArePlain trace → (count : ℕ) → count < length trace.entries → IsRoundWorld (world_after trace count) → IsRoundWorld (world_after trace (count + 1))
 round_next trace is_run have count below before =
     let default : Entry = some_entry trace.entries (omega arith) in
     let event : Event = (get_or trace.entries count default).event in
     subst IsRoundWorld (sym (world_after-next trace count default below))
     (world_step-round trace.setup.bounds (world_after trace count) (once_world trace is_run have count (omega arith)) before event
-    (each_at (λ (entry : Entry). IsPlain entry.event) trace.entries count default have below)
+    (have.plain_at count default below)
     (subst (IsFitStep (world_after trace count)) (world_after-next trace count default below) (fit_step trace is_run have count below)))
 
-round_world : (trace : Trace) → IsRun trace → ArePlain trace.entries → (count : ℕ) → count ≤ length trace.entries → IsRoundWorld (world_after trace count)
+round_world : (trace : Trace) → IsRun trace → ArePlain trace → (count : ℕ) → count ≤ length trace.entries → IsRoundWorld (world_after trace count)
 round_world trace is_run have zero within = subst IsRoundWorld (sym (world_after-none trace)) (opening_world-round trace.setup)
 round_world trace is_run have (suc count) within =
     subst (λ (at : ℕ). IsRoundWorld (world_after trace at)) (add-one count)
     (round_next trace is_run have count (omega arith) (round_world trace is_run have count (omega arith)))
 
 -- two requests of one operation and round have the same sets and body
-pub one_round_request : (trace : Trace) → IsRun trace → ArePlain trace.entries → (count : ℕ) → count ≤ length trace.entries → (first second : ℕ) (a b : Letter) → letter_of (world_after trace count) first ≡ Some a → letter_of (world_after trace count) second ≡ Some b → (client : ClientId) (number round : ℕ) (sets others : List SetOf) (asked other : Body) → Asks a client number round sets asked → Asks b client number round others other → (sets ≡ others) × (asked ≡ other)
+pub one_round_request : (trace : Trace) → IsRun trace → ArePlain trace → (count : ℕ) → count ≤ length trace.entries → (first second : ℕ) (a b : Letter) → letter_of (world_after trace count) first ≡ Some a → letter_of (world_after trace count) second ≡ Some b → (client : ClientId) (number round : ℕ) (sets others : List SetOf) (asked other : Body) → Asks a client number round sets asked → Asks b client number round others other → (sets ≡ others) × (asked ≡ other)
 one_round_request trace is_run have count within first second a b one two client number round sets others asked other is_a is_b =
     (round_world trace is_run have count within).alike a b
     (numbered_stands (letters_of (world_after trace count).entries) first a one) (numbered_stands (letters_of (world_after trace count).entries) second b two)

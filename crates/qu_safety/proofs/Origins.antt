@@ -17,8 +17,7 @@ use Rattle.qu_world.specs.Run.{IsRun}
 use Rattle.std.proofs.lemmas.List.Elements.{Contains-get_or}
 use Rattle.qu_safety.specs.Order.{world_after}
 use Rattle.qu_safety.specs.Origins.{Origin}
-use Rattle.qu_safety.specs.Views.{IsPlain, ArePlain}
-use Rattle.qu_world.proofs.Each.{each_at}
+use Rattle.qu_safety.specs.Views.{ArePlain}
 use Rattle.qu_safety.proofs.WorldGrowth.{world_after-next}
 use Rattle.qu_safety.proofs.Happenings.{WasBefore, was_before, event_accepts}
 use Rattle.qu_safety.proofs.OpeningReplicas.{opening_holds}
@@ -54,7 +53,7 @@ came_before : (trace : Trace) (count : ℕ) (object : ObjectId) (candidate : Can
 came_before trace count object candidate (inl begins) = inl begins
 came_before trace count object candidate (inr origin) = inr (origin_later trace count object candidate origin)
 
-module _ (trace : Trace) (is_run : IsRun trace) (have : ArePlain trace.entries) where
+module _ (trace : Trace) (is_run : IsRun trace) (have : ArePlain trace) where
   origin_next : (count : ℕ) → count < length trace.entries → ComesFrom trace count → ComesFrom trace (count + 1)
   origin_next count below before place new is_new object candidate held =
       let default : Entry = some_entry trace.entries (omega arith) in
@@ -64,7 +63,7 @@ module _ (trace : Trace) (is_run : IsRun trace) (have : ArePlain trace.entries) 
       let was : WasBefore (world_after trace count).replicas place new = was_before (world_after trace count) event place new is_next in
       elim (event_accepts (world_after trace count) event place was.old new was.is_old is_next
       (λ number letter sent. sent_has_parts trace is_run have count (omega arith) number letter sent)
-      (each_at (λ (entry : Entry). IsPlain entry.event) trace.entries count default have below) object) [
+      (have.plain_at count default below) object) [
         | inl same ↦
             came_before trace count object candidate
             (before place was.old was.is_old object candidate (sym (ap (holds candidate) same) ∙ held))
@@ -102,5 +101,5 @@ module _ (trace : Trace) (is_run : IsRun trace) (have : ArePlain trace.entries) 
       subst (ComesFrom trace) (add-one count) (origin_next count (omega arith) (comes_from count (omega arith)))
 
 -- a candidate that a replica holds is the opening one, or an event made a replica accept it
-pub origin : (trace : Trace) → IsRun trace → ArePlain trace.entries → (count : ℕ) → count ≤ length trace.entries → (place : ℕ) (state : ReplicaState) → slice_get (world_after trace count).replicas place ≡ Some state → (object : ObjectId) (candidate : Candidate) → holds candidate (own_candidates state object) ≡ true → (candidate ≡ opening) ⊎ Origin trace count object candidate
+pub origin : (trace : Trace) → IsRun trace → ArePlain trace → (count : ℕ) → count ≤ length trace.entries → (place : ℕ) (state : ReplicaState) → slice_get (world_after trace count).replicas place ≡ Some state → (object : ObjectId) (candidate : Candidate) → holds candidate (own_candidates state object) ≡ true → (candidate ≡ opening) ⊎ Origin trace count object candidate
 origin trace is_run have count within = comes_from trace is_run have count within

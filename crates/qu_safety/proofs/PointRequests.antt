@@ -2,7 +2,7 @@
 use Rattle.std.proofs.Common.{◌≡◌, ℕ, zero, suc, ◌<◌, ◌≤◌, true, List, [], ◌∷◌, length, get_or, Option, None, Some, refl, sym, ap, subst, ◌∙◌, arith, Result, Ok, Err}
 use Rattle.std.specs.Prelude.{◌==◌, ◌&&◌, slice_get, Contains}
 use Rattle.std.proofs.lemmas.Bool.{false≢true, and_parts, eqb-true}
-use Rattle.std.proofs.lemmas.Option.{none-some, same_Some, slice_get_within, get_or_from_slice_get}
+use Rattle.std.proofs.lemmas.Option.{none-some, slice_get_within, get_or_from_slice_get}
 use Rattle.qu_base.specs.declared.party.ClientId.{ClientId}
 use Rattle.qu_base.specs.declared.party.ReplicaId.{ReplicaId}
 use Rattle.qu_base.specs.declared.party.ObjectId.{ObjectId}
@@ -24,7 +24,6 @@ use Rattle.qu_frames.specs.Body.{body_of}
 use Rattle.qu_machine.specs.declared.record.OpRecord.{OpRecord}
 use Rattle.qu_machine.specs.declared.record.Point.{Point}
 use Rattle.qu_machine.proofs.Equalities.{Passes, passes_from_any, client_is}
-use Rattle.qu_trace.specs.declared.event.Event.TheVariants.{Deliver}
 use Rattle.qu_trace.specs.declared.trace.Entry.{Entry}
 use Rattle.qu_trace.specs.declared.trace.Trace.{Trace}
 use Rattle.qu_trace.specs.Operations.{operations_of}
@@ -52,11 +51,12 @@ use Rattle.qu_safety.proofs.Replying.{reply_sent}
 use Rattle.qu_safety.proofs.Taking.{effect_once}
 use Rattle.qu_safety.proofs.WorldGrowth.{accepted_by_decided}
 use Rattle.qu_safety.proofs.Carrying.{asks_as, tells_as, asks_so, one_carried, brings_carries, reply_asks}
-use Rattle.qu_safety.proofs.Small.{same_deliver, same_point}
-use Rattle.qu_safety.specs.Carried.{Asks, Tells}
+use Rattle.qu_safety.proofs.Small.{same_point}
+use Rattle.qu_safety.specs.Carried.{Asks, Tells, handed}
 use Rattle.qu_frames.specs.Decoding.{decoded}
 use Rattle.qu_history.specs.declared.sealed.Sealed.{Sealed}
 use Rattle.qu_base.specs.declared.bad_text.BadText.{BadText}
+use Rattle.qu_safety.proofs.Handing.{one_hand}
 
 -- ---- answers
 
@@ -85,13 +85,13 @@ reply_in client number round letter answer = reply_in_read client number round l
 
 -- ---- what an event delivers
 
--- the event of the entry with this index delivers a request of this client and number
+-- the event of the entry with this index hands over a request of this client and number
 record IsAskedAt (trace : Trace) (time : ℕ) (client : ClientId) (number : ℕ) : Type 0 where
   within : time < length trace.entries
   asked : ℕ
-  is_deliver : (get_or trace.entries time some_entry).event ≡ Deliver asked
   letter : Letter
   is_letter : letter_of (world_after trace time) asked ≡ Some letter
+  is_handed : handed (world_after trace time) (get_or trace.entries time some_entry).event ≡ Some (letter.to, letter.text)
   round : ℕ
   sets : List SetOf
   asks : Body
@@ -101,7 +101,7 @@ record IsAskedAt (trace : Trace) (time : ℕ) (client : ClientId) (number : ℕ)
 abbrev IsAskedBy : Trace → ℕ → ClientId → ℕ → Type 0
 IsAskedBy trace event client number = (time : ℕ) × (event ≡ suc time) × IsAskedAt trace time client number
 
-module _ (trace : Trace) (is_run : IsRun trace) (have : ArePlain trace.entries) (one_act : ActsAreOne trace) where
+module _ (trace : Trace) (is_run : IsRun trace) (have : ArePlain trace) (one_act : ActsAreOne trace) where
   -- before the first event no operation has taken effect: what is accepted then has no act
   not_at_first : (client : ClientId) (act : Digest) → TookEffect (world_after trace 0) client act → ⊥
   not_at_first client act took =
@@ -123,9 +123,9 @@ module _ (trace : Trace) (is_run : IsRun trace) (have : ArePlain trace.entries) 
       record {
         within = within;
         asked = delivered.number;
-        is_deliver = sym accepted.event_is ∙ delivered.is_deliver;
         letter = delivered.letter;
         is_letter = delivered.is_letter;
+        is_handed = ap (handed (world_after trace time)) (sym accepted.event_is) ∙ delivered.is_handed;
         round = one.round;
         sets = one.sets;
         asks = body.Act ((object, one.method) ∷ []);
@@ -162,9 +162,9 @@ module _ (trace : Trace) (is_run : IsRun trace) (have : ArePlain trace.entries) 
   asked_by_reply time replica client number round verdict reply = record {
     within = slice_get_within trace.entries time reply.entry reply.is_entry;
     asked = reply.asked;
-    is_deliver = ap (λ (it : Entry). it.event) (get_or_from_slice_get trace.entries time reply.entry some_entry reply.is_entry) ∙ reply.is_deliver;
     letter = reply.letter;
     is_letter = reply.is_letter;
+    is_handed = ap (λ (it : Entry). handed (world_after trace time) it.event) (get_or_from_slice_get trace.entries time reply.entry some_entry reply.is_entry) ∙ reply.is_handed;
     round = round;
     sets = reply.sets;
     asks = reply.body;
@@ -197,13 +197,13 @@ module _ (trace : Trace) (is_run : IsRun trace) (have : ArePlain trace.entries) 
 
 -- ---- points
 
--- the event of the entry with this index delivers a request of the point's operation
+-- the event of the entry with this index hands over a request of the point's operation
 pub record PointRequest (trace : Trace) (time : ℕ) (point : Point) : Type 0 where
   pub within : time < length trace.entries
   pub asked : ℕ
-  pub is_deliver : (get_or trace.entries time some_entry).event ≡ Deliver asked
   pub letter : Letter
   pub is_letter : letter_of (world_after trace time) asked ≡ Some letter
+  pub is_handed : handed (world_after trace time) (get_or trace.entries time some_entry).event ≡ Some (letter.to, letter.text)
   pub round : ℕ
   pub sets : List SetOf
   pub is_request : Asks letter point.client point.number round sets (body_of point.op)
@@ -213,7 +213,7 @@ record AsksFor (operation : OpRecord) (time : ℕ) (asks : Body) : Type 0 where
   same : asks ≡ body_of operation.op
   begun : operation.invoked ≤ time
 
-asks_for : (trace : Trace) → IsRun trace → ArePlain trace.entries → (time : ℕ) (operation : OpRecord) → Contains (operations_of trace.entries) operation → (asked : IsAskedAt trace time operation.client operation.number) → AsksFor operation time asked.asks
+asks_for : (trace : Trace) → IsRun trace → ArePlain trace → (time : ℕ) (operation : OpRecord) → Contains (operations_of trace.entries) operation → (asked : IsAskedAt trace time operation.client operation.number) → AsksFor operation time asked.asks
 asks_for trace is_run have time operation of_trace asked =
     let within : time < length trace.entries = asked.within in
     let request : IsRequestOf trace time operation.client operation.number asked.asks =
@@ -225,7 +225,7 @@ asks_for trace is_run have time operation of_trace asked =
       begun = subst (λ (it : OpRecord). it.invoked ≤ time) same request.begun;
     }
 
-module _ (trace : Trace) (is_run : IsRun trace) (have : ArePlain trace.entries) (one_act : ActsAreOne trace) where
+module _ (trace : Trace) (is_run : IsRun trace) (have : ArePlain trace) (one_act : ActsAreOne trace) where
   asked_of_point : (point : Point) → (is : IsPoint trace point) → IsAskedBy trace point.event is.operation.client is.operation.number
   asked_of_point point is = effect_asked trace is_run have one_act is.operation point.event is.operation.op is.effect
 
@@ -239,9 +239,9 @@ module _ (trace : Trace) (is_run : IsRun trace) (have : ArePlain trace.entries) 
         record {
           within = asked.within;
           asked = asked.asked;
-          is_deliver = asked.is_deliver;
           letter = asked.letter;
           is_letter = asked.is_letter;
+          is_handed = asked.is_handed;
           round = asked.round;
           sets = asked.sets;
           is_request = asks_as asked.letter (is.operation).client point.client (is.operation).number point.number asked.round asked.round asked.sets asked.asks (body_of point.op) is.client is.number refl same asked.is_request;
@@ -288,15 +288,13 @@ same_request letter first second asked number turn round sets shown asks told on
     same_frame first second asked number turn round sets shown asks told one.mac two.mac
     (one_carried letter (frame.Request first asked turn sets asks one.mac) (frame.Request second number round shown told two.mac) one.carries two.carries)
 
-module _ (trace : Trace) (is_run : IsRun trace) (have : ArePlain trace.entries) (one_act : ActsAreOne trace) where
-  -- one event delivers one letter
+module _ (trace : Trace) (is_run : IsRun trace) (have : ArePlain trace) (one_act : ActsAreOne trace) where
+  -- one event hands over one text
   apart_at : (time : ℕ) (first second : Point) → PointRequest trace time first → PointRequest trace time second → (first.client ≡ second.client) × (first.number ≡ second.number)
   apart_at time first second one two =
-      let asked : one.asked ≡ two.asked = same_deliver one.asked two.asked (sym one.is_deliver ∙ two.is_deliver) in
-      let letter : one.letter ≡ two.letter =
-      same_Some one.letter two.letter (sym one.is_letter ∙ ap (λ (it : ℕ). letter_of (world_after trace time) it) asked ∙ two.is_letter) in
+      let hand = one_hand one.letter two.letter (handed (world_after trace time) (get_or trace.entries time some_entry).event) _ refl one.is_handed two.is_handed in
       same_request two.letter first.client second.client first.number second.number one.round two.round one.sets two.sets (body_of first.op) (body_of second.op)
-      (subst (λ (it : Letter). Asks it first.client first.number one.round one.sets (body_of first.op)) letter one.is_request) two.is_request
+      (record { mac = (one.is_request).mac; carries = ap decoded (sym hand.1) ∙ (one.is_request).carries }) two.is_request
 
   -- points differ in their events
   pub points_apart : (first second : Point) → IsPoint trace first → IsPoint trace second → first.event ≡ second.event → first ≡ second

@@ -22,48 +22,50 @@ use Rattle.qu_world.specs.Run.{run_from, events_of, IsRun}
 use Rattle.qu_world.proofs.RunLaws.{step_records}
 use Rattle.qu_safety.specs.Order.{world_after}
 use Rattle.qu_safety.proofs.WorldGrowth.{world_after-next}
+use Rattle.qu_safety.specs.Carried.{handed}
 use Rattle.qu_safety.specs.Views.{IsPlain, ArePlain}
-use Rattle.qu_world.proofs.Each.{each_at}
+use Rattle.qu_safety.proofs.Handing.{letter_handed, injected_cases}
 
 -- ---- what a step of a world may be
 
 -- whatever holds of each of these holds of the step
 module _ (world : WorldState) (P : WorldState → Type 0)
     (nothing : (event : Event) → P (unchanged world event))
-    (replica_moves : (number : ℕ) (letter : Letter) (me : ReplicaId) (state : ReplicaState) → letter_of world number ≡ Some letter → slice_get world.replicas me.0 ≡ Some state → P (at_replica world (Deliver number) me letter.text (Some state)))
+    (replica_moves : (event : Event) (number : ℕ) (letter : Letter) (me : ReplicaId) (state : ReplicaState) → letter_of world number ≡ Some letter → handed world event ≡ Some (letter.to, letter.text) → slice_get world.replicas me.0 ≡ Some state → P (at_replica world event me letter.text (Some state)))
     (invokes : (client : ClientId) (op : Op) (state : ClientState) → numbered world.clients client.0 ≡ Some state → P (at_client world (Invoke client op) client (λ (state : ClientState). client_invoke state op) (Some state)))
-    (takes : (number : ℕ) (letter : Letter) (client : ClientId) (state : ClientState) → letter_of world number ≡ Some letter → numbered world.clients client.0 ≡ Some state → P (at_client world (Deliver number) client (λ (state : ClientState). client_step state letter.text) (Some state)))
+    (takes : (event : Event) (number : ℕ) (letter : Letter) (client : ClientId) (state : ClientState) → letter_of world number ≡ Some letter → handed world event ≡ Some (letter.to, letter.text) → numbered world.clients client.0 ≡ Some state → P (at_client world event client (λ (state : ClientState). client_step state letter.text) (Some state)))
     (ticks : (client : ClientId) (state : ClientState) → numbered world.clients client.0 ≡ Some state → P (at_client world (Tick client) client client_tick (Some state))) where
-  replica_found : (number : ℕ) (letter : Letter) → letter_of world number ≡ Some letter → (me : ReplicaId) (found : Option ReplicaState) → slice_get world.replicas me.0 ≡ found → P (at_replica world (Deliver number) me letter.text found)
-  replica_found number letter sent me None is = nothing (Deliver number)
-  replica_found number letter sent me (Some state) is = replica_moves number letter me state sent is
+  replica_found : (event : Event) (number : ℕ) (letter : Letter) → letter_of world number ≡ Some letter → handed world event ≡ Some (letter.to, letter.text) → (me : ReplicaId) (found : Option ReplicaState) → slice_get world.replicas me.0 ≡ found → P (at_replica world event me letter.text found)
+  replica_found event number letter sent hands me None is = nothing event
+  replica_found event number letter sent hands me (Some state) is = replica_moves event number letter me state sent hands is
 
   invoke_found : (client : ClientId) (op : Op) (found : Option ClientState) → numbered world.clients client.0 ≡ found → P (at_client world (Invoke client op) client (λ (state : ClientState). client_invoke state op) found)
   invoke_found client op None is = nothing (Invoke client op)
   invoke_found client op (Some state) is = invokes client op state is
 
-  take_found : (number : ℕ) (letter : Letter) → letter_of world number ≡ Some letter → (client : ClientId) (found : Option ClientState) → numbered world.clients client.0 ≡ found → P (at_client world (Deliver number) client (λ (state : ClientState). client_step state letter.text) found)
-  take_found number letter sent client None is = nothing (Deliver number)
-  take_found number letter sent client (Some state) is = takes number letter client state sent is
+  take_found : (event : Event) (number : ℕ) (letter : Letter) → letter_of world number ≡ Some letter → handed world event ≡ Some (letter.to, letter.text) → (client : ClientId) (found : Option ClientState) → numbered world.clients client.0 ≡ found → P (at_client world event client (λ (state : ClientState). client_step state letter.text) found)
+  take_found event number letter sent hands client None is = nothing event
+  take_found event number letter sent hands client (Some state) is = takes event number letter client state sent hands is
 
   tick_found : (client : ClientId) (found : Option ClientState) → numbered world.clients client.0 ≡ found → P (at_client world (Tick client) client client_tick found)
   tick_found client None is = nothing (Tick client)
   tick_found client (Some state) is = ticks client state is
 
-  received_by : (number : ℕ) (letter : Letter) → letter_of world number ≡ Some letter → (to : Party) → P (received world (Deliver number) to letter.text)
-  received_by number letter sent (party.Replica me) = replica_found number letter sent me (slice_get world.replicas me.0) refl
-  received_by number letter sent (party.Client me) = take_found number letter sent me (numbered world.clients me.0) refl
+  received_by : (event : Event) (number : ℕ) (letter : Letter) → letter_of world number ≡ Some letter → handed world event ≡ Some (letter.to, letter.text) → (to : Party) → P (received world event to letter.text)
+  received_by event number letter sent hands (party.Replica me) = replica_found event number letter sent hands me (slice_get world.replicas me.0) refl
+  received_by event number letter sent hands (party.Client me) = take_found event number letter sent hands me (numbered world.clients me.0) refl
 
   letter_found : (number : ℕ) (found : Option Letter) → letter_of world number ≡ found → P (delivered world (Deliver number) found)
   letter_found number None is = nothing (Deliver number)
-  letter_found number (Some letter) is = received_by number letter is letter.to
+  letter_found number (Some letter) is = received_by (Deliver number) number letter is (letter_handed world number letter is) letter.to
 
-  -- of an event that is no injection
-  pub world_cases : (event : Event) → IsPlain event → P (world_step world event)
+  pub world_cases : (event : Event) → IsPlain world event → P (world_step world event)
   world_cases (Invoke client op) plain = invoke_found client op (numbered world.clients client.0) refl
   world_cases (Deliver number) plain = letter_found number (letter_of world number) refl
   world_cases (Tick client) plain = tick_found client (numbered world.clients client.0) refl
-  world_cases (Inject to text) plain = absurd plain
+  world_cases (Inject to text) plain =
+      injected_cases world to text (λ (event : Event) (new : WorldState). P new) (nothing (Inject to text))
+      (λ number letter sent. received_by (Inject letter.to letter.text) number letter sent refl letter.to) plain
 
 -- ---- the entries of a world of a run
 
@@ -115,11 +117,11 @@ step_entry trace is index entry found =
     ap (λ (held : Entry). (world_after trace index).entries ++ held ∷ []) at
 
 -- whatever holds of each of these holds of the entry with this index
-module _ (trace : Trace) (is : IsRun trace) (plain : ArePlain trace.entries) (index : ℕ) (entry : Entry) (is_entry : slice_get trace.entries index ≡ Some entry) (Q : Entry → Type 0)
+module _ (trace : Trace) (is : IsRun trace) (plain : ArePlain trace) (index : ℕ) (entry : Entry) (is_entry : slice_get trace.entries index ≡ Some entry) (Q : Entry → Type 0)
     (nothing : (event : Event) → Q (record { event = event; letters = []; ended = None }))
-    (replica_moves : (number : ℕ) (letter : Letter) (me : ReplicaId) (state : ReplicaState) → letter_of (world_after trace index) number ≡ Some letter → slice_get (world_after trace index).replicas me.0 ≡ Some state → Q (record { event = Deliver number; letters = (replica_step state letter.text).1; ended = None }))
+    (replica_moves : (event : Event) (number : ℕ) (letter : Letter) (me : ReplicaId) (state : ReplicaState) → letter_of (world_after trace index) number ≡ Some letter → handed (world_after trace index) event ≡ Some (letter.to, letter.text) → slice_get (world_after trace index).replicas me.0 ≡ Some state → Q (record { event = event; letters = (replica_step state letter.text).1; ended = None }))
     (invokes : (client : ClientId) (op : Op) (state : ClientState) → numbered (world_after trace index).clients client.0 ≡ Some state → Q (record { event = Invoke client op; letters = (client_invoke state op).letters; ended = ended_by client state.work (client_invoke state op).ended }))
-    (takes : (number : ℕ) (letter : Letter) (client : ClientId) (state : ClientState) → letter_of (world_after trace index) number ≡ Some letter → numbered (world_after trace index).clients client.0 ≡ Some state → Q (record { event = Deliver number; letters = (client_step state letter.text).letters; ended = ended_by client state.work (client_step state letter.text).ended }))
+    (takes : (event : Event) (number : ℕ) (letter : Letter) (client : ClientId) (state : ClientState) → letter_of (world_after trace index) number ≡ Some letter → handed (world_after trace index) event ≡ Some (letter.to, letter.text) → numbered (world_after trace index).clients client.0 ≡ Some state → Q (record { event = event; letters = (client_step state letter.text).letters; ended = ended_by client state.work (client_step state letter.text).ended }))
     (ticks : (client : ClientId) (state : ClientState) → numbered (world_after trace index).clients client.0 ≡ Some state → Q (record { event = Tick client; letters = (client_tick state).letters; ended = ended_by client state.work (client_tick state).ended })) where
   abbrev before : WorldState
   before = world_after trace index
@@ -131,11 +133,11 @@ module _ (trace : Trace) (is : IsRun trace) (plain : ArePlain trace.entries) (in
   entry_cases =
       world_cases before (λ (new : WorldState). new.entries ≡ before.entries ++ entry ∷ [] → Q entry)
       (λ event. of_last _ (nothing event))
-      (λ number letter me state sent found. of_last _ (replica_moves number letter me state sent found))
+      (λ event number letter me state sent hands found. of_last _ (replica_moves event number letter me state sent hands found))
       (λ client op state found. of_last _ (invokes client op state found))
-      (λ number letter client state sent found. of_last _ (takes number letter client state sent found))
+      (λ event number letter client state sent hands found. of_last _ (takes event number letter client state sent hands found))
       (λ client state found. of_last _ (ticks client state found))
       entry.event
-      (subst (λ (it : Entry). IsPlain it.event) (get_or_from_slice_get trace.entries index entry entry is_entry)
-      (each_at (λ (it : Entry). IsPlain it.event) trace.entries index entry plain (slice_get_within trace.entries index entry is_entry)))
+      (subst (λ (it : Entry). IsPlain before it.event) (get_or_from_slice_get trace.entries index entry entry is_entry)
+      (plain.plain_at index entry (slice_get_within trace.entries index entry is_entry)))
       (step_entry trace is index entry is_entry)

@@ -135,19 +135,19 @@ invoke_replies bound state op =
     (λ acted. by_client bound state.keys 0 (replicas state.bounds) state.me _ _) (All-nil (RepliesWithin bound))
 
 -- each reply among a run's letters is from one of its replicas
-pub replies_within : (trace : Trace) → IsRun trace → ArePlain trace.entries → (index : ℕ) (entry : Entry) → slice_get trace.entries index ≡ Some entry → All (RepliesWithin (replicas trace.setup.bounds)) entry.letters
+pub replies_within : (trace : Trace) → IsRun trace → ArePlain trace → (index : ℕ) (entry : Entry) → slice_get trace.entries index ≡ Some entry → All (RepliesWithin (replicas trace.setup.bounds)) entry.letters
 replies_within trace is have index entry is_entry =
     let bound : ℕ = replicas trace.setup.bounds in
     let below : index < length trace.entries = slice_get_within trace.entries index entry is_entry in
     let none : All (RepliesWithin bound) [] = All-nil (RepliesWithin bound) in
     entry_cases trace is have index entry is_entry (λ (made : Entry). All (RepliesWithin bound) made.letters)
     (λ event. none)
-    (λ number letter me state sent found.
+    (λ event number letter me state sent hands found.
     brought_replies bound state (brought state.keys (party.Replica state.me) letter.text)
     (λ taken brings. (fit_step trace is have index below).answers me state found number letter taken sent (brings_carries state letter taken brings))
     (replica_within trace index me.0 state found))
     (λ client op state found. invoke_replies bound state op)
-    (λ number letter client state sent found. step_replies bound state letter.text)
+    (λ event number letter client state sent hands found. step_replies bound state letter.text)
     (λ client state found. none)
 
 -- ---- where a letter was sent

@@ -80,7 +80,7 @@ after_decision : (old new : ReplicaState) (letter : Letter) (client : ClientId) 
 after_decision old new letter client number round sets asks given accepted step mac brings decided =
     step ∙ ap (λ it. (on_received old it).0) brings ∙ ap (λ (it : Decision). (carried_out old client number round sets it).0) decided
 
-module _ (trace : Trace) (is_run : IsRun trace) (have : ArePlain trace.entries) (at : ℕ) (below : at < length trace.entries) (replica : ℕ) (client : ClientId) (number round : ℕ) where
+module _ (trace : Trace) (is_run : IsRun trace) (have : ArePlain trace) (at : ℕ) (below : at < length trace.entries) (replica : ℕ) (client : ClientId) (number round : ℕ) where
   body_has_parts : (given : Verdict) (reply : IsReplyTo trace at replica client number round given) → IsTrue (has_parts reply.body)
   body_has_parts given reply =
       request_has_parts trace is_run have at (omega arith) reply.asked reply.letter reply.is_letter client number round reply.sets reply.body (reply_asks trace at replica client number round given reply)
@@ -111,8 +111,8 @@ module _ (trace : Trace) (is_run : IsRun trace) (have : ArePlain trace.entries) 
         let known : row_unknown reply.old (asked_of client number reply.sets (body.Act parts)) ≡ None =
         done_is_known reply.old (asked_of client number reply.sets (body.Act parts)) parts (objects_of parts) stamps answer reply.accepted
         (ap (λ (it : Body). decision_on reply.old (asked_of client number reply.sets it) it) (sym act.is_act) ∙ reply.decided) in
-        handled_upon trace is_run at below reply.entry (contains_at trace.entries at reply.entry reply.is_entry) reply.asked reply.is_deliver replica reply.old reply.is_old
-        reply.letter reply.is_letter reply.to client number round reply.sets parts reply.mac (reply.brings ∙ ap (λ (it : Body). Some (frame.Request client number round reply.sets it reply.mac)) act.is_act)
+        handled_upon trace is_run at below reply.entry (contains_at trace.entries at reply.entry reply.is_entry) replica reply.old reply.is_old
+        reply.letter reply.is_handed reply.to client number round reply.sets parts reply.mac (reply.brings ∙ ap (λ (it : Body). Some (frame.Request client number round reply.sets it reply.mac)) act.is_act)
         (not_unknown reply.old (asked_of client number reply.sets (body.Act parts)) known)
 
     -- an answer is told to a query, from what the replica has, and the replica stays as it is

@@ -42,12 +42,12 @@ use Rattle.qu_world.specs.Run.{IsRun}
 use Rattle.qu_safety.specs.Order.{world_after}
 use Rattle.qu_safety.specs.Replies.{IsReplyTo}
 use Rattle.qu_safety.specs.Views.{ArePlain, IsPlain}
-use Rattle.qu_world.proofs.Each.{each_found, set_here, each_at}
+use Rattle.qu_world.proofs.Each.{each_found, set_here}
 use Rattle.qu_safety.proofs.Entries.{entry_recorded}
 use Rattle.qu_safety.proofs.OwnHistories.{IsInPlace, step-in_place}
 use Rattle.qu_safety.proofs.Views.{true_world}
 use Rattle.qu_safety.proofs.WorldGrowth.{world_after-next}
-use Rattle.qu_safety.specs.Carried.{Tells, Carries, Brings}
+use Rattle.qu_safety.specs.Carried.{Tells, Carries, Brings, handed}
 use Rattle.qu_frames.specs.Forms.{frame_form}
 use Rattle.qu_history.specs.declared.sealed.Sealed.{Sealed}
 use Rattle.qu_safety.proofs.Carrying.{AnswersFit, no_reply, signed_spelled, signed_carries, brings_carries}
@@ -55,6 +55,7 @@ use Rattle.qu_safety.proofs.Fitting.{fit_step}
 use Rattle.qu_frames.specs.Signed.{brought, signed, signature}
 use Rattle.qu_seal.specs.Keys.{Ring}
 use Rattle.qu_replica.proofs.FitSteps.{blank_sized}
+use Rattle.qu_safety.proofs.Handing.{letter_handed, injected_cases}
 
 -- ---- clients send requests
 
@@ -90,9 +91,9 @@ step_requests state text =
 -- the letter at this place among those that a step sends is a replica's, upon a letter that is delivered to it
 record IsAnswer (old new : WorldState) (event : Event) (place : ℕ) (sent : Letter) : Type 0 where
   asked : ℕ
-  is_deliver : event ≡ Deliver asked
   letter : Letter
   is_letter : letter_of old asked ≡ Some letter
+  is_handed : handed old event ≡ Some (letter.to, letter.text)
   me : ReplicaId
   to : letter.to ≡ party.Replica me
   state : ReplicaState
@@ -125,18 +126,18 @@ client_sends world event me move (Some state) moves = record {
   replies = λ place sent found replica client number round verdict shown tells. absurd (each_found IsNoReply (move state).letters place sent (moves state) found replica client number round verdict shown tells);
 }
 
-replica_sends : (world : WorldState) (asked : ℕ) (letter : Letter) (me : ReplicaId) (found : Option ReplicaState) → letter_of world asked ≡ Some letter → letter.to ≡ party.Replica me → slice_get world.replicas me.0 ≡ found
-    → Sends world (at_replica world (Deliver asked) me letter.text found) (Deliver asked)
-replica_sends world asked letter me None is_letter to is = unchanged_sends world (Deliver asked)
-replica_sends world asked letter me (Some state) is_letter to is = record {
+replica_sends : (world : WorldState) (event : Event) (asked : ℕ) (letter : Letter) (me : ReplicaId) (found : Option ReplicaState) → letter_of world asked ≡ Some letter → handed world event ≡ Some (letter.to, letter.text) → letter.to ≡ party.Replica me → slice_get world.replicas me.0 ≡ found
+    → Sends world (at_replica world event me letter.text found) event
+replica_sends world event asked letter me None is_letter hands to is = unchanged_sends world event
+replica_sends world event asked letter me (Some state) is_letter hands to is = record {
   entry = _;
   of_event = refl;
   made = refl;
   replies = λ place sent found _ _ _ _ _ _ tells. record {
     asked = asked;
-    is_deliver = refl;
     letter = letter;
     is_letter = is_letter;
+    is_handed = hands;
     me = me;
     to = to;
     state = state;
@@ -146,19 +147,21 @@ replica_sends world asked letter me (Some state) is_letter to is = record {
   };
 }
 
-received_sends : (world : WorldState) (asked : ℕ) (letter : Letter) (to : Party) → letter_of world asked ≡ Some letter → letter.to ≡ to → Sends world (received world (Deliver asked) to letter.text) (Deliver asked)
-received_sends world asked letter (party.Replica me) is_letter is_to = replica_sends world asked letter me (slice_get world.replicas me.0) is_letter is_to refl
-received_sends world asked letter (party.Client me) is_letter is_to =
-    client_sends world (Deliver asked) me (λ (state : ClientState). client_step state letter.text) (numbered world.clients me.0) (λ state. step_requests state letter.text)
+received_sends : (world : WorldState) (event : Event) (asked : ℕ) (letter : Letter) (to : Party) → letter_of world asked ≡ Some letter → handed world event ≡ Some (letter.to, letter.text) → letter.to ≡ to → Sends world (received world event to letter.text) event
+received_sends world event asked letter (party.Replica me) is_letter hands is_to = replica_sends world event asked letter me (slice_get world.replicas me.0) is_letter hands is_to refl
+received_sends world event asked letter (party.Client me) is_letter hands is_to =
+    client_sends world event me (λ (state : ClientState). client_step state letter.text) (numbered world.clients me.0) (λ state. step_requests state letter.text)
 
 delivered_sends : (world : WorldState) (asked : ℕ) (found : Option Letter) → letter_of world asked ≡ found → Sends world (delivered world (Deliver asked) found) (Deliver asked)
 delivered_sends world asked None is = unchanged_sends world (Deliver asked)
-delivered_sends world asked (Some letter) is = received_sends world asked letter letter.to is refl
+delivered_sends world asked (Some letter) is = received_sends world (Deliver asked) asked letter letter.to is (letter_handed world asked letter is) refl
 
-step_sends : (world : WorldState) (event : Event) → IsPlain event → Sends world (world_step world event) event
+step_sends : (world : WorldState) (event : Event) → IsPlain world event → Sends world (world_step world event) event
 step_sends world (Invoke client op) plain =
     client_sends world (Invoke client op) client (λ (state : ClientState). client_invoke state op) (numbered world.clients client.0) (λ state. invoke_requests state op)
-step_sends world (Inject to text) plain = absurd plain
+step_sends world (Inject to text) plain =
+    injected_cases world to text (λ (event : Event) (new : WorldState). Sends world new event) (unchanged_sends world (Inject to text))
+    (λ number letter is. received_sends world (Inject letter.to letter.text) number letter letter.to is refl refl) plain
 step_sends world (Deliver asked) plain = delivered_sends world asked (letter_of world asked) refl
 step_sends world (Tick client) plain =
     client_sends world (Tick client) client client_tick (numbered world.clients client.0) (λ state. tt)
@@ -258,7 +261,7 @@ named_here : (me replica : ReplicaId) (state : ReplicaState) → replica ≡ sta
 named_here me replica state from in_place = sym (ap (λ (it : ReplicaId). it.0) from ∙ in_place.me)
 
 -- a reply that an entry sends is a replica's to a request that the event of the entry delivers
-pub reply_sent : (trace : Trace) → IsRun trace → ArePlain trace.entries → (at : ℕ) → at < length trace.entries → (entry : Entry) → slice_get trace.entries at ≡ Some entry → (letter : Letter) → Contains entry.letters letter
+pub reply_sent : (trace : Trace) → IsRun trace → ArePlain trace → (at : ℕ) → at < length trace.entries → (entry : Entry) → slice_get trace.entries at ≡ Some entry → (letter : Letter) → Contains entry.letters letter
     → (replica : ReplicaId) (client : ClientId) (number round : ℕ) (verdict : Verdict) (shown : List Sealed) → Tells letter replica client number round verdict shown
     → IsReplyTo trace at replica.0 client number round verdict
 reply_sent trace is_run have at below entry is_entry letter holding replica client number round verdict shown is =
@@ -266,7 +269,7 @@ reply_sent trace is_run have at below entry is_entry letter holding replica clie
     let new : WorldState = world_after trace (at + 1) in
     let event_is : (get_or trace.entries at entry).event ≡ entry.event = ap (λ (it : Entry). it.event) (get_or_from_slice_get trace.entries at entry entry is_entry) in
     let next : world_step old entry.event ≡ new = ap (world_step old) (sym event_is) ∙ sym (world_after-next trace at entry below) in
-    let sends : Sends old new entry.event = subst (λ (it : WorldState). Sends old it entry.event) next (step_sends old entry.event (subst IsPlain event_is (each_at (λ (it : Entry). IsPlain it.event) trace.entries at entry have below))) in
+    let sends : Sends old new entry.event = subst (λ (it : WorldState). Sends old it entry.event) next (step_sends old entry.event (subst (IsPlain old) event_is (have.plain_at at entry below))) in
     let recorded : sends.entry ≡ entry = entry_recorded trace is_run at below entry sends.entry is_entry sends.made in
     let place : ℕ = holding.0 in
     let stands : slice_get (sends.entry).letters place ≡ Some letter = ap (λ (it : Entry). slice_get it.letters place) recorded ∙ at_contains entry.letters letter holding in
@@ -286,9 +289,9 @@ reply_sent trace is_run have at below entry is_entry letter holding replica clie
       asked = answer.asked;
       entry = entry;
       is_entry = is_entry;
-      is_deliver = answer.is_deliver;
       letter = answer.letter;
       is_letter = answer.is_letter;
+      is_handed = answer.is_handed;
       to = answer.to;
       sets = made.sets;
       body = made.body;

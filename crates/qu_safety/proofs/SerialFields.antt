@@ -78,7 +78,7 @@ module _ (trace : Trace) (order : List Point) (is_order : IsPrintedOrder trace o
       (sym (here.stands).client ∙ (there.stands).client) (sym (here.stands).number ∙ (there.stands).number) in
       one_place order at other second is_order.in_order (here.there ∙ ap Some same) there.there
 
-  module _ (is_run : IsRun trace) (have : ArePlain trace.entries) (one_act : ActsAreOne trace) where
+  module _ (is_run : IsRun trace) (have : ArePlain trace) (one_act : ActsAreOne trace) where
     -- each operation stands at one place at most, after its invocation
     pub stand_at_most_once : (operation : OpRecord) → Contains (operations_of trace.entries) operation → StandsAtMostOnce operation order
     stand_at_most_once operation of_trace = record {

@@ -59,7 +59,7 @@ index_in (first ∷ later) (suc at) point below is = index_in later at point (om
 place_of : (order : List Point) (point : Point) → Contains order point → PlaceOf order point
 place_of order point held = record { at = held.0; there = index_in order held.0 point held.1 held.2 }
 
-module _ (trace : Trace) (is_run : IsRun trace) (have : ArePlain trace.entries) (one_act : ActsAreOne trace) (order : List Point) (printed : IsPrintedOrder trace order) where
+module _ (trace : Trace) (is_run : IsRun trace) (have : ArePlain trace) (one_act : ActsAreOne trace) (order : List Point) (printed : IsPrintedOrder trace order) where
   facts : Known trace
   facts = known trace is_run have
 

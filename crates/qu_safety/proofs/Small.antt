@@ -8,7 +8,6 @@ use Rattle.std.proofs.lemmas.List.Elements.{All-head}
 use Rattle.qu_base.specs.declared.party.ObjectId.{ObjectId}
 use Rattle.qu_base.specs.Thresholds.{quorum}
 use Rattle.qu_machine.specs.declared.record.Point.{Point}
-use Rattle.qu_trace.specs.declared.event.Event.TheVariants.{Deliver}
 use Rattle.qu_trace.specs.declared.trace.Entry.{Entry}
 
 -- ---- the first of some
@@ -40,9 +39,6 @@ some_quorum b = omega arith
 
 pub same_object : (first second : ObjectId) → (first.0 == second.0) ≡ true → first ≡ second
 same_object first second alike = grind (arith, nat_tests)
-
-pub same_deliver : (first second : ℕ) → Deliver first ≡ Deliver second → first ≡ second
-same_deliver first second same = cc
 
 pub same_point : (first second : Point) → first.event ≡ second.event → first.client ≡ second.client → first.number ≡ second.number → first.op ≡ second.op → first.faulty ≡ second.faulty → first ≡ second
 same_point first second event client number op faulty =

@@ -34,7 +34,7 @@ use Rattle.qu_chain.proofs.Counting.{test_at-here}
 use Rattle.qu_replica.specs.Rows.{asked_of}
 use Rattle.std.proofs.lemmas.List.Elements.{Contains-get_or}
 use Rattle.qu_safety.proofs.OneAct.{act_by}
-use Rattle.qu_safety.proofs.Handled.{plain_among, handled, made_for, made_for_operation}
+use Rattle.qu_safety.proofs.Handled.{handled, made_for, made_for_operation}
 use Rattle.qu_safety.specs.Digested.{IsHandled}
 use Rattle.qu_safety.specs.Chained.{last_world}
 use Rattle.qu_safety.specs.Decided.{accepts, is_accepted, is_established, IsDecided}
@@ -135,7 +135,7 @@ opening-versioned trace me = record {
 
 -- ---- what an accepted candidate is made of
 
-module _ (trace : Trace) (known : Known trace) (is_run : IsRun trace) (have : ArePlain trace.entries) (count : ℕ) (within : count ≤ length trace.entries) where
+module _ (trace : Trace) (known : Known trace) (is_run : IsRun trace) (have : ArePlain trace) (count : ℕ) (within : count ≤ length trace.entries) where
   still_accepted : (object : ObjectId) (candidate : Candidate) → is_accepted (world_after trace count) object candidate ≡ true → is_accepted (last_world trace) object candidate ≡ true
   still_accepted object candidate accepted =
       is_accepted-more (world_after trace count) (last_world trace)
@@ -209,11 +209,11 @@ still_stores : (trace : Trace) (old new : ReplicaState) → Grows old new → (o
 still_stores trace old new grows object candidate stored =
     (stored.0, version_at-grows old new grows object candidate.stamp stored.0 stored.1, stored.2)
 
-module _ (trace : Trace) (known : Known trace) (is_run : IsRun trace) (have : ArePlain trace.entries) (count : ℕ) (within : count ≤ length trace.entries) (below : count < length trace.entries) (entry : Entry) (of_trace : Contains trace.entries entry) (event : Event) (event_is : event ≡ entry.event) (place : ℕ) (old new : ReplicaState) (is_old : slice_get (world_after trace count).replicas place ≡ Some old) (is_new : slice_get (world_step (world_after trace count) event).replicas place ≡ Some new) (grows : Grows old new) (before : IsVersioned trace old) where
+module _ (trace : Trace) (known : Known trace) (is_run : IsRun trace) (have : ArePlain trace) (count : ℕ) (within : count ≤ length trace.entries) (below : count < length trace.entries) (entry : Entry) (of_trace : Contains trace.entries entry) (event : Event) (event_is : event ≡ entry.event) (plain : IsPlain (world_after trace count) event) (place : ℕ) (old new : ReplicaState) (is_old : slice_get (world_after trace count).replicas place ≡ Some old) (is_new : slice_get (world_step (world_after trace count) event).replicas place ≡ Some new) (grows : Grows old new) (before : IsVersioned trace old) where
   one_handled : (moved : IsMoved (world_after trace count) event place old new) (object : ObjectId) (one : AcceptsOne old new moved.carried object) → IsHandled trace one.client one.number ((object, one.method) ∷ [])
   one_handled moved object one =
       handled trace is_run count below entry of_trace event event_is place old new is_old is_new object
-      (record { number = moved.number; is_deliver = moved.is_deliver; letter = moved.letter; is_letter = moved.is_letter; to = moved.to; carried = moved.carried; brings = moved.brings; accepts = one })
+      (record { number = moved.number; letter = moved.letter; is_letter = moved.is_letter; is_handed = moved.is_handed; to = moved.to; carried = moved.carried; brings = moved.brings; accepts = one })
 
   one_stores : (moved : IsMoved (world_after trace count) event place old new) (object : ObjectId) → AcceptsOne old new moved.carried object
       → (candidate : Candidate) → holds candidate (own_candidates new object) ≡ true → Stores trace object new candidate
@@ -239,7 +239,7 @@ module _ (trace : Trace) (known : Known trace) (is_run : IsRun trace) (have : Ar
   event-versioned =
       let parts : (number : ℕ) (letter : Letter) → letter_of (world_after trace count) number ≡ Some letter → (carried : Frame) → Carries letter carried → HasParts carried =
       λ number letter sent. sent_has_parts trace is_run have count within number letter sent in
-      elim (event_moves (world_after trace count) event place old new is_old is_new parts (subst IsPlain (sym event_is) (plain_among trace.entries entry have of_trace))) [
+      elim (event_moves (world_after trace count) event place old new is_old is_new parts plain) [
         | inl alike ↦ subst (IsVersioned trace) (sym alike) before
         | inr moved ↦ record {
           bounds = grows.bounds ∙ before.bounds;
@@ -259,7 +259,7 @@ versioned_none trace = λ place state is_state.
     opening_replica 0 _ (ring_of trace.setup) trace.setup.bounds trace.setup.kinds place state (ap (λ (world : WorldState). slice_get world.replicas place) (sym (world_after-none trace)) ∙ is_state) in
     subst (IsVersioned trace) (sym begun.1) (opening-versioned trace begun.0)
 
-versioned_next : (trace : Trace) → Known trace → IsRun trace → ArePlain trace.entries → (count : ℕ) → count < length trace.entries → AreVersioned trace count → AreVersioned trace (count + 1)
+versioned_next : (trace : Trace) → Known trace → IsRun trace → ArePlain trace → (count : ℕ) → count < length trace.entries → AreVersioned trace count → AreVersioned trace (count + 1)
 versioned_next trace known is_run have count below before = λ place new is_new.
     let default : Entry = some_entry trace.entries (omega arith) in
     let event : Event = (get_or trace.entries count default).event in
@@ -267,15 +267,15 @@ versioned_next trace known is_run have count below before = λ place new is_new.
     let now : slice_get (world_step (world_after trace count) event).replicas place ≡ Some new =
     ap (λ (world : WorldState). slice_get world.replicas place) (sym next) ∙ is_new in
     let was : WasBefore (world_after trace count).replicas place new = was_before (world_after trace count) event place new now in
-    event-versioned trace known is_run have count (omega arith) below (get_or trace.entries count default) (Contains-get_or trace.entries count default below) event refl place was.old new was.is_old now was.grows (before place was.old was.is_old)
+    event-versioned trace known is_run have count (omega arith) below (get_or trace.entries count default) (Contains-get_or trace.entries count default below) event refl (have.plain_at count default below) place was.old new was.is_old now was.grows (before place was.old was.is_old)
 
-versioned : (trace : Trace) → Known trace → IsRun trace → ArePlain trace.entries → (count : ℕ) → count ≤ length trace.entries → AreVersioned trace count
+versioned : (trace : Trace) → Known trace → IsRun trace → ArePlain trace → (count : ℕ) → count ≤ length trace.entries → AreVersioned trace count
 versioned trace known is_run have zero within = versioned_none trace
 versioned trace known is_run have (suc count) within =
     subst (AreVersioned trace) (add-one count)
     (versioned_next trace known is_run have count (omega arith) (versioned trace known is_run have count (omega arith)))
 
-pub version_held : (trace : Trace) → Known trace → IsRun trace → ArePlain trace.entries → (count : ℕ) → count ≤ length trace.entries
+pub version_held : (trace : Trace) → Known trace → IsRun trace → ArePlain trace → (count : ℕ) → count ≤ length trace.entries
     → (place : ℕ) (state : ReplicaState) → slice_get (world_after trace count).replicas place ≡ Some state
     → (object : ObjectId) (candidate : Candidate) → holds candidate (own_candidates state object) ≡ true
     → (version : ObjState) × (version_at object candidate.stamp state.versions ≡ Some version) × HasVersion trace object candidate version
@@ -283,7 +283,7 @@ version_held trace known is_run have count within place state is_state object ca
     (versioned trace known is_run have count within place state is_state).stores object candidate held
 
 -- the version that is found is the candidate's
-pub version_is : (trace : Trace) → Known trace → IsRun trace → ArePlain trace.entries → (count : ℕ) → count ≤ length trace.entries
+pub version_is : (trace : Trace) → Known trace → IsRun trace → ArePlain trace → (count : ℕ) → count ≤ length trace.entries
     → (place : ℕ) (state : ReplicaState) → slice_get (world_after trace count).replicas place ≡ Some state
     → (object : ObjectId) (candidate : Candidate) → holds candidate (own_candidates state object) ≡ true
     → (version : ObjState) → version_at object candidate.stamp state.versions ≡ Some version → HasVersion trace object candidate version

@@ -1,7 +1,6 @@
 -- One event makes one candidate at most, and this rests on the greatest that was established before.
 use Rattle.std.proofs.Common.{◌≡◌, ℕ, suc, ◌<◌, ◌≤◌, true, false, [], ◌∷◌, length, refl, sym, ap, subst, ◌∙◌, arith, inl, inr}
 use Rattle.std.proofs.lemmas.Bool.{false≢true, cases_Bool}
-use Rattle.std.proofs.lemmas.Option.{same_Some}
 use Rattle.qu_base.specs.declared.party.ObjectId.{ObjectId}
 use Rattle.qu_base.specs.declared.party.Party.{Party}
 use Rattle.qu_base.specs.declared.party.Party.TheVariants as party
@@ -16,10 +15,8 @@ use Rattle.qu_chain.proofs.Chain.{established_comparable}
 use Rattle.qu_frames.specs.declared.frame.Body.TheVariants as body
 use Rattle.qu_frames.specs.declared.frame.Frame.{Frame}
 use Rattle.qu_frames.specs.declared.frame.Frame.TheVariants as frame
-use Rattle.qu_frames.specs.declared.frame.Letter.{Letter}
 use Rattle.qu_trace.specs.declared.trace.Trace.{Trace}
 use Rattle.qu_world.specs.Run.{IsRun}
-use Rattle.qu_world.specs.State.{letter_of}
 use Rattle.qu_safety.specs.Order.{world_after}
 use Rattle.qu_safety.specs.Views.{ArePlain}
 use Rattle.qu_safety.specs.Grounds.{IsDelivered}
@@ -27,8 +24,9 @@ use Rattle.qu_safety.proofs.Accepting.{Acceptance}
 use Rattle.qu_safety.proofs.ChainLaws.{setting, accepted_of, laws}
 use Rattle.qu_safety.proofs.Established.{Established, Rests, same_accepted, accepted_by_established, last_established, below_prior, ancestor_established, IsTop}
 use Rattle.qu_safety.proofs.Carrying.{one_carried, brings_carries}
-use Rattle.qu_safety.proofs.Small.{same_deliver}
 use Rattle.qu_frames.specs.Decoding.{decoded}
+use Rattle.qu_safety.specs.Carried.{handed}
+use Rattle.qu_safety.proofs.Handing.{one_hand}
 
 -- ---- letters
 
@@ -45,7 +43,7 @@ act_object (frame.Request client number round sets (body.Act (part ∷ later)) m
 act_object (frame.Request client number round sets (body.Ask parts) mac) none = none
 act_object (frame.Reply replica client number round verdict culled shown mac) none = none
 
-module _ (trace : Trace) (is_run : IsRun trace) (have : ArePlain trace.entries) where
+module _ (trace : Trace) (is_run : IsRun trace) (have : ArePlain trace) where
   -- candidates that are accepted at one event are one
   pub record AreOne (object other : ObjectId) (first second : Candidate) : Type 0 where
     pub objects : object ≡ other
@@ -57,13 +55,11 @@ module _ (trace : Trace) (is_run : IsRun trace) (have : ArePlain trace.entries) 
       let two : Acceptance trace time other elsewhere second = accepted_of trace is_run have time other elsewhere second again in
       let here : IsDelivered (world_after trace time) one.event place one.old one.new object = one.delivered in
       let there : IsDelivered (world_after trace time) two.event elsewhere two.old two.new other = two.delivered in
-      let number : here.number ≡ there.number = same_deliver here.number there.number (sym here.is_deliver ∙ one.event_is ∙ sym two.event_is ∙ there.is_deliver) in
-      let letter : here.letter ≡ there.letter =
-      same_Some here.letter there.letter (sym here.is_letter ∙ ap (letter_of (world_after trace time)) number ∙ there.is_letter) in
-      let places : place ≡ elsewhere = same_place place elsewhere (sym here.to ∙ ap (λ (it : Letter). it.to) letter ∙ there.to) in
+      let hand = one_hand here.letter there.letter (handed (world_after trace time) one.event) (handed (world_after trace time) two.event) (ap (handed (world_after trace time)) (one.event_is ∙ sym two.event_is)) here.is_handed there.is_handed in
+      let places : place ≡ elsewhere = same_place place elsewhere (sym here.to ∙ hand.0 ∙ there.to) in
       let carried : here.carried ≡ there.carried =
       one_carried here.letter here.carried there.carried (brings_carries one.old here.letter here.carried here.brings)
-      (ap (λ (it : Letter). decoded it.text) letter ∙ brings_carries two.old there.letter there.carried there.brings) in
+      (ap decoded hand.1 ∙ brings_carries two.old there.letter there.carried there.brings) in
       let objects : object ≡ other =
       sym (ap (λ (it : Frame). act_object it object) (here.accepts).is_request) ∙ ap (λ (it : Frame). act_object it object) carried ∙ ap (λ (it : Frame). act_object it object) (there.accepts).is_request in
       record {

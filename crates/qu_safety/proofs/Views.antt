@@ -40,13 +40,14 @@ use Rattle.qu_safety.specs.Carried.{Carries, Asks, Tells}
 use Rattle.qu_safety.specs.Order.{world_after}
 use Rattle.qu_safety.specs.Views.{WasHeld, HasOpParts, IsPlain, ArePlain, IsOfKept}
 use Rattle.qu_safety.proofs.WorldGrowth.{world_after-none, world_after-next}
-use Rattle.qu_world.proofs.Each.{each_append, each_at, each_numbered, each_with_numbered, set_here}
+use Rattle.qu_world.proofs.Each.{each_append, each_numbered, each_with_numbered, set_here}
 use Rattle.qu_safety.proofs.OwnHistories.{IsInPlace, AreInPlace, step-in_place, opening-all_in_place, set-in_place, found_where_named}
 use Rattle.qu_safety.proofs.TrueLetters.{IsMadeOf, IsTrueFrame, IsTrueLetter, IsTrueClient, IsTrueStep, letters-more, clients-more, client_step-true, client_invoke-true, opening-true, replica_step-true}
 use Rattle.qu_safety.proofs.Small.{some_entry}
 use Rattle.qu_safety.proofs.Carrying.{AsksFit, AnswersFit, IsFitStep, numbered_here}
 use Rattle.qu_safety.proofs.Fitting.{fit_step}
 use Rattle.qu_seal.specs.Keys.{Ring}
+use Rattle.qu_safety.proofs.Handing.{injected_cases}
 
 -- each history in a letter or with a client was held, and what the replicas have is in its place
 pub record IsTrueWorld (Held : ObjectHistory → Type 0) (bounds : ℕ) (world : WorldState) : Type 0 where
@@ -120,7 +121,7 @@ module _ (Held : ObjectHistory → Type 0) (bounds : ℕ) where
       (λ me state sent found carries. fits.answers me state found number letter sent is carries) fits before now
 
   -- `now` says that what the replicas have after the step counts as held
-  world_step-true : (world : WorldState) (event : Event) → IsPlain event → IsFitStep world (world_step world event) → IsTrueWorld Held bounds world → ((history : ObjectHistory) → history_at (world_step world event) history.replica history.object ≡ Some history → Held history) → IsTrueWorld Held bounds (world_step world event)
+  world_step-true : (world : WorldState) (event : Event) → IsPlain world event → IsFitStep world (world_step world event) → IsTrueWorld Held bounds world → ((history : ObjectHistory) → history_at (world_step world event) history.replica history.object ≡ Some history → Held history) → IsTrueWorld Held bounds (world_step world event)
   world_step-true world (Invoke client op) parts fits before now =
       at_client-true world (Invoke client op) client (λ (state : ClientState). client_invoke state op) (numbered world.clients client.0) refl
       (λ state is. client_invoke-true Held bounds state op parts.1 is) fits before
@@ -129,7 +130,15 @@ module _ (Held : ObjectHistory → Type 0) (bounds : ℕ) where
   world_step-true world (Tick client) parts fits before now =
       at_client-true world (Tick client) client client_tick (numbered world.clients client.0) refl
       (λ state is fit. record { state = is; letters = tt }) fits before
-  world_step-true world (Inject to text) parts fits before now = absurd parts
+  world_step-true world (Inject to text) plain fits before now =
+      injected_cases world to text
+      (λ (event : Event) (new : WorldState). IsFitStep world new → ((history : ObjectHistory) → history_at new history.replica history.object ≡ Some history → Held history) → IsTrueWorld Held bounds new)
+      (λ fit has. unchanged-true world (Inject to text) before)
+      (λ number letter sent fit has.
+      received-true world (Inject letter.to letter.text) letter.to letter.text
+      (each_numbered (IsTrueLetter Held bounds) (letters_of world.entries) number letter before.letters sent)
+      (λ me state taken found carries. fit.answers me state found number letter taken sent carries) fit before has)
+      plain fits now
 
   opening_clients-true : (keys : Ring) (number count : ℕ) → AllByRecursion (IsTrueClient Held bounds) (opening_clients number count keys bounds)
   unfolding opening_clients
@@ -151,14 +160,14 @@ held-later trace count later history order was =
     let earlier : was.past ≤ count = was.earlier in
     record { past = was.past; earlier = omega arith; held = was.held }
 
-true_next : (trace : Trace) (count : ℕ) → IsRun trace → ArePlain trace.entries → count < length trace.entries → IsTrueWorld (WasHeld trace count) trace.setup.bounds (world_after trace count) → IsTrueWorld (WasHeld trace (count + 1)) trace.setup.bounds (world_after trace (count + 1))
+true_next : (trace : Trace) (count : ℕ) → IsRun trace → ArePlain trace → count < length trace.entries → IsTrueWorld (WasHeld trace count) trace.setup.bounds (world_after trace count) → IsTrueWorld (WasHeld trace (count + 1)) trace.setup.bounds (world_after trace (count + 1))
 true_next trace count is_run parts below before =
     let default : Entry = some_entry trace.entries (omega arith) in
     let event : Event = (get_or trace.entries count default).event in
     let next : world_after trace (count + 1) ≡ world_step (world_after trace count) event = world_after-next trace count default below in
     subst (IsTrueWorld (WasHeld trace (count + 1)) trace.setup.bounds) (sym next)
     (world_step-true (WasHeld trace (count + 1)) trace.setup.bounds (world_after trace count) event
-    (each_at (λ (entry : Entry). IsPlain entry.event) trace.entries count default parts below)
+    (parts.plain_at count default below)
     (subst (IsFitStep (world_after trace count)) next (fit_step trace is_run parts count below))
     (world-more (WasHeld trace count) (WasHeld trace (count + 1)) trace.setup.bounds (world_after trace count)
     (λ history was. held-later trace count (count + 1) history (omega arith) was) before)
@@ -168,7 +177,7 @@ true_next trace count is_run parts below before =
       held = ap (λ (world : WorldState). history_at world history.replica history.object) next ∙ found;
     }))
 
-pub true_world : (trace : Trace) → IsRun trace → ArePlain trace.entries → (count : ℕ) → count ≤ length trace.entries → IsTrueWorld (WasHeld trace count) trace.setup.bounds (world_after trace count)
+pub true_world : (trace : Trace) → IsRun trace → ArePlain trace → (count : ℕ) → count ≤ length trace.entries → IsTrueWorld (WasHeld trace count) trace.setup.bounds (world_after trace count)
 true_world trace is_run parts zero within =
     subst (IsTrueWorld (WasHeld trace 0) trace.setup.bounds) (sym (world_after-none trace)) (opening_world-true (WasHeld trace 0) trace.setup)
 true_world trace is_run parts (suc count) within =
@@ -186,7 +195,7 @@ made_parts Held bounds (frame.Request client number round sets body mac) made =
     subst (λ (it : Body). IsTrue (has_parts it)) (sym made.body_is) (body_parts made.op made.parts)
 made_parts Held bounds (frame.Reply replica client number round verdict culled shown mac) made = tt
 
-module _ (trace : Trace) (is_run : IsRun trace) (have : ArePlain trace.entries) (count : ℕ) (within : count ≤ length trace.entries) (number : ℕ) (letter : Letter) (sent : letter_of (world_after trace count) number ≡ Some letter) where
+module _ (trace : Trace) (is_run : IsRun trace) (have : ArePlain trace) (count : ℕ) (within : count ≤ length trace.entries) (number : ℕ) (letter : Letter) (sent : letter_of (world_after trace count) number ≡ Some letter) where
   true_frame : (carried : Frame) → Carries letter carried → IsTrueFrame (WasHeld trace count) trace.setup.bounds carried
   true_frame =
       each_numbered (IsTrueLetter (WasHeld trace count) trace.setup.bounds) (letters_of (world_after trace count).entries) number letter

@@ -1,6 +1,6 @@
 -- The requests that replicas handle in a run, the texts that are digested for them, and the premise that no two
 -- of these texts have one digest.
-use Rattle.std.specs.Prelude.{◌≡◌, ℕ, Bool, nat_lt, if◌then◌else◌, List, [], ◌∷◌, length, Option, None, Some, IsTrue, Contains}
+use Rattle.std.specs.Prelude.{◌≡◌, ℕ, Bool, nat_lt, if◌then◌else◌, List, [], ◌∷◌, length, Option, None, Some, Contains}
 use Rattle.std.specs.List.{list_all, flat_map}
 use Rattle.qu_base.specs.declared.party.ClientId.{ClientId}
 use Rattle.qu_base.specs.declared.party.ObjectId.{ObjectId}
@@ -24,7 +24,6 @@ use Rattle.qu_trace.specs.declared.event.Event.TheVariants.{Invoke, Deliver, Tic
 use Rattle.qu_trace.specs.declared.trace.Entry.{Entry}
 use Rattle.qu_trace.specs.declared.trace.Setup.{Setup}
 use Rattle.qu_trace.specs.declared.trace.Trace.{Trace}
-use Rattle.qu_trace.specs.Injections.{no_injection}
 use Rattle.qu_trace.specs.Letters.{letters_of}
 use Rattle.qu_world.specs.State.{ring_of, numbered}
 
@@ -107,10 +106,3 @@ digested trace = flat_map (λ entry. texts_of (handled_by trace entry.event)) tr
 abbrev pub NoCollision : Trace → Type 0
 NoCollision trace = (first second : Text) → Contains (digested trace) first → Contains (digested trace) second
     → digest_of first.tag first.bytes ≡ digest_of second.tag second.bytes → first ≡ second
-
--- ---- what is assumed of a run
-
--- no bytes reach a party but those of letters that were sent, and no two texts have one digest
-pub record MeetsPremises (trace : Trace) : Type 0 where
-  pub no_injection : IsTrue (no_injection trace.entries)
-  pub no_collision : NoCollision trace

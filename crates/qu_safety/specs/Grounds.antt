@@ -18,9 +18,8 @@ use Rattle.qu_replica.specs.Rows.{Asked, asked_of, fresh_stamp}
 use Rattle.qu_replica.specs.State.{ReplicaState, own_candidates, own_latest}
 use Rattle.qu_replica.specs.Versions.{version_at}
 use Rattle.qu_trace.specs.declared.event.Event.{Event}
-use Rattle.qu_trace.specs.declared.event.Event.TheVariants.{Deliver}
 use Rattle.qu_world.specs.State.{WorldState, letter_of}
-use Rattle.qu_safety.specs.Carried.{Brings}
+use Rattle.qu_safety.specs.Carried.{handed, Brings}
 
 -- why a replica in this state accepts a candidate on an object upon a request: the sets show a base that
 -- a quorum holds and that nothing shown is above, and the replica itself has nothing above what is shown
@@ -60,12 +59,12 @@ pub record AcceptsAlone (old new : ReplicaState) (received : Frame) : Type 0 whe
   pub one : AcceptsOne old new received object
   pub others : (other : ObjectId) → (other.0 ≡ object.0 → ⊥) → own_candidates new other ≡ own_candidates old other
 
--- the event delivers a letter to the replica at this place, which accepts one candidate
+-- the event hands a letter that was sent to the replica at this place, which accepts one candidate
 pub record IsMoved (world : WorldState) (event : Event) (place : ℕ) (old new : ReplicaState) : Type 0 where
   pub number : ℕ
-  pub is_deliver : event ≡ Deliver number
   pub letter : Letter
   pub is_letter : letter_of world number ≡ Some letter
+  pub is_handed : handed world event ≡ Some (letter.to, letter.text)
   pub to : letter.to ≡ party.Replica (record { 0 = place })
   pub carried : Frame
   pub brings : Brings old letter carried
@@ -74,9 +73,9 @@ pub record IsMoved (world : WorldState) (event : Event) (place : ℕ) (old new :
 -- the same, of an object on which it accepts the candidate
 pub record IsDelivered (world : WorldState) (event : Event) (place : ℕ) (old new : ReplicaState) (object : ObjectId) : Type 0 where
   pub number : ℕ
-  pub is_deliver : event ≡ Deliver number
   pub letter : Letter
   pub is_letter : letter_of world number ≡ Some letter
+  pub is_handed : handed world event ≡ Some (letter.to, letter.text)
   pub to : letter.to ≡ party.Replica (record { 0 = place })
   pub carried : Frame
   pub brings : Brings old letter carried

@@ -2,6 +2,7 @@ pub mod Decided
 pub mod Digested
 pub mod Carried
 pub mod Order
+pub mod Premises
 pub mod Points
 pub mod Facts
 pub mod Tracker

@@ -24,11 +24,10 @@ use Rattle.qu_replica.specs.State.{ReplicaState, own_candidates}
 use Rattle.qu_replica.specs.Rows.{asked_of, decision_on}
 use Rattle.qu_replica.specs.Step.{replica_step}
 use Rattle.qu_replica.specs.Versions.{version_at}
-use Rattle.qu_trace.specs.declared.event.Event.TheVariants.{Deliver}
 use Rattle.qu_trace.specs.declared.trace.Entry.{Entry}
 use Rattle.qu_trace.specs.declared.trace.Trace.{Trace}
 use Rattle.qu_world.specs.State.{letter_of}
-use Rattle.qu_safety.specs.Carried.{Brings}
+use Rattle.qu_safety.specs.Carried.{handed, Brings}
 use Rattle.qu_safety.specs.Order.{world_after}
 
 -- a replica that tells Done has the candidate of the update, whose digest is `act`, and tells the answer that is
@@ -55,7 +54,7 @@ pub record TellsQuery (state : ReplicaState) (sets : List SetOf) (object : Objec
   pub nothing_above : (held : Candidate) → holds held (own_candidates state object) ≡ true → is_below base.stamp held.stamp ≡ false
 
 -- the verdict, sent at the event of the entry with this index, is that of a replica upon a request of this
--- client, number and round, which the event delivers to it
+-- client, number and round, which the event hands to it
 pub record IsReplyTo (trace : Trace) (at : ℕ) (replica : ℕ) (client : ClientId) (number round : ℕ) (verdict : Verdict) : Type 0 where
   pub old : ReplicaState
   pub is_old : slice_get (world_after trace at).replicas replica ≡ Some old
@@ -64,9 +63,9 @@ pub record IsReplyTo (trace : Trace) (at : ℕ) (replica : ℕ) (client : Client
   pub asked : ℕ
   pub entry : Entry
   pub is_entry : slice_get trace.entries at ≡ Some entry
-  pub is_deliver : entry.event ≡ Deliver asked
   pub letter : Letter
   pub is_letter : letter_of (world_after trace at) asked ≡ Some letter
+  pub is_handed : handed (world_after trace at) entry.event ≡ Some (letter.to, letter.text)
   pub to : letter.to ≡ party.Replica (record { 0 = replica })
   pub sets : List SetOf
   pub body : Body

@@ -1,5 +1,6 @@
 -- What a request shows: histories that their replicas had at an earlier moment of the run.
-use Rattle.std.specs.Prelude.{◌≡◌, ℕ, ◌<◌, ◌≤◌, ◌^◌, List, Some, IsTrue}
+use Rattle.std.specs.Prelude.{◌≡◌, ◌⊎◌, ℕ, ◌<◌, ◌≤◌, ◌^◌, List, length, get_or, None, Some, IsTrue}
+use Rattle.qu_base.specs.declared.party.Party.{Party}
 use Rattle.std.specs.List.{AllByRecursion}
 use Rattle.qu_history.specs.declared.sets.SetOf.{SetOf}
 use Rattle.qu_history.specs.History.{ObjectHistory}
@@ -8,14 +9,17 @@ use Rattle.qu_objects.specs.declared.op.Op.TheVariants as op
 use Rattle.qu_objects.specs.Parts.{are_parts}
 use Rattle.qu_objects.specs.Text.{PartsFit}
 use Rattle.qu_frames.specs.declared.frame.Body.{Body}
+use Rattle.qu_frames.specs.declared.frame.Letter.{Letter}
 use Rattle.qu_frames.specs.Body.{body_of}
+use Rattle.qu_frames.specs.Signed.{brought}
 use Rattle.qu_client.specs.declared.kept.Kept.{Kept}
 use Rattle.qu_client.specs.Rounds.{sets_of}
 use Rattle.qu_trace.specs.declared.event.Event.{Event}
 use Rattle.qu_trace.specs.declared.event.Event.TheVariants.{Invoke, Deliver, Tick, Inject}
 use Rattle.qu_trace.specs.declared.trace.Entry.{Entry}
 use Rattle.qu_trace.specs.declared.trace.Trace.{Trace}
-use Rattle.qu_world.specs.State.{history_at}
+use Rattle.qu_world.specs.State.{WorldState, ring_of, letter_of, history_at}
+use Rattle.qu_world.specs.Step.{world_step, unchanged}
 use Rattle.qu_safety.specs.Order.{world_after}
 
 -- the replica of this history had it at an earlier moment of the run
@@ -39,15 +43,29 @@ HasEventParts (Inject party text) = Unit {0}
 abbrev pub HaveParts : List Entry → Type 0
 HaveParts entries = AllByRecursion (λ entry. HasEventParts entry.event) entries
 
--- such an event, which is no injection
-abbrev pub IsPlain : Event → Type 0
-IsPlain (Invoke client op) = (client.0 < 2 ^ 16) × HasOpParts op
-IsPlain (Deliver letter) = Unit {0}
-IsPlain (Tick client) = Unit {0}
-IsPlain (Inject party text) = ⊥
+-- bytes of which no frame with a right HMAC is decoded, so that nothing happens
+pub record IsIgnored (world : WorldState) (to : Party) (text : List ℕ) : Type 0 where
+  pub nothing : brought (ring_of world.setup) to text ≡ None
+  pub same : world_step world (Inject to text) ≡ unchanged world (Inject to text)
 
-abbrev pub ArePlain : List Entry → Type 0
-ArePlain entries = AllByRecursion (λ entry. IsPlain entry.event) entries
+-- bytes that were sent to this party
+pub record WasSent (world : WorldState) (to : Party) (text : List ℕ) : Type 0 where
+  pub number : ℕ
+  pub letter : Letter
+  pub is_letter : letter_of world number ≡ Some letter
+  pub to_is : letter.to ≡ to
+  pub text_is : letter.text ≡ text
+
+-- such an event, which hands a party no bytes that it takes but those of a letter that was sent to it
+abbrev pub IsPlain : WorldState → Event → Type 0
+IsPlain world (Invoke client op) = (client.0 < 2 ^ 16) × HasOpParts op
+IsPlain world (Deliver letter) = Unit {0}
+IsPlain world (Tick client) = Unit {0}
+IsPlain world (Inject to text) = IsIgnored world to text ⊎ WasSent world to text
+
+pub record ArePlain (trace : Trace) : Type 0 where
+  pub parts : HaveParts trace.entries
+  pub plain_at : (at : ℕ) (default : Entry) → at < length trace.entries → IsPlain (world_after trace at) (get_or trace.entries at default).event
 
 -- the sets and the body of a request: made of what its client kept, each history of which was held
 pub record IsOfKept (trace : Trace) (count : ℕ) (sets : List SetOf) (body : Body) : Type 0 where

@@ -1,12 +1,11 @@
-ghost use Rattle.std.specs.Prelude.{◌≡◌, ◌≤◌, not, length, position, AllPairs, IfOk, OnOk, IsTrue};
+ghost use Rattle.std.specs.Prelude.{◌≡◌, ◌≤◌, not, length, position, AllPairs, IfOk, OnOk};
 ghost use Rattle.std.specs.List.{position_or_len};
 ghost use Rattle.qu_machine.specs.Serial.{IsSerial};
-ghost use Rattle.qu_trace.specs.Injections.{no_injection};
 ghost use Rattle.qu_trace.specs.Operations.{operations_of};
 ghost use Rattle.qu_world.specs.Run.{IsRun};
 ghost use Rattle.qu_safety.specs.Chained.{IsChained};
 ghost use Rattle.qu_safety.specs.Facts.{AreFacts};
-ghost use Rattle.qu_safety.specs.Digested.{MeetsPremises};
+ghost use Rattle.qu_safety.specs.Premises.{IsUnforged, MeetsPremises};
 ghost use Rattle.qu_safety.specs.Named.{StampsNameHistories};
 ghost use Rattle.qu_safety.specs.Order.{is_earlier, IsPrintedOrder};
 ghost use Rattle.qu_safety.specs.Quorums.{CompletesByQuorums};
@@ -23,17 +22,17 @@ use std::alloc::Global;
 
 /// The points of a run: where each update and each completed query took effect.
 ///
-/// They stand by event. Where nothing was injected and no two texts that were digested have one digest,
+/// They stand by event. Where nothing forged was injected and no two texts that were digested have one digest,
 /// they are a serial order of the operations: one machine that runs whole operations in this order gives
 /// each completed one its answer, between its call and its reply.
 pub fn order_of(alloc: Global, trace: &Trace) -> Result<List<Point>, NoMemory>
     requires { IsRun trace.now }
     ensures printed { IfOk result (λ order. IsPrintedOrder trace.now order) }
     ensures serial { IfOk result (λ order. MeetsPremises trace.now → IsSerial trace.now.setup.kinds (operations_of trace.now.entries) order) }
-    ensures chained { OnOk result (IsTrue (no_injection trace.now.entries) → IsChained trace.now) }
+    ensures chained { OnOk result (IsUnforged trace.now → IsChained trace.now) }
     ensures named { OnOk result (MeetsPremises trace.now → StampsNameHistories trace.now) }
-    ensures in_turn { OnOk result (IsTrue (no_injection trace.now.entries) → DecidesInTurn trace.now) }
-    ensures by_quorums { OnOk result (IsTrue (no_injection trace.now.entries) → CompletesByQuorums trace.now) }
+    ensures in_turn { OnOk result (IsUnforged trace.now → DecidesInTurn trace.now) }
+    ensures by_quorums { OnOk result (IsUnforged trace.now → CompletesByQuorums trace.now) }
 {
     have_parts(trace.entries.as_slice());
     let facts = Facts::of(alloc, trace)?;

@@ -28,21 +28,21 @@ returns-clause-printed c =
 pub returns-clause-serial : goal.returns-clause-serial
 returns-clause-serial c =
     λ premises.
-    let plain : ArePlain c.args.trace.now.entries = plain_from c.args.trace.now.entries (subst HaveParts c.as_slice.ensures c.have_parts.ensures) premises.no_injection in
+    let plain : ArePlain c.args.trace.now = plain_from c.args.trace.now (subst HaveParts c.as_slice.ensures c.have_parts.ensures) premises.unforged in
     serial c.args.trace.now c.requires plain (acts_are_one c.args.trace.now c.requires plain premises.no_collision) c.from.result (returns-clause-printed c)
 
 pub returns-clause-chained : goal.returns-clause-chained
 returns-clause-chained c =
-    λ none. is_chained c.args.trace.now c.requires (plain_from c.args.trace.now.entries (subst HaveParts c.as_slice.ensures c.have_parts.ensures) none)
+    λ none. is_chained c.args.trace.now c.requires (plain_from c.args.trace.now (subst HaveParts c.as_slice.ensures c.have_parts.ensures) none)
 
 pub returns-clause-named : goal.returns-clause-named
 returns-clause-named c =
-    λ premises. stamps_name c.args.trace.now c.requires (plain_from c.args.trace.now.entries (subst HaveParts c.as_slice.ensures c.have_parts.ensures) premises.no_injection) premises.no_collision
+    λ premises. stamps_name c.args.trace.now c.requires (plain_from c.args.trace.now (subst HaveParts c.as_slice.ensures c.have_parts.ensures) premises.unforged) premises.no_collision
 
 pub returns-clause-in_turn : goal.returns-clause-in_turn
 returns-clause-in_turn c =
-    λ none. decides_in_turn c.args.trace.now c.requires (plain_from c.args.trace.now.entries (subst HaveParts c.as_slice.ensures c.have_parts.ensures) none)
+    λ none. decides_in_turn c.args.trace.now c.requires (plain_from c.args.trace.now (subst HaveParts c.as_slice.ensures c.have_parts.ensures) none)
 
 pub returns-clause-by_quorums : goal.returns-clause-by_quorums
 returns-clause-by_quorums c =
-    λ none. completes_by_quorums c.args.trace.now c.requires (plain_from c.args.trace.now.entries (subst HaveParts c.as_slice.ensures c.have_parts.ensures) none)
+    λ none. completes_by_quorums c.args.trace.now c.requires (plain_from c.args.trace.now (subst HaveParts c.as_slice.ensures c.have_parts.ensures) none)
