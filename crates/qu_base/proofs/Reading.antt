@@ -19,10 +19,12 @@ not_both bad one is = cc
 same_ok : {A E : Type 0} (one other : A) → ok_of {B = E} one ≡ ok_of other → one ≡ other
 same_ok one other is = cc
 
-value_of : {A B E : Type 0} (one other : A) (front end : B) → ok_of {A = A × B} {B = E} (one, front) ≡ ok_of {A = A × B} (other, end) → one ≡ other
+value_of : {A B E : Type 0} (one other : A) (front end : B) → ok_of {A = A × B} {B = E} (one, front) ≡ ok_of
+    {A = A × B} (other, end) → one ≡ other
 value_of {A = A} {B = B} one other front end is = ap (λ (pair : A × B). pair.0) (same_ok (one, front) (other, end) is)
 
-pub read_exactly : {V : Type 0} (form : Format V) → IsExact form → (result : Result V BadText) (old new : Front) → AreBytes old.rest → Reads form result old new → IsRead form result old new
+pub read_exactly : {V : Type 0} (form : Format V) → IsExact form → (result : Result V BadText) (old new : Front)
+    → AreBytes old.rest → Reads form result old new → IsRead form result old new
 read_exactly form exact (Ok value) old new fit given = record {
   given = given;
   found = exact.found old new value fit given;
@@ -34,13 +36,15 @@ read_exactly form exact (Err bad) old new fit given = record {
   only = λ other end spelled. absurd (not_both bad (other, end) (sym given ∙ exact.only old end other spelled));
 }
 
-pub given_exactly : {V : Type 0} (form : Format V) → IsExact form → (result : Result V ReadFail) (old new : Front) → AreBytes old.rest → Gives form result old new → IsGiven form result old new
+pub given_exactly : {V : Type 0} (form : Format V) → IsExact form → (result : Result V ReadFail) (old new : Front)
+    → AreBytes old.rest → Gives form result old new → IsGiven form result old new
 given_exactly form exact (Ok value) old new fit given = record {
   given = given;
   found = exact.found old new value fit given;
   only = λ other end spelled. value_of value other new end (sym given ∙ exact.only old end other spelled);
 }
-given_exactly form exact (Err fail.NoMemory) old new fit given = record { given = tt; found = tt; only = λ other end spelled. refl }
+given_exactly form exact (Err fail.NoMemory) old new fit given =
+    record { given = tt; found = tt; only = λ other end spelled. refl }
 given_exactly form exact (Err (fail.Bad bad)) old new fit given = record {
   given = given;
   found = tt;

@@ -1,6 +1,9 @@
 -- What a proof may use of the sizes of quorums.
-use Rattle.std.proofs.Common.{ℕ, ◌≤◌, arith}
-use Rattle.qu_base.specs.Thresholds.{replicas, quorum, repair, AreThresholds}
+use Rattle.std.proofs.Common.{◌≡◌, ℕ, zero, suc, ◌≤◌, ◌==◌, ◌||◌, true, refl, arith}
+use Rattle.std.specs.Prelude.{IsTrue}
+use Rattle.std.proofs.lemmas.Bool.Decides.{nat_tests}
+use Rattle.qu_base.specs.declared.limits.TheConstants.{MOST_FAULTS, REPLICA_IDS}
+use Rattle.qu_base.specs.Thresholds.{replicas, is_replica_count, quorum, repair, AreThresholds}
 
 -- the sizes for at least one lying replica
 pub are_thresholds : (b : ℕ) → 1 ≤ b → AreThresholds b
@@ -11,3 +14,21 @@ are_thresholds b some = record {
   correct_make_quorum = omega arith;
   repair_outnumbers = omega arith;
 }
+
+-- ---- the number of replicas
+
+pub replicas_are_few : (b : ℕ) → b ≤ MOST_FAULTS → replicas b ≤ REPLICA_IDS
+unfolding replicas
+replicas_are_few b few = omega arith
+
+pub replicas_are_count : (b : ℕ) → 1 ≤ b → b ≤ MOST_FAULTS → is_replica_count (replicas b) ≡ true
+unfolding is_replica_count replicas
+replicas_are_count zero some few = absurd (omega arith)
+replicas_are_count (suc zero) some few = refl
+replicas_are_count (suc (suc zero)) some few = refl
+replicas_are_count (suc (suc (suc zero))) some few = refl
+replicas_are_count (suc (suc (suc (suc more)))) some few = absurd (omega arith)
+
+pub count_is_few : (count : ℕ) → IsTrue (is_replica_count count) → count ≤ REPLICA_IDS
+unfolding is_replica_count replicas
+count_is_few count is = grind (arith, nat_tests)

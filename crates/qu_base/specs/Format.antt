@@ -1,12 +1,13 @@
 -- The format of a field: which values have a spelling, the one spelling of each, and how a value is
 -- read. Formats are put together in the order of their fields, and a text is refused at the first
 -- field that fails.
-use Rattle.std.specs.Prelude.{◌≡◌, ℕ, zero, suc, ◌+◌, ◌==◌, ◌<◌, ◌≤◌, Bool, true, false, ◌&&◌, nat_lt, nat_le, if◌then◌else◌, List, [], ◌∷◌, length, take, drop, get_or, Option, None, Some, is_some, Result, Ok, Err, IsTrue, ◌++◌}
+use Rattle.std.specs.Prelude.{◌≡◌, ℕ, zero, suc, ◌+◌, ◌-◌, ◌==◌, ◌<◌, ◌≤◌, Bool, true, false, ◌&&◌, nat_lt, nat_le, if◌then◌else◌, List, [], ◌∷◌, length, take, drop, get_or, Option, None, Some, is_some, Result, Ok, Err, IsTrue, ◌++◌}
 use Rattle.std.specs.List.{flat_map}
 use Rattle.std.specs.Int.{Width, w8, w16, byte_len, from_be_bytes, to_be_bytes, from_bool}
 use Rattle.qu_base.specs.declared.bad_text.BadText.{BadText}
 use Rattle.qu_base.specs.declared.bad_text.Why.{Why}
 use Rattle.qu_base.specs.declared.bad_text.Why.TheVariants.{Short, Range}
+use Rattle.qu_base.specs.declared.limits.TheConstants.{OBJECT_IDS, REPLICA_IDS}
 use Rattle.qu_base.specs.declared.party.Digest.{Digest}
 use Rattle.qu_base.specs.declared.party.ObjectId.{ObjectId}
 use Rattle.qu_base.specs.declared.party.ReplicaId.{ReplicaId}
@@ -32,7 +33,8 @@ abbrev pub refused : {V : Type 0} → Front → Why → Result (V × Front) BadT
 refused front why = Err (record { place = front.place; why = why })
 
 -- what is read behind a field
-abbrev pub and_then : {V W : Type 0} → Result (V × Front) BadText → (V → Front → Result (W × Front) BadText) → Result (W × Front) BadText
+abbrev pub and_then : {V W : Type 0} → Result (V × Front) BadText → (V → Front → Result (W × Front) BadText)
+    → Result (W × Front) BadText
 and_then (Ok found) later = later found.0 found.1
 and_then (Err bad) later = Err bad
 
@@ -51,6 +53,10 @@ number width least most = record {
   spell = to_be_bytes width;
   read = number_at width least most;
 }
+
+-- a number below the limit
+abbrev pub below : Width → ℕ → Format ℕ
+below width limit = number width 0 (limit - 1)
 
 unfoldable pub bytes_at : ℕ → Front → Result (List ℕ × Front) BadText
 bytes_at count front =
@@ -80,7 +86,8 @@ abbrev pub both : {V W : Type 0} → Format V → (V → Format W) → Format (V
 both first second = record {
   Fits = λ pair. first.Fits pair.0 × (second pair.0).Fits pair.1;
   spell = λ pair. first.spell pair.0 ++ (second pair.0).spell pair.1;
-  read = λ front. and_then (first.read front) (λ one next. and_then ((second one).read next) (λ two end. Ok ((one, two), end)));
+  read = λ front. and_then (first.read front)
+      (λ one next. and_then ((second one).read next) (λ two end. Ok ((one, two), end)));
 }
 
 -- a value that fails the test is refused at the start of its field
@@ -122,7 +129,8 @@ FitsFrom item next key (value ∷ later) = (item key).Fits value × FitsFrom ite
 unfoldable pub items_at : {K V : Type 0} → (K → Format V) → (V → K) → K → ℕ → Front → Result (List V × Front) BadText
 items_at item next key zero front = Ok ([], front)
 items_at item next key (suc count) front =
-    and_then ((item key).read front) (λ value rest. and_then (items_at item next (next value) count rest) (λ later end. Ok (value ∷ later, end)))
+    and_then ((item key).read front) (λ value rest. and_then (items_at item next (next value) count rest)
+    (λ later end. Ok (value ∷ later, end)))
 
 -- values that were read, put before those that are read of the rest
 abbrev pub put_before : {V : Type 0} → List V → Result (List V × Front) BadText → Result (List V × Front) BadText
@@ -163,10 +171,10 @@ digest_form = made (λ content. record { 0 = content }) (λ digest. Some digest.
 
 -- an object, a replica: by its number
 abbrev pub object_form : Format ObjectId
-object_form = made (λ number. record { 0 = number }) (λ object. Some object.0) (number w16 0 63)
+object_form = made (λ number. record { 0 = number }) (λ object. Some object.0) (below w16 OBJECT_IDS)
 
 abbrev pub replica_form : Format ReplicaId
-replica_form = made (λ number. record { 0 = number }) (λ replica. Some replica.0) (number w8 0 15)
+replica_form = made (λ number. record { 0 = number }) (λ replica. Some replica.0) (below w8 REPLICA_IDS)
 
 -- ---- what it is to be exact
 
@@ -180,10 +188,12 @@ AreBytes content = (index : ℕ) → get_or content index 0 < 256
 
 -- what is read is spelled so, and what is spelled so is read, whatever follows
 pub record IsExact {V : Type 0} (form : Format V) : Type 0 where
-  pub found : (old new : Front) (value : V) → AreBytes old.rest → form.read old ≡ Ok (value, new) → Spells form old new value
+  pub found : (old new : Front) (value : V) → AreBytes old.rest → form.read old ≡ Ok (value, new)
+      → Spells form old new value
   pub only : (old new : Front) (value : V) → Spells form old new value → form.read old ≡ Ok (value, new)
 
 -- and no spelling begins another: where the spellings of two values stand at one front, the values are one
 pub record IsPrefixCode {V : Type 0} (form : Format V) : Type 0 where
   pub exact : IsExact form
-  pub one : (old new end : Front) (value other : V) → Spells form old new value → Spells form old end other → (value ≡ other) × (new ≡ end)
+  pub one : (old new end : Front) (value other : V) → Spells form old new value → Spells form old end other
+      → (value ≡ other) × (new ≡ end)

@@ -11,7 +11,8 @@ use Rattle.qu_base.specs.Format.{Format, Spells}
 
 -- what was read is what reading gives
 abbrev pub Reads : {V : Type 0} → Format V → Result V BadText → Front → Front → Type 0
-Reads form result old new = MatchResult result (λ value. form.read old ≡ Ok (value, new)) (λ bad. form.read old ≡ Err bad)
+Reads form result old new = MatchResult result (λ value. form.read old ≡ Ok (value, new))
+    (λ bad. form.read old ≡ Err bad)
 
 pub record IsRead {V : Type 0} (form : Format V) (result : Result V BadText) (old new : Front) : Type 0 where
   pub given : Reads form result old new
@@ -27,7 +28,8 @@ FailsAs (fail.Bad bad) read = read ≡ Err bad
 
 -- what was read is what reading gives, unless memory ran out
 abbrev pub Gives : {V : Type 0} → Format V → Result V ReadFail → Front → Front → Type 0
-Gives form result old new = MatchResult result (λ value. form.read old ≡ Ok (value, new)) (λ why. FailsAs why (form.read old))
+Gives form result old new = MatchResult result (λ value. form.read old ≡ Ok (value, new))
+    (λ why. FailsAs why (form.read old))
 
 -- the value, unless memory ran out
 abbrev pub IsOrFails : {V : Type 0} → Result V ReadFail → V → Type 0

@@ -1,11 +1,15 @@
 -- How many replicas there are and how many answer, where b of them may lie. The sizes are those of
 -- the Query/Update protocol (Abd-El-Malek, Ganger, Goodson, Reiter, Wylie, SOSP 2005); the four
 -- facts are all that a proof may use of them.
-use Rattle.std.specs.Prelude.{ℕ, ◌+◌, ◌*◌, ◌<◌, ◌≤◌}
+use Rattle.std.specs.Prelude.{ℕ, Bool, ◌+◌, ◌*◌, ◌==◌, ◌||◌, ◌<◌, ◌≤◌}
 
 -- the number of replicas
 unfoldable pub replicas : ℕ → ℕ
 replicas b = 5 * b + 1
+
+-- the number of replicas for some number of faults, from 1 to 3
+unfoldable pub is_replica_count : ℕ → Bool
+is_replica_count count = count == replicas 1 || (count == replicas 2 || count == replicas 3)
 
 -- the number of replicas in a quorum
 unfoldable pub quorum : ℕ → ℕ

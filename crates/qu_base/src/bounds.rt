@@ -1,6 +1,7 @@
 ghost use Rattle.std.specs.Prelude.{◌≡◌, ◌≤◌, ◌↔◌, Ok, Err, IsOk, IfOk, IfErr};
-ghost use Rattle.qu_base.specs.Thresholds.{replicas, quorum, repair, AreThresholds};
+ghost use Rattle.qu_base.specs.Thresholds.{replicas, is_replica_count, quorum, repair, AreThresholds};
 
+use super::{MOST_FAULTS, REPLICA_IDS};
 use std::marker::Model;
 
 /// Why a number of faulty replicas is refused.
@@ -19,25 +20,26 @@ pub struct Bounds {
 
 impl Model for Bounds {
     ghost use Rattle.std.specs.Prelude.{ℕ, ◌≤◌};
+    ghost use Rattle.qu_base.specs.declared.limits.TheConstants.{MOST_FAULTS};
 
     ghost Value = { ℕ };
 
     ghost view = { λ bounds. bounds.faults };
 
-    ghost invariant = { λ bounds. (1 ≤ bounds.faults) × (bounds.faults ≤ 3) };
+    ghost invariant = { λ bounds. (1 ≤ bounds.faults) × (bounds.faults ≤ MOST_FAULTS) };
 
     ghost inverse = { λ b. record { faults = b } };
 }
 
 impl Bounds {
-    /// The bounds for `b` lying replicas, from 1 to 3.
+    /// The bounds for `b` lying replicas, from 1 to `MOST_FAULTS`.
     pub fn new(b: u8) -> Result<Bounds, BadBounds>
-        ensures accepted { IsOk result ↔ ((1 ≤ b) × (b ≤ 3)) }
+        ensures accepted { IsOk result ↔ ((1 ≤ b) × (b ≤ MOST_FAULTS)) }
         ensures value { IfOk result (λ bounds. bounds ≡ b) }
         ensures refused { IfErr result (λ bad. bad ≡ BadBounds.OutOfRange b) }
     {
         match b {
-            1..=3 => Ok(Bounds { faults: b }),
+            1..=MOST_FAULTS => Ok(Bounds { faults: b }),
             _ => Err(BadBounds::OutOfRange(b)),
         }
     }
@@ -45,20 +47,19 @@ impl Bounds {
     /// How many replicas may lie.
     pub fn b(&self) -> u8
         ensures value { result ≡ self.now }
-        ensures in_range { (1 ≤ result) × (result ≤ 3) }
+        ensures in_range { (1 ≤ result) × (result ≤ MOST_FAULTS) }
         ensures thresholds { AreThresholds self.now }
     {
         self.faults
     }
 
     /// How many replicas there are.
-    #[tactic(auto, unfolding(crate::specs::Thresholds::replicas))]
     pub fn n(&self) -> u8
         ensures value { result ≡ replicas self.now }
-        ensures most { result ≤ 16 }
+        ensures most { result ≤ REPLICA_IDS }
         ensures thresholds { AreThresholds self.now }
     {
-        5 * self.faults + 1
+        replicas_for(self.faults)
     }
 
     /// How many replicas make a quorum.
@@ -78,4 +79,22 @@ impl Bounds {
     {
         2 * self.faults + 1
     }
+}
+
+/// How many replicas there are, where so many may lie.
+#[tactic(auto, unfolding(crate::specs::Thresholds::replicas))]
+fn replicas_for(faults: u8) -> u8
+    requires { faults ≤ MOST_FAULTS }
+    ensures value { result ≡ replicas faults }
+    ensures most { result ≤ REPLICA_IDS }
+{
+    5 * faults + 1
+}
+
+/// Whether so many replicas are those of some number of faults.
+#[tactic(auto, unfolding(crate::specs::Thresholds::is_replica_count))]
+pub fn is_replica_count(count: u8) -> bool
+    ensures { result ≡ is_replica_count count }
+{
+    count == replicas_for(1) || count == replicas_for(2) || count == replicas_for(3)
 }

@@ -1,15 +1,16 @@
-ghost use Rattle.std.specs.Prelude.{◌≡◌, ◌<◌, ◌↔◌, ◌∷◌, [], length, IsNone, IfNone, IfSome};
+ghost use Rattle.std.specs.Prelude.{◌≡◌, ◌<◌, ◌↔◌, ◌∷◌, [], length, IsNone, IfNone, IfSome, OnErr};
 ghost use Rattle.std.specs.Int.{w8, w16, w64, to_be_bytes};
 ghost use Rattle.qu_base.specs.Front.{Takes};
 ghost use Rattle.qu_base.specs.Format.{number, bytes, flag, digest_form, object_form, replica_form, AreBytes};
 ghost use Rattle.qu_base.specs.Reading.{Reads};
 
-use super::{BadText, Digest, ObjectId, ReplicaId, Why};
+use super::{BadText, Digest, OBJECT_IDS, ObjectId, REPLICA_IDS, ReplicaId, Why};
 use std::marker::Model;
 
 /// A place in a text that is being read. A number is big-endian.
 ///
-/// Each read gives `None` exactly where too few bytes remain, and then the place stays.
+/// Each read gives `None` exactly where too few bytes remain, or the refusal of its field, and then the
+/// place stays.
 #[derive(Drop)]
 pub struct Cursor<'a> {
     place: usize,
@@ -125,51 +126,58 @@ impl<'a> Cursor<'a> {
     /// The next byte, from `least` to `most`.
     #[tactic(auto, unfolding(crate::specs::Format::number_at))]
     pub fn u8_within(&mut self, least: u8, most: u8) -> Result<u8, BadText>
-        ensures { Reads (number w8 least most) result self.old self.new }
+        ensures read { Reads (number w8 least most) result self.old self.new }
+        ensures kept { OnErr result (self.new ≡ self.old) }
     {
-        let start = self.ahead();
-        let Some(value) = self.u8() else {
-            return Err(start.refusal(Why::Short));
+        let mut ahead = self.ahead();
+        let Some(value) = ahead.u8() else {
+            return Err(self.refusal(Why::Short));
         };
         if value < least || value > most {
-            return Err(start.refusal(Why::Range));
+            return Err(self.refusal(Why::Range));
         }
+        *self = ahead;
         Ok(value)
     }
 
     /// The next number of two bytes, from `least` to `most`.
     #[tactic(auto, unfolding(crate::specs::Format::number_at))]
     pub fn u16_within(&mut self, least: u16, most: u16) -> Result<u16, BadText>
-        ensures { Reads (number w16 least most) result self.old self.new }
+        ensures read { Reads (number w16 least most) result self.old self.new }
+        ensures kept { OnErr result (self.new ≡ self.old) }
     {
-        let start = self.ahead();
-        let Some(value) = self.u16() else {
-            return Err(start.refusal(Why::Short));
+        let mut ahead = self.ahead();
+        let Some(value) = ahead.u16() else {
+            return Err(self.refusal(Why::Short));
         };
         if value < least || value > most {
-            return Err(start.refusal(Why::Range));
+            return Err(self.refusal(Why::Range));
         }
+        *self = ahead;
         Ok(value)
     }
 
     /// The next number of eight bytes, from `least` to `most`.
     #[tactic(auto, unfolding(crate::specs::Format::number_at))]
     pub fn u64_within(&mut self, least: u64, most: u64) -> Result<u64, BadText>
-        ensures { Reads (number w64 least most) result self.old self.new }
+        ensures read { Reads (number w64 least most) result self.old self.new }
+        ensures kept { OnErr result (self.new ≡ self.old) }
     {
-        let start = self.ahead();
-        let Some(value) = self.u64() else {
-            return Err(start.refusal(Why::Short));
+        let mut ahead = self.ahead();
+        let Some(value) = ahead.u64() else {
+            return Err(self.refusal(Why::Short));
         };
         if value < least || value > most {
-            return Err(start.refusal(Why::Range));
+            return Err(self.refusal(Why::Range));
         }
+        *self = ahead;
         Ok(value)
     }
 
     /// The next byte, 0 or 1, as a flag; 1 only where it may be.
     pub fn flag(&mut self, may: bool) -> Result<bool, BadText>
-        ensures { Reads (flag may) result self.old self.new }
+        ensures read { Reads (flag may) result self.old self.new }
+        ensures kept { OnErr result (self.new ≡ self.old) }
     {
         let code = self.u8_within(0, u8::from(may))?;
         Ok(code == 1)
@@ -177,26 +185,28 @@ impl<'a> Cursor<'a> {
 
     /// The next object, by its number.
     pub fn object(&mut self) -> Result<ObjectId, BadText>
-        ensures { Reads object_form result self.old self.new }
+        ensures read { Reads object_form result self.old self.new }
+        ensures kept { OnErr result (self.new ≡ self.old) }
     {
-        Ok(ObjectId(self.u16_within(0, 63)?))
+        Ok(ObjectId(self.u16_within(0, OBJECT_IDS - 1)?))
     }
 
     /// The next replica, by its number.
     pub fn replica(&mut self) -> Result<ReplicaId, BadText>
-        ensures { Reads replica_form result self.old self.new }
+        ensures read { Reads replica_form result self.old self.new }
+        ensures kept { OnErr result (self.new ≡ self.old) }
     {
-        Ok(ReplicaId(self.u8_within(0, 15)?))
+        Ok(ReplicaId(self.u8_within(0, REPLICA_IDS - 1)?))
     }
 
     /// The next 32 bytes.
     #[tactic(auto, using(crate::proofs::Formats::bytes_read, crate::proofs::Formats::bytes_short))]
     pub fn array(&mut self) -> Result<[u8; 32], BadText>
-        ensures { Reads (bytes 32) result self.old self.new }
+        ensures read { Reads (bytes 32) result self.old self.new }
+        ensures kept { OnErr result (self.new ≡ self.old) }
     {
-        let start = self.ahead();
         let Some(piece) = self.take(32) else {
-            return Err(start.refusal(Why::Short));
+            return Err(self.refusal(Why::Short));
         };
         let mut content = [0; 32];
         content.copy_from_slice(piece);
@@ -205,7 +215,8 @@ impl<'a> Cursor<'a> {
 
     /// The next 32 bytes, as a digest.
     pub fn digest(&mut self) -> Result<Digest, BadText>
-        ensures { Reads digest_form result self.old self.new }
+        ensures read { Reads digest_form result self.old self.new }
+        ensures kept { OnErr result (self.new ≡ self.old) }
     {
         Ok(Digest(self.array()?))
     }

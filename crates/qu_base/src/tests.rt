@@ -45,15 +45,17 @@ fn a_field_is_refused_where_it_begins(rt: HostRuntime) {
     let refused = |place, why| BadText { place, why };
     let mut text = Cursor::new(&[9, 0, 64, 2]);
     assert_eq!(rt; text.u8_within(1, 8), Err(refused(0, Why::Range)));
+    assert_eq!(rt; text.u8(), Some(9));
     assert_eq!(rt; text.object(), Err(refused(1, Why::Range)));
+    assert_eq!(rt; text.u16(), Some(64));
     assert_eq!(rt; text.flag(true), Err(refused(3, Why::Range)));
-    assert_eq!(rt; text.digest(), Err(refused(4, Why::Short)));
+    assert_eq!(rt; text.digest(), Err(refused(3, Why::Short)));
     let mut text = Cursor::new(&[0, 63, 15, 1, 1]);
     assert_eq!(rt; text.object(), Ok(ObjectId(63)));
     assert_eq!(rt; text.replica(), Ok(ReplicaId(15)));
     assert_eq!(rt; text.flag(true), Ok(true));
     assert_eq!(rt; text.flag(false), Err(refused(4, Why::Range)));
-    assert_eq!(rt; text.u64_within(0, 1), Err(refused(5, Why::Short)));
+    assert_eq!(rt; text.u64_within(0, 1), Err(refused(4, Why::Short)));
 }
 
 #[test]

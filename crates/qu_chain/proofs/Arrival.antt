@@ -24,7 +24,8 @@ apart : (test : ℕ → Bool) (first second : ℕ) → test first ≡ false → 
 apart test first second fails passes same = false≢true (sym fails ∙ ap test same ∙ passes)
 
 -- what does not hold at the least time and holds at the end begins between them
-pub turn_between : (test : ℕ → Bool) (least end : ℕ) → least ≤ end → test least ≡ false → test end ≡ true → Turn test least end
+pub turn_between : (test : ℕ → Bool) (least end : ℕ) → least ≤ end → test least ≡ false → test end ≡ true
+    → Turn test least end
 turn_between test least zero order before after =
     absurd (apart test least zero before after (omega arith))
 turn_between test least (suc end) order before after =

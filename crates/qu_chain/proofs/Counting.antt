@@ -2,7 +2,7 @@
 use Rattle.std.proofs.Common.{◌≡◌, ℕ, zero, suc, ◌+◌, ◌<◌, ◌≤◌, Bool, true, false, not, ◌&&◌, cond, List, [], ◌∷◌, length, refl, sym, ap, ◌∙◌, arith, inl, inr}
 use Rattle.std.specs.Prelude.{count_by, Some}
 use Rattle.std.specs.List.{slice_get}
-use Rattle.std.proofs.lemmas.Bool.{false≢true, cases_Bool, and_parts, cases_eq}
+use Rattle.std.proofs.lemmas.Bool.{false≢true, cases_Bool, and_parts, cases_eq, cases_lt}
 use Rattle.std.proofs.lemmas.List.Sums.{sum_by-cons}
 use Rattle.qu_chain.specs.Count.{count, passes, test_at}
 
@@ -16,7 +16,8 @@ bit-more true false follows = absurd (false≢true (follows refl))
 bit-more false true follows = omega arith
 bit-more false false follows = omega arith
 
-bit-both : (first second all : Bool) → (first ≡ true → all ≡ true) → (second ≡ true → all ≡ true) → bit first + bit second ≤ bit all + bit (first && second)
+bit-both : (first second all : Bool) → (first ≡ true → all ≡ true) → (second ≡ true → all ≡ true)
+    → bit first + bit second ≤ bit all + bit (first && second)
 bit-both true true true first_in second_in = omega arith
 bit-both true true false first_in second_in = absurd (false≢true (first_in refl))
 bit-both true false true first_in second_in = omega arith
@@ -31,28 +32,36 @@ bit-not true = refl
 bit-not false = refl
 
 -- a weaker test counts at least as many
-pub count-more : (n : ℕ) (first second : ℕ → Bool) → ((index : ℕ) → index < n → first index ≡ true → second index ≡ true) → count n first ≤ count n second
+pub count-more : (n : ℕ) (first second : ℕ → Bool)
+    → ((index : ℕ) → index < n → first index ≡ true → second index ≡ true) → count n first ≤ count n second
 unfolding count
 count-more zero first second follows = omega arith
 count-more (suc n) first second follows =
-    let below : count n first ≤ count n second = count-more n first second (λ index within. follows index (omega arith)) in
+    let below : count n first ≤ count n second =
+    count-more n first second (λ index within. follows index (omega arith)) in
     let here : bit (first n) ≤ bit (second n) = bit-more (first n) (second n) (follows n (omega arith)) in
     omega arith
 
-pub count-both : (n : ℕ) (first second all : ℕ → Bool) → ((index : ℕ) → first index ≡ true → all index ≡ true) → ((index : ℕ) → second index ≡ true → all index ≡ true) → count n first + count n second ≤ count n all + count n (λ index. first index && second index)
+pub count-both : (n : ℕ) (first second all : ℕ → Bool) → ((index : ℕ) → first index ≡ true → all index ≡ true)
+    → ((index : ℕ) → second index ≡ true → all index ≡ true)
+    → count n first + count n second ≤ count n all + count n (λ index. first index && second index)
 unfolding count
 count-both zero first second all first_in second_in = omega arith
 count-both (suc n) first second all first_in second_in =
-    let below : count n first + count n second ≤ count n all + count n (λ index. first index && second index) = count-both n first second all first_in second_in in
-    let here : bit (first n) + bit (second n) ≤ bit (all n) + bit (first n && second n) = bit-both (first n) (second n) (all n) (first_in n) (second_in n) in
+    let below : count n first + count n second ≤ count n all + count n (λ index. first index && second index) =
+    count-both n first second all first_in second_in in
+    let here : bit (first n) + bit (second n) ≤ bit (all n) + bit (first n && second n) =
+    bit-both (first n) (second n) (all n) (first_in n) (second_in n) in
     omega arith
 
 -- tests that answer alike count the same
-pub count-same : (n : ℕ) (first second : ℕ → Bool) → ((index : ℕ) → index < n → first index ≡ second index) → count n first ≡ count n second
+pub count-same : (n : ℕ) (first second : ℕ → Bool) → ((index : ℕ) → index < n → first index ≡ second index)
+    → count n first ≡ count n second
 unfolding count
 count-same zero first second alike = refl
 count-same (suc n) first second alike =
-    let below : count n first ≡ count n second = count-same n first second (λ index within. alike index (omega arith)) in
+    let below : count n first ≡ count n second =
+    count-same n first second (λ index within. alike index (omega arith)) in
     let here : bit (first n) ≡ bit (second n) = ap bit (alike n (omega arith)) in
     omega arith
 
@@ -80,7 +89,11 @@ pub record Passing (n : ℕ) (test : ℕ → Bool) : Type 0 where
   pub passed : test index ≡ true
 
 later_passing : (n : ℕ) (test : ℕ → Bool) → Passing n test → Passing (suc n) test
-later_passing n test found = record { index = found.index; within = let within : found.index < n = found.within in omega arith; passed = found.passed }
+later_passing n test found = record {
+  index = found.index;
+  within = let within : found.index < n = found.within in omega arith;
+  passed = found.passed;
+}
 
 pub passing : (n : ℕ) (test : ℕ → Bool) → 1 ≤ count n test → Passing n test
 unfolding count
@@ -91,6 +104,54 @@ passing (suc n) test some =
       | inr not_here ↦
           let same : count (suc n) test ≡ count n test = count-here n test not_here in
           later_passing n test (passing n test (omega arith))
+    ]
+
+-- where a number passes, the count is above zero
+pub count-some : (n : ℕ) (test : ℕ → Bool) (index : ℕ) → index < n → test index ≡ true → 1 ≤ count n test
+unfolding count
+count-some zero test index within passed = absurd (omega arith)
+count-some (suc n) test index within passed =
+    elim (cases_eq index n) [
+      | inl same ↦
+          let here : bit (test n) ≡ 1 = ap (λ number. bit (test number)) (sym same) ∙ ap bit passed in
+          omega arith
+      | inr other ↦
+          let below : 1 ≤ count n test = count-some n test index (omega arith) passed in
+          omega arith
+    ]
+
+-- a number that passes the second test and not the first
+pub record Gained (n : ℕ) (first second : ℕ → Bool) : Type 0 where
+  pub index : ℕ
+  pub within : index < n
+  pub before : first index ≡ false
+  pub after : second index ≡ true
+
+later_gained : (n : ℕ) (first second : ℕ → Bool) → Gained n first second → Gained (suc n) first second
+later_gained n first second found = record {
+  index = found.index;
+  within = let within : found.index < n = found.within in omega arith;
+  before = found.before;
+  after = found.after;
+}
+
+bit-gained : (first second : Bool) → bit first < bit second → (first ≡ false) × (second ≡ true)
+bit-gained true true more = absurd (omega arith)
+bit-gained true false more = absurd (omega arith)
+bit-gained false true more = (refl, refl)
+bit-gained false false more = absurd (omega arith)
+
+-- where the second test counts more, a number passes it that fails the first
+pub count-gained : (n : ℕ) (first second : ℕ → Bool) → count n first < count n second → Gained n first second
+unfolding count
+count-gained zero first second more = absurd (omega arith)
+count-gained (suc n) first second more =
+    elim (cases_lt (count n first) (count n second)) [
+      | inl below ↦ later_gained n first second (count-gained n first second below)
+      | inr not_below ↦
+          let here : bit (first n) < bit (second n) = omega arith in
+          let parts : (first n ≡ false) × (second n ≡ true) = bit-gained (first n) (second n) here in
+          record { index = n; within = omega arith; before = parts.0; after = parts.1 }
     ]
 
 -- two sets that outnumber a set in which both lie share a member
@@ -108,9 +169,12 @@ shared_of n first second found = record {
   in_second = (and_parts (first found.index) (second found.index) found.passed).1;
 }
 
-pub shared : (n : ℕ) (first second all : ℕ → Bool) → ((index : ℕ) → first index ≡ true → all index ≡ true) → ((index : ℕ) → second index ≡ true → all index ≡ true) → count n all < count n first + count n second → Shared n first second
+pub shared : (n : ℕ) (first second all : ℕ → Bool) → ((index : ℕ) → first index ≡ true → all index ≡ true)
+    → ((index : ℕ) → second index ≡ true → all index ≡ true) → count n all < count n first + count n second
+    → Shared n first second
 shared n first second all first_in second_in enough =
-    let both : count n first + count n second ≤ count n all + count n (λ index. first index && second index) = count-both n first second all first_in second_in in
+    let both : count n first + count n second ≤ count n all + count n (λ index. first index && second index) =
+    count-both n first second all first_in second_in in
     shared_of n first second (passing n (λ index. first index && second index) (omega arith))
 
 -- ---- counting the items of a list
@@ -124,11 +188,14 @@ count-first (suc n) test =
     omega arith
 
 -- a list's items that pass, counted by index
-pub count-test_at : {X : Type 0} (test : X → Bool) (items : List X) → count (length items) (test_at test items) ≡ count_by test items
+pub count-test_at : {X : Type 0} (test : X → Bool) (items : List X)
+    → count (length items) (test_at test items) ≡ count_by test items
 unfolding count
 count-test_at test [] = refl
 count-test_at test (item ∷ items) =
-    let first : count (suc (length items)) (test_at test (item ∷ items)) ≡ bit (test item) + count (length items) (test_at test items) = count-first (length items) (test_at test (item ∷ items)) in
+    let first : count (suc (length items)) (test_at test (item ∷ items))
+    ≡ bit (test item) + count (length items) (test_at test items) =
+    count-first (length items) (test_at test (item ∷ items)) in
     let later : count (length items) (test_at test items) ≡ count_by test items = count-test_at test items in
     first ∙ ap (λ number. bit (test item) + number) later ∙ sym (sum_by-cons (λ each. bit (test each)) item items)
 
@@ -139,24 +206,29 @@ pub record Found {X : Type 0} (test : X → Bool) (items : List X) (index : ℕ)
   pub is_at : slice_get items index ≡ Some item
   pub passed : test item ≡ true
 
-found_later : {X : Type 0} (test : X → Bool) (first : X) (items : List X) (index : ℕ) → Found test items index → Found test (first ∷ items) (suc index)
+found_later : {X : Type 0} (test : X → Bool) (first : X) (items : List X) (index : ℕ) → Found test items index
+    → Found test (first ∷ items) (suc index)
 found_later test first items index found = record { item = found.item; is_at = found.is_at; passed = found.passed }
 
-pub found_at : {X : Type 0} (test : X → Bool) (items : List X) (index : ℕ) → test_at test items index ≡ true → Found test items index
+pub found_at : {X : Type 0} (test : X → Bool) (items : List X) (index : ℕ) → test_at test items index ≡ true
+    → Found test items index
 found_at test [] index held = absurd (false≢true held)
 found_at test (item ∷ items) zero held = record { item = item; is_at = refl; passed = held }
 found_at test (item ∷ items) (suc index) held = found_later test item items index (found_at test items index held)
 
-pub test_at-here : {X : Type 0} (test : X → Bool) (items : List X) (index : ℕ) (item : X) → slice_get items index ≡ Some item → test_at test items index ≡ test item
+pub test_at-here : {X : Type 0} (test : X → Bool) (items : List X) (index : ℕ) (item : X)
+    → slice_get items index ≡ Some item → test_at test items index ≡ test item
 test_at-here test items index item is_at = ap (passes test) is_at
 
-pub test_at-past : {X : Type 0} (test : X → Bool) (items : List X) (index : ℕ) → length items ≤ index → test_at test items index ≡ false
+pub test_at-past : {X : Type 0} (test : X → Bool) (items : List X) (index : ℕ) → length items ≤ index
+    → test_at test items index ≡ false
 test_at-past test [] index past = refl
 test_at-past test (item ∷ items) zero past = absurd (omega arith)
 test_at-past test (item ∷ items) (suc index) past = test_at-past test items index (omega arith)
 
 -- the same count for a bound above the list's length
-pub count-test_at_up_to : {X : Type 0} (test : X → Bool) (items : List X) (n : ℕ) → length items ≤ n → count n (test_at test items) ≡ count_by test items
+pub count-test_at_up_to : {X : Type 0} (test : X → Bool) (items : List X) (n : ℕ) → length items ≤ n
+    → count n (test_at test items) ≡ count_by test items
 unfolding count
 count-test_at_up_to test items zero long =
     let none : length items ≡ 0 = omega arith in
@@ -164,5 +236,7 @@ count-test_at_up_to test items zero long =
 count-test_at_up_to test items (suc n) long =
     elim (cases_eq (length items) (suc n)) [
       | inl same ↦ ap (λ bound. count bound (test_at test items)) (sym same) ∙ count-test_at test items
-      | inr other ↦ count-here n (test_at test items) (test_at-past test items n (omega arith)) ∙ count-test_at_up_to test items n (omega arith)
+      | inr other ↦
+          count-here n (test_at test items) (test_at-past test items n (omega arith))
+          ∙ count-test_at_up_to test items n (omega arith)
     ]

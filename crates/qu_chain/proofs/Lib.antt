@@ -1,5 +1,12 @@
 pub mod Counting
 pub mod Arrival
-pub mod Ancestors
-pub mod Chain
-pub mod Example
+pub mod Ancestry
+pub mod Established
+pub mod Parents
+pub mod Deciding
+pub mod Tops
+pub mod Groups
+pub mod Turns
+pub mod Values
+pub mod Updates
+pub mod ExampleRun

@@ -1,2 +1,5 @@
 pub mod Count
-pub mod Chain
+pub mod Setting
+pub mod Laws
+pub mod Decided
+pub mod Joint

@@ -3,13 +3,13 @@ use Rattle.std.proofs.Common.{◌≡◌, ℕ, ◌<◌, length, List, Err, refl}
 use Rattle.std.proofs.lemmas.Bool.{lt-ltb}
 use Rattle.qu_script.specs.declared.bad.Bad.{Bad}
 use Rattle.qu_script.specs.declared.bad.BadKind.TheVariants.{TooLong}
-use Rattle.qu_script.specs.declared.limits.TheConstants.{LIMIT}
+use Rattle.qu_script.specs.declared.limits.TheConstants.{SCRIPT_LIMIT}
 use Rattle.qu_script.specs.Script.{script_of}
 use Rattle.qu_script.specs.Events.{sim_of}
 
 pub too_long : Bad
 too_long = record { line = 1; kind = TooLong }
 
-pub sim_too_long : (script : List ℕ) → LIMIT < length script → sim_of script ≡ Err too_long
+pub sim_too_long : (script : List ℕ) → SCRIPT_LIMIT < length script → sim_of script ≡ Err too_long
 unfolding sim_of script_of too_long
-sim_too_long script long = rw (lt-ltb LIMIT (length script) long) refl
+sim_too_long script long = rw (lt-ltb SCRIPT_LIMIT (length script) long) refl

@@ -13,7 +13,8 @@ front_more a b c i n text first second =
     rw (take-add i n text) (Appends-trans a b c (take i text) (take n (drop i text)) first (rw whole at second))
 
 -- a read that gives no byte leaves a source at its end
-pub script_end : (a b c : Option (List ℕ)) (script piece : List ℕ) (n : ℕ) → Consumes a b script → n ≡ 0 → (n ≡ 0 → IsAtEnd c) → Consumes b c (take n piece)
+pub script_end : (a b c : Option (List ℕ)) (script piece : List ℕ) (n : ℕ) → Consumes a b script → n ≡ 0
+    → (n ≡ 0 → IsAtEnd c) → Consumes b c (take n piece)
     → Consumes a c script × IsAtEnd c
 script_end None b c script piece n first none ends second = (tt, ends none)
 script_end (Some held) None c script piece n first none ends second = absurd first

@@ -8,8 +8,9 @@ use Rattle.qu_machine.specs.Serial.{IsSerial}
 use Rattle.qu_trace.specs.declared.trace.Trace.{Trace}
 use Rattle.qu_trace.specs.Operations.{operations_of}
 use Rattle.qu_world.specs.Run.{IsRun}
-use Rattle.qu_safety.specs.Digested.{NoCollision}
-use Rattle.qu_safety.specs.Order.{IsPrintedOrder}
+use Rattle.qu_runs.specs.Digested.{NoCollision}
+use Rattle.qu_grounds.specs.Chained.{IsChained}
+use Rattle.qu_points.specs.Order.{IsPrintedOrder}
 use Rattle.qu_print.specs.Report.{report_of}
 use Rattle.qu_script.specs.declared.bad.Bad.{Bad}
 use Rattle.qu_script.specs.Events.{sim_of}
@@ -21,23 +22,26 @@ use Rattle.qu_cli.specs.Transfer.{TakesScript, Writes, WritesShort, WritesOrFail
 -- ---- what a command makes of a script
 
 -- the trace is that of the script's run, and the text is the report of it with its printed order, which is a
--- serial order of its operations where no two digested texts have one digest
+-- serial order of its operations where no two digested texts have one digest; what is established in the run is
+-- then a chain
 pub record Reports (script : List ℕ) (trace : Trace) (text : List ℕ) : Type 0 where
   pub order : List Point
   pub runs : sim_of script ≡ Ok trace
   pub is_run : IsRun trace
   pub ordered : IsPrintedOrder trace order
   pub serial : NoCollision trace → IsSerial trace.setup.kinds (operations_of trace.entries) order
+  pub chained : NoCollision trace → IsChained trace
   pub tells : text ≡ report_of trace order
 
 -- the headline: where no two texts that the run digests have one digest, one machine that runs whole operations
 -- in the printed order gives each completed operation of the run its answer, between its call and its reply, and
--- each update once
+-- each update once; and on each object the established candidates are a chain
 pub record HasOneHistory (trace : Trace) : Type 0 where
   pub order : List Point
   pub is_run : IsRun trace
   pub printed : IsPrintedOrder trace order
   pub serial : NoCollision trace → IsSerial trace.setup.kinds (operations_of trace.entries) order
+  pub chained : NoCollision trace → IsChained trace
 
 -- the command makes this trace and this text of it
 abbrev pub Makes : Command → List ℕ → Option Trace → List ℕ → Type 0

@@ -3,4 +3,4 @@ pub mod Command
 pub mod Transfer
 pub mod Report
 pub mod Ends
-pub mod Answer
+pub mod Output

@@ -1,9 +1,9 @@
 -- The exit status of each outcome.
 use Rattle.std.specs.Prelude.{ℕ}
-use Rattle.qu_cli.specs.declared.report.Outcome.{Outcome}
-use Rattle.qu_cli.specs.declared.report.Outcome.TheVariants.{Done, BadWords, BadScript, ReadFault, WriteFault, NoMemory}
+use Rattle.qu_cli.specs.declared.report.End.{End}
+use Rattle.qu_cli.specs.declared.report.End.TheVariants.{Done, BadWords, BadScript, ReadFault, WriteFault, NoMemory}
 
-abbrev pub status_of : Outcome → ℕ
+abbrev pub status_of : End → ℕ
 status_of Done = 0
 status_of BadWords = 2
 status_of BadScript = 3

@@ -2,19 +2,19 @@
 use Rattle.std.specs.Prelude.{ℕ, ◌+◌, ◌<◌, ◌≤◌, List, length, take, ◌⊎◌}
 use Rattle.std.specs.Io.KnownBytes.{Consumes, Appends, IsAtEnd}
 use Rattle.qu_io.specs.Known.{Known, Rose}
-use Rattle.qu_script.specs.declared.limits.TheConstants.{LIMIT}
+use Rattle.qu_script.specs.declared.limits.TheConstants.{SCRIPT_LIMIT}
 
 -- a script was taken: all that the source had, or one byte more than a script may have
 pub record TakesScript (before now : Known) (script : List ℕ) : Type 0 where
   pub taken : Consumes before.bytes now.bytes script
-  pub to_end : length script ≤ LIMIT → IsAtEnd now.bytes
-  pub few : length script ≤ LIMIT + 1
+  pub to_end : length script ≤ SCRIPT_LIMIT → IsAtEnd now.bytes
+  pub few : length script ≤ SCRIPT_LIMIT + 1
 
 -- no more was taken than a script may have, and one byte
 pub record TakesFew (before now : Known) : Type 0 where
   pub bytes : List ℕ
   pub taken : Consumes before.bytes now.bytes bytes
-  pub few : length bytes ≤ LIMIT + 1
+  pub few : length bytes ≤ SCRIPT_LIMIT + 1
 
 -- the whole text was taken
 abbrev pub Writes : Known → Known → List ℕ → Type 0

@@ -1,9 +1,9 @@
 //! The command line of the service: its words, its input and its output.
 #![tactic(auto)]
 
-mod answer;
 mod command;
 mod limits;
+mod output;
 mod reading;
 mod refusal;
 mod report;
@@ -12,8 +12,8 @@ mod top;
 mod writing;
 
 pub use command::Command;
-pub use limits::PIECE;
-pub use report::{Outcome, Report};
+pub use limits::{PIECE, limits_are_these};
+pub use report::{End, Report};
 pub use top::qu;
 
 #[cfg(test)]

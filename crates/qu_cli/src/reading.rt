@@ -1,11 +1,11 @@
-ghost use Rattle.std.specs.Prelude.{◌≡◌, IfOk, Err};
-ghost use Rattle.qu_io.specs.Known.{Rose};
+ghost use Rattle.std.specs.Prelude.{◌≡◌, ◌≢◌, IfOk, Err};
+ghost use Rattle.qu_io.specs.Known.{Rose, IsCalm};
 ghost use Rattle.qu_cli.specs.Transfer.{TakesScript, TakesFew};
 
 use super::limits::PIECE;
 use qu_base::{List, NoMemory};
 use qu_io::{Failed, Source};
-use qu_script::LIMIT;
+use qu_script::SCRIPT_LIMIT;
 use std::alloc::{AllocError, Global};
 
 /// Why a script could not be read.
@@ -41,11 +41,12 @@ pub fn take_script<S: Source>(alloc: Global, input: &mut S) -> Result<List<u8>, 
     ensures script { IfOk result (TakesScript (S.known input.old) (S.known input.new)) }
     ensures few { TakesFew (S.known input.old) (S.known input.new) }
     ensures fault { result ≡ Err NoScript.Fault → Rose (S.known input.old) (S.known input.new) }
+    ensures calm { result ≢ Err NoScript.Fault → IsCalm (S.known input.old) (S.known input.new) }
 {
     let mut piece = [0; PIECE];
     let mut script = Vec::new(alloc);
-    'pieces: while script.len() <= LIMIT {
-        let room = PIECE.min(LIMIT + 1 - script.len());
+    'pieces: while script.len() <= SCRIPT_LIMIT {
+        let room = PIECE.min(SCRIPT_LIMIT + 1 - script.len());
         let count = input.read(&mut piece[..room])?;
         if count == 0 {
             return Ok(List::from(script));

@@ -7,7 +7,7 @@ use std::alloc::Global;
 
 /// How a run of the program ended.
 #[derive(Clone, Copy, Debug, PartialEq, Eq)]
-pub enum Outcome {
+pub enum End {
     /// The whole text was written.
     Done,
     /// The words are no known command.
@@ -22,18 +22,18 @@ pub enum Outcome {
     NoMemory,
 }
 
-impl Outcome {
+impl End {
     /// The exit status for it.
     pub fn status(self) -> u8
         ensures { result ≡ status_of self }
     {
         match self {
-            Outcome::Done => 0,
-            Outcome::BadWords => 2,
-            Outcome::BadScript => 3,
-            Outcome::ReadFault => 4,
-            Outcome::WriteFault => 5,
-            Outcome::NoMemory => 6,
+            End::Done => 0,
+            End::BadWords => 2,
+            End::BadScript => 3,
+            End::ReadFault => 4,
+            End::WriteFault => 5,
+            End::NoMemory => 6,
         }
     }
 }
@@ -63,7 +63,7 @@ impl Report {
     }
 
     /// The report of a run that ended so.
-    pub fn with_trace(outcome: Outcome, trace: Trace) -> Report
+    pub fn with_trace(outcome: End, trace: Trace) -> Report
         ensures status { result.status ≡ status_of outcome }
         ensures trace { result.trace ≡ Some trace }
     {
@@ -74,10 +74,10 @@ impl Report {
     }
 }
 
-impl From<Outcome> for Report {
+impl From<End> for Report {
     ghost from_gives = { λ outcome report. (report.status ≡ status_of outcome) × (report.trace ≡ None) };
 
-    fn from(outcome: Outcome) -> Report {
+    fn from(outcome: End) -> Report {
         Report {
             status: outcome.status(),
             trace: None,

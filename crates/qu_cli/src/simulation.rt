@@ -3,10 +3,10 @@ ghost use Rattle.qu_trace.specs.Injections.{no_injection};
 ghost use Rattle.qu_world.specs.Run.{IsRun};
 ghost use Rattle.qu_script.specs.Script.{Gives};
 ghost use Rattle.qu_script.specs.Events.{sim_of};
-ghost use Rattle.qu_cli.specs.Answer.{IsAnswer};
+ghost use Rattle.qu_cli.specs.Output.{IsOutput};
 
 use super::Command;
-use super::answer::Answer;
+use super::output::Output;
 use super::refusal::refusal_line;
 use qu_base::NoMemory;
 use qu_print::report_text;
@@ -16,16 +16,16 @@ use qu_trace::Trace;
 use std::alloc::Global;
 
 /// Runs a script and reports the run, or tells why there is none.
-pub fn simulate(alloc: Global, script: &[u8]) -> Result<Answer, NoMemory>
-    ensures { IfOk result (IsAnswer Command.Sim script.now) }
+pub fn simulate(alloc: Global, script: &[u8]) -> Result<Output, NoMemory>
+    ensures { IfOk result (IsOutput Command.Sim script.now) }
 {
     match run_text(alloc, script) {
         Ok(trace) => {
             let order = order_of(alloc, &trace)?;
             let text = report_text(alloc, &trace, order.as_slice())?;
-            Ok(Answer::Report(trace, text))
+            Ok(Output::Report(trace, text))
         }
-        Err(ScriptFail::Bad(bad)) => Ok(Answer::Refusal(refusal_line(alloc, bad)?)),
+        Err(ScriptFail::Bad(bad)) => Ok(Output::Refusal(refusal_line(alloc, bad)?)),
         Err(ScriptFail::NoMemory) => Err(NoMemory),
     }
 }

@@ -1,7 +1,6 @@
 ghost use Rattle.std.specs.Prelude.{◌<◌};
 
 mod faults;
-mod judged;
 mod runs;
 
 use super::*;
@@ -9,10 +8,8 @@ use qu_base::List;
 use qu_io::{MemSink, MemSource};
 use std::alloc::{AllocError, Global};
 
-/// The setup lines of one client, and of two.
+/// The setup lines of one client.
 const ONE: &str = "bounds 1\nseed 7\nclients 1\nobject 0 counter\n";
-
-const TWO: &str = "bounds 1\nseed 7\nclients 2\nobject 0 counter\n";
 
 fn words(alloc: Global, words: &[&str]) -> Result<Vec<String>, AllocError> {
     let mut all = Vec::new(alloc);

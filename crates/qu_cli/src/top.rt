@@ -1,21 +1,22 @@
 ghost use Rattle.std.specs.Prelude.{◌≡◌, ◌≢◌, ◌≤◌, ◌↔◌, None, IfSome, map, string_bytes};
-ghost use Rattle.qu_io.specs.Known.{Rose};
+ghost use Rattle.qu_io.specs.Known.{Rose, IsCalm};
 ghost use Rattle.qu_cli.specs.Command.{command_of, usage_text};
 ghost use Rattle.qu_cli.specs.Transfer.{TakesFew, WritesOrFails};
 ghost use Rattle.qu_cli.specs.Ends.{EndsBad, EndsShort, EndsDone, HasOneHistory, IsTraced, IsRefused, IsComplete};
 
-use super::answer::{Answer, NoAnswer, answer_for};
 use super::command::{USAGE, read_command};
+use super::output::{NoOutput, Output, output_for};
 use super::writing::{tell_text, write_text};
-use super::{Outcome, Report};
+use super::{End, Report};
 use qu_io::{Sink, Source};
 use std::alloc::Global;
 
 /// Runs the program: what the words ask for, over the input, with all that it tells in the output.
 ///
 /// The status is 0 where all went well, 2 for wrong words, 3 for a script that is refused, 4 for a
-/// fault of the input, 5 for one of the output, and 6 for want of memory. At 0 and 5 the report has the
-/// trace of the run, whose operations have one history.
+/// fault of the input, 5 for one of the output, and 6 for want of memory. Any other status than 4 comes
+/// with no new fault of the input. At 0 and 5 the report has the trace of the run, whose operations have
+/// one history.
 #[tactic(auto, using(crate::proofs::EndFacts::end_laws), unfolding(crate::specs::Command::usage_text))]
 pub fn qu<S: Source, K: Sink>(
     alloc: Global,
@@ -33,6 +34,7 @@ pub fn qu<S: Source, K: Sink>(
         (S.known input.old) (S.known input.new) (K.known output.old) (K.known output.new) }
     ensures read_fault { result.status ≡ 4 →
         Rose (S.known input.old) (S.known input.new) × (output.new ≡ output.old) }
+    ensures calm { result.status ≢ 4 → IsCalm (S.known input.old) (S.known input.new) }
     ensures write_fault { result.status ≡ 5 → EndsShort (command_of (map string_bytes words.now))
         (S.known input.old) (S.known input.new) (K.known output.old) (K.known output.new) result.trace }
     ensures no_memory { result.status ≡ 6 → output.new ≡ output.old }
@@ -48,18 +50,18 @@ pub fn qu<S: Source, K: Sink>(
 {
     let Some(command) = read_command(words) else {
         tell_text(output, USAGE);
-        return Report::from(Outcome::BadWords);
+        return Report::from(End::BadWords);
     };
-    match answer_for(alloc, command, input) {
-        Ok(Answer::Report(trace, text)) => match write_text(output, text.as_slice()) {
-            Ok(()) => Report::with_trace(Outcome::Done, trace),
-            Err(_) => Report::with_trace(Outcome::WriteFault, trace),
+    match output_for(alloc, command, input) {
+        Ok(Output::Report(trace, text)) => match write_text(output, text.as_slice()) {
+            Ok(()) => Report::with_trace(End::Done, trace),
+            Err(_) => Report::with_trace(End::WriteFault, trace),
         },
-        Ok(Answer::Refusal(line)) => {
+        Ok(Output::Refusal(line)) => {
             tell_text(output, line.as_bytes());
-            Report::from(Outcome::BadScript)
+            Report::from(End::BadScript)
         }
-        Err(NoAnswer::ReadFault) => Report::from(Outcome::ReadFault),
-        Err(NoAnswer::NoMemory) => Report::from(Outcome::NoMemory),
+        Err(NoOutput::ReadFault) => Report::from(End::ReadFault),
+        Err(NoOutput::NoMemory) => Report::from(End::NoMemory),
     }
 }

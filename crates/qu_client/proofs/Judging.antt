@@ -6,6 +6,8 @@ use Rattle.qu_client.specs.declared.work.Work.{Work}
 use Rattle.qu_client.specs.State.{ClientState}
 use Rattle.qu_client.specs.Step.{judged}
 
-pub judged_of_any : (state : ClientState) (any : Option Work) (work : Work) (verdict : Verdict) (answer : Option Answer) → judged (record state { work = any }) work verdict answer ≡ judged state work verdict answer
+pub judged_of_any : (state : ClientState) (any : Option Work) (work : Work) (verdict : Verdict)
+    (answer : Option Answer) → judged (record state { work = any }) work verdict answer ≡ judged state work
+    verdict answer
 judged_of_any state any work verdict None = refl
 judged_of_any state any work verdict (Some answer) = refl

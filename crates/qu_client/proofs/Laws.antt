@@ -20,7 +20,8 @@ use Rattle.qu_client.specs.Step.{client_step, client_invoke, client_tick, next_n
 use Rattle.qu_client.specs.Sound.{NumbersWithin, IsSoundWork, IsSound, last_number, IsFromTo}
 use Rattle.qu_client.proofs.Cases.{with_verdict, step_cases, invoke_cases}
 
-fits_by : (most : ℕ) (last : Option (ℕ × ℕ)) → IfSome last (λ last. last.0 ≤ most) → most < 2 ^ 64 - 1 → IfSome last (λ last. last.0 < 2 ^ 64 - 1)
+fits_by : (most : ℕ) (last : Option (ℕ × ℕ)) → IfSome last (λ last. last.0 ≤ most) → most < 2 ^ 64 - 1
+    → IfSome last (λ last. last.0 < 2 ^ 64 - 1)
 fits_by most None within few = tt
 fits_by most (Some last) within few = omega arith
 
@@ -28,15 +29,18 @@ fits_by most (Some last) within few = omega arith
 
 pub client_step-me : (state : ClientState) (text : List ℕ) → (client_step state text).state.me ≡ state.me
 client_step-me state text =
-    step_cases state (λ stepped. stepped.state.me ≡ state.me) refl (λ _. refl) (λ _ _ _ _ _ _ _ _. refl) (λ _ _. refl) (λ _ _ _ _ _ _ _. refl) (λ _ _ _ _ _ _. refl) text
+    step_cases state (λ stepped. stepped.state.me ≡ state.me) refl (λ _. refl) (λ _ _ _ _ _ _ _ _. refl)
+    (λ _ _. refl) (λ _ _ _ _ _ _ _. refl) (λ _ _ _ _ _ _. refl) text
 
 pub client_step-bounds : (state : ClientState) (text : List ℕ) → (client_step state text).state.bounds ≡ state.bounds
 client_step-bounds state text =
-    step_cases state (λ stepped. stepped.state.bounds ≡ state.bounds) refl (λ _. refl) (λ _ _ _ _ _ _ _ _. refl) (λ _ _. refl) (λ _ _ _ _ _ _ _. refl) (λ _ _ _ _ _ _. refl) text
+    step_cases state (λ stepped. stepped.state.bounds ≡ state.bounds) refl (λ _. refl) (λ _ _ _ _ _ _ _ _. refl)
+    (λ _ _. refl) (λ _ _ _ _ _ _ _. refl) (λ _ _ _ _ _ _. refl) text
 
 pub client_step-keys : (state : ClientState) (text : List ℕ) → (client_step state text).state.keys ≡ state.keys
 client_step-keys state text =
-    step_cases state (λ stepped. stepped.state.keys ≡ state.keys) refl (λ _. refl) (λ _ _ _ _ _ _ _ _. refl) (λ _ _. refl) (λ _ _ _ _ _ _ _. refl) (λ _ _ _ _ _ _. refl) text
+    step_cases state (λ stepped. stepped.state.keys ≡ state.keys) refl (λ _. refl) (λ _ _ _ _ _ _ _ _. refl)
+    (λ _ _. refl) (λ _ _ _ _ _ _ _. refl) (λ _ _ _ _ _ _. refl) text
 
 pub client_invoke-me : (state : ClientState) (op : Op) → (client_invoke state op).state.me ≡ state.me
 client_invoke-me state op =
@@ -55,18 +59,26 @@ client_invoke-keys state op =
 pub NumbersWithin-opening : (me : ClientId) (keys : Ring) (bounds : ℕ) → NumbersWithin 0 (opening_state me keys bounds)
 NumbersWithin-opening me keys bounds = record { last = tt; work = tt }
 
-pub work_within : (most : ℕ) (state : ClientState) (work : Work) → NumbersWithin most state → state.work ≡ Some work → work.number ≤ most
+pub work_within : (most : ℕ) (state : ClientState) (work : Work) → NumbersWithin most state
+    → state.work ≡ Some work → work.number ≤ most
 work_within most state work within is =
     let P : Option Work → Type 0 = λ found. IfSome found (λ work. work.number ≤ most) in subst P is within.work
 
-pub NumbersWithin-step : (most : ℕ) (state : ClientState) (text : List ℕ) → NumbersWithin most state → NumbersWithin most (client_step state text).state
+pub NumbersWithin-step : (most : ℕ) (state : ClientState) (text : List ℕ) → NumbersWithin most state
+    → NumbersWithin most (client_step state text).state
 NumbersWithin-step most state text within =
     step_cases state (λ stepped. NumbersWithin most stepped.state)
     within
     (λ kept. record { last = within.last; work = within.work })
-    (λ kept work replica number round verdict is counting. record { last = within.last; work = work_within most state work within is })
+    (λ kept work replica number round verdict is counting. record {
+      last = within.last;
+      work = work_within most state work within is;
+    })
     (λ kept end. record { last = within.last; work = tt })
-    (λ kept work replies acted is asking below. record { last = work_within most state work within is; work = work_within most state work within is })
+    (λ kept work replies acted is asking below. record {
+      last = work_within most state work within is;
+      work = work_within most state work within is;
+    })
     (λ kept work replies is asking below. record { last = within.last; work = work_within most state work within is })
     text
 
@@ -74,22 +86,26 @@ next_within : (most : ℕ) (last : Option (ℕ × ℕ)) → IfSome last (λ last
 next_within most None within = omega arith
 next_within most (Some last) within = omega arith
 
-pub last_within : (most : ℕ) (last : Option (ℕ × ℕ)) → IfSome last (λ last. last.0 ≤ most) → IfSome last (λ last. last.0 ≤ most + 1)
+pub last_within : (most : ℕ) (last : Option (ℕ × ℕ)) → IfSome last (λ last. last.0 ≤ most)
+    → IfSome last (λ last. last.0 ≤ most + 1)
 last_within most None within = tt
 last_within most (Some last) within = omega arith
 
-pub NumbersWithin-invoke : (most : ℕ) (state : ClientState) (op : Op) → NumbersWithin most state → NumbersWithin (most + 1) (client_invoke state op).state
+pub NumbersWithin-invoke : (most : ℕ) (state : ClientState) (op : Op) → NumbersWithin most state
+    → NumbersWithin (most + 1) (client_invoke state op).state
 NumbersWithin-invoke most state op within =
     let next = next_within most state.last_request within.last in
     invoke_cases state op (λ stepped. NumbersWithin (most + 1) stepped.state)
     (λ acted. record { last = next; work = next })
     (record { last = last_within most state.last_request within.last; work = next })
 
-pub NumbersWithin-tick : (most : ℕ) (state : ClientState) → NumbersWithin most state → NumbersWithin most (client_tick state).state
+pub NumbersWithin-tick : (most : ℕ) (state : ClientState) → NumbersWithin most state
+    → NumbersWithin most (client_tick state).state
 NumbersWithin-tick most state within = within
 
 -- so they fit as long as there were fewer invocations than numbers
-pub may_invoke : (most : ℕ) (state : ClientState) → NumbersWithin most state → most < 2 ^ 64 - 1 → IfSome state.last_request (λ last. last.0 < 2 ^ 64 - 1)
+pub may_invoke : (most : ℕ) (state : ClientState) → NumbersWithin most state → most < 2 ^ 64 - 1
+    → IfSome state.last_request (λ last. last.0 < 2 ^ 64 - 1)
 may_invoke most state within few = fits_by most state.last_request within.last few
 
 -- a client stays sound
@@ -97,23 +113,31 @@ may_invoke most state within few = fits_by most state.last_request within.last f
 pub IsSound-opening : (me : ClientId) (keys : Ring) (bounds : ℕ) → IsSound (opening_state me keys bounds)
 IsSound-opening me keys bounds = tt
 
-pub sound_work : (state : ClientState) (work : Work) → IsSound state → state.work ≡ Some work → IsSoundWork state.last_request work
+pub sound_work : (state : ClientState) (work : Work) → IsSound state → state.work ≡ Some work
+    → IsSoundWork state.last_request work
 sound_work state work sound is =
     let P : Option Work → Type 0 = λ found. IfSome found (IsSoundWork state.last_request) in subst P is sound
 
 none_different : AllPairs (λ (a b : Counted). (a.replica).0 ≢ (b.replica).0) []
 none_different = λ i j d before within. absurd (omega arith)
 
-pub other_replica : (replies : List Counted) (replica : ReplicaId) (k : ℕ) (d : Counted) → list_any (λ counted. eqb (counted.replica).0 replica.0) replies ≡ false → k < length replies → ((get_or replies k d).replica).0 ≢ replica.0
+pub other_replica : (replies : List Counted) (replica : ReplicaId) (k : ℕ) (d : Counted)
+    → list_any (λ counted. eqb (counted.replica).0 replica.0) replies ≡ false → k < length replies
+    → ((get_or replies k d).replica).0 ≢ replica.0
 other_replica replies replica k d none within = λ same.
     both_ways _ none (list_any_at (λ counted. eqb (counted.replica).0 replica.0) replies k d within (eq-eqb _ _ same))
 
-different_more : (work : Work) (replica : ReplicaId) (number round : ℕ) (verdict : Verdict) → counts work replica number round ≡ true → AllPairs (λ (a b : Counted). (a.replica).0 ≢ (b.replica).0) work.replies → AllPairs (λ (a b : Counted). (a.replica).0 ≢ (b.replica).0) (with_verdict work replica verdict).replies
+different_more : (work : Work) (replica : ReplicaId) (number round : ℕ) (verdict : Verdict)
+    → counts work replica number round ≡ true → AllPairs (λ (a b : Counted). (a.replica).0 ≢ (b.replica).0)
+    work.replies → AllPairs (λ (a b : Counted). (a.replica).0 ≢ (b.replica).0)
+    (with_verdict work replica verdict).replies
 different_more work replica number round verdict counting different =
     let numbered = (and_parts (is_asking work.phase) _ counting).1 in
     let of_round = (and_parts (eqb number work.number) _ numbered).1 in
-    let first : list_any (λ counted. eqb (counted.replica).0 replica.0) work.replies ≡ false = not-true _ (and_parts (eqb round work.round) _ of_round).1 in
-    all_pairs_push (λ (a b : Counted). (a.replica).0 ≢ (b.replica).0) work.replies (record { replica = replica; verdict = verdict }) different
+    let first : list_any (λ counted. eqb (counted.replica).0 replica.0) work.replies ≡ false =
+    not-true _ (and_parts (eqb round work.round) _ of_round).1 in
+    all_pairs_push (λ (a b : Counted). (a.replica).0 ≢ (b.replica).0) work.replies
+    (record { replica = replica; verdict = verdict }) different
     (λ k d within. other_replica work.replies replica k d first within)
 
 pub IsSound-step : (state : ClientState) (text : List ℕ) → IsSound state → IsSound (client_step state text).state
@@ -123,21 +147,44 @@ IsSound-step state text sound =
     (λ kept. sound)
     (λ kept work replica number round verdict is counting.
     let before = sound_work state work sound is in
-    record { first = before.first; last = before.last; different = different_more work replica number round verdict counting before.different; asked = before.asked })
+    record {
+      first = before.first;
+      last = before.last;
+      different = different_more work replica number round
+          verdict counting before.different;
+      asked = before.asked;
+    })
     (λ kept end. tt)
-    (λ kept work replies acted is asking below. record { first = omega arith; last = omega arith; different = none_different; asked = λ _. refl })
-    (λ kept work replies is asking below. record { first = omega arith; last = omega arith; different = none_different; asked = λ asks. absurd (false≢true asks) })
+    (λ kept work replies acted is asking below. record {
+      first = omega arith;
+      last = omega arith;
+      different = none_different;
+      asked = λ _. refl;
+    })
+    (λ kept work replies is asking below. record {
+      first = omega arith;
+      last = omega arith;
+      different = none_different;
+      asked = λ asks. absurd (false≢true asks);
+    })
     text
 
 pub IsSound-invoke : (state : ClientState) (op : Op) → IsSound (client_invoke state op).state
 IsSound-invoke state op =
     invoke_cases state op (λ stepped. IsSound stepped.state)
     (λ acted. record { first = omega arith; last = omega arith; different = none_different; asked = λ _. refl })
-    (record { first = omega arith; last = omega arith; different = none_different; asked = λ asks. absurd (false≢true asks) })
+    (record {
+      first = omega arith;
+      last = omega arith;
+      different = none_different;
+      asked = λ asks. absurd
+          (false≢true asks);
+    })
 
 -- the number of the last request changes only in an invocation, and then rises by one at most
 
-pub client_step-last_number : (state : ClientState) (text : List ℕ) → IsSound state → last_number (client_step state text).state.last_request ≡ last_number state.last_request
+pub client_step-last_number : (state : ClientState) (text : List ℕ) → IsSound state
+    → last_number (client_step state text).state.last_request ≡ last_number state.last_request
 client_step-last_number state text sound =
     step_cases state (λ stepped. last_number stepped.state.last_request ≡ last_number state.last_request)
     refl (λ _. refl) (λ _ _ _ _ _ _ _ _. refl) (λ _ _. refl)
@@ -149,34 +196,42 @@ next_above : (last : Option (ℕ × ℕ)) → next_number last ≤ last_number l
 next_above None = omega arith
 next_above (Some last) = omega arith
 
-pub client_invoke-last_number : (state : ClientState) (op : Op) → last_number (client_invoke state op).state.last_request ≤ last_number state.last_request + 1
+pub client_invoke-last_number : (state : ClientState) (op : Op)
+    → last_number (client_invoke state op).state.last_request ≤ last_number state.last_request + 1
 client_invoke-last_number state op =
     invoke_cases state op (λ stepped. last_number stepped.state.last_request ≤ last_number state.last_request + 1)
     (λ acted. next_above state.last_request) (omega arith)
 
 -- a step sends at most one letter to each replica, and no other
 
-length-requests_from : (keys : Ring) (count replica : ℕ) (me : ClientId) (work : Work) (sets : List SetOf) → length (requests_from keys replica count me work sets) ≡ count
+length-requests_from : (keys : Ring) (count replica : ℕ) (me : ClientId) (work : Work) (sets : List SetOf)
+    → length (requests_from keys replica count me work sets) ≡ count
 unfolding requests_from
 length-requests_from keys zero replica me work sets = refl
-length-requests_from keys (suc count) replica me work sets = ap suc (length-requests_from keys count (replica + 1) me work sets)
+length-requests_from keys (suc count) replica me work sets =
+    ap suc (length-requests_from keys count (replica + 1) me work sets)
 
-requests_from-to : (keys : Ring) (count replica all : ℕ) (me : ClientId) (work : Work) (sets : List SetOf) → replica + count ≤ all → All (IsFromTo me all) (requests_from keys replica count me work sets)
+requests_from-to : (keys : Ring) (count replica all : ℕ) (me : ClientId) (work : Work) (sets : List SetOf)
+    → replica + count ≤ all → All (IsFromTo me all) (requests_from keys replica count me work sets)
 unfolding requests_from
 requests_from-to keys zero replica all me work sets within = All-nil (IsFromTo me all)
 requests_from-to keys (suc count) replica all me work sets within =
-    All-cons (IsFromTo me all) _ _ (record { replica = replica; among = omega arith; from = refl; to = refl }) (requests_from-to keys count (replica + 1) all me work sets (omega arith))
+    All-cons (IsFromTo me all) _ _ (record { replica = replica; among = omega arith; from = refl; to = refl })
+    (requests_from-to keys count (replica + 1) all me work sets (omega arith))
 
-pub client_step-letters : (state : ClientState) (text : List ℕ) → All (IsFromTo state.me (replicas state.bounds)) (client_step state text).letters
+pub client_step-letters : (state : ClientState) (text : List ℕ) → All (IsFromTo state.me (replicas state.bounds))
+    (client_step state text).letters
 client_step-letters state text =
     let none = All-nil (IsFromTo state.me (replicas state.bounds)) in
     step_cases state (λ stepped. All (IsFromTo state.me (replicas state.bounds)) stepped.letters)
     none (λ _. none) (λ _ _ _ _ _ _ _ _. none) (λ _ _. none)
-    (λ kept work replies acted is asking below. requests_from-to state.keys (replicas state.bounds) 0 (replicas state.bounds) state.me _ _ (omega arith))
+    (λ kept work replies acted is asking below. requests_from-to state.keys (replicas state.bounds) 0
+    (replicas state.bounds) state.me _ _ (omega arith))
     (λ _ _ _ _ _ _. none)
     text
 
-pub client_step-few : (state : ClientState) (text : List ℕ) → length (client_step state text).letters ≤ replicas state.bounds
+pub client_step-few : (state : ClientState) (text : List ℕ) → length (client_step state text).letters ≤ replicas
+    state.bounds
 client_step-few state text =
     step_cases state (λ stepped. length stepped.letters ≤ replicas state.bounds)
     (omega arith) (λ _. omega arith) (λ _ _ _ _ _ _ _ _. omega arith) (λ _ _. omega arith)
@@ -184,13 +239,15 @@ client_step-few state text =
     (λ _ _ _ _ _ _. omega arith)
     text
 
-pub client_invoke-letters : (state : ClientState) (op : Op) → All (IsFromTo state.me (replicas state.bounds)) (client_invoke state op).letters
+pub client_invoke-letters : (state : ClientState) (op : Op) → All (IsFromTo state.me (replicas state.bounds))
+    (client_invoke state op).letters
 client_invoke-letters state op =
     invoke_cases state op (λ stepped. All (IsFromTo state.me (replicas state.bounds)) stepped.letters)
     (λ acted. requests_from-to state.keys (replicas state.bounds) 0 (replicas state.bounds) state.me _ _ (omega arith))
     (All-nil (IsFromTo state.me (replicas state.bounds)))
 
-pub client_invoke-few : (state : ClientState) (op : Op) → length (client_invoke state op).letters ≤ replicas state.bounds
+pub client_invoke-few : (state : ClientState) (op : Op) → length (client_invoke state op).letters ≤ replicas
+    state.bounds
 client_invoke-few state op =
     invoke_cases state op (λ stepped. length stepped.letters ≤ replicas state.bounds)
     (λ acted. omega (arith, length-requests_from)) (omega arith)

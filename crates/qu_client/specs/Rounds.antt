@@ -1,6 +1,7 @@
 -- How a client begins a round of an operation (Query/Update: the client's requests).
 use Rattle.std.specs.Prelude.{ℕ, zero, suc, Bool, true, false, not, ◌+◌, ◌&&◌, nat_lt, if◌then◌else◌, List, [], ◌∷◌, map, length, None, Some, is_some}
 use Rattle.std.specs.List.{list_all}
+use Rattle.qu_base.specs.declared.limits.TheConstants.{OBJECT_IDS}
 use Rattle.qu_base.specs.declared.party.ClientId.{ClientId}
 use Rattle.qu_base.specs.declared.party.ObjectId.{ObjectId}
 use Rattle.qu_base.specs.declared.party.Party.TheVariants as party
@@ -24,14 +25,14 @@ use Rattle.qu_client.specs.declared.work.Work.{Work}
 use Rattle.qu_client.specs.State.{ClientState, kept_of}
 
 -- the objects that an operation names
-abbrev pub objects_of : Op → List ObjectId
-objects_of (op.Act parts) = map (λ part. part.0) parts
-objects_of (op.Query parts) = map (λ part. part.0) parts
+abbrev pub operation_objects : Op → List ObjectId
+operation_objects (op.Act parts) = map (λ part. part.0) parts
+operation_objects (op.Query parts) = map (λ part. part.0) parts
 
--- one object below 64
+-- one object that has a number
 abbrev pub are_objects : List ObjectId → Bool
 are_objects [] = false
-are_objects (object ∷ []) = nat_lt object.0 64
+are_objects (object ∷ []) = nat_lt object.0 OBJECT_IDS
 are_objects (first ∷ second ∷ objects) = false
 
 abbrev pub is_act : Op → Bool
@@ -42,14 +43,18 @@ is_act (op.Query parts) = false
 unfoldable pub entries_from : ObjectId → ℕ → ℕ → List Kept → List Sealed
 entries_from object replica zero kept = []
 entries_from object replica (suc count) kept =
-    elim (kept_of object replica kept) [ None ↦ entries_from object (replica + 1) count kept | Some sealed ↦ sealed ∷ entries_from object (replica + 1) count kept ]
+    elim (kept_of object replica kept) [
+      | None ↦ entries_from object (replica + 1) count kept
+      | Some sealed ↦
+          sealed ∷ entries_from object (replica + 1) count kept
+    ]
 
 abbrev pub set_of : ℕ → List Kept → ObjectId → SetOf
 set_of bounds kept object = record { object = object; entries = entries_from object 0 (replicas bounds) kept }
 
 -- the sets of a round: of each object what is kept of it
 abbrev pub sets_of : ℕ → List Kept → Op → List SetOf
-sets_of bounds kept op = map (λ object. set_of bounds kept object) (objects_of op)
+sets_of bounds kept op = map (λ object. set_of bounds kept object) (operation_objects op)
 
 -- each object has a quorum of entries
 abbrev pub are_full : ℕ → List SetOf → Bool
@@ -80,7 +85,10 @@ begun_from state begun =
 -- all replicas are asked
 abbrev pub asked : ClientState → Work → List SetOf → ClientState × List Letter
 asked state work sets = (
-  record state { last_request = Some (work.number, work.round); work = Some (record work { phase = Asking; replies = [] }) },
+  record state {
+    last_request = Some (work.number, work.round);
+    work = Some (record work { phase = Asking; replies = [] });
+  },
   requests_from state.keys 0 (replicas state.bounds) state.me work sets,
 )
 

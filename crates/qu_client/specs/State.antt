@@ -9,7 +9,8 @@ use Rattle.qu_client.specs.declared.kept.Kept.{Kept}
 pub use Rattle.qu_client.specs.declared.state.ClientState.{ClientState}
 
 abbrev pub opening_state : ClientId → Ring → ℕ → ClientState
-opening_state me keys bounds = record { me = me; keys = keys; bounds = bounds; kept = []; last_request = None; work = None }
+opening_state me keys bounds =
+    record { me = me; keys = keys; bounds = bounds; kept = []; last_request = None; work = None }
 
 -- an answer to this number and round is older than an answer to that one
 abbrev pub is_older : ℕ → ℕ → ℕ → ℕ → Bool
@@ -37,4 +38,5 @@ keep_all number round (sealed ∷ later) kept =
 unfoldable pub kept_of : ObjectId → ℕ → List Kept → Option Sealed
 kept_of object replica [] = None
 kept_of object replica (held ∷ later) =
-    if ((held.sealed.history).object).0 == object.0 && ((held.sealed.history).replica).0 == replica then Some held.sealed else kept_of object replica later
+    if ((held.sealed.history).object).0 == object.0 && ((held.sealed.history).replica).0 == replica then Some
+    held.sealed else kept_of object replica later

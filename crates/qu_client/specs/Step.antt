@@ -21,7 +21,7 @@ use Rattle.qu_client.specs.declared.work.Counted.{Counted}
 use Rattle.qu_client.specs.declared.work.Phase.{Phase}
 use Rattle.qu_client.specs.declared.work.Phase.TheVariants.{Asking, Halted}
 use Rattle.qu_client.specs.declared.work.Work.{Work}
-use Rattle.qu_client.specs.declared.work.TheConstants.{LAST_ROUND}
+use Rattle.qu_frames.specs.declared.limits.TheConstants.{LAST_ROUND}
 pub use Rattle.qu_client.specs.declared.state.Stepped.{Stepped}
 use Rattle.qu_client.specs.State.{ClientState, keep_all}
 use Rattle.qu_client.specs.Rounds.{begin_round}
@@ -57,17 +57,20 @@ best_of op (counted ∷ later) replies =
 -- a quorum replied, and those that did not can make no quorum of any verdict that fits
 abbrev pub is_hopeless : ℕ → Op → List Counted → Bool
 is_hopeless bounds op replies =
-    nat_le (quorum bounds) (length replies) && nat_lt (best_of op replies replies + (replicas bounds - length replies)) (quorum bounds)
+    nat_le (quorum bounds) (length replies) && nat_lt
+    (best_of op replies replies + (replicas bounds - length replies)) (quorum bounds)
 
 -- a round ends without an answer
 abbrev pub next_round : ClientState → Work → Stepped
 next_round state work =
-    if nat_le LAST_ROUND work.round then ends state outcome.GaveUp else goes_on (begin_round state (record work { round = work.round + 1 }))
+    if nat_le LAST_ROUND work.round then ends state outcome.GaveUp else goes_on
+    (begin_round state (record work { round = work.round + 1 }))
 
 -- the round with a verdict more, which has this answer where it fits
 abbrev pub judged : ClientState → Work → Verdict → Option Answer → Stepped
 judged state work verdict None =
-    if is_hopeless state.bounds work.op work.replies then next_round state work else stays (record state { work = Some work })
+    if is_hopeless state.bounds work.op work.replies then next_round state work else stays
+    (record state { work = Some work })
 judged state work verdict (Some answer) =
     if nat_le (quorum state.bounds) (identical verdict work.replies) then ends state (outcome.Done answer)
     else if is_hopeless state.bounds work.op work.replies then next_round state work
@@ -80,13 +83,17 @@ is_asking Halted = false
 -- a verdict counts where it is of the round under way, and the first of its replica
 abbrev pub counts : Work → ReplicaId → ℕ → ℕ → Bool
 counts work replica number round =
-    is_asking work.phase && (number == work.number && (round == work.round && not (list_any (λ counted. (counted.replica).0 == replica.0) work.replies)))
+    is_asking work.phase
+    && (number == work.number && (round == work.round && not
+    (list_any (λ counted. (counted.replica).0 == replica.0) work.replies)))
 
 abbrev pub counted_in : ClientState → Option Work → ReplicaId → ℕ → ℕ → Verdict → Stepped
 counted_in state None replica number round verdict = stays state
 counted_in state (Some work) replica number round verdict =
     if counts work replica number round
-    then judged state (record work { replies = work.replies ++ (record { replica = replica; verdict = verdict }) ∷ [] }) verdict (fitting work.op verdict)
+    then judged state
+    (record work { replies = work.replies ++ (record { replica = replica; verdict = verdict }) ∷ [] }) verdict
+    (fitting work.op verdict)
     else stays state
 
 -- a frame that is no reply to this client is ignored; a reply's histories are kept, and then its
@@ -95,7 +102,8 @@ abbrev pub on_frame : ClientState → Frame → Stepped
 on_frame state (frame.Request client number round sets body mac) = stays state
 on_frame state (frame.Reply replica client number round verdict culled shown mac) =
     if client.0 == (state.me).0
-    then counted_in (record state { kept = keep_all number round shown state.kept }) state.work replica number round verdict
+    then counted_in (record state { kept = keep_all number round shown state.kept }) state.work replica number
+    round verdict
     else stays state
 
 abbrev pub on_received : ClientState → Option Frame → Stepped

@@ -13,4 +13,4 @@ mod work;
 pub use client::{Client, InvokeFail, Moved};
 pub use kept::Kept;
 pub use state::{Begun, ClientState, Stepped};
-pub use work::{Counted, LAST_ROUND, Phase, Work};
+pub use work::{Counted, Phase, Work};

@@ -1,5 +1,5 @@
 ghost use Rattle.std.specs.Prelude.{◌≡◌, ◌≤◌, IfOk, IsTrue, map};
-ghost use Rattle.qu_client.specs.Rounds.{objects_of, are_objects, entries_from, sets_of, are_full, are_current};
+ghost use Rattle.qu_client.specs.Rounds.{operation_objects, are_objects, entries_from, sets_of, are_full, are_current};
 
 use super::Kept;
 use super::kept::kept_of;
@@ -14,7 +14,7 @@ pub fn sets_of(alloc: Global, bounds: Bounds, kept: &[Kept], op: &Op) -> Result<
     ensures { IfOk result (λ sets. sets ≡ sets_of bounds kept.now op.now) }
 {
     let replicas = bounds.n();
-    let objects = objects_of(alloc, op)?;
+    let objects = operation_objects(alloc, op)?;
     let mut sets = List::new(alloc);
     for object in objects.as_slice() {
         let entries = entries_of(alloc, replicas, kept, *object)?;
@@ -52,8 +52,8 @@ pub fn are_current(bounds: Bounds, sets: &Sets) -> bool
 
 /// The objects that an operation names, in rising order.
 #[tactic(auto, using(crate::proofs::Asking::are_objects_of_parts))]
-fn objects_of(alloc: Global, op: &Op) -> Result<List<ObjectId>, NoMemory>
-    ensures value { IfOk result (λ objects. objects ≡ objects_of op.now) }
+fn operation_objects(alloc: Global, op: &Op) -> Result<List<ObjectId>, NoMemory>
+    ensures value { IfOk result (λ objects. objects ≡ operation_objects op.now) }
     ensures in_order { IfOk result (λ objects. IsTrue (are_objects objects)) }
 {
     match op {

@@ -48,7 +48,8 @@ pub fn shown_to(
     round: u8,
     shown: &[Sealed],
 ) -> Result<ClientState, NoMemory>
-    ensures { IfOk result (λ after. after ≡ record state.now { kept = keep_all number round shown.now state.now.kept }) }
+    ensures { IfOk result
+        (λ after. after ≡ record state.now { kept = keep_all number round shown.now state.now.kept }) }
 {
     let kept = keep_all(alloc, number, round, shown, state.kept.as_slice())?;
     let work = match &state.work {

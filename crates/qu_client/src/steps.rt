@@ -4,9 +4,9 @@ ghost use Rattle.qu_client.specs.Rounds.{begin_round};
 
 use super::rounds::begin_round;
 use super::verdicts::{fitting, identical, is_hopeless};
-use super::{Begun, ClientState, Counted, LAST_ROUND, Stepped, Work};
+use super::{Begun, ClientState, Counted, Stepped, Work};
 use qu_base::{List, NoMemory, ReplicaId};
-use qu_frames::Verdict;
+use qu_frames::{LAST_ROUND, Verdict};
 use qu_objects::Outcome;
 use std::alloc::Global;
 

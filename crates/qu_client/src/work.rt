@@ -6,9 +6,6 @@ use qu_frames::Verdict;
 use qu_objects::Op;
 use std::alloc::Global;
 
-/// The last round of an operation. Where it ends without an answer, the operation gives up.
-pub const LAST_ROUND: u8 = 64;
-
 /// A verdict that counts: the first one of its replica in the round.
 #[derive(Debug, Drop)]
 pub struct Counted {

@@ -5,6 +5,7 @@ use Rattle.std.proofs.lemmas.Bool.{cases_Bool, eqb-true}
 use Rattle.std.proofs.lemmas.Bool.Decides.{nat_tests}
 use Rattle.std.specs.Int.{w8, w16, w64}
 use Rattle.qu_base.specs.declared.bad_text.Why.TheVariants.{Kind, Order}
+use Rattle.qu_base.specs.declared.limits.TheConstants.{LAST_CLIENT}
 use Rattle.qu_base.specs.declared.party.ObjectId.{ObjectId}
 use Rattle.qu_base.specs.declared.party.ReplicaId.{ReplicaId}
 use Rattle.qu_base.specs.Format.{IsPrefixCode, Format, number, both, tested, FitsPart, made, either, object_form, replica_form, IsExact}
@@ -12,6 +13,7 @@ use Rattle.qu_base.proofs.Formats.{prefix_code, some_is, wide16, wide64, number-
 use Rattle.qu_stamp.specs.declared.stamp.Stamp.{Stamp}
 use Rattle.qu_stamp.specs.Forms.{stamp_form}
 use Rattle.qu_stamp.proofs.Forms.{stamp_with-exact}
+use Rattle.qu_objects.specs.declared.limits.TheConstants.{PARTS_LIMIT}
 use Rattle.qu_objects.specs.declared.act.Method.{Method}
 use Rattle.qu_objects.specs.declared.query.Ask.{Ask}
 use Rattle.qu_objects.specs.declared.answer.Answer.{Answer}
@@ -23,6 +25,9 @@ use Rattle.qu_frames.specs.declared.frame.Body.{Body}
 use Rattle.qu_frames.specs.declared.frame.Body.TheVariants as body
 use Rattle.qu_frames.specs.declared.frame.Frame.{Frame}
 use Rattle.qu_frames.specs.declared.frame.Frame.TheVariants.{Request, Reply}
+use Rattle.qu_frames.specs.declared.limits.TheConstants.{LAST_ROUND, CULLED_LIMIT}
+use Rattle.qu_frames.specs.declared.refusal_number.TheConstants.{HISTORY_FULL, THIN, NEEDS, STALE, NOT_CURRENT, NOT_METHOD, SPENT, TIME_SPENT, UNKNOWN_OBJECT, SOUND}
+use Rattle.qu_frames.specs.RefusalNumber.{refusal_number, is_refusal_number}
 use Rattle.qu_frames.specs.declared.verdict.ClassCode.{ClassCode}
 use Rattle.qu_frames.specs.declared.verdict.ClassCode.TheVariants as class
 use Rattle.qu_frames.specs.declared.verdict.Refusal.{Refusal}
@@ -30,16 +35,19 @@ use Rattle.qu_frames.specs.declared.verdict.Refusal.TheVariants.{HistoryFull, Th
 use Rattle.qu_frames.specs.declared.verdict.Verdict.{Verdict}
 use Rattle.qu_frames.specs.declared.verdict.Verdict.TheVariants.{Done, Told, Already, Mended, Refused}
 use Rattle.qu_frames.specs.Verdict.{class_code}
-use Rattle.qu_frames.specs.Forms.{class_of, class_form, refusal_number, is_refusal_number, refused_object, latest_told, class_told, number_told, plain_refusal, plain_object, refusal_body, refusal_form, spelled_stamp, stamp_from, after_told, stamps_form, verdict_code, is_verdict_code, done, told, already, mended, refusal, answered_form, verdict_body, verdict_form, body_code, is_body_code, act_parts, ask_parts, body_of_code, body_form, client_form, round_form, is_after_pair, spelled_pair, pair_after, culled_form, RequestFields, request_fields, request_of, request_form, request_frame, ReplyFields, reply_fields, reply_of, reply_form, reply_frame, frame_kind, is_version, is_frame_kind, frame_body, kind_form, frame_form}
+use Rattle.qu_frames.specs.Forms.{class_of, class_form, refused_object, latest_told, class_told, number_told, plain_refusal, plain_object, refusal_body, refusal_form, spelled_stamp, stamp_from, after_told, stamps_form, verdict_code, is_verdict_code, done, told, already, mended, refusal, answered_form, verdict_body, verdict_form, body_code, is_body_code, act_parts, ask_parts, body_of_code, body_form, client_form, round_form, is_after_pair, spelled_pair, pair_after, culled_form, RequestFields, request_fields, request_of, request_form, request_frame, ReplyFields, reply_fields, reply_of, reply_form, reply_frame, frame_kind, is_version, is_frame_kind, frame_body, kind_form, frame_form}
 
 -- ---- one of two formats, by a test
 
-either-exact : {V : Type 0} (which : Bool) (first second : Format V) → IsExact first → (which ≡ false → IsExact second) → IsExact (either which first second)
+either-exact : {V : Type 0} (which : Bool) (first second : Format V) → IsExact first
+    → (which ≡ false → IsExact second) → IsExact (either which first second)
 either-exact true first second one two = one
 either-exact false first second one two = two refl
 
 -- what fits one of two formats fits the one that is chosen
-either-fits : {V : Type 0} {P : Type 0} (which : Bool) (first second : Format V) (value : V) → (which ≡ true → first.Fits value → P) → (which ≡ false → second.Fits value → P) → (either which first second).Fits value → P
+either-fits : {V : Type 0} {P : Type 0} (which : Bool) (first second : Format V) (value : V)
+    → (which ≡ true → first.Fits value → P) → (which ≡ false → second.Fits value → P)
+    → (either which first second).Fits value → P
 either-fits true first second value one two fits = one refl fits
 either-fits false first second value one two fits = two refl fits
 
@@ -67,21 +75,29 @@ class_again class.Barrier = refl
 class_again class.Needs = refl
 
 class-exact : IsExact class_form
-class-exact = fields-exact class_of class_code (number w8 2 6) (byte-exact 2 6 (omega arith)) (λ code fits. class_back code fits.0 fits.1) class_again
+class-exact = fields-exact class_of class_code (number w8 2 6) (byte-exact 2 6 (omega arith))
+    (λ code fits. class_back code fits.0 fits.1) class_again
 
-latest_again : (refusal : Refusal) (found : ObjectId × Stamp) → latest_told refusal ≡ Some found → NotCurrent found.0 found.1 ≡ refusal
-latest_again (NotCurrent object latest) found is = of_part (λ (pair : ObjectId × Stamp). NotCurrent pair.0 pair.1) (object, latest) found is
+latest_again : (refusal : Refusal) (found : ObjectId × Stamp) → latest_told refusal ≡ Some found
+    → NotCurrent found.0 found.1 ≡ refusal
+latest_again (NotCurrent object latest) found is = of_part (λ (pair : ObjectId × Stamp). NotCurrent pair.0 pair.1)
+    (object, latest) found is
 latest_again _ found is = absurd cc
 
-class_told_again : (refusal : Refusal) (found : ObjectId × ClassCode) → class_told refusal ≡ Some found → NotMethod found.0 found.1 ≡ refusal
-class_told_again (NotMethod object class) found is = of_part (λ (pair : ObjectId × ClassCode). NotMethod pair.0 pair.1) (object, class) found is
+class_told_again : (refusal : Refusal) (found : ObjectId × ClassCode) → class_told refusal ≡ Some found
+    → NotMethod found.0 found.1 ≡ refusal
+class_told_again (NotMethod object class) found is =
+    of_part (λ (pair : ObjectId × ClassCode). NotMethod pair.0 pair.1) (object, class) found is
 class_told_again _ found is = absurd cc
 
-number_again : (refusal : Refusal) (found : ObjectId × ℕ) → number_told refusal ≡ Some found → Spent found.0 found.1 ≡ refusal
-number_again (Spent object number) found is = of_part (λ (pair : ObjectId × ℕ). Spent pair.0 pair.1) (object, number) found is
+number_again : (refusal : Refusal) (found : ObjectId × ℕ) → number_told refusal ≡ Some found
+    → Spent found.0 found.1 ≡ refusal
+number_again (Spent object number) found is =
+    of_part (λ (pair : ObjectId × ℕ). Spent pair.0 pair.1) (object, number) found is
 number_again _ found is = absurd cc
 
-plain_again : (refusal : Refusal) → (refusal_number refusal == 22) ≡ false → (refusal_number refusal == 23) ≡ false → (refusal_number refusal == 24) ≡ false
+plain_again : (refusal : Refusal) → (refusal_number refusal == NOT_CURRENT) ≡ false
+    → (refusal_number refusal == NOT_METHOD) ≡ false → (refusal_number refusal == SPENT) ≡ false
     → plain_refusal (refusal_number refusal) (refused_object refusal) ≡ refusal
 plain_again (HistoryFull object) no22 no23 no24 = refl
 plain_again (Thin object) no22 no23 no24 = refl
@@ -94,7 +110,8 @@ plain_again (TimeSpent object) no22 no23 no24 = refl
 plain_again (UnknownObject object) no22 no23 no24 = refl
 plain_again (Sound object) no22 no23 no24 = refl
 
-only_where : {A : Type 0} (test : Bool) (one other : A) → cond test (Some one) None ≡ Some other → (test ≡ true) × (one ≡ other)
+only_where : {A : Type 0} (test : Bool) (one other : A) → cond test (Some one) None ≡ Some other → (test ≡ true)
+    × (one ≡ other)
 only_where true one other is = (refl, some_is is)
 only_where false one other is = absurd cc
 
@@ -106,19 +123,26 @@ at_number P code at here there =
       | inr not ↦ there not
     ]
 
-no_number : (code : ℕ) → IsTrue (is_refusal_number code) → (code == 11) ≡ false → (code == 13) ≡ false → (code == 15) ≡ false → (code == 16) ≡ false
-    → (code == 22) ≡ false → (code == 23) ≡ false → (code == 24) ≡ false → (code == 25) ≡ false → (code == 26) ≡ false → (code == 27) ≡ false → ⊥
+no_number : (code : ℕ) → IsTrue (is_refusal_number code) → (code == HISTORY_FULL) ≡ false → (code == THIN) ≡ false
+    → (code == NEEDS) ≡ false → (code == STALE) ≡ false
+    → (code == NOT_CURRENT) ≡ false → (code == NOT_METHOD) ≡ false → (code == SPENT) ≡ false
+    → (code == TIME_SPENT) ≡ false → (code == UNKNOWN_OBJECT) ≡ false → (code == SOUND) ≡ false → ⊥
 no_number code known no11 no13 no15 no16 no22 no23 no24 no25 no26 no27 = grind (arith, nat_tests)
 
-plain_back : (code : ℕ) (object : ObjectId) → IsTrue (is_refusal_number code) → (code == 22) ≡ false → (code == 23) ≡ false → (code == 24) ≡ false
+plain_back : (code : ℕ) (object : ObjectId) → IsTrue (is_refusal_number code) → (code == NOT_CURRENT) ≡ false
+    → (code == NOT_METHOD) ≡ false → (code == SPENT) ≡ false
     → plain_object code (plain_refusal code object) ≡ Some object
 plain_back code object known no22 no23 no24 =
     let P : ℕ → Type 0 = λ it. plain_object it (plain_refusal it object) ≡ Some object in
-    at_number P code 11 refl (λ no11. at_number P code 13 refl (λ no13. at_number P code 15 refl (λ no15. at_number P code 16 refl (λ no16.
-    at_number P code 25 refl (λ no25. at_number P code 26 refl (λ no26. at_number P code 27 refl (λ no27.
+    at_number P code HISTORY_FULL refl
+    (λ no11. at_number P code THIN refl
+    (λ no13. at_number P code NEEDS refl (λ no15. at_number P code STALE refl (λ no16.
+    at_number P code TIME_SPENT refl
+    (λ no25. at_number P code UNKNOWN_OBJECT refl (λ no26. at_number P code SOUND refl (λ no27.
     absurd (no_number code known no11 no13 no15 no16 no22 no23 no24 no25 no26 no27))))))))
 
-plain-exact : (code : ℕ) → IsTrue (is_refusal_number code) → (code == 22) ≡ false → (code == 23) ≡ false → (code == 24) ≡ false
+plain-exact : (code : ℕ) → IsTrue (is_refusal_number code) → (code == NOT_CURRENT) ≡ false
+    → (code == NOT_METHOD) ≡ false → (code == SPENT) ≡ false
     → IsExact (made (plain_refusal code) (plain_object code) object_form)
 plain-exact code known no22 no23 no24 =
     made-exact (plain_refusal code) (plain_object code) object_form object-exact
@@ -127,40 +151,53 @@ plain-exact code known no22 no23 no24 =
     let parts = only_where (refusal_number refusal == code) (refused_object refusal) object is in
     let same_number : refusal_number refusal ≡ code = eqb-true _ _ parts.0 in
     ap (plain_refusal code) (sym parts.1) ∙ ap (λ (it : ℕ). plain_refusal it (refused_object refusal)) (sym same_number)
-    ∙ plain_again refusal (ap (λ (it : ℕ). it == 22) same_number ∙ no22) (ap (λ (it : ℕ). it == 23) same_number ∙ no23) (ap (λ (it : ℕ). it == 24) same_number ∙ no24))
+    ∙ plain_again refusal (ap (λ (it : ℕ). it == NOT_CURRENT) same_number ∙ no22)
+    (ap (λ (it : ℕ). it == NOT_METHOD) same_number ∙ no23) (ap (λ (it : ℕ). it == SPENT) same_number ∙ no24))
 
 refusal_body-exact : (code : ℕ) → IsTrue (is_refusal_number code) → IsExact (refusal_body code)
 refusal_body-exact code known =
-    either-exact (code == 22) _ _
-    (made-exact _ latest_told _ (both-exact object_form _ object-exact (λ object fits. stamp_with-exact true)) (λ found fits. refl) (λ refusal found fits is. latest_again refusal found is))
-    (λ no22. either-exact (code == 23) _ _
-    (made-exact _ class_told _ (both-exact object_form _ object-exact (λ object fits. class-exact)) (λ found fits. refl) (λ refusal found fits is. class_told_again refusal found is))
-    (λ no23. either-exact (code == 24) _ _
-    (made-exact _ number_told _ (both-exact object_form _ object-exact (λ object fits. word-exact)) (λ found fits. refl) (λ refusal found fits is. number_again refusal found is))
+    either-exact (code == NOT_CURRENT) _ _
+    (made-exact _ latest_told _ (both-exact object_form _ object-exact (λ object fits. stamp_with-exact true))
+    (λ found fits. refl) (λ refusal found fits is. latest_again refusal found is))
+    (λ no22. either-exact (code == NOT_METHOD) _ _
+    (made-exact _ class_told _ (both-exact object_form _ object-exact (λ object fits. class-exact))
+    (λ found fits. refl) (λ refusal found fits is. class_told_again refusal found is))
+    (λ no23. either-exact (code == SPENT) _ _
+    (made-exact _ number_told _ (both-exact object_form _ object-exact (λ object fits. word-exact))
+    (λ found fits. refl) (λ refusal found fits is. number_again refusal found is))
     (λ no24. plain-exact code known no22 no23 no24)))
 
-latest_number : (form : Format (ObjectId × Stamp)) (refusal : Refusal) → FitsPart form (latest_told refusal) → refusal_number refusal ≡ 22
+latest_number : (form : Format (ObjectId × Stamp)) (refusal : Refusal) → FitsPart form (latest_told refusal)
+    → refusal_number refusal ≡ 22
 latest_number form (NotCurrent object latest) fits = refl
 latest_number form _ fits = absurd fits
 
-class_number : (form : Format (ObjectId × ClassCode)) (refusal : Refusal) → FitsPart form (class_told refusal) → refusal_number refusal ≡ 23
+class_number : (form : Format (ObjectId × ClassCode)) (refusal : Refusal) → FitsPart form (class_told refusal)
+    → refusal_number refusal ≡ 23
 class_number form (NotMethod object class) fits = refl
 class_number form _ fits = absurd fits
 
-spent_number : (form : Format (ObjectId × ℕ)) (refusal : Refusal) → FitsPart form (number_told refusal) → refusal_number refusal ≡ 24
+spent_number : (form : Format (ObjectId × ℕ)) (refusal : Refusal) → FitsPart form (number_told refusal)
+    → refusal_number refusal ≡ 24
 spent_number form (Spent object number) fits = refl
 spent_number form _ fits = absurd fits
 
-fits_where : {A : Type 0} (form : Format A) (test : Bool) (part : A) → FitsPart form (cond test (Some part) None) → test ≡ true
+fits_where : {A : Type 0} (form : Format A) (test : Bool) (part : A) → FitsPart form (cond test (Some part) None)
+    → test ≡ true
 fits_where form true part fits = refl
 fits_where form false part fits = absurd fits
 
-refusal_coded : (code : ℕ) (refusal : Refusal) → IsTrue (is_refusal_number code) → (refusal_body code).Fits refusal → refusal_number refusal ≡ code
+refusal_coded : (code : ℕ) (refusal : Refusal) → IsTrue (is_refusal_number code)
+    → (refusal_body code).Fits refusal → refusal_number refusal ≡ code
 refusal_coded code refusal known fits =
-    either-fits (code == 22) _ _ refusal (λ is here. latest_number (both object_form (λ object. stamp_form)) refusal here ∙ sym (eqb-true _ _ is))
-    (λ no22. either-fits (code == 23) _ _ refusal (λ is here. class_number (both object_form (λ object. class_form)) refusal here ∙ sym (eqb-true _ _ is))
-    (λ no23. either-fits (code == 24) _ _ refusal (λ is here. spent_number (both object_form (λ object. word_form)) refusal here ∙ sym (eqb-true _ _ is))
-    (λ no24 here. eqb-true _ _ (fits_where object_form (refusal_number refusal == code) (refused_object refusal) here)))) fits
+    either-fits (code == NOT_CURRENT) _ _ refusal
+    (λ is here. latest_number (both object_form (λ object. stamp_form)) refusal here ∙ sym (eqb-true _ _ is))
+    (λ no22. either-fits (code == NOT_METHOD) _ _ refusal
+    (λ is here. class_number (both object_form (λ object. class_form)) refusal here ∙ sym (eqb-true _ _ is))
+    (λ no23. either-fits (code == SPENT) _ _ refusal
+    (λ is here. spent_number (both object_form (λ object. word_form)) refusal here ∙ sym (eqb-true _ _ is))
+    (λ no24 here. eqb-true _ _ (fits_where object_form (refusal_number refusal == code) (refused_object refusal)
+    here)))) fits
 
 pub refusal-exact : IsExact refusal_form
 unfolding refusal_form
@@ -169,30 +206,38 @@ refusal-exact = tagged-exact is_refusal_number refusal_number refusal_body refus
 -- ---- verdicts
 
 stamp_from-exact : (least : ℕ) → IsExact (stamp_from least)
-stamp_from-exact least = both-exact (object_from least) _ (object_from-exact least) (λ object fits. stamp_with-exact true)
+stamp_from-exact least =
+    both-exact (object_from least) _ (object_from-exact least) (λ object fits. stamp_with-exact true)
 
 pub stamps-exact : IsExact stamps_form
 unfolding stamps_form
 stamps-exact =
-    counted-exact spelled_stamp stamp_from after_told stamp_from-exact (λ least told. refl) (number w8 1 4) 0 (byte-exact 1 4 (omega arith))
+    counted-exact spelled_stamp stamp_from after_told stamp_from-exact (λ least told. refl)
+    (number w8 1 PARTS_LIMIT) 0 (byte-exact 1 PARTS_LIMIT (omega arith))
 
 answered-exact : IsExact answered_form
 answered-exact = both-exact stamps_form (λ stamps. answer_form) stamps-exact (λ stamps fits. answer-exact)
 
-done_again : (verdict : Verdict) (found : List (ObjectId × Stamp) × Answer) → done verdict ≡ Some found → Done found.0 found.1 ≡ verdict
-done_again (Done stamps answer) found is = of_part (λ (pair : List (ObjectId × Stamp) × Answer). Done pair.0 pair.1) (stamps, answer) found is
+done_again : (verdict : Verdict) (found : List (ObjectId × Stamp) × Answer) → done verdict ≡ Some found
+    → Done found.0 found.1 ≡ verdict
+done_again (Done stamps answer) found is =
+    of_part (λ (pair : List (ObjectId × Stamp) × Answer). Done pair.0 pair.1) (stamps, answer) found is
 done_again _ found is = absurd cc
 
-told_again : (verdict : Verdict) (found : List (ObjectId × Stamp) × Answer) → told verdict ≡ Some found → Told found.0 found.1 ≡ verdict
-told_again (Told stamps answer) found is = of_part (λ (pair : List (ObjectId × Stamp) × Answer). Told pair.0 pair.1) (stamps, answer) found is
+told_again : (verdict : Verdict) (found : List (ObjectId × Stamp) × Answer) → told verdict ≡ Some found
+    → Told found.0 found.1 ≡ verdict
+told_again (Told stamps answer) found is =
+    of_part (λ (pair : List (ObjectId × Stamp) × Answer). Told pair.0 pair.1) (stamps, answer) found is
 told_again _ found is = absurd cc
 
 already_again : (verdict : Verdict) (found : Answer) → already verdict ≡ Some found → Already found ≡ verdict
 already_again (Already answer) found is = of_part (λ (it : Answer). Already it) answer found is
 already_again _ found is = absurd cc
 
-mended_again : (verdict : Verdict) (found : ObjectId × Stamp) → mended verdict ≡ Some found → Mended found.0 found.1 ≡ verdict
-mended_again (Mended object stamp) found is = of_part (λ (pair : ObjectId × Stamp). Mended pair.0 pair.1) (object, stamp) found is
+mended_again : (verdict : Verdict) (found : ObjectId × Stamp) → mended verdict ≡ Some found
+    → Mended found.0 found.1 ≡ verdict
+mended_again (Mended object stamp) found is = of_part (λ (pair : ObjectId × Stamp). Mended pair.0 pair.1)
+    (object, stamp) found is
 mended_again _ found is = absurd cc
 
 refused_again : (verdict : Verdict) (found : Refusal) → refusal verdict ≡ Some found → Refused found ≡ verdict
@@ -201,18 +246,25 @@ refused_again _ found is = absurd cc
 
 verdict_body-exact : (code : ℕ) → IsExact (verdict_body code)
 verdict_body-exact code =
-    either-exact (code == 1) _ _ (made-exact _ done answered_form answered-exact (λ found fits. refl) (λ verdict found fits is. done_again verdict found is))
-    (λ no1. either-exact (code == 2) _ _ (made-exact _ told answered_form answered-exact (λ found fits. refl) (λ verdict found fits is. told_again verdict found is))
-    (λ no2. either-exact (code == 3) _ _ (made-exact Already already answer_form answer-exact (λ found fits. refl) (λ verdict found fits is. already_again verdict found is))
+    either-exact (code == 1) _ _ (made-exact _ done answered_form answered-exact (λ found fits. refl)
+    (λ verdict found fits is. done_again verdict found is))
+    (λ no1. either-exact (code == 2) _ _ (made-exact _ told answered_form answered-exact (λ found fits. refl)
+    (λ verdict found fits is. told_again verdict found is))
+    (λ no2. either-exact (code == 3) _ _ (made-exact Already already answer_form answer-exact (λ found fits. refl)
+    (λ verdict found fits is. already_again verdict found is))
     (λ no3. either-exact (code == 4) _ _
-    (made-exact _ mended _ (both-exact object_form _ object-exact (λ object fits. stamp_with-exact true)) (λ found fits. refl) (λ verdict found fits is. mended_again verdict found is))
-    (λ no4. made-exact Refused refusal refusal_form refusal-exact (λ found fits. refl) (λ verdict found fits is. refused_again verdict found is)))))
+    (made-exact _ mended _ (both-exact object_form _ object-exact (λ object fits. stamp_with-exact true))
+    (λ found fits. refl) (λ verdict found fits is. mended_again verdict found is))
+    (λ no4. made-exact Refused refusal refusal_form refusal-exact (λ found fits. refl)
+    (λ verdict found fits is. refused_again verdict found is)))))
 
-done_code : (form : Format (List (ObjectId × Stamp) × Answer)) (verdict : Verdict) → FitsPart form (done verdict) → verdict_code verdict ≡ 1
+done_code : (form : Format (List (ObjectId × Stamp) × Answer)) (verdict : Verdict) → FitsPart form (done verdict)
+    → verdict_code verdict ≡ 1
 done_code form (Done stamps answer) fits = refl
 done_code form _ fits = absurd fits
 
-told_code : (form : Format (List (ObjectId × Stamp) × Answer)) (verdict : Verdict) → FitsPart form (told verdict) → verdict_code verdict ≡ 2
+told_code : (form : Format (List (ObjectId × Stamp) × Answer)) (verdict : Verdict) → FitsPart form (told verdict)
+    → verdict_code verdict ≡ 2
 told_code form (Told stamps answer) fits = refl
 told_code form _ fits = absurd fits
 
@@ -220,7 +272,8 @@ already_code : (form : Format Answer) (verdict : Verdict) → FitsPart form (alr
 already_code form (Already answer) fits = refl
 already_code form _ fits = absurd fits
 
-mended_code : (form : Format (ObjectId × Stamp)) (verdict : Verdict) → FitsPart form (mended verdict) → verdict_code verdict ≡ 4
+mended_code : (form : Format (ObjectId × Stamp)) (verdict : Verdict) → FitsPart form (mended verdict)
+    → verdict_code verdict ≡ 4
 mended_code form (Mended object stamp) fits = refl
 mended_code form _ fits = absurd fits
 
@@ -228,20 +281,26 @@ refused_code : (form : Format Refusal) (verdict : Verdict) → FitsPart form (re
 refused_code form (Refused why) fits = refl
 refused_code form _ fits = absurd fits
 
-last_code : (code : ℕ) → IsTrue (is_verdict_code code) → (code == 1) ≡ false → (code == 2) ≡ false → (code == 3) ≡ false → (code == 4) ≡ false → 5 ≡ code
+last_code : (code : ℕ) → IsTrue (is_verdict_code code) → (code == 1) ≡ false → (code == 2) ≡ false
+    → (code == 3) ≡ false → (code == 4) ≡ false → 5 ≡ code
 last_code code known no1 no2 no3 no4 = grind (arith, nat_tests)
 
-verdict_coded : (code : ℕ) (verdict : Verdict) → IsTrue (is_verdict_code code) → (verdict_body code).Fits verdict → verdict_code verdict ≡ code
+verdict_coded : (code : ℕ) (verdict : Verdict) → IsTrue (is_verdict_code code) → (verdict_body code).Fits verdict
+    → verdict_code verdict ≡ code
 verdict_coded code verdict known fits =
     either-fits (code == 1) _ _ verdict (λ is here. done_code answered_form verdict here ∙ sym (eqb-true _ _ is))
-    (λ no1. either-fits (code == 2) _ _ verdict (λ is here. told_code answered_form verdict here ∙ sym (eqb-true _ _ is))
-    (λ no2. either-fits (code == 3) _ _ verdict (λ is here. already_code answer_form verdict here ∙ sym (eqb-true _ _ is))
-    (λ no3. either-fits (code == 4) _ _ verdict (λ is here. mended_code (both object_form (λ object. stamp_form)) verdict here ∙ sym (eqb-true _ _ is))
+    (λ no1. either-fits (code == 2) _ _ verdict (λ is here. told_code answered_form verdict here
+    ∙ sym (eqb-true _ _ is))
+    (λ no2. either-fits (code == 3) _ _ verdict (λ is here. already_code answer_form verdict here
+    ∙ sym (eqb-true _ _ is))
+    (λ no3. either-fits (code == 4) _ _ verdict
+    (λ is here. mended_code (both object_form (λ object. stamp_form)) verdict here ∙ sym (eqb-true _ _ is))
     (λ no4 here. refused_code refusal_form verdict here ∙ last_code code known no1 no2 no3 no4)))) fits
 
 pub verdict-exact : IsExact verdict_form
 unfolding verdict_form
-verdict-exact = tagged-exact is_verdict_code verdict_code verdict_body (λ code known. verdict_body-exact code) verdict_coded
+verdict-exact = tagged-exact is_verdict_code verdict_code verdict_body (λ code known. verdict_body-exact code)
+    verdict_coded
 
 -- ---- bodies
 
@@ -255,14 +314,18 @@ ask_again (body.Ask parts) found is = of_part (λ (it : List (ObjectId × Ask)).
 
 body_of_code-exact : (objects : List ObjectId) (code : ℕ) → IsExact (body_of_code objects code)
 body_of_code-exact objects code =
-    either-exact (code == 1) _ _ (made-exact body.Act act_parts _ (act-exact (is_one_of objects)) (λ found fits. refl) (λ asked found fits is. act_again asked found is))
-    (λ no1. made-exact body.Ask ask_parts _ (query-exact (is_one_of objects)) (λ found fits. refl) (λ asked found fits is. ask_again asked found is))
+    either-exact (code == 1) _ _ (made-exact body.Act act_parts _ (act-exact (is_one_of objects))
+    (λ found fits. refl) (λ asked found fits is. act_again asked found is))
+    (λ no1. made-exact body.Ask ask_parts _ (query-exact (is_one_of objects)) (λ found fits. refl)
+    (λ asked found fits is. ask_again asked found is))
 
-act_code : (form : Format (List (ObjectId × Method))) (asked : Body) → FitsPart form (act_parts asked) → body_code asked ≡ 1
+act_code : (form : Format (List (ObjectId × Method))) (asked : Body) → FitsPart form (act_parts asked)
+    → body_code asked ≡ 1
 act_code form (body.Act parts) fits = refl
 act_code form (body.Ask parts) fits = absurd fits
 
-ask_code : (form : Format (List (ObjectId × Ask))) (asked : Body) → FitsPart form (ask_parts asked) → body_code asked ≡ 2
+ask_code : (form : Format (List (ObjectId × Ask))) (asked : Body) → FitsPart form (ask_parts asked)
+    → body_code asked ≡ 2
 ask_code form (body.Act parts) fits = absurd fits
 ask_code form (body.Ask parts) fits = refl
 
@@ -270,45 +333,58 @@ ask_code form (body.Ask parts) fits = refl
 second_code : (code : ℕ) → IsTrue (is_body_code code) → (code == 1) ≡ false → 2 ≡ code
 second_code code known no1 = grind (arith, nat_tests)
 
-body_coded : (objects : List ObjectId) (code : ℕ) (asked : Body) → IsTrue (is_body_code code) → (body_of_code objects code).Fits asked → body_code asked ≡ code
+body_coded : (objects : List ObjectId) (code : ℕ) (asked : Body) → IsTrue (is_body_code code)
+    → (body_of_code objects code).Fits asked → body_code asked ≡ code
 body_coded objects code asked known fits =
-    either-fits (code == 1) _ _ asked (λ is here. act_code (act_form (is_one_of objects)) asked here ∙ sym (eqb-true _ _ is))
+    either-fits (code == 1) _ _ asked (λ is here. act_code (act_form (is_one_of objects)) asked here
+    ∙ sym (eqb-true _ _ is))
     (λ no1 here. ask_code (query_form (is_one_of objects)) asked here ∙ second_code code known no1) fits
 
 pub body-exact : (objects : List ObjectId) → IsExact (body_form objects)
 unfolding body_form
-body-exact objects = tagged-exact is_body_code body_code (body_of_code objects) (λ code known. body_of_code-exact objects code) (body_coded objects)
+body-exact objects =
+    tagged-exact is_body_code body_code (body_of_code objects) (λ code known. body_of_code-exact objects code)
+    (body_coded objects)
 
 -- ---- frames
 
 client-exact : IsExact client_form
-client-exact = fields-exact _ _ _ (number-exact w16 (2 ^ 16) 1 64 wide16 (omega arith)) (λ found fits. refl) (λ client. refl)
+client-exact = fields-exact _ _ _ (number-exact w16 (2 ^ 16) 1 LAST_CLIENT wide16 (omega arith))
+    (λ found fits. refl) (λ client. refl)
 
 round-exact : IsExact round_form
-round-exact = byte-exact 1 64 (omega arith)
+round-exact = byte-exact 1 LAST_ROUND (omega arith)
 
 pair_after-exact : (before : Option (ObjectId × ReplicaId)) → IsExact (pair_after before)
 pair_after-exact before =
-    tested-exact (is_after_pair before) Order _ (both-exact object_form (λ object. replica_form) object-exact (λ object fits. replica-exact))
+    tested-exact (is_after_pair before) Order _
+    (both-exact object_form (λ object. replica_form) object-exact (λ object fits. replica-exact))
 
 pub culled-exact : IsExact culled_form
 unfolding culled_form
 culled-exact =
-    counted-exact spelled_pair pair_after (λ pair. Some pair) pair_after-exact (λ before pair. refl) (number w8 0 128) None (byte-exact 0 128 (omega arith))
+    counted-exact spelled_pair pair_after (λ pair. Some pair) pair_after-exact (λ before pair. refl)
+    (number w8 0 CULLED_LIMIT) None (byte-exact 0 CULLED_LIMIT (omega arith))
 
 request-exact : IsExact request_form
 request-exact =
-    both-exact _ _ client-exact (λ client fits. both-exact _ _ (number-exact w64 (2 ^ 64) 1 (2 ^ 64 - 1) wide64 (omega arith)) (λ number fits.
-    both-exact _ _ round-exact (λ round fits. both-exact _ _ sets-exact (λ sets fits. both-exact _ _ (body-exact _) (λ asked fits. bytes-exact 32)))))
+    both-exact _ _ client-exact
+    (λ client fits. both-exact _ _ (number-exact w64 (2 ^ 64) 1 (2 ^ 64 - 1) wide64 (omega arith)) (λ number fits.
+    both-exact _ _ round-exact
+    (λ round fits. both-exact _ _ sets-exact
+    (λ sets fits. both-exact _ _ (body-exact _) (λ asked fits. bytes-exact 32)))))
 
 reply-exact : IsExact reply_form
 reply-exact =
-    both-exact _ _ replica-exact (λ replica fits. both-exact _ _ client-exact (λ client fits. both-exact _ _ word-exact (λ number fits.
-    both-exact _ _ round-exact (λ round fits. both-exact _ _ verdict-exact (λ verdict fits. both-exact _ _ culled-exact (λ culled fits.
+    both-exact _ _ replica-exact
+    (λ replica fits. both-exact _ _ client-exact (λ client fits. both-exact _ _ word-exact (λ number fits.
+    both-exact _ _ round-exact
+    (λ round fits. both-exact _ _ verdict-exact (λ verdict fits. both-exact _ _ culled-exact (λ culled fits.
     both-exact _ _ (shown-exact replica) (λ shown fits. bytes-exact 32)))))))
 
 request_again : (frame : Frame) (found : RequestFields) → request_fields frame ≡ Some found → request_of found ≡ frame
-request_again (Request client number round sets asked mac) found is = of_part request_of (client, (number, (round, (sets, (asked, mac))))) found is
+request_again (Request client number round sets asked mac) found is =
+    of_part request_of (client, (number, (round, (sets, (asked, mac))))) found is
 request_again (Reply replica client number round verdict culled shown mac) found is = absurd cc
 
 reply_again : (frame : Frame) (found : ReplyFields) → reply_fields frame ≡ Some found → reply_of found ≡ frame
@@ -318,16 +394,20 @@ reply_again (Reply replica client number round verdict culled shown mac) found i
 
 pub request_frame-exact : IsExact request_frame
 unfolding request_frame
-request_frame-exact = made-exact request_of request_fields request_form request-exact (λ found fits. refl) (λ frame found fits is. request_again frame found is)
+request_frame-exact = made-exact request_of request_fields request_form request-exact (λ found fits. refl)
+    (λ frame found fits is. request_again frame found is)
 
 pub reply_frame-exact : IsExact reply_frame
 unfolding reply_frame
-reply_frame-exact = made-exact reply_of reply_fields reply_form reply-exact (λ found fits. refl) (λ frame found fits is. reply_again frame found is)
+reply_frame-exact = made-exact reply_of reply_fields reply_form reply-exact (λ found fits. refl)
+    (λ frame found fits is. reply_again frame found is)
 
 frame_body-exact : (kind : ℕ) → IsExact (frame_body kind)
-frame_body-exact kind = either-exact (kind == 1) request_frame reply_frame request_frame-exact (λ no1. reply_frame-exact)
+frame_body-exact kind = either-exact (kind == 1) request_frame reply_frame request_frame-exact
+    (λ no1. reply_frame-exact)
 
-request_kind : (form : Format RequestFields) (frame : Frame) → FitsPart form (request_fields frame) → frame_kind frame ≡ 1
+request_kind : (form : Format RequestFields) (frame : Frame) → FitsPart form (request_fields frame)
+    → frame_kind frame ≡ 1
 request_kind form (Request client number round sets asked mac) fits = refl
 request_kind form (Reply replica client number round verdict culled shown mac) fits = absurd fits
 
@@ -335,10 +415,12 @@ reply_kind : (form : Format ReplyFields) (frame : Frame) → FitsPart form (repl
 reply_kind form (Request client number round sets asked mac) fits = absurd fits
 reply_kind form (Reply replica client number round verdict culled shown mac) fits = refl
 
-frame_coded : (kind : ℕ) (frame : Frame) → IsTrue (is_frame_kind kind) → (frame_body kind).Fits frame → frame_kind frame ≡ kind
+frame_coded : (kind : ℕ) (frame : Frame) → IsTrue (is_frame_kind kind) → (frame_body kind).Fits frame
+    → frame_kind frame ≡ kind
 unfolding request_frame reply_frame
 frame_coded kind frame known fits =
-    either-fits (kind == 1) request_frame reply_frame frame (λ is here. request_kind request_form frame here ∙ sym (eqb-true _ _ is))
+    either-fits (kind == 1) request_frame reply_frame frame (λ is here. request_kind request_form frame here
+    ∙ sym (eqb-true _ _ is))
     (λ no1 here. reply_kind reply_form frame here ∙ second_code kind known no1) fits
 
 second_is : {A B : Type 0} (one : A) (pair : A × B) (two : B) → Some (one, two) ≡ Some pair → pair.1 ≡ two
@@ -347,16 +429,20 @@ second_is {A = A} {B = B} one pair two is = ap (λ (it : A × B). it.1) (sym (so
 pub kind-exact : IsExact kind_form
 unfolding kind_form
 kind-exact =
-    made-exact (λ found. found.1) (λ frame. Some (frame_kind frame, frame)) (both (tested is_frame_kind Kind (number w8 0 255)) frame_body)
-    (both-exact _ frame_body (tested-exact is_frame_kind Kind (number w8 0 255) (byte-exact 0 255 (omega arith))) (λ kind fits. frame_body-exact kind))
+    made-exact (λ found. found.1) (λ frame. Some (frame_kind frame, frame))
+    (both (tested is_frame_kind Kind (number w8 0 255)) frame_body)
+    (both-exact _ frame_body (tested-exact is_frame_kind Kind (number w8 0 255) (byte-exact 0 255 (omega arith)))
+    (λ kind fits. frame_body-exact kind))
     (λ found fits. ap (λ (kind : ℕ). Some (kind, found.1)) (frame_coded found.0 found.1 (fits.0).1 fits.1))
     (λ frame found fits is. second_is (frame_kind frame) found frame is)
 
 pub frame-exact : IsExact frame_form
 unfolding frame_form
 frame-exact =
-    made-exact (λ found. found.1) (λ frame. Some (1, frame)) (both (tested is_version Kind (number w8 0 255)) (λ version. kind_form))
-    (both-exact _ _ (tested-exact is_version Kind (number w8 0 255) (byte-exact 0 255 (omega arith))) (λ version fits. kind-exact))
+    made-exact (λ found. found.1) (λ frame. Some (1, frame))
+    (both (tested is_version Kind (number w8 0 255)) (λ version. kind_form))
+    (both-exact _ _ (tested-exact is_version Kind (number w8 0 255) (byte-exact 0 255 (omega arith)))
+    (λ version fits. kind-exact))
     (λ found fits. ap (λ (version : ℕ). Some (version, found.1)) (sym (eqb-true found.0 1 (fits.0).1)))
     (λ frame found fits is. second_is 1 found frame is)
 
@@ -386,4 +472,5 @@ reply-code = prefix_code reply_frame reply_frame-exact
 pub frame-code : IsPrefixCode frame_form
 frame-code = prefix_code frame_form frame-exact
 
-pub ruleset code_laws = (refusal-code, stamps-code, verdict-code, body-code, culled-code, request-code, reply-code, frame-code)
+pub ruleset code_laws =
+    (refusal-code, stamps-code, verdict-code, body-code, culled-code, request-code, reply-code, frame-code)

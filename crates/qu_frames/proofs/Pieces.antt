@@ -10,40 +10,55 @@ use Rattle.qu_history.specs.Forms.{sets_form, shown_form}
 use Rattle.qu_frames.specs.declared.frame.Body.{Body}
 use Rattle.qu_frames.specs.declared.frame.Frame.TheVariants.{Request, Reply}
 use Rattle.qu_frames.specs.declared.verdict.Verdict.{Verdict}
-use Rattle.qu_frames.specs.Forms.{objects_of, body_form, verdict_form, culled_form, request_frame, reply_frame, kind_form, frame_form}
+use Rattle.qu_frames.specs.Forms.{objects_in_sets, body_form, verdict_form, culled_form, request_frame, reply_frame, kind_form, frame_form}
 
-pub three_pieces : (a b c start one two end : List ℕ) → one ≡ start ++ a → two ≡ one ++ b → end ≡ two ++ c → end ≡ start ++ (a ++ (b ++ c))
+pub three_pieces : (a b c start one two end : List ℕ) → one ≡ start ++ a → two ≡ one ++ b → end ≡ two ++ c
+    → end ≡ start ++ (a ++ (b ++ c))
 three_pieces a b c start one two end first second third = rw (third, second, first) (simp append_assoc)
 
 -- a version and a kind, three fields together, and three more
-request_pieces : (a b c d e f g h start one two three four five end : List ℕ) → one ≡ start ++ a → two ≡ one ++ b → three ≡ two ++ (c ++ (d ++ e)) → four ≡ three ++ f
+request_pieces : (a b c d e f g h start one two three four five end : List ℕ) → one ≡ start ++ a → two ≡ one ++ b
+    → three ≡ two ++ (c ++ (d ++ e)) → four ≡ three ++ f
     → five ≡ four ++ g → end ≡ five ++ h → end ≡ start ++ (a ++ (b ++ (c ++ (d ++ (e ++ (f ++ (g ++ h)))))))
 request_pieces a b c d e f g h start one two three four five end first second third fourth fifth sixth =
     rw (sixth, fifth, fourth, third, second, first) (simp append_assoc)
 
 -- a version, a kind and one field, three fields together, and four more
-reply_pieces : (a b c d e f g h i j start one two three four five six seven end : List ℕ) → one ≡ start ++ a → two ≡ one ++ b → three ≡ two ++ c → four ≡ three ++ (d ++ (e ++ f))
-    → five ≡ four ++ g → six ≡ five ++ h → seven ≡ six ++ i → end ≡ seven ++ j → end ≡ start ++ (a ++ (b ++ (c ++ (d ++ (e ++ (f ++ (g ++ (h ++ (i ++ j)))))))))
-reply_pieces a b c d e f g h i j start one two three four five six seven end first second third fourth fifth sixth seventh eighth =
+reply_pieces : (a b c d e f g h i j start one two three four five six seven end : List ℕ) → one ≡ start ++ a
+    → two ≡ one ++ b → three ≡ two ++ c → four ≡ three ++ (d ++ (e ++ f))
+    → five ≡ four ++ g → six ≡ five ++ h → seven ≡ six ++ i → end ≡ seven ++ j
+    → end ≡ start ++ (a ++ (b ++ (c ++ (d ++ (e ++ (f ++ (g ++ (h ++ (i ++ j)))))))))
+reply_pieces a b c d e f g h i j start one two three four five six seven end first second third fourth fifth sixth
+    seventh eighth =
     rw (eighth, seventh, sixth, fifth, fourth, third, second, first) (simp append_assoc)
 
-pub request_written : (client : ClientId) (number round : ℕ) (sets : List SetOf) (asked : Body) (mac start one two three four five end : List ℕ)
-    → one ≡ start ++ to_be_bytes w8 1 → two ≡ one ++ to_be_bytes w8 1 → three ≡ two ++ (to_be_bytes w16 client.0 ++ (to_be_bytes w64 number ++ to_be_bytes w8 round))
-    → four ≡ three ++ sets_form.spell sets → five ≡ four ++ (body_form (objects_of sets)).spell asked → end ≡ five ++ mac
+pub request_written : (client : ClientId) (number round : ℕ) (sets : List SetOf) (asked : Body)
+    (mac start one two three four five end : List ℕ)
+    → one ≡ start ++ to_be_bytes w8 1 → two ≡ one ++ to_be_bytes w8 1
+    → three ≡ two ++ (to_be_bytes w16 client.0 ++ (to_be_bytes w64 number ++ to_be_bytes w8 round))
+    → four ≡ three ++ sets_form.spell sets → five ≡ four ++ (body_form (objects_in_sets sets)).spell asked
+    → end ≡ five ++ mac
     → end ≡ start ++ frame_form.spell (Request client number round sets asked mac)
 unfolding frame_form kind_form request_frame
-request_written client number round sets asked mac start one two three four five end first second third fourth fifth sixth =
-    request_pieces (to_be_bytes w8 1) (to_be_bytes w8 1) (to_be_bytes w16 client.0) (to_be_bytes w64 number) (to_be_bytes w8 round) (sets_form.spell sets)
-    ((body_form (objects_of sets)).spell asked) mac start one two three four five end first second third fourth fifth sixth
+request_written client number round sets asked mac start one two three four five end first second third fourth
+    fifth sixth =
+    request_pieces (to_be_bytes w8 1) (to_be_bytes w8 1) (to_be_bytes w16 client.0) (to_be_bytes w64 number)
+    (to_be_bytes w8 round) (sets_form.spell sets)
+    ((body_form (objects_in_sets sets)).spell asked) mac start one two three four five end first second third
+    fourth fifth sixth
 
-pub reply_written : (replica : ReplicaId) (client : ClientId) (number round : ℕ) (verdict : Verdict) (culled : List (ObjectId × ReplicaId)) (shown : List Sealed)
+pub reply_written : (replica : ReplicaId) (client : ClientId) (number round : ℕ) (verdict : Verdict)
+    (culled : List (ObjectId × ReplicaId)) (shown : List Sealed)
     (mac start one two three four five six seven end : List ℕ)
     → one ≡ start ++ to_be_bytes w8 1 → two ≡ one ++ to_be_bytes w8 2 → three ≡ two ++ to_be_bytes w8 replica.0
-    → four ≡ three ++ (to_be_bytes w16 client.0 ++ (to_be_bytes w64 number ++ to_be_bytes w8 round)) → five ≡ four ++ verdict_form.spell verdict
+    → four ≡ three ++ (to_be_bytes w16 client.0 ++ (to_be_bytes w64 number ++ to_be_bytes w8 round))
+    → five ≡ four ++ verdict_form.spell verdict
     → six ≡ five ++ culled_form.spell culled → seven ≡ six ++ (shown_form replica).spell shown → end ≡ seven ++ mac
     → end ≡ start ++ frame_form.spell (Reply replica client number round verdict culled shown mac)
 unfolding frame_form kind_form reply_frame
-reply_written replica client number round verdict culled shown mac start one two three four five six seven end first second third fourth fifth sixth seventh eighth =
-    reply_pieces (to_be_bytes w8 1) (to_be_bytes w8 2) (to_be_bytes w8 replica.0) (to_be_bytes w16 client.0) (to_be_bytes w64 number) (to_be_bytes w8 round)
+reply_written replica client number round verdict culled shown mac start one two three four five six seven end
+    first second third fourth fifth sixth seventh eighth =
+    reply_pieces (to_be_bytes w8 1) (to_be_bytes w8 2) (to_be_bytes w8 replica.0) (to_be_bytes w16 client.0)
+    (to_be_bytes w64 number) (to_be_bytes w8 round)
     (verdict_form.spell verdict) (culled_form.spell culled) ((shown_form replica).spell shown) mac
     start one two three four five six seven end first second third fourth fifth sixth seventh eighth

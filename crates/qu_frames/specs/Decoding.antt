@@ -6,7 +6,7 @@ use Rattle.qu_base.specs.declared.bad_text.ReadFail.{ReadFail}
 use Rattle.qu_base.specs.Front.{Front}
 use Rattle.qu_base.specs.Format.{front_of}
 use Rattle.qu_base.specs.Reading.{FailsAs}
-use Rattle.qu_frames.specs.declared.decoding.TheConstants.{TEXT_LIMIT}
+use Rattle.qu_frames.specs.declared.limits.TheConstants.{TEXT_LIMIT}
 use Rattle.qu_frames.specs.declared.frame.Frame.{Frame}
 use Rattle.qu_frames.specs.Forms.{frame_form}
 
@@ -20,7 +20,8 @@ whole (Err bad) = Err bad
 
 unfoldable pub decoded : List ℕ → Result Frame BadText
 decoded text =
-    if nat_lt TEXT_LIMIT (length text) then Err (record { place = 0; why = Range }) else whole (frame_form.read (front_of text))
+    if nat_lt TEXT_LIMIT (length text) then Err (record { place = 0; why = Range }) else whole
+    (frame_form.read (front_of text))
 
 -- what decoding a text tells: a frame, or why there is none, which may be want of memory
 abbrev pub IsDecoded : Result Frame ReadFail → List ℕ → Type 0

@@ -2,12 +2,14 @@
 use Rattle.std.specs.Prelude.{ℕ, Bool, true, ◌==◌, ◌&&◌, ◌||◌, ◌-◌, ◌^◌, ◌+◌, nat_lt, nat_le, if◌then◌else◌, List, ◌++◌, map, Option, None, Some}
 use Rattle.std.specs.Int.{w8, w16, w64}
 use Rattle.qu_base.specs.declared.bad_text.Why.TheVariants.{Kind, Order}
+use Rattle.qu_base.specs.declared.limits.TheConstants.{LAST_CLIENT}
 use Rattle.qu_base.specs.declared.party.ClientId.{ClientId}
 use Rattle.qu_base.specs.declared.party.ObjectId.{ObjectId}
 use Rattle.qu_base.specs.declared.party.ReplicaId.{ReplicaId}
 use Rattle.qu_base.specs.Format.{Format, number, bytes, both, tested, made, either, items, counted, tagged, object_form, replica_form}
 use Rattle.qu_stamp.specs.declared.stamp.Stamp.{Stamp}
 use Rattle.qu_stamp.specs.Forms.{stamp_form}
+use Rattle.qu_objects.specs.declared.limits.TheConstants.{PARTS_LIMIT}
 use Rattle.qu_objects.specs.declared.act.Method.{Method}
 use Rattle.qu_objects.specs.declared.query.Ask.{Ask}
 use Rattle.qu_objects.specs.declared.answer.Answer.{Answer}
@@ -19,6 +21,9 @@ use Rattle.qu_frames.specs.declared.frame.Body.{Body}
 use Rattle.qu_frames.specs.declared.frame.Body.TheVariants as body
 use Rattle.qu_frames.specs.declared.frame.Frame.{Frame}
 use Rattle.qu_frames.specs.declared.frame.Frame.TheVariants.{Request, Reply}
+use Rattle.qu_frames.specs.declared.limits.TheConstants.{LAST_ROUND, CULLED_LIMIT}
+use Rattle.qu_frames.specs.declared.refusal_number.TheConstants.{HISTORY_FULL, THIN, NEEDS, STALE, NOT_CURRENT, NOT_METHOD, SPENT, TIME_SPENT, UNKNOWN_OBJECT, SOUND}
+use Rattle.qu_frames.specs.RefusalNumber.{refusal_number, is_refusal_number}
 use Rattle.qu_frames.specs.declared.verdict.ClassCode.{ClassCode}
 use Rattle.qu_frames.specs.declared.verdict.ClassCode.TheVariants as class
 use Rattle.qu_frames.specs.declared.verdict.Refusal.{Refusal}
@@ -38,21 +43,6 @@ class_of code =
 
 abbrev pub class_form : Format ClassCode
 class_form = made class_of (λ class. Some (class_code class)) (number w8 2 6)
-
-abbrev pub refusal_number : Refusal → ℕ
-refusal_number (HistoryFull object) = 11
-refusal_number (Thin object) = 13
-refusal_number (Needs object) = 15
-refusal_number (Stale object) = 16
-refusal_number (NotCurrent object latest) = 22
-refusal_number (NotMethod object class) = 23
-refusal_number (Spent object number) = 24
-refusal_number (TimeSpent object) = 25
-refusal_number (UnknownObject object) = 26
-refusal_number (Sound object) = 27
-
-abbrev pub is_refusal_number : ℕ → Bool
-is_refusal_number code = code == 11 || (code == 13 || (code == 15 || (code == 16 || (nat_le 22 code && nat_le code 27))))
 
 abbrev pub refused_object : Refusal → ObjectId
 refused_object (HistoryFull object) = object
@@ -81,24 +71,27 @@ number_told _ = None
 -- the refusal with this number that tells an object and no more
 abbrev pub plain_refusal : ℕ → ObjectId → Refusal
 plain_refusal code object =
-    if code == 11 then HistoryFull object else
-    if code == 13 then Thin object else
-    if code == 15 then Needs object else
-    if code == 16 then Stale object else
-    if code == 25 then TimeSpent object else
-    if code == 26 then UnknownObject object else Sound object
+    if code == HISTORY_FULL then HistoryFull object else
+    if code == THIN then Thin object else
+    if code == NEEDS then Needs object else
+    if code == STALE then Stale object else
+    if code == TIME_SPENT then TimeSpent object else
+    if code == UNKNOWN_OBJECT then UnknownObject object else Sound object
 
 abbrev pub plain_object : ℕ → Refusal → Option ObjectId
 plain_object code refusal = if refusal_number refusal == code then Some (refused_object refusal) else None
 
 abbrev pub refusal_body : ℕ → Format Refusal
 refusal_body code =
-    either (code == 22) (made (λ fields. NotCurrent fields.0 fields.1) latest_told (both object_form (λ object. stamp_form)))
-    (either (code == 23) (made (λ fields. NotMethod fields.0 fields.1) class_told (both object_form (λ object. class_form)))
-    (either (code == 24) (made (λ fields. Spent fields.0 fields.1) number_told (both object_form (λ object. word_form)))
+    either (code == NOT_CURRENT)
+    (made (λ fields. NotCurrent fields.0 fields.1) latest_told (both object_form (λ object. stamp_form)))
+    (either (code == NOT_METHOD)
+    (made (λ fields. NotMethod fields.0 fields.1) class_told (both object_form (λ object. class_form)))
+    (either (code == SPENT)
+    (made (λ fields. Spent fields.0 fields.1) number_told (both object_form (λ object. word_form)))
     (made (plain_refusal code) (plain_object code) object_form)))
 
--- the number of the refusal, the object, and for 22 a stamp, for 23 a class, for 24 a number
+-- the number of the refusal, the object, and what else it tells: a stamp, a class or a number
 unfoldable pub refusal_form : Format Refusal
 refusal_form = tagged is_refusal_number refusal_number refusal_body
 
@@ -117,9 +110,9 @@ after_told told = (told.0).0 + 1
 abbrev pub some_stamps : ℕ → ℕ → Format (List (ObjectId × Stamp))
 some_stamps least count = items spelled_stamp stamp_from after_told least count
 
--- one to four stamps, by rising objects
+-- stamps by rising objects
 unfoldable pub stamps_form : Format (List (ObjectId × Stamp))
-stamps_form = counted (number w8 1 4) spelled_stamp stamp_from after_told 0
+stamps_form = counted (number w8 1 PARTS_LIMIT) spelled_stamp stamp_from after_told 0
 
 abbrev pub verdict_code : Verdict → ℕ
 verdict_code (Done stamps answer) = 1
@@ -183,12 +176,13 @@ abbrev pub ask_parts : Body → Option (List (ObjectId × Ask))
 ask_parts (body.Act parts) = None
 ask_parts (body.Ask parts) = Some parts
 
-abbrev pub objects_of : List SetOf → List ObjectId
-objects_of sets = map (λ set. set.object) sets
+abbrev pub objects_in_sets : List SetOf → List ObjectId
+objects_in_sets sets = map (λ set. set.object) sets
 
 abbrev pub body_of_code : List ObjectId → ℕ → Format Body
 body_of_code objects code =
-    either (code == 1) (made body.Act act_parts (act_form (is_one_of objects))) (made body.Ask ask_parts (query_form (is_one_of objects)))
+    either (code == 1) (made body.Act act_parts (act_form (is_one_of objects)))
+    (made body.Ask ask_parts (query_form (is_one_of objects)))
 
 -- 1: an act; 2: a query; of these objects
 unfoldable pub body_form : List ObjectId → Format Body
@@ -197,10 +191,10 @@ body_form objects = tagged is_body_code body_code (body_of_code objects)
 -- ---- frames
 
 abbrev pub client_form : Format ClientId
-client_form = made (λ number. record { 0 = number }) (λ client. Some client.0) (number w16 1 64)
+client_form = made (λ number. record { 0 = number }) (λ client. Some client.0) (number w16 1 LAST_CLIENT)
 
 abbrev pub round_form : Format ℕ
-round_form = number w8 1 64
+round_form = number w8 1 LAST_ROUND
 
 -- what was culled: an object and a replica
 abbrev pub is_after_pair : Option (ObjectId × ReplicaId) → ObjectId × ReplicaId → Bool
@@ -217,9 +211,9 @@ pair_after before = tested (is_after_pair before) Order (both object_form (λ ob
 abbrev pub some_culled : Option (ObjectId × ReplicaId) → ℕ → Format (List (ObjectId × ReplicaId))
 some_culled before count = items spelled_pair pair_after (λ pair. Some pair) before count
 
--- at most 128 pairs that rise
+-- pairs that rise
 unfoldable pub culled_form : Format (List (ObjectId × ReplicaId))
-culled_form = counted (number w8 0 128) spelled_pair pair_after (λ pair. Some pair) None
+culled_form = counted (number w8 0 CULLED_LIMIT) spelled_pair pair_after (λ pair. Some pair) None
 
 abbrev pub RequestFields : Type 0
 RequestFields = ClientId × (ℕ × (ℕ × (List SetOf × (Body × List ℕ))))
@@ -235,7 +229,7 @@ request_of fields = Request fields.0 fields.1.0 fields.1.1.0 fields.1.1.1.0 fiel
 abbrev pub request_form : Format RequestFields
 request_form =
     both client_form (λ client. both (number w64 1 (2 ^ 64 - 1)) (λ number. both round_form (λ round.
-    both sets_form (λ sets. both (body_form (objects_of sets)) (λ body. bytes 32)))))
+    both sets_form (λ sets. both (body_form (objects_in_sets sets)) (λ body. bytes 32)))))
 
 unfoldable pub request_frame : Format Frame
 request_frame = made request_of request_fields request_form
@@ -245,11 +239,13 @@ ReplyFields = ReplicaId × (ClientId × (ℕ × (ℕ × (Verdict × (List (Objec
 
 abbrev pub reply_fields : Frame → Option ReplyFields
 reply_fields (Request client number round sets body mac) = None
-reply_fields (Reply replica client number round verdict culled shown mac) = Some (replica, (client, (number, (round, (verdict, (culled, (shown, mac)))))))
+reply_fields (Reply replica client number round verdict culled shown mac) =
+    Some (replica, (client, (number, (round, (verdict, (culled, (shown, mac)))))))
 
 abbrev pub reply_of : ReplyFields → Frame
 reply_of fields =
-    Reply fields.0 fields.1.0 fields.1.1.0 fields.1.1.1.0 fields.1.1.1.1.0 fields.1.1.1.1.1.0 fields.1.1.1.1.1.1.0 fields.1.1.1.1.1.1.1
+    Reply fields.0 fields.1.0 fields.1.1.0 fields.1.1.1.0 fields.1.1.1.1.0 fields.1.1.1.1.1.0 fields.1.1.1.1.1.1.0
+    fields.1.1.1.1.1.1.1
 
 -- replica, client, number, round, verdict, what was culled, what is shown, HMAC
 abbrev pub reply_form : Format ReplyFields

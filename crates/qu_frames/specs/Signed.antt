@@ -8,7 +8,7 @@ use Rattle.qu_seal.specs.Digest.{digest_of}
 use Rattle.qu_seal.specs.Keys.{Ring, seal_of, verifies}
 use Rattle.qu_frames.specs.declared.frame.Frame.{Frame}
 use Rattle.qu_frames.specs.declared.frame.Frame.TheVariants.{Request, Reply}
-use Rattle.qu_frames.specs.declared.signing.TheConstants.{FRAME_TAG}
+use Rattle.qu_seal.specs.declared.constants.TheConstants.{FRAME_TAG}
 use Rattle.qu_frames.specs.Forms.{frame_form}
 use Rattle.qu_frames.specs.Decoding.{decoded}
 
@@ -24,7 +24,8 @@ mac_of (Reply replica client number round verdict culled shown mac) = mac
 -- the same frame with another HMAC
 abbrev pub with_mac : Frame → List ℕ → Frame
 with_mac (Request client number round sets body mac) other = Request client number round sets body other
-with_mac (Reply replica client number round verdict culled shown mac) other = Reply replica client number round verdict culled shown other
+with_mac (Reply replica client number round verdict culled shown mac) other =
+    Reply replica client number round verdict culled shown other
 
 -- the bytes before the HMAC, which are the last 32
 abbrev pub before_mac : List ℕ → List ℕ

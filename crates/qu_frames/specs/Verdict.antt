@@ -16,7 +16,8 @@ abbrev pub same_object : ObjectId → ObjectId → Bool
 same_object a b = a.0 == b.0
 
 abbrev pub same_stamps : List (ObjectId × Stamp) → List (ObjectId × Stamp) → Bool
-same_stamps stamps others = pointwise (λ (a b : ObjectId × Stamp). same_object a.0 b.0 && same_stamp a.1 b.1) stamps others
+same_stamps stamps others = pointwise (λ (a b : ObjectId × Stamp). same_object a.0 b.0 && same_stamp a.1 b.1)
+    stamps others
 
 abbrev pub class_code : ClassCode → ℕ
 class_code class.InlineMethod = 2

@@ -4,14 +4,11 @@ ghost use Rattle.qu_frames.specs.Forms.{frame_form};
 ghost use Rattle.qu_frames.specs.declared.frame.Frame.{Frame as AFrame};
 ghost use Rattle.qu_frames.specs.Decoding.{IsDecoded, decoded};
 
-use super::Frame;
 use super::reading_frame::frame_at;
 use super::writing_frame::append_frame;
+use super::{Frame, TEXT_LIMIT};
 use qu_base::{BadText, Cursor, List, NoMemory, Outbytes, ReadFail, Why};
 use std::alloc::Global;
-
-/// The most bytes of a frame, 2^25.
-pub const TEXT_LIMIT: usize = 1 << 25;
 
 /// The one spelling of a frame.
 pub fn encode(alloc: Global, frame: &Frame) -> Result<List<u8>, NoMemory>
@@ -29,7 +26,8 @@ pub fn encode(alloc: Global, frame: &Frame) -> Result<List<u8>, NoMemory>
 pub fn decode(alloc: Global, text: &[u8]) -> Result<Frame, ReadFail>
     ensures given { IsDecoded result text.now }
     ensures found { IfOk result (λ frame. frame_form.Fits frame × (text.now ≡ frame_form.spell frame)) }
-    ensures only { (frame : AFrame) → frame_form.Fits frame → text.now ≡ frame_form.spell frame → length text.now ≤ TEXT_LIMIT → IsOrFails result frame }
+    ensures only { (frame : AFrame) → frame_form.Fits frame → text.now ≡ frame_form.spell frame
+        → length text.now ≤ TEXT_LIMIT → IsOrFails result frame }
 {
     Cursor::new(text).are_bytes();
     let frame = decode_at(alloc, text)?;

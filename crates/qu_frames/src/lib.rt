@@ -5,18 +5,22 @@ mod blank;
 mod decoding;
 mod formats;
 mod frame;
+mod limits;
 mod reading_frame;
 mod reading_verdict;
+mod refusal_number;
 mod signing;
 mod verdict;
 mod writing_frame;
 mod writing_verdict;
 
 pub use blank::{blank_mac, seal};
-pub use decoding::{TEXT_LIMIT, decode, encode};
+pub use decoding::{decode, encode};
 pub use formats::formats_are_codes;
 pub use frame::{Body, Frame, Letter};
-pub use signing::{FRAME_TAG, receive, text_digest, with_mac};
+pub use limits::{CULLED_LIMIT, LAST_ROUND, TEXT_LIMIT, limits_are_these};
+pub use refusal_number::refusal_numbers_are_these;
+pub use signing::{receive, text_digest, with_mac};
 pub use verdict::{ClassCode, Refusal, Verdict};
 
 #[cfg(test)]

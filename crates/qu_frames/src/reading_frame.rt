@@ -1,11 +1,13 @@
 //! Frames from bytes, by the formats of `specs/Forms.antt`.
 ghost use Rattle.std.specs.Prelude.{◌≡◌, None, IfOk};
 ghost use Rattle.qu_base.specs.Reading.{Reads, Gives};
-ghost use Rattle.qu_frames.specs.Forms.{objects_of, body_form, client_form, is_after_pair, pair_after, some_culled, culled_form, request_frame, reply_frame, kind_form, frame_form};
+ghost use Rattle.qu_frames.specs.Forms.{objects_in_sets, body_form, client_form, is_after_pair, pair_after, some_culled, culled_form, request_frame, reply_frame, kind_form, frame_form};
 
 use super::reading_verdict::verdict_at;
-use super::{Body, Frame};
-use qu_base::{BadText, ClientId, Cursor, List, NoMemory, ObjectId, ReadFail, ReplicaId, Why};
+use super::{Body, CULLED_LIMIT, Frame, LAST_ROUND};
+use qu_base::{
+    BadText, ClientId, Cursor, LAST_CLIENT, List, NoMemory, ObjectId, ReadFail, ReplicaId, Why,
+};
 use qu_history::{SetOf, read_sets, read_shown};
 use qu_objects::{read_act, read_query};
 use std::alloc::Global;
@@ -44,7 +46,7 @@ fn request_at(alloc: Global, text: &mut Cursor) -> Result<Frame, ReadFail>
 {
     let client = client_at(text)?;
     let number = text.u64_within(1, u64::MAX)?;
-    let round = text.u8_within(1, 64)?;
+    let round = text.u8_within(1, LAST_ROUND)?;
     let sets = read_sets(alloc, text)?;
     let body = body_at(alloc, sets.objects().as_slice(), text)?;
     let mac = text.array()?;
@@ -66,7 +68,7 @@ fn reply_at(alloc: Global, text: &mut Cursor) -> Result<Frame, ReadFail>
     let replica = text.replica()?;
     let client = client_at(text)?;
     let number = text.u64_within(0, u64::MAX)?;
-    let round = text.u8_within(1, 64)?;
+    let round = text.u8_within(1, LAST_ROUND)?;
     let verdict = verdict_at(alloc, text)?;
     let culled = culled_at(alloc, text)?;
     let shown = read_shown(alloc, replica, text)?;
@@ -83,19 +85,19 @@ fn reply_at(alloc: Global, text: &mut Cursor) -> Result<Frame, ReadFail>
     })
 }
 
-/// The next client, from 1 to 64.
+/// The next client, by its number.
 fn client_at(text: &mut Cursor) -> Result<ClientId, BadText>
     ensures { Reads client_form result text.old text.new }
 {
-    Ok(ClientId(text.u16_within(1, 64)?))
+    Ok(ClientId(text.u16_within(1, LAST_CLIENT)?))
 }
 
 /// What is asked of the objects of these sets: a code, and the parts.
 #[tactic(auto, unfolding(crate::specs::Forms::body_form))]
 fn body_at(alloc: Global, sets: &[SetOf], text: &mut Cursor) -> Result<Body, ReadFail>
-    ensures { Gives (body_form (objects_of sets.now)) result text.old text.new }
+    ensures { Gives (body_form (objects_in_sets sets.now)) result text.old text.new }
 {
-    let objects = objects_of(alloc, sets)?;
+    let objects = objects_in_sets(alloc, sets)?;
     let start = text.ahead();
     let code = text.u8_within(0, 255)?;
     match code {
@@ -106,8 +108,8 @@ fn body_at(alloc: Global, sets: &[SetOf], text: &mut Cursor) -> Result<Body, Rea
 }
 
 /// The objects of some sets.
-fn objects_of(alloc: Global, sets: &[SetOf]) -> Result<List<ObjectId>, NoMemory>
-    ensures { IfOk result (λ objects. objects ≡ objects_of sets.now) }
+fn objects_in_sets(alloc: Global, sets: &[SetOf]) -> Result<List<ObjectId>, NoMemory>
+    ensures { IfOk result (λ objects. objects ≡ objects_in_sets sets.now) }
 {
     let mut objects = List::new(alloc);
     for set in sets {
@@ -121,7 +123,7 @@ fn objects_of(alloc: Global, sets: &[SetOf]) -> Result<List<ObjectId>, NoMemory>
 fn culled_at(alloc: Global, text: &mut Cursor) -> Result<List<(ObjectId, ReplicaId)>, ReadFail>
     ensures { Gives culled_form result text.old text.new }
 {
-    let count = text.u8_within(0, 128)?;
+    let count = text.u8_within(0, CULLED_LIMIT)?;
     next_culled(alloc, count, text)
 }
 

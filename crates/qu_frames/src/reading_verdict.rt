@@ -3,11 +3,15 @@ ghost use Rattle.std.specs.Prelude.{◌≡◌, ◌<◌, IfOk, OnErr};
 ghost use Rattle.qu_base.specs.Reading.{Reads, Gives};
 ghost use Rattle.qu_frames.specs.Forms.{class_form, refusal_form, stamp_from, some_stamps, stamps_form, verdict_form};
 
+use super::refusal_number::{
+    HISTORY_FULL, NEEDS, NOT_CURRENT, NOT_METHOD, SOUND, SPENT, STALE, THIN, TIME_SPENT,
+    UNKNOWN_OBJECT,
+};
 use super::{ClassCode, Refusal, Verdict};
-use qu_base::{BadText, Cursor, List, ObjectId, ReadFail, Why};
+use qu_base::{BadText, Cursor, List, OBJECT_IDS, ObjectId, ReadFail, Why};
 use qu_history::object_from;
-use qu_objects::read_answer;
-use qu_stamp::{Stamp, stamp_at};
+use qu_objects::{PARTS_LIMIT, read_answer};
+use qu_stamp::{Stamp, read_stamp};
 use std::alloc::Global;
 
 /// The next verdict: its code, and what it tells.
@@ -31,7 +35,7 @@ pub(crate) fn verdict_at(alloc: Global, text: &mut Cursor) -> Result<Verdict, Re
         3 => Ok(Verdict::Already(read_answer(alloc, text)?)),
         4 => {
             let object = text.object()?;
-            let stamp = stamp_at(text, true)?;
+            let stamp = read_stamp(text)?;
             Ok(Verdict::Mended(object, stamp))
         }
         5 => Ok(Verdict::Refused(refusal_at(text)?)),
@@ -44,7 +48,7 @@ pub(crate) fn verdict_at(alloc: Global, text: &mut Cursor) -> Result<Verdict, Re
 fn stamps_at(alloc: Global, text: &mut Cursor) -> Result<List<(ObjectId, Stamp)>, ReadFail>
     ensures { Gives stamps_form result text.old text.new }
 {
-    let count = text.u8_within(1, 4)?;
+    let count = text.u8_within(1, PARTS_LIMIT)?;
     next_stamps(alloc, count, text)
 }
 
@@ -70,10 +74,10 @@ fn next_stamps(
 /// The next object, which is not below this number, with its stamp.
 fn stamp_from(least: u16, text: &mut Cursor) -> Result<(ObjectId, Stamp), BadText>
     ensures given { Reads (stamp_from least) result text.old text.new }
-    ensures below { IfOk result (λ told. (told.0).0 < 64) }
+    ensures below { IfOk result (λ told. (told.0).0 < OBJECT_IDS) }
 {
     let object = object_from(least, text)?;
-    let stamp = stamp_at(text, true)?;
+    let stamp = read_stamp(text)?;
     Ok((object, stamp))
 }
 
@@ -85,28 +89,28 @@ fn refusal_at(text: &mut Cursor) -> Result<Refusal, BadText>
     let start = text.ahead();
     let number = text.u8_within(0, 255)?;
     match number {
-        11 => Ok(Refusal::HistoryFull(text.object()?)),
-        13 => Ok(Refusal::Thin(text.object()?)),
-        15 => Ok(Refusal::Needs(text.object()?)),
-        16 => Ok(Refusal::Stale(text.object()?)),
-        22 => {
+        HISTORY_FULL => Ok(Refusal::HistoryFull(text.object()?)),
+        THIN => Ok(Refusal::Thin(text.object()?)),
+        NEEDS => Ok(Refusal::Needs(text.object()?)),
+        STALE => Ok(Refusal::Stale(text.object()?)),
+        NOT_CURRENT => {
             let object = text.object()?;
-            let latest = stamp_at(text, true)?;
+            let latest = read_stamp(text)?;
             Ok(Refusal::NotCurrent(object, latest))
         }
-        23 => {
+        NOT_METHOD => {
             let object = text.object()?;
             let class = class_at(text)?;
             Ok(Refusal::NotMethod(object, class))
         }
-        24 => {
+        SPENT => {
             let object = text.object()?;
             let spent = text.u64_within(0, u64::MAX)?;
             Ok(Refusal::Spent(object, spent))
         }
-        25 => Ok(Refusal::TimeSpent(text.object()?)),
-        26 => Ok(Refusal::UnknownObject(text.object()?)),
-        27 => Ok(Refusal::Sound(text.object()?)),
+        TIME_SPENT => Ok(Refusal::TimeSpent(text.object()?)),
+        UNKNOWN_OBJECT => Ok(Refusal::UnknownObject(text.object()?)),
+        SOUND => Ok(Refusal::Sound(text.object()?)),
         _ => Err(start.refusal(Why::Range)),
     }
 }

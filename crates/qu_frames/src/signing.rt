@@ -4,11 +4,8 @@ ghost use Rattle.qu_frames.specs.Signed.{sender, mac_of, before_mac, text_digest
 
 use super::{Frame, decode, encode};
 use qu_base::{Digest, List, NoMemory, Outbytes, Party, ReadFail};
-use qu_seal::{KeyRing, digest};
+use qu_seal::{FRAME_TAG, KeyRing, digest};
 use std::alloc::Global;
-
-/// The tag under which the bytes of a frame before its HMAC are digested.
-pub const FRAME_TAG: u8 = 4;
 
 impl Frame {
     /// Who sent it, as it says.

@@ -1,102 +1,28 @@
 use super::*;
-use qu_base::{ClientId, Digest, List, ObjectId, Outbytes, ReadFail, ReplicaId, Why};
-use qu_history::{History, Sealed, SetOf, Sets};
-use qu_objects::{Act, Answer, Ask, Item, Method, Query};
-use qu_stamp::{Candidate, Stamp};
-use std::alloc::Global;
+use qu_base::{ClientId, Party, ReplicaId};
 use std::test::Fail;
 
-mod reply;
-mod request;
-mod signed;
+/// The reply of replica 3 to client 2 that the act was performed and told 5, with an HMAC of zeros.
+const REPLY: [u8; 110] = [
+    1, 2, 3, 0, 2, 0, 0, 0, 0, 0, 0, 0, 8, 4, 1, 1, 0, 5, 0, 0, 0, 0, 0, 0, 0, 0, 0, 0, 0, 0, 0, 0,
+    0, 0, 0, 0, 0, 0, 0, 0, 0, 0, 0, 0, 0, 0, 0, 0, 0, 0, 0, 0, 0, 0, 0, 0, 0, 0, 0, 0, 0, 0, 0, 1,
+    1, 0, 0, 0, 0, 0, 0, 0, 5, 1, 0, 5, 1, 0, 0, 0, 0, 0, 0, 0, 0, 0, 0, 0, 0, 0, 0, 0, 0, 0, 0, 0,
+    0, 0, 0, 0, 0, 0, 0, 0, 0, 0, 0, 0, 0, 0,
+];
 
-const STAMP: Stamp = Stamp {
-    time: 7,
-    barrier: false,
-    client: ClientId(3),
-    act: Some(Digest([1; 32])),
-    set: Digest([2; 32]),
-};
-
-/// The bytes of a history with one update above its opening candidate.
-const HISTORY: usize = 5 + 89 + 121;
-
-/// Why a text is no frame, and where.
-fn refusal(alloc: Global, text: &[u8]) -> Option<(u64, Why)> {
-    match decode(alloc, text) {
-        Err(ReadFail::Bad(bad)) => Some((bad.place, bad.why)),
-        Err(ReadFail::NoMemory) | Ok(_) => None,
-    }
-}
-
-/// Why the text with another byte at a place is no frame, and where.
-fn changed(alloc: Global, text: &[u8], at: usize, byte: u8) -> Result<Option<(u64, Why)>, Fail> {
-    let mut other = Outbytes::new(alloc);
-    for (index, old) in text.iter().enumerate() {
-        other.u8(if index == at { byte } else { *old })?;
-    }
-    Ok(refusal(alloc, other.done().as_slice()))
-}
-
-/// A frame is written, read back, and written so again; each beginning of its text is too short, and
-/// a byte behind it is too much.
-fn is_exact(alloc: Global, frame: &Frame) -> Result<bool, Fail> {
-    let text = encode(alloc, frame)?;
-    let read = decode(alloc, text.as_slice()).ok().ok_or("no frame")?;
-    if encode(alloc, &read)? != text {
-        return Ok(false);
-    }
-    for cut in 0..text.len() {
-        match refusal(alloc, &text.as_slice()[..cut]) {
-            Some((place, Why::Short)) if place <= cut as u64 => {}
-            _ => return Ok(false),
-        }
-    }
-    let mut longer = text.copy(alloc)?;
-    longer.push(0)?;
-    Ok(refusal(alloc, longer.as_slice()) == Some((text.len() as u64, Why::Rest)))
-}
-
-/// The opening history of an object at a replica with an update above it, with so many HMACs.
-fn sealed(alloc: Global, object: u16, replica: u8, macs: u8) -> Result<Sealed, Fail> {
-    let mut history = History::opening(alloc, ObjectId(object), ReplicaId(replica))?;
-    history.add(Candidate {
-        stamp: STAMP,
-        prior: Stamp::opening(),
-    })?;
-    let mut list = List::new(alloc);
-    for mac in 0..macs {
-        list.push([mac; 32])?;
-    }
-    Ok(Sealed {
-        history,
-        macs: list,
-    })
-}
-
-/// One object with a sealed history of each of the first replicas.
-fn sets_of(alloc: Global, object: u16, replicas: u8) -> Result<Sets, Fail> {
-    let mut entries = List::new(alloc);
-    for replica in 0..replicas {
-        entries.push(sealed(alloc, object, replica, 6)?)?;
-    }
-    let set = SetOf {
-        object: ObjectId(object),
-        entries,
+#[test]
+fn copies_are_equal(rt: HostRuntime) -> Result<(), Fail> {
+    let alloc = rt.alloc();
+    let frame = decode(alloc, &REPLY).ok().ok_or("no frame")?;
+    let text = encode(alloc, &frame.copy(alloc)?)?;
+    assert_eq!(rt; text.as_slice(), REPLY.as_slice());
+    let letter = Letter {
+        from: Party::Replica(ReplicaId(3)),
+        to: Party::Client(ClientId(2)),
+        text,
     };
-    Ok(Sets::new(List::one(alloc, set)?).ok_or("sets")?)
-}
-
-fn act(alloc: Global, object: u16, method: Method) -> Result<Body, Fail> {
-    let parts = List::one(alloc, (ObjectId(object), method))?;
-    Ok(Body::Act(Act::new(parts).ok().ok_or("an act")?))
-}
-
-fn ask(alloc: Global, object: u16) -> Result<Body, Fail> {
-    let parts = List::one(alloc, (ObjectId(object), Ask::Read))?;
-    Ok(Body::Ask(Query::new(parts).ok().ok_or("a query")?))
-}
-
-fn number(alloc: Global, value: u64) -> Result<Answer, Fail> {
-    Ok(Answer::Ok(List::one(alloc, Item::Number(value))?))
+    let copy = letter.copy(alloc)?;
+    assert_eq!(rt; (copy.from, copy.to), (letter.from, letter.to));
+    assert_eq!(rt; copy.text, letter.text);
+    Ok(())
 }

@@ -62,7 +62,8 @@ fn append_round(
     round: u8,
     out: &mut Outbytes,
 ) -> Result<(), NoMemory>
-    ensures { OnOk result (out.new ≡ out.old ++ (to_be_bytes w16 client.0 ++ (to_be_bytes w64 number ++ to_be_bytes w8 round))) }
+    ensures { OnOk result
+        (out.new ≡ out.old ++ (to_be_bytes w16 client.0 ++ (to_be_bytes w64 number ++ to_be_bytes w8 round))) }
 {
     out.u16(client.0)?;
     out.u64(number)?;
@@ -78,12 +79,12 @@ fn append_body(body: &Body, out: &mut Outbytes) -> Result<(), NoMemory>
     match body {
         Body::Act(act) => {
             out.u8(1)?;
-            write_act(out, act)?;
+            write_act(act, out)?;
             Ok(())
         }
         Body::Ask(query) => {
             out.u8(2)?;
-            write_query(out, query)?;
+            write_query(query, out)?;
             Ok(())
         }
     }

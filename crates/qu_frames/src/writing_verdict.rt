@@ -2,7 +2,7 @@
 ghost use Rattle.std.specs.Prelude.{◌≡◌, ◌++◌, OnOk};
 ghost use Rattle.std.specs.List.{flat_map};
 ghost use Rattle.qu_frames.specs.Verdict.{class_code};
-ghost use Rattle.qu_frames.specs.Forms.{refusal_form, refusal_number, refused_object, spelled_stamp, stamps_form, verdict_form};
+ghost use Rattle.qu_frames.specs.Forms.{refusal_form, refused_object, spelled_stamp, stamps_form, verdict_form};
 
 use super::{ClassCode, Refusal, Verdict};
 use qu_base::{NoMemory, ObjectId, Outbytes};
@@ -18,16 +18,16 @@ pub(crate) fn append_verdict(verdict: &Verdict, out: &mut Outbytes) -> Result<()
         Verdict::Done { stamps, answer } => {
             out.u8(1)?;
             append_stamps(stamps.as_slice(), out)?;
-            write_answer(out, answer)
+            write_answer(answer, out)
         }
         Verdict::Told { stamps, answer } => {
             out.u8(2)?;
             append_stamps(stamps.as_slice(), out)?;
-            write_answer(out, answer)
+            write_answer(answer, out)
         }
         Verdict::Already(answer) => {
             out.u8(3)?;
-            write_answer(out, answer)
+            write_answer(answer, out)
         }
         Verdict::Mended(object, stamp) => {
             out.u8(4)?;
@@ -74,31 +74,13 @@ fn append_told(object: ObjectId, stamp: &Stamp, out: &mut Outbytes) -> Result<()
 fn append_refusal(refusal: &Refusal, out: &mut Outbytes) -> Result<(), NoMemory>
     ensures { OnOk result (out.new ≡ out.old ++ refusal_form.spell refusal.now) }
 {
-    out.u8(number_of(refusal))?;
+    out.u8(refusal.number())?;
     out.u16(object_of(refusal).0)?;
     match refusal {
         Refusal::NotCurrent(_, latest) => write_stamp(latest, out),
         Refusal::NotMethod(_, class) => out.u8(code_of(*class)),
         Refusal::Spent(_, number) => out.u64(*number),
         _ => Ok(()),
-    }
-}
-
-/// The number of a refusal.
-fn number_of(refusal: &Refusal) -> u8
-    ensures { result ≡ refusal_number refusal.now }
-{
-    match refusal {
-        Refusal::HistoryFull(_) => 11,
-        Refusal::Thin(_) => 13,
-        Refusal::Needs(_) => 15,
-        Refusal::Stale(_) => 16,
-        Refusal::NotCurrent(..) => 22,
-        Refusal::NotMethod(..) => 23,
-        Refusal::Spent(..) => 24,
-        Refusal::TimeSpent(_) => 25,
-        Refusal::UnknownObject(_) => 26,
-        Refusal::Sound(_) => 27,
     }
 }
 

@@ -24,14 +24,16 @@ equal_by_order a b ab ba =
     ]
 
 -- the greater of two is one of them, and before neither
-greater_cases : (a b : Candidate) → (greater a b ≡ a) × (is_before a b ≡ false) ⊎ ((greater a b ≡ b) × (is_before b a ≡ false))
+greater_cases : (a b : Candidate) → (greater a b ≡ a) × (is_before a b ≡ false)
+    ⊎ ((greater a b ≡ b) × (is_before b a ≡ false))
 greater_cases a b =
     elim (cases_Bool (is_before a b)) [
       | inl before ↦ inr (ap (λ test. cond test b a) before, is_before-not_back a b before)
       | inr not_before ↦ inl (ap (λ test. cond test b a) not_before, not_before)
     ]
 
-greatest_from_push : (best : Candidate) (candidates : List Candidate) (candidate : Candidate) → greatest_from best (candidates ++ candidate ∷ []) ≡ greater (greatest_from best candidates) candidate
+greatest_from_push : (best : Candidate) (candidates : List Candidate) (candidate : Candidate)
+    → greatest_from best (candidates ++ candidate ∷ []) ≡ greater (greatest_from best candidates) candidate
 unfolding greatest_from
 greatest_from_push best [] candidate = refl
 greatest_from_push best (next ∷ later) candidate = greatest_from_push (greater best next) later candidate
@@ -41,13 +43,18 @@ unfolding greatest
 greatest_none = refl
 
 -- the greatest after one more candidate
-pub greatest_push : (candidates : List Candidate) (candidate : Candidate) → greatest (candidates ++ candidate ∷ []) ≡ Some (greater_of (greatest candidates) candidate)
+pub greatest_push : (candidates : List Candidate) (candidate : Candidate)
+    → greatest (candidates ++ candidate ∷ []) ≡ Some (greater_of (greatest candidates) candidate)
 unfolding greatest greatest_from
 greatest_push [] candidate = refl
 greatest_push (first ∷ later) candidate = ap Some (greatest_from_push first later candidate)
 
 -- the greatest of those that pass, after one more item
-pub greatest_more : {X : Type 0} (test : Candidate → Bool) (view : X → Candidate) (items : List X) (index : ℕ) (item : X) → index < length items → greatest (filter test (map view (take (index + 1) items))) ≡ cond (test (view (get_or items index item))) (Some (greater_of (greatest (filter test (map view (take index items)))) (view (get_or items index item)))) (greatest (filter test (map view (take index items))))
+pub greatest_more : {X : Type 0} (test : Candidate → Bool) (view : X → Candidate) (items : List X) (index : ℕ)
+    (item : X) → index < length items → greatest (filter test (map view (take (index + 1) items))) ≡ cond
+    (test (view (get_or items index item)))
+    (Some (greater_of (greatest (filter test (map view (take index items)))) (view (get_or items index item))))
+    (greatest (filter test (map view (take index items))))
 greatest_more test view items index item within =
     let next : Candidate = view (get_or items index item) in
     let before : List Candidate = map view (take index items) in
@@ -57,18 +64,26 @@ greatest_more test view items index item within =
       | inl passes ↦
           ap (λ kept. greatest (filter test before ++ cond kept (next ∷ []) [])) passes ∙
           greatest_push (filter test before) next ∙
-          sym (ap (λ kept. cond kept (Some (greater_of (greatest (filter test before)) next)) (greatest (filter test before))) passes)
+          sym (ap (λ kept. cond kept (Some (greater_of (greatest (filter test before)) next))
+          (greatest (filter test before))) passes)
       | inr fails ↦
           ap (λ kept. greatest (filter test before ++ cond kept (next ∷ []) [])) fails ∙
           ap greatest (append-nil (filter test before)) ∙
-          sym (ap (λ kept. cond kept (Some (greater_of (greatest (filter test before)) next)) (greatest (filter test before))) fails)
+          sym (ap (λ kept. cond kept (Some (greater_of (greatest (filter test before)) next))
+          (greatest (filter test before))) fails)
     ]
 
 -- the step of a search that has the greatest so far
-pub greatest_next : {X : Type 0} (test : Candidate → Bool) (view : X → Candidate) (items : List X) (index : ℕ) (item : X) (candidate : Candidate) (best : Option Candidate) (passes : Bool) → index < length items → candidate ≡ view (get_or items index item) → best ≡ greatest (filter test (map view (take index items))) → passes ≡ test candidate → greatest (filter test (map view (take (index + 1) items))) ≡ cond passes (Some (greater_of best candidate)) best
+pub greatest_next : {X : Type 0} (test : Candidate → Bool) (view : X → Candidate) (items : List X) (index : ℕ)
+    (item : X) (candidate : Candidate) (best : Option Candidate) (passes : Bool) → index < length items
+    → candidate ≡ view (get_or items index item) → best ≡ greatest (filter test (map view (take index items)))
+    → passes ≡ test candidate → greatest (filter test (map view (take (index + 1) items))) ≡ cond passes
+    (Some (greater_of best candidate)) best
 greatest_next test view items index item candidate best passes within is_candidate is_best is_passes =
     greatest_more test view items index item within ∙
-    ap (λ other. cond (test other) (Some (greater_of (greatest (filter test (map view (take index items)))) other)) (greatest (filter test (map view (take index items))))) (sym is_candidate) ∙
+    ap (λ other. cond (test other)
+    (Some (greater_of (greatest (filter test (map view (take index items)))) other))
+    (greatest (filter test (map view (take index items))))) (sym is_candidate) ∙
     ap (λ other. cond (test candidate) (Some (greater_of other candidate)) other) (sym is_best) ∙
     ap (λ tested. cond tested (Some (greater_of best candidate)) best) (sym is_passes)
 
@@ -78,7 +93,8 @@ record IsFound (start : Candidate) (later : List Candidate) (best : Candidate) :
   first : is_before best start ≡ false
   others : (other : Candidate) → holds other later ≡ true → is_before best other ≡ false
 
-found_next : (start next : Candidate) (later : List Candidate) → IsFound (greater start next) later (greatest_from (greater start next) later) → IsFound start (next ∷ later) (greatest_from (greater start next) later)
+found_next : (start next : Candidate) (later : List Candidate) → IsFound (greater start next) later
+    (greatest_from (greater start next) later) → IsFound start (next ∷ later) (greatest_from (greater start next) later)
 found_next start next later found =
     let best : Candidate = greatest_from (greater start next) later in
     elim (greater_cases start next) [
@@ -91,7 +107,8 @@ found_next start next later found =
             ];
             first = first;
             others = λ other holding. elim (or_cases (same next other) (holds other later) holding) [
-              | inl alike ↦ ap (is_before best) (sym (equal_by_same next other alike)) ∙ is_before-not_chain best start next first is_first.1
+              | inl alike ↦ ap (is_before best) (sym (equal_by_same next other alike))
+                  ∙ is_before-not_chain best start next first is_first.1
               | inr in_later ↦ found.others other in_later
             ];
           }
@@ -120,7 +137,8 @@ found_from start [] = record {
 found_from start (next ∷ later) = found_next start next later (found_from (greater start next) later)
 
 -- the greatest, or that there is none
-pub greatest_cases : (candidates : List Candidate) → (greatest candidates ≡ None) × (candidates ≡ []) ⊎ ((best : Candidate) × (greatest candidates ≡ Some best) × IsGreatest best candidates)
+pub greatest_cases : (candidates : List Candidate) → (greatest candidates ≡ None) × (candidates ≡ [])
+    ⊎ ((best : Candidate) × (greatest candidates ≡ Some best) × IsGreatest best candidates)
 unfolding greatest
 greatest_cases [] = inl (refl, refl)
 greatest_cases (first ∷ later) =
@@ -138,21 +156,26 @@ greatest_cases (first ∷ later) =
     )
 
 -- there is one greatest
-pub greatest_is : (best : Candidate) (candidates : List Candidate) → IsGreatest best candidates → greatest candidates ≡ Some best
+pub greatest_is : (best : Candidate) (candidates : List Candidate) → IsGreatest best candidates
+    → greatest candidates ≡ Some best
 greatest_is best candidates is_greatest =
     elim (greatest_cases candidates) [
       | inl none ↦ absurd (false≢true (ap (holds best) (sym none.1) ∙ is_greatest.held))
       | inr found ↦
-          found.1 ∙ ap Some (equal_by_order found.0 best (found.2.above best is_greatest.held) (is_greatest.above found.0 found.2.held))
+          found.1 ∙ ap Some (equal_by_order found.0 best (found.2.above best is_greatest.held)
+          (is_greatest.above found.0 found.2.held))
     ]
 
 -- a filter holds what passes
-pub holds-filter : (test : Candidate → Bool) (held : Candidate) (candidates : List Candidate) → holds held (filter test candidates) ≡ true → (holds held candidates ≡ true) × (test held ≡ true)
+pub holds-filter : (test : Candidate → Bool) (held : Candidate) (candidates : List Candidate)
+    → holds held (filter test candidates) ≡ true → (holds held candidates ≡ true) × (test held ≡ true)
 holds-filter test held [] holding = absurd (false≢true holding)
 holds-filter test held (next ∷ later) holding =
     elim (cases_Bool (test next)) [
       | inl passes ↦
-          elim (or_cases (same next held) (holds held (filter test later)) (ap (λ kept. holds held (cond kept (next ∷ filter test later) (filter test later))) (sym passes) ∙ holding)) [
+          elim (or_cases (same next held) (holds held (filter test later))
+          (ap (λ kept. holds held (cond kept (next ∷ filter test later) (filter test later))) (sym passes)
+          ∙ holding)) [
             | inl alike ↦ (or_left _ _ alike, ap test (sym (equal_by_same next held alike)) ∙ passes)
             | inr in_later ↦
                 let rest : (holds held later ≡ true) × (test held ≡ true) = holds-filter test held later in_later in
@@ -160,21 +183,27 @@ holds-filter test held (next ∷ later) holding =
           ]
       | inr fails ↦
           let rest : (holds held later ≡ true) × (test held ≡ true) =
-          holds-filter test held later (ap (λ kept. holds held (cond kept (next ∷ filter test later) (filter test later))) (sym fails) ∙ holding) in
+          holds-filter test held later
+          (ap (λ kept. holds held (cond kept (next ∷ filter test later) (filter test later))) (sym fails)
+          ∙ holding) in
           (or_right _ _ rest.0, rest.1)
     ]
 
-pub holds_in_filter : (test : Candidate → Bool) (held : Candidate) (candidates : List Candidate) → holds held candidates ≡ true → test held ≡ true → holds held (filter test candidates) ≡ true
+pub holds_in_filter : (test : Candidate → Bool) (held : Candidate) (candidates : List Candidate)
+    → holds held candidates ≡ true → test held ≡ true → holds held (filter test candidates) ≡ true
 holds_in_filter test held [] holding passes = absurd (false≢true holding)
 holds_in_filter test held (next ∷ later) holding passes =
     elim (or_cases (same next held) (holds held later) holding) [
       | inl alike ↦
-          ap (λ kept. holds held (cond kept (next ∷ filter test later) (filter test later))) (ap test (equal_by_same next held alike) ∙ passes) ∙
+          ap (λ kept. holds held (cond kept (next ∷ filter test later) (filter test later)))
+          (ap test (equal_by_same next held alike) ∙ passes) ∙
           or_left _ _ alike
       | inr in_later ↦
           let rest : holds held (filter test later) ≡ true = holds_in_filter test held later in_later passes in
           elim (cases_Bool (test next)) [
-            | inl next_passes ↦ ap (λ kept. holds held (cond kept (next ∷ filter test later) (filter test later))) next_passes ∙ or_right _ _ rest
-            | inr next_fails ↦ ap (λ kept. holds held (cond kept (next ∷ filter test later) (filter test later))) next_fails ∙ rest
+            | inl next_passes ↦ ap (λ kept. holds held (cond kept (next ∷ filter test later) (filter test later)))
+                next_passes ∙ or_right _ _ rest
+            | inr next_fails ↦ ap (λ kept. holds held (cond kept (next ∷ filter test later) (filter test later)))
+                next_fails ∙ rest
           ]
     ]

@@ -14,5 +14,7 @@ histories_within entries index within = let same_length = length-map entries his
 pub histories_whole : (entries : List Sealed) (index : ℕ) → length entries ≤ index → length (histories entries) ≤ index
 histories_whole entries index whole = let same_length = length-map entries history_of in omega (arith, same_length)
 
-pub history_at : (entries : List Sealed) (index : ℕ) (entry : Sealed) → index < length entries → entry ≡ get_or entries index entry → entry.history ≡ get_or (histories entries) index entry.history
-history_at entries index entry within here = ap history_of here ∙ sym (get_or-map history_of entries index entry entry.history within)
+pub history_at : (entries : List Sealed) (index : ℕ) (entry : Sealed) → index < length entries
+    → entry ≡ get_or entries index entry → entry.history ≡ get_or (histories entries) index entry.history
+history_at entries index entry within here =
+    ap history_of here ∙ sym (get_or-map history_of entries index entry entry.history within)

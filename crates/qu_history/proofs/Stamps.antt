@@ -9,7 +9,8 @@ use Rattle.qu_stamp.specs.Candidate.{same}
 use Rattle.qu_history.specs.History.{rises_from, is_history, greater_stamp, greatest_stamp, latest, holds, last_from, last}
 use Rattle.qu_history.proofs.Rising.{history_parts, latest_is_last}
 
-pub greatest_stamp-append : (stamp : Stamp) (xs ys : List Candidate) → greatest_stamp stamp (xs ++ ys) ≡ greatest_stamp (greatest_stamp stamp xs) ys
+pub greatest_stamp-append : (stamp : Stamp) (xs ys : List Candidate)
+    → greatest_stamp stamp (xs ++ ys) ≡ greatest_stamp (greatest_stamp stamp xs) ys
 unfolding greatest_stamp
 greatest_stamp-append stamp [] ys = refl
 greatest_stamp-append stamp (x ∷ xs) ys = greatest_stamp-append (greater_stamp stamp x.stamp) xs ys
@@ -24,12 +25,14 @@ greater_stamp_assoc : (a b c : Stamp) → greater_stamp (greater_stamp a b) c �
 greater_stamp_assoc a b c =
     elim (cases_Bool (is_below a b)) [
       | inl ab ↦ ap (λ stamp. greater_stamp stamp c) (greater_second a b ab) ∙ elim (cases_Bool (is_below b c)) [
-        | inl bc ↦ greater_second b c bc ∙ sym (ap (greater_stamp a) (greater_second b c bc) ∙ greater_second a c (is_below-chain a b c ab bc))
+        | inl bc ↦ greater_second b c bc
+            ∙ sym (ap (greater_stamp a) (greater_second b c bc) ∙ greater_second a c (is_below-chain a b c ab bc))
         | inr bc ↦ greater_first b c bc ∙ sym (ap (greater_stamp a) (greater_first b c bc) ∙ greater_second a b ab)
       ]
       | inr ab ↦ ap (λ stamp. greater_stamp stamp c) (greater_first a b ab) ∙ elim (cases_Bool (is_below b c)) [
         | inl bc ↦ ap (greater_stamp a) (sym (greater_second b c bc))
-        | inr bc ↦ greater_first a c (is_below-not_chain a b c ab bc) ∙ sym (ap (greater_stamp a) (greater_first b c bc) ∙ greater_first a b ab)
+        | inr bc ↦ greater_first a c (is_below-not_chain a b c ab bc)
+            ∙ sym (ap (greater_stamp a) (greater_first b c bc) ∙ greater_first a b ab)
       ]
     ]
 
@@ -44,7 +47,8 @@ opening_greater : (a : Stamp) → greater_stamp opening_stamp a ≡ a
 opening_greater a =
     elim (cases_Bool (is_below opening_stamp a)) [
       | inl below ↦ greater_second opening_stamp a below
-      | inr not_below ↦ greater_first opening_stamp a not_below ∙ equal_by_order opening_stamp a not_below (is_below-opening a)
+      | inr not_below ↦ greater_first opening_stamp a not_below ∙ equal_by_order opening_stamp a not_below
+          (is_below-opening a)
     ]
 
 pub not_below_greater_left : (a b : Stamp) → is_below (greater_stamp a b) a ≡ false
@@ -62,7 +66,8 @@ not_below_greater_right a b =
     ]
 
 -- what a list adds is its own greatest stamp
-greatest_stamp_from : (stamp : Stamp) (candidates : List Candidate) → greatest_stamp stamp candidates ≡ greater_stamp stamp (latest candidates)
+greatest_stamp_from : (stamp : Stamp) (candidates : List Candidate)
+    → greatest_stamp stamp candidates ≡ greater_stamp stamp (latest candidates)
 unfolding greatest_stamp
 greatest_stamp_from stamp [] = sym (greater_first stamp opening_stamp (is_below-opening stamp))
 greatest_stamp_from stamp (next ∷ later) =
@@ -75,38 +80,49 @@ pub latest-append : (xs ys : List Candidate) → latest (xs ++ ys) ≡ greater_s
 latest-append xs ys = greatest_stamp-append opening_stamp xs ys ∙ greatest_stamp_from (latest xs) ys
 
 -- no stamp of the list is above its greatest
-not_below_start : (stamp : Stamp) (candidates : List Candidate) → is_below (greatest_stamp stamp candidates) stamp ≡ false
+not_below_start : (stamp : Stamp) (candidates : List Candidate) → is_below (greatest_stamp stamp candidates)
+    stamp ≡ false
 unfolding greatest_stamp
 not_below_start stamp [] = is_below-self stamp
 not_below_start stamp (next ∷ later) =
     let start : Stamp = greater_stamp stamp next.stamp in
-    is_below-not_chain (greatest_stamp start later) start stamp (not_below_start start later) (not_below_greater_left stamp next.stamp)
+    is_below-not_chain (greatest_stamp start later) start stamp (not_below_start start later)
+    (not_below_greater_left stamp next.stamp)
 
-not_below_held : (stamp : Stamp) (candidates : List Candidate) (held : Candidate) → holds held candidates ≡ true → is_below (greatest_stamp stamp candidates) held.stamp ≡ false
+not_below_held : (stamp : Stamp) (candidates : List Candidate) (held : Candidate) → holds held candidates ≡ true
+    → is_below (greatest_stamp stamp candidates) held.stamp ≡ false
 unfolding greatest_stamp
 not_below_held stamp [] held holding = absurd (false≢true holding)
 not_below_held stamp (next ∷ later) held holding =
     let start : Stamp = greater_stamp stamp next.stamp in
     elim (or_cases (same next held) (holds held later) holding) [
       | inl alike ↦
-          ap (λ (other : Candidate). is_below (greatest_stamp start later) other.stamp) (sym (equal_by_same next held alike)) ∙
-          is_below-not_chain (greatest_stamp start later) start next.stamp (not_below_start start later) (not_below_greater_right stamp next.stamp)
+          ap (λ (other : Candidate). is_below (greatest_stamp start later) other.stamp)
+          (sym (equal_by_same next held alike)) ∙
+          is_below-not_chain (greatest_stamp start later) start next.stamp (not_below_start start later)
+          (not_below_greater_right stamp next.stamp)
       | inr in_later ↦ not_below_held start later held in_later
     ]
 
-pub not_below_latest : (candidates : List Candidate) (held : Candidate) → holds held candidates ≡ true → is_below (latest candidates) held.stamp ≡ false
+pub not_below_latest : (candidates : List Candidate) (held : Candidate) → holds held candidates ≡ true
+    → is_below (latest candidates) held.stamp ≡ false
 not_below_latest candidates held holding = not_below_held opening_stamp candidates held holding
 
 -- where stamps rise, the first is below the last of those that follow
-below_last : (first next : Candidate) (later : List Candidate) → rises_from first.stamp (next ∷ later) ≡ true → is_below first.stamp (last_from next later).stamp ≡ true
+below_last : (first next : Candidate) (later : List Candidate) → rises_from first.stamp (next ∷ later) ≡ true
+    → is_below first.stamp (last_from next later).stamp ≡ true
 unfolding rises_from last_from
 below_last first next [] rising = (and_parts _ _ rising).0
 below_last first next (further ∷ later) rising =
-    let parts : (is_below first.stamp next.stamp ≡ true) × (rises_from next.stamp (further ∷ later) ≡ true) = and_parts _ _ rising in
-    is_below-chain first.stamp next.stamp (last_from further later).stamp parts.0 (below_last next further later parts.1)
+    let parts : (is_below first.stamp next.stamp ≡ true) × (rises_from next.stamp (further ∷ later) ≡ true) =
+    and_parts _ _ rising in
+    is_below-chain first.stamp next.stamp (last_from further later).stamp parts.0
+    (below_last next further later parts.1)
 
 -- so only the last one is not below it
-equal_last : (held first : Candidate) (later : List Candidate) → rises_from first.stamp later ≡ true → holds held (first ∷ later) ≡ true → is_below held.stamp (last_from first later).stamp ≡ false → held ≡ last_from first later
+equal_last : (held first : Candidate) (later : List Candidate) → rises_from first.stamp later ≡ true
+    → holds held (first ∷ later) ≡ true → is_below held.stamp (last_from first later).stamp ≡ false
+    → held ≡ last_from first later
 unfolding rises_from last_from
 equal_last held first [] rising holding above =
     elim (or_cases (same first held) false holding) [
@@ -116,13 +132,15 @@ equal_last held first [] rising holding above =
 equal_last held first (next ∷ later) rising holding above =
     elim (or_cases (same first held) (holds held (next ∷ later)) holding) [
       | inl alike ↦ absurd (false≢true (sym above ∙
-          ap (λ (other : Candidate). is_below other.stamp (last_from next later).stamp) (sym (equal_by_same first held alike)) ∙
+          ap (λ (other : Candidate). is_below other.stamp (last_from next later).stamp)
+          (sym (equal_by_same first held alike)) ∙
           below_last first next later rising))
       | inr in_later ↦ equal_last held next later (and_parts _ _ rising).1 in_later above
     ]
 
 -- a history holds one candidate with its latest stamp, the last
-pub equal_last_of : (candidates : List Candidate) (held : Candidate) → IsTrue (is_history candidates) → holds held candidates ≡ true → is_below held.stamp (latest candidates) ≡ false → held ≡ last candidates
+pub equal_last_of : (candidates : List Candidate) (held : Candidate) → IsTrue (is_history candidates)
+    → holds held candidates ≡ true → is_below held.stamp (latest candidates) ≡ false → held ≡ last candidates
 unfolding is_history last_from
 equal_last_of [] held history holding above = absurd (false≢true history)
 equal_last_of (first ∷ later) held history holding above =
@@ -134,7 +152,8 @@ unfolding last_from
 holds_last_from first [] = or_left _ _ (same-self first)
 holds_last_from first (next ∷ later) = or_right _ _ (holds_last_from next later)
 
-pub holds_last : (candidates : List Candidate) → IsTrue (is_history candidates) → holds (last candidates) candidates ≡ true
+pub holds_last : (candidates : List Candidate) → IsTrue (is_history candidates)
+    → holds (last candidates) candidates ≡ true
 unfolding is_history last_from
 holds_last [] history = absurd (false≢true history)
 holds_last (first ∷ later) history = holds_last_from first later

@@ -7,9 +7,9 @@ use Rattle.qu_base.specs.declared.party.ObjectId.{ObjectId}
 use Rattle.qu_base.specs.declared.party.Party.TheVariants.{Replica}
 use Rattle.qu_base.specs.declared.party.ReplicaId.{ReplicaId}
 use Rattle.qu_base.specs.Thresholds.{replicas}
+use Rattle.qu_seal.specs.declared.constants.TheConstants.{HISTORY_TAG}
 use Rattle.qu_seal.specs.Digest.{digest_of}
 use Rattle.qu_seal.specs.Keys.{Ring, verifies}
-use Rattle.qu_history.specs.declared.culling.TheConstants.{HISTORY_TAG}
 use Rattle.qu_history.specs.declared.sealed.Sealed.{Sealed}
 use Rattle.qu_history.specs.declared.sets.SetOf.{SetOf}
 use Rattle.qu_history.specs.History.{ObjectHistory}
@@ -22,7 +22,8 @@ history_digest history = record { 0 = digest_of HISTORY_TAG (history_form.spell 
 -- the HMAC for this reader is there, and right
 abbrev pub mac_is_right : Ring → ReplicaId → ObjectHistory → Option (List ℕ) → Bool
 mac_is_right ring me history None = false
-mac_is_right ring me history (Some mac) = verifies ring (Replica history.replica) (Replica me) (history_digest history) mac
+mac_is_right ring me history (Some mac) =
+    verifies ring (Replica history.replica) (Replica me) (history_digest history) mac
 
 -- and there is one for each replica
 unfoldable pub is_right : Ring → ReplicaId → Sealed → Bool
@@ -38,7 +39,8 @@ culled ring me sets = map (culled_set ring me) sets
 
 -- the object and the replica of each entry that does not
 abbrev pub left_of : Ring → ReplicaId → SetOf → List (ObjectId × ReplicaId)
-left_of ring me set = map (λ (sealed : Sealed). (set.object, (sealed.history).replica)) (filter (λ sealed. not (is_right ring me sealed)) set.entries)
+left_of ring me set = map (λ (sealed : Sealed). (set.object, (sealed.history).replica))
+    (filter (λ sealed. not (is_right ring me sealed)) set.entries)
 
 unfoldable pub left_out : Ring → ReplicaId → List SetOf → List (ObjectId × ReplicaId)
 left_out ring me sets = flat_map (left_of ring me) sets

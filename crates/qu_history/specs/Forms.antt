@@ -2,17 +2,18 @@
 use Rattle.std.specs.Prelude.{ℕ, Bool, ◌==◌, ◌||◌, ◌+◌, nat_le, List, Option, None, Some}
 use Rattle.std.specs.Int.{w8, w16}
 use Rattle.qu_base.specs.declared.bad_text.Why.TheVariants.{Range, Order}
+use Rattle.qu_base.specs.declared.limits.TheConstants.{REPLICA_IDS}
 use Rattle.qu_base.specs.declared.party.ObjectId.{ObjectId}
 use Rattle.qu_base.specs.declared.party.ReplicaId.{ReplicaId}
 use Rattle.qu_base.specs.Format.{Format, number, both, tested, made, bytes, items, counted, object_form, replica_form}
+use Rattle.qu_base.specs.Thresholds.{is_replica_count}
 use Rattle.qu_stamp.specs.declared.stamp.Stamp.{Stamp}
 use Rattle.qu_stamp.specs.declared.candidate.Candidate.{Candidate}
 use Rattle.qu_stamp.specs.Stamp.{opening_stamp, is_below, same_stamp}
 use Rattle.qu_stamp.specs.Forms.{stamp_form, candidate_with, candidate_form}
-use Rattle.qu_history.specs.declared.history.TheConstants.{HISTORY_LIMIT}
+use Rattle.qu_history.specs.declared.limits.TheConstants.{HISTORY_LIMIT, OBJECTS_LIMIT, SETS_YET}
 use Rattle.qu_history.specs.declared.sealed.Sealed.{Sealed}
 use Rattle.qu_history.specs.declared.sets.SetOf.{SetOf}
-use Rattle.qu_history.specs.declared.sets.TheConstants.{SETS_YET}
 use Rattle.qu_history.specs.History.{ObjectHistory}
 
 -- ---- histories
@@ -28,7 +29,8 @@ next_candidate before = candidate_with (next_stamp before)
 
 -- a count, and so many candidates by rising stamps
 unfoldable pub candidates_form : Format (List Candidate)
-candidates_form = counted (number w16 1 HISTORY_LIMIT) candidate_form.spell next_candidate (λ candidate. Some candidate.stamp) None
+candidates_form = counted (number w16 1 HISTORY_LIMIT) candidate_form.spell next_candidate
+    (λ candidate. Some candidate.stamp) None
 
 -- a history whose object and replica have these formats
 abbrev pub history_with : Format ObjectId → Format ReplicaId → Format ObjectHistory
@@ -42,20 +44,19 @@ history_form = history_with object_form replica_form
 
 -- ---- sealed histories
 
--- an HMAC for each replica: 6, 11 or 16
-abbrev pub is_mac_count : ℕ → Bool
-is_mac_count count = count == 6 || (count == 11 || count == 16)
-
 abbrev pub some_macs : ℕ → Format (List (List ℕ))
 some_macs count = items {K = Unit {0}} (λ mac. mac) (λ before. bytes 32) (λ mac. tt) tt count
 
+-- an HMAC for each replica
 abbrev pub macs_form : Format (List (List ℕ))
-macs_form = counted {K = Unit {0}} (tested is_mac_count Range (number w8 0 255)) (λ mac. mac) (λ before. bytes 32) (λ mac. tt) tt
+macs_form = counted {K = Unit {0}} (tested is_replica_count Range (number w8 0 255)) (λ mac. mac)
+    (λ before. bytes 32) (λ mac. tt) tt
 
 -- a history of this format, and its HMACs
 abbrev pub sealed_with : Format ObjectHistory → Format Sealed
 sealed_with form =
-    made (λ fields. record { history = fields.0; macs = fields.1 }) (λ (sealed : Sealed). Some (sealed.history, sealed.macs))
+    made (λ fields. record { history = fields.0; macs = fields.1 })
+    (λ (sealed : Sealed). Some (sealed.history, sealed.macs))
     (both form (λ history. macs_form))
 
 unfoldable pub sealed_form : Format Sealed
@@ -70,7 +71,8 @@ object_from least = tested (λ (object : ObjectId). nat_le least object.0) Order
 -- the history of an entry of this object, by a replica that is not below this number
 unfoldable pub entry_form : ObjectId → ℕ → Format ObjectHistory
 entry_form object least =
-    history_with (tested (λ (other : ObjectId). other.0 == object.0) Range object_form) (tested (λ (replica : ReplicaId). nat_le least replica.0) Order replica_form)
+    history_with (tested (λ (other : ObjectId). other.0 == object.0) Range object_form)
+    (tested (λ (replica : ReplicaId). nat_le least replica.0) Order replica_form)
 
 abbrev pub next_replica : ObjectHistory → ℕ
 next_replica history = (history.replica).0 + 1
@@ -85,9 +87,9 @@ next_entry sealed = next_replica sealed.history
 abbrev pub some_entries : ObjectId → ℕ → ℕ → Format (List Sealed)
 some_entries object least count = items sealed_form.spell (sealed_entry_form object) next_entry least count
 
--- at most 16 of them, by rising replicas
+-- at most one of each replica, by rising replicas
 unfoldable pub entries_form : ObjectId → Format (List Sealed)
-entries_form object = counted (number w8 0 16) sealed_form.spell (sealed_entry_form object) next_entry 0
+entries_form object = counted (number w8 0 REPLICA_IDS) sealed_form.spell (sealed_entry_form object) next_entry 0
 
 -- an object that is not below this number, with its entries
 unfoldable pub set_form : ℕ → Format SetOf
@@ -105,7 +107,7 @@ sets_form = counted (number w8 1 SETS_YET) (set_form 0).spell set_form (λ (set 
 -- ---- what is digested of them: the histories without their HMACs
 
 unfoldable pub histories_form : ObjectId → Format (List ObjectHistory)
-histories_form object = counted (number w8 0 16) history_form.spell (entry_form object) next_replica 0
+histories_form object = counted (number w8 0 REPLICA_IDS) history_form.spell (entry_form object) next_replica 0
 
 unfoldable pub object_text_form : ℕ → Format (ObjectId × List ObjectHistory)
 object_text_form least = both (object_from least) histories_form
@@ -118,7 +120,8 @@ sets_text_form = counted (number w8 1 SETS_YET) (object_text_form 0).spell objec
 -- a sealed history of this replica, of an object that is not below this number
 unfoldable pub shown_by : ReplicaId → ℕ → Format Sealed
 shown_by replica least =
-    sealed_with (history_with (object_from least) (tested (λ (other : ReplicaId). other.0 == replica.0) Range replica_form))
+    sealed_with (history_with (object_from least)
+    (tested (λ (other : ReplicaId). other.0 == replica.0) Range replica_form))
 
 abbrev pub next_object : Sealed → ℕ
 next_object sealed = ((sealed.history).object).0 + 1
@@ -126,6 +129,6 @@ next_object sealed = ((sealed.history).object).0 + 1
 abbrev pub some_shown : ReplicaId → ℕ → ℕ → Format (List Sealed)
 some_shown replica least count = items sealed_form.spell (shown_by replica) next_object least count
 
--- at most eight of them, by rising objects
+-- by rising objects
 unfoldable pub shown_form : ReplicaId → Format (List Sealed)
-shown_form replica = counted (number w8 0 8) sealed_form.spell (shown_by replica) next_object 0
+shown_form replica = counted (number w8 0 OBJECTS_LIMIT) sealed_form.spell (shown_by replica) next_object 0

@@ -2,12 +2,14 @@
 -- and what they say together.
 use Rattle.std.specs.Prelude.{ℕ, Bool, true, not, ◌+◌, ◌==◌, ◌&&◌, nat_lt, nat_le, if◌then◌else◌, List, [], ◌∷◌, length, map, filter, count_by, Option, None, Some}
 use Rattle.std.specs.List.{flat_map}
+use Rattle.qu_base.specs.declared.limits.TheConstants.{OBJECT_IDS, REPLICA_IDS}
 use Rattle.qu_base.specs.declared.party.ObjectId.{ObjectId}
 use Rattle.qu_base.specs.Thresholds.{quorum, repair}
 use Rattle.qu_stamp.specs.declared.stamp.Stamp.{Stamp}
 use Rattle.qu_stamp.specs.declared.candidate.Candidate.{Candidate}
 use Rattle.qu_stamp.specs.Stamp.{opening_stamp, same_stamp}
 use Rattle.qu_stamp.specs.Candidate.{is_before}
+use Rattle.qu_history.specs.declared.limits.TheConstants.{OBJECTS_LIMIT}
 use Rattle.qu_history.specs.declared.sealed.Sealed.{Sealed}
 use Rattle.qu_history.specs.declared.sets.SetOf.{SetOf}
 use Rattle.qu_history.specs.History.{ObjectHistory, greatest_stamp, holds}
@@ -16,30 +18,30 @@ use Rattle.qu_history.specs.History.{ObjectHistory, greatest_stamp, holds}
 abbrev pub histories : List Sealed → List ObjectHistory
 histories entries = map (λ sealed. sealed.history) entries
 
--- an entry of this object, by a replica below 16 that is not below this number
+-- an entry of this object, by a replica that has a number and is not below this number
 abbrev pub is_entry : ObjectId → ℕ → ObjectHistory → Bool
 is_entry object least entry =
-    (entry.object).0 == object.0 && nat_le least (entry.replica).0 && nat_lt (entry.replica).0 16
+    (entry.object).0 == object.0 && nat_le least (entry.replica).0 && nat_lt (entry.replica).0 REPLICA_IDS
 
--- at most 16 entries of this object, with replicas below 16 that rise from this number on
+-- entries of this object, with replicas that rise from this number on
 unfoldable pub are_entries : ObjectId → ℕ → List ObjectHistory → Bool
 are_entries object least [] = true
 are_entries object least (entry ∷ later) =
     is_entry object least entry && are_entries object ((entry.replica).0 + 1) later
 
--- an object below 64 that is not below this number, with its entries
+-- an object that has a number and is not below this one, with its entries
 abbrev pub is_set : ℕ → SetOf → Bool
 is_set least set =
-    nat_le least (set.object).0 && nat_lt (set.object).0 64 && are_entries set.object 0 (histories set.entries)
+    nat_le least (set.object).0 && nat_lt (set.object).0 OBJECT_IDS && are_entries set.object 0 (histories set.entries)
 
--- objects below 64 that rise from this number on, each with its entries
+-- objects that rise from this number on, each with its entries
 unfoldable pub are_sets_from : ℕ → List SetOf → Bool
 are_sets_from least [] = true
 are_sets_from least (set ∷ later) = is_set least set && are_sets_from ((set.object).0 + 1) later
 
--- one to eight objects
+-- one object or more, and at most as many as one set may have
 unfoldable pub are_sets : List SetOf → Bool
-are_sets sets = nat_lt 0 (length sets) && nat_le (length sets) 8 && are_sets_from 0 sets
+are_sets sets = nat_lt 0 (length sets) && nat_le (length sets) OBJECTS_LIMIT && are_sets_from 0 sets
 
 -- the histories of the entries of an object, none where it is not in the sets
 unfoldable pub entries_of : ObjectId → List SetOf → List ObjectHistory
@@ -72,13 +74,15 @@ greatest (candidate ∷ later) = Some (greatest_from candidate later)
 -- the greatest candidate without barrier of an order that may be repaired
 unfoldable pub object_candidate : ℕ → List ObjectHistory → Option Candidate
 object_candidate bounds entries =
-    greatest (filter (λ candidate. not candidate.stamp.barrier && nat_le (repair bounds) (order_of candidate entries)) (candidates_of entries))
+    greatest (filter (λ candidate. not candidate.stamp.barrier && nat_le (repair bounds)
+    (order_of candidate entries)) (candidates_of entries))
 
 -- the candidate, where it has the latest stamp and a quorum holds it
 unfoldable pub if_method : ℕ → List ObjectHistory → Option Candidate → Option Candidate
 if_method bounds entries None = None
 if_method bounds entries (Some candidate) =
-    if same_stamp candidate.stamp (latest_of entries) && nat_le (quorum bounds) (order_of candidate entries) then Some candidate else None
+    if same_stamp candidate.stamp (latest_of entries) && nat_le (quorum bounds) (order_of candidate entries) then
+    Some candidate else None
 
 -- the candidate of an object of class METHOD: an operation may rest upon it
 unfoldable pub method_at : ℕ → List ObjectHistory → Option Candidate

@@ -3,9 +3,9 @@
 use Rattle.std.specs.Prelude.{ℕ, List, map}
 use Rattle.qu_base.specs.declared.party.Digest.{Digest}
 use Rattle.qu_base.specs.declared.party.ObjectId.{ObjectId}
+use Rattle.qu_seal.specs.declared.constants.TheConstants.{SETS_TAG}
 use Rattle.qu_seal.specs.Digest.{digest_of}
 use Rattle.qu_history.specs.declared.sets.SetOf.{SetOf}
-use Rattle.qu_history.specs.declared.text.TheConstants.{SETS_TAG}
 use Rattle.qu_history.specs.History.{ObjectHistory}
 use Rattle.qu_history.specs.Sets.{histories}
 use Rattle.qu_history.specs.Forms.{sets_text_form}

@@ -5,11 +5,8 @@ ghost use Rattle.qu_history.specs.Culled.{history_digest, mac_is_right, is_right
 
 use super::{History, Sealed, SetOf, Sets};
 use qu_base::{Digest, List, NoMemory, ObjectId, Outbytes, Party, ReplicaId};
-use qu_seal::{KeyRing, digest};
+use qu_seal::{HISTORY_TAG, KeyRing, digest};
 use std::alloc::Global;
-
-/// The tag under which a history is digested for its HMACs.
-pub const HISTORY_TAG: u8 = 3;
 
 /// What a replica makes of sets: those of the entries whose HMAC for it is right, and which others there were.
 #[derive(Debug, Drop)]

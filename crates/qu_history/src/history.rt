@@ -7,14 +7,12 @@ ghost use Rattle.qu_base.specs.Reading.{Gives, IsGiven};
 ghost use Rattle.qu_history.specs.History.{is_history, latest, holds, last};
 ghost use Rattle.qu_history.specs.Forms.{history_form};
 
+use super::HISTORY_LIMIT;
 use super::reading::candidates_at;
 use qu_base::{Cursor, List, NoMemory, ObjectId, Outbytes, ReadFail, ReplicaId};
 use qu_stamp::{Candidate, Stamp};
 use std::alloc::Global;
 use std::marker::Model;
-
-/// The most candidates that a history may hold.
-pub const HISTORY_LIMIT: usize = 1024;
 
 /// Why a candidate is not added to a history, which stays as it is.
 #[derive(Clone, Copy, Debug, PartialEq, Eq)]
@@ -46,21 +44,27 @@ pub struct History {
 
 impl Model for History {
     ghost use Rattle.std.specs.Prelude.{IsTrue, length, ◌≤◌};
-    ghost use Rattle.qu_history.specs.declared.history.TheConstants.{HISTORY_LIMIT};
+    ghost use Rattle.qu_history.specs.declared.limits.TheConstants.{HISTORY_LIMIT};
     ghost use Rattle.qu_history.specs.History.{ObjectHistory, is_history};
 
     ghost Value = { ObjectHistory };
 
-    ghost view = { λ history. record { object = history.object; replica = history.replica; candidates = history.candidates } };
+    ghost view = { λ history. record {
+      object = history.object;
+      replica = history.replica;
+      candidates = history.candidates;
+    } };
 
-    ghost invariant = { λ history. IsTrue (is_history history.candidates) × (length history.candidates ≤ HISTORY_LIMIT) };
+    ghost invariant = { λ history. IsTrue (is_history history.candidates)
+        × (length history.candidates ≤ HISTORY_LIMIT) };
 }
 
 impl History {
     /// The history with which an object begins at a replica.
     #[tactic(auto, using(crate::proofs::Rising::is_history_opening))]
     pub fn opening(alloc: Global, object: ObjectId, replica: ReplicaId) -> Result<History, NoMemory>
-        ensures { IfOk result (λ history. history ≡ record { object = object; replica = replica; candidates = opening ∷ [] }) }
+        ensures { IfOk result
+            (λ history. history ≡ record { object = object; replica = replica; candidates = opening ∷ [] }) }
     {
         let mut candidates = List::new(alloc);
         candidates.push(Candidate::opening())?;
@@ -132,12 +136,16 @@ impl History {
     /// Adds a candidate above all the others. After a refusal the history is as before.
     #[tactic(auto, using(crate::proofs::Rising::is_history_push))]
     pub fn add(&mut self, candidate: Candidate) -> Result<(), AddFail>
-        ensures added { OnOk result (self.new ≡ record self.old { candidates = self.old.candidates ++ candidate ∷ [] }) }
+        ensures added { OnOk result (self.new
+            ≡ record self.old { candidates = self.old.candidates ++ candidate ∷ [] }) }
         ensures later { OnOk result (is_below (latest self.old.candidates) candidate.stamp ≡ true) }
         ensures room { OnOk result (length self.old.candidates < HISTORY_LIMIT) }
-        ensures not_later { result ≡ Err (AddFail.NotLater (latest self.old.candidates)) ↔ is_below (latest self.old.candidates) candidate.stamp ≡ false }
+        ensures not_later { result ≡ Err (AddFail.NotLater (latest self.old.candidates)) ↔ is_below
+            (latest self.old.candidates) candidate.stamp ≡ false }
         ensures told { (stamp : Stamp) → result ≡ Err (AddFail.NotLater stamp) → stamp ≡ latest self.old.candidates }
-        ensures full { result ≡ Err AddFail.HistoryFull ↔ (is_below (latest self.old.candidates) candidate.stamp ≡ true) × (HISTORY_LIMIT ≤ length self.old.candidates) }
+        ensures full { result ≡ Err AddFail.HistoryFull ↔
+            (is_below (latest self.old.candidates) candidate.stamp ≡ true)
+            × (HISTORY_LIMIT ≤ length self.old.candidates) }
         ensures err { OnErr result (self.new ≡ self.old) }
     {
         let latest = self.latest();

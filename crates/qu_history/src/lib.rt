@@ -5,6 +5,7 @@ mod culling;
 mod entries;
 mod formats;
 mod history;
+mod limits;
 mod reading;
 mod reading_entries;
 mod reading_sets;
@@ -14,14 +15,14 @@ mod text;
 mod writing;
 mod writing_sets;
 
-pub use culling::{Culled, HISTORY_TAG};
+pub use culling::Culled;
 pub use formats::formats_are_codes;
-pub use history::{AddFail, HISTORY_LIMIT, History};
+pub use history::{AddFail, History};
+pub use limits::{HISTORY_LIMIT, OBJECTS_LIMIT, SETS_YET, limits_are_these};
 pub use reading_entries::object_from;
 pub use reading_sets::{read_sets, read_shown};
 pub use sealed::Sealed;
-pub use sets::{OBJECT_IDS, OBJECTS_LIMIT, REPLICA_IDS, SETS_YET, SetOf, Sets};
-pub use text::SETS_TAG;
+pub use sets::{SetOf, Sets};
 pub use writing_sets::{write_sets, write_shown};
 
 #[cfg(test)]

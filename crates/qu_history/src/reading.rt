@@ -7,7 +7,7 @@ ghost use Rattle.qu_history.specs.Forms.{next_stamp, next_candidate, candidates_
 
 use super::HISTORY_LIMIT;
 use qu_base::{BadText, Cursor, List, NoMemory, ReadFail, Why};
-use qu_stamp::{Candidate, Stamp, prior_at, stamp_at};
+use qu_stamp::{Candidate, Stamp, read_prior, read_stamp};
 use std::alloc::Global;
 
 /// A count, and so many candidates by rising stamps: those of a history.
@@ -37,7 +37,8 @@ fn next_candidates(
     count: u16,
     text: &mut Cursor,
 ) -> Result<List<Candidate>, ReadFail>
-    ensures { Gives (items candidate_form.spell next_candidate (λ candidate. Some candidate.stamp) None count) result text.old text.new }
+    ensures { Gives (items candidate_form.spell next_candidate (λ candidate. Some candidate.stamp) None count)
+        result text.old text.new }
 {
     let mut candidates = List::new(alloc);
     let mut before = None;
@@ -55,7 +56,7 @@ fn next_candidate(text: &mut Cursor, before: Option<Stamp>) -> Result<Candidate,
     ensures { Reads (next_candidate before) result text.old text.new }
 {
     let stamp = next_stamp(text, before)?;
-    let prior = prior_at(text, &stamp)?;
+    let prior = read_prior(text, &stamp)?;
     Ok(Candidate { stamp, prior })
 }
 
@@ -65,7 +66,7 @@ fn next_stamp(text: &mut Cursor, before: Option<Stamp>) -> Result<Stamp, BadText
     ensures { Reads (next_stamp before) result text.old text.new }
 {
     let start = text.ahead();
-    let stamp = stamp_at(text, true)?;
+    let stamp = read_stamp(text)?;
     match before {
         None if stamp != Stamp::opening() => Err(start.refusal(Why::Range)),
         Some(before) if !before.is_below(&stamp) => Err(start.refusal(Why::Order)),

@@ -1,24 +1,29 @@
-ghost use Rattle.std.specs.Prelude.{◌≡◌, ◌<◌, ◌≤◌, IfOk};
+ghost use Rattle.std.specs.Prelude.{◌≡◌, ◌<◌, ◌≤◌, IfOk, OnErr};
 ghost use Rattle.qu_base.specs.Reading.{Reads, Gives};
 ghost use Rattle.qu_history.specs.Forms.{some_macs, macs_form, object_from, entry_form, sealed_entry_form, some_entries, entries_form, shown_by, some_shown, shown_form};
 
 use super::reading::candidates_at;
-use super::{History, Sealed};
-use qu_base::{BadText, Cursor, List, ObjectId, ReadFail, ReplicaId, Why};
+use super::{History, OBJECTS_LIMIT, Sealed};
+use qu_base::{
+    BadText, Cursor, List, OBJECT_IDS, ObjectId, REPLICA_IDS, ReadFail, ReplicaId, Why,
+    is_replica_count,
+};
 use std::alloc::Global;
 
-/// The next object, which is not below this number.
+/// The next object, which is not below this number. After a refusal the text is as before.
 #[tactic(auto, using(crate::proofs::Forms::object_below))]
 pub fn object_from(least: u16, text: &mut Cursor) -> Result<ObjectId, BadText>
     ensures given { Reads (object_from least) result text.old text.new }
-    ensures below { IfOk result (λ object. object.0 < 64) }
+    ensures below { IfOk result (λ object. object.0 < OBJECT_IDS) }
+    ensures kept { OnErr result (text.new ≡ text.old) }
 {
     text.are_bytes();
-    let start = text.ahead();
-    let object = text.object()?;
+    let mut ahead = text.ahead();
+    let object = ahead.object()?;
     if object.0 < least {
-        return Err(start.refusal(Why::Order));
+        return Err(text.refusal(Why::Order));
     }
+    *text = ahead;
     Ok(object)
 }
 
@@ -31,7 +36,7 @@ pub(crate) fn entries_at(
 ) -> Result<List<Sealed>, ReadFail>
     ensures { Gives (entries_form object) result text.old text.new }
 {
-    let count = text.u8_within(0, 16)?;
+    let count = text.u8_within(0, REPLICA_IDS)?;
     next_entries(alloc, count, object, text)
 }
 
@@ -64,7 +69,7 @@ fn entry_at(
     text: &mut Cursor,
 ) -> Result<Sealed, ReadFail>
     ensures given { Gives (sealed_entry_form object least) result text.old text.new }
-    ensures below { IfOk result (λ entry. ((entry.history).replica).0 < 16) }
+    ensures below { IfOk result (λ entry. ((entry.history).replica).0 < REPLICA_IDS) }
 {
     let history = entry_history(alloc, object, least, text)?;
     let macs = macs_at(alloc, text)?;
@@ -80,7 +85,7 @@ fn entry_history(
     text: &mut Cursor,
 ) -> Result<History, ReadFail>
     ensures given { Gives (entry_form object least) result text.old text.new }
-    ensures below { IfOk result (λ history. (history.replica).0 < 16) }
+    ensures below { IfOk result (λ history. (history.replica).0 < REPLICA_IDS) }
 {
     let start = text.ahead();
     let own = text.object()?;
@@ -106,7 +111,7 @@ pub(crate) fn shown_at(
 ) -> Result<List<Sealed>, ReadFail>
     ensures { Gives (shown_form replica) result text.old text.new }
 {
-    let count = text.u8_within(0, 8)?;
+    let count = text.u8_within(0, OBJECTS_LIMIT as u8)?;
     next_shown(alloc, count, replica, text)
 }
 
@@ -139,7 +144,7 @@ fn shown_by(
     text: &mut Cursor,
 ) -> Result<Sealed, ReadFail>
     ensures given { Gives (shown_by replica least) result text.old text.new }
-    ensures below { IfOk result (λ sealed. ((sealed.history).object).0 < 64) }
+    ensures below { IfOk result (λ sealed. ((sealed.history).object).0 < OBJECT_IDS) }
 {
     let object = object_from(least, text)?;
     let start = text.ahead();
@@ -159,10 +164,10 @@ fn macs_at(alloc: Global, text: &mut Cursor) -> Result<List<[u8; 32]>, ReadFail>
 {
     let start = text.ahead();
     let count = text.u8_within(0, 255)?;
-    match count {
-        6 | 11 | 16 => next_macs(alloc, count, text),
-        _ => Err(ReadFail::Bad(start.refusal(Why::Range))),
+    if !is_replica_count(count) {
+        return Err(ReadFail::Bad(start.refusal(Why::Range)));
     }
+    next_macs(alloc, count, text)
 }
 
 /// So many HMACs.

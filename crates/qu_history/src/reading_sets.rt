@@ -4,7 +4,7 @@ ghost use Rattle.qu_history.specs.Forms.{set_form, some_sets, sets_form, shown_f
 
 use super::reading_entries::{entries_at, shown_at};
 use super::{SETS_YET, Sealed, SetOf, Sets, object_from};
-use qu_base::{Cursor, List, ReadFail, ReplicaId};
+use qu_base::{Cursor, List, OBJECT_IDS, ReadFail, ReplicaId};
 use std::alloc::Global;
 
 /// The sets at the front of a text. After a refusal, and without memory, the text is as before.
@@ -51,7 +51,7 @@ fn next_sets(alloc: Global, count: u8, text: &mut Cursor) -> Result<List<SetOf>,
 #[tactic(auto, unfolding(crate::specs::Forms::set_form))]
 fn set_at(alloc: Global, least: u16, text: &mut Cursor) -> Result<SetOf, ReadFail>
     ensures given { Gives (set_form least) result text.old text.new }
-    ensures below { IfOk result (λ set. (set.object).0 < 64) }
+    ensures below { IfOk result (λ set. (set.object).0 < OBJECT_IDS) }
 {
     let object = object_from(least, text)?;
     let entries = entries_at(alloc, object, text)?;

@@ -1,23 +1,11 @@
 ghost use Rattle.std.specs.Prelude.{◌≡◌, ◌≤◌, ◌↔◌, [], length, true, false, IsTrue, IsNone, IfNone, IfSome, IfOk};
 ghost use Rattle.qu_history.specs.Sets.{is_entry, are_entries, is_set, are_sets, histories, entries_of, order_of, latest_of, method_at};
 
-use super::{History, Sealed, entries};
-use qu_base::{Bounds, List, NoMemory, ObjectId};
+use super::{History, OBJECTS_LIMIT, Sealed, entries};
+use qu_base::{Bounds, List, NoMemory, OBJECT_IDS, ObjectId, REPLICA_IDS};
 use qu_stamp::{Candidate, Stamp};
 use std::alloc::Global;
 use std::marker::Model;
-
-/// The most objects in one set of histories.
-pub const OBJECTS_LIMIT: usize = 8;
-
-/// The most objects that the sets of a request have in a text so far; operations have one part yet.
-pub const SETS_YET: u8 = 1;
-
-/// Objects are counted from 0 to below this.
-pub const OBJECT_IDS: u16 = 64;
-
-/// Replicas are counted from 0 to below this.
-pub const REPLICA_IDS: u8 = 16;
 
 /// The sealed histories of one object that some replicas showed, at most one of each, by rising replica.
 #[derive(Debug, Drop)]
@@ -92,7 +80,7 @@ impl Sets {
     #[tactic(auto, using(crate::proofs::SetLaws::few_found))]
     pub fn find(&self, object: ObjectId) -> &[Sealed]
         ensures value { histories result.now ≡ entries_of object self.now }
-        ensures few { length result.now ≤ 16 }
+        ensures few { length result.now ≤ REPLICA_IDS }
     {
         entries_in(self.objects.as_slice(), object)
     }

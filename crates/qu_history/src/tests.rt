@@ -1,9 +1,5 @@
-mod bytes;
-mod culling;
-mod sealed;
-
 use super::*;
-use qu_base::{Bounds, ClientId, Digest, List, ObjectId, ReplicaId};
+use qu_base::{ClientId, Digest, List, ObjectId, ReplicaId};
 use qu_stamp::{Candidate, Stamp};
 use std::alloc::Global;
 use std::test::Fail;
@@ -25,18 +21,6 @@ fn update_by(client: u16) -> Candidate {
     Candidate {
         stamp: stamp_at(1, client),
         prior: Stamp::opening(),
-    }
-}
-
-/// A barrier of client 1 above the update of client 1.
-fn barrier() -> Candidate {
-    Candidate {
-        stamp: Stamp {
-            barrier: true,
-            act: None,
-            ..stamp_at(2, 1)
-        },
-        prior: stamp_at(1, 1),
     }
 }
 
@@ -78,15 +62,6 @@ fn sets_of(alloc: Global, first: u8, second: u8, opening: u8) -> Result<Sets, Fa
     one_object(alloc, entries)
 }
 
-/// One object with so many histories that end with the update of client 1, and with the barrier above
-/// it.
-fn sets_with_barrier(alloc: Global, plain: u8, barred: u8) -> Result<Sets, Fail> {
-    let mut entries = List::new(alloc);
-    put(alloc, &mut entries, plain, &[update_by(1)])?;
-    put(alloc, &mut entries, barred, &[update_by(1), barrier()])?;
-    one_object(alloc, entries)
-}
-
 fn one_object(alloc: Global, entries: List<Sealed>) -> Result<Sets, Fail> {
     let mut objects = List::new(alloc);
     objects.push(SetOf {
@@ -94,53 +69,6 @@ fn one_object(alloc: Global, entries: List<Sealed>) -> Result<Sets, Fail> {
         entries,
     })?;
     Ok(Sets::new(objects).ok_or("sets")?)
-}
-
-#[test]
-fn method_wants_a_quorum_at_the_latest_stamp(rt: HostRuntime) -> Result<(), Fail> {
-    let bounds = Bounds::new(1).ok().ok_or("bounds")?;
-    let cases = [
-        (0, 0, 5, Some(Candidate::opening())),
-        (5, 0, 1, Some(update_by(1))),
-        (0, 5, 1, Some(update_by(2))),
-        (4, 0, 1, None),
-        (3, 3, 0, None),
-        (3, 2, 0, None),
-        (2, 2, 1, None),
-        (0, 0, 0, None),
-    ];
-    for (first, second, opening, expected) in cases {
-        let sets = sets_of(rt.alloc(), first, second, opening)?;
-        assert_eq!(rt;
-            sets.method_at(OBJECT, &bounds),
-            expected,
-            "{first} {second} {opening}"
-        );
-        assert_eq!(rt; sets.count(OBJECT, &update_by(1)), first);
-        assert_eq!(rt; sets.count(OBJECT, &update_by(2)), second);
-    }
-    Ok(())
-}
-
-#[test]
-fn no_barrier_is_of_class_method(rt: HostRuntime) -> Result<(), Fail> {
-    let bounds = Bounds::new(1).ok().ok_or("bounds")?;
-    let cases = [
-        (6, 0, Some(update_by(1))),
-        (5, 1, None),
-        (1, 5, None),
-        (0, 6, None),
-    ];
-    for (plain, barred, expected) in cases {
-        let sets = sets_with_barrier(rt.alloc(), plain, barred)?;
-        assert_eq!(rt;
-            sets.method_at(OBJECT, &bounds),
-            expected,
-            "{plain} {barred}"
-        );
-        assert_eq!(rt; sets.count(OBJECT, &barrier()), barred);
-    }
-    Ok(())
 }
 
 #[test]

@@ -6,11 +6,8 @@ ghost use Rattle.qu_history.specs.Text.{unsealed, sets_text, sets_digest};
 
 use super::{Sealed, SetOf, Sets};
 use qu_base::{Digest, NoMemory, Outbytes};
-use qu_seal::digest;
+use qu_seal::{SETS_TAG, digest};
 use std::alloc::Global;
-
-/// The tag under which the sets of a request are digested.
-pub const SETS_TAG: u8 = 2;
 
 impl Sets {
     /// The digest of the sets: of their objects, each with its histories. It does not depend on HMACs.
@@ -46,7 +43,8 @@ fn append_each(sets: &[SetOf], out: &mut Outbytes) -> Result<(), NoMemory>
 /// Appends the object, and its histories.
 #[tactic(auto, unfolding(crate::specs::Forms::object_text_form, crate::specs::Forms::histories_form))]
 fn append_set(set: &SetOf, out: &mut Outbytes) -> Result<(), NoMemory>
-    ensures { OnOk result (out.new ≡ out.old ++ (object_text_form 0).spell (set.now.object, histories set.now.entries)) }
+    ensures { OnOk result
+        (out.new ≡ out.old ++ (object_text_form 0).spell (set.now.object, histories set.now.entries)) }
 {
     out.u16(set.object.0)?;
     out.count(set.entries.len())?;

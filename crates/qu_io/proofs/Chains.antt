@@ -6,27 +6,32 @@ use Rattle.std.proofs.KnownBytes.{Consumes-nil, Consumes-trans, Consumes-kept, A
 use Rattle.std.specs.Io.KnownBytes.{Appends}
 use Rattle.qu_io.specs.declared.failed.Failed.{Failed}
 use Rattle.qu_io.specs.Known.{Known, Rose}
-use Rattle.qu_io.specs.Reads.{Reads, HasRead}
-use Rattle.qu_io.specs.Writes.{Writes, HasWritten}
+use Rattle.qu_io.specs.Reads.{ReadsFrom, HasRead}
+use Rattle.qu_io.specs.Writes.{WritesTo, HasWritten}
 
 -- a write took the next bytes of a text of which the earlier ones took a front
-Appends-take : (first middle last : Option (List ℕ)) (text : List ℕ) (place count : ℕ) → Appends first middle (take place text) → Appends middle last (take count (drop place text)) → Appends first last (take (place + count) text)
+Appends-take : (first middle last : Option (List ℕ)) (text : List ℕ) (place count : ℕ)
+    → Appends first middle (take place text) → Appends middle last (take count (drop place text))
+    → Appends first last (take (place + count) text)
 Appends-take first middle last text place count before now =
-    rw (take-add place count text) (Appends-trans first middle last (take place text) (take count (drop place text)) before now)
+    rw (take-add place count text)
+    (Appends-trans first middle last (take place text) (take count (drop place text)) before now)
 
 -- no read was made yet
 pub reads_start : (first : Known) → HasRead first first []
 reads_start first = record { takes = Consumes-nil first.bytes; counts = omega arith }
 
 -- after a read
-pub reads_more : (first before now : Known) (bytes into : List ℕ) (count : ℕ) → HasRead first before bytes → Reads before now (Ok count) into → HasRead first now (bytes ++ take count into)
+pub reads_more : (first before now : Known) (bytes into : List ℕ) (count : ℕ) → HasRead first before bytes
+    → ReadsFrom before now (Ok count) into → HasRead first now (bytes ++ take count into)
 reads_more first before now bytes into count earlier read = record {
   takes = Consumes-trans first.bytes before.bytes now.bytes bytes (take count into) earlier.takes read.takes;
   counts = omega arith;
 }
 
 -- after a read that failed
-pub reads_failed : (first before now : Known) (bytes into : List ℕ) (failed : Failed) → HasRead first before bytes → Reads before now (Err failed) into → HasRead first now bytes × Rose first now
+pub reads_failed : (first before now : Known) (bytes into : List ℕ) (failed : Failed) → HasRead first before bytes
+    → ReadsFrom before now (Err failed) into → HasRead first now bytes × Rose first now
 reads_failed first before now bytes into failed earlier read = (
   record {
     takes = Consumes-kept first.bytes before.bytes now.bytes bytes earlier.takes read.keeps;
@@ -40,7 +45,9 @@ pub writes_start : (first : Known) → HasWritten first first []
 writes_start first = record { takes = Appends-nil first.bytes; counts = omega arith }
 
 -- after a write of `&text[place..]`, as a slice is cut
-pub writes_more : (first before now : Known) (text : List ℕ) (place count : ℕ) → HasWritten first before (take place text) → Writes before now (Ok count) (take (length text - place) (drop place text)) → HasWritten first now (take (place + count) text)
+pub writes_more : (first before now : Known) (text : List ℕ) (place count : ℕ)
+    → HasWritten first before (take place text) → WritesTo before now (Ok count)
+    (take (length text - place) (drop place text)) → HasWritten first now (take (place + count) text)
 writes_more first before now text place count earlier written = record {
   takes =
       let whole : take (length text - place) (drop place text) ≡ drop place text = grind (arith, common_steps) in
@@ -49,7 +56,9 @@ writes_more first before now text place count earlier written = record {
 }
 
 -- after a write that failed
-pub writes_failed : (first before now : Known) (bytes piece : List ℕ) (failed : Failed) → HasWritten first before bytes → Writes before now (Err failed) piece → HasWritten first now bytes × Rose first now
+pub writes_failed : (first before now : Known) (bytes piece : List ℕ) (failed : Failed)
+    → HasWritten first before bytes → WritesTo before now (Err failed) piece → HasWritten first now bytes
+    × Rose first now
 writes_failed first before now bytes piece failed earlier written = (
   record {
     takes = Appends-kept first.bytes before.bytes now.bytes bytes earlier.takes written.keeps;

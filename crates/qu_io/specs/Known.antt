@@ -1,5 +1,5 @@
 -- What is known of a source or of a sink.
-use Rattle.std.specs.Prelude.{ℕ, ◌+◌, ◌-◌, ◌^◌, ◌≤◌, min, List, Option}
+use Rattle.std.specs.Prelude.{◌≡◌, ℕ, ◌+◌, ◌-◌, ◌^◌, ◌≤◌, min, List, Option}
 
 pub record Known : Type 0 where
   -- the bytes that are left in a source, or that a sink took, where it tells them
@@ -14,3 +14,7 @@ next_count count = min (count + 1) (2 ^ 64 - 1)
 -- the count of faults rose
 abbrev pub Rose : Known → Known → Type 0
 Rose before now = next_count before.faults ≤ now.faults
+
+-- no fault was counted
+abbrev pub IsCalm : Known → Known → Type 0
+IsCalm before now = now.faults ≡ before.faults

@@ -3,11 +3,11 @@ use Rattle.std.specs.Prelude.{◌≡◌, ℕ, ◌≤◌, List, [], take, Some, R
 use Rattle.std.specs.Io.{ReadsAtMost}
 use Rattle.std.specs.Io.KnownBytes.{Consumes, Keeps, IsAtEnd}
 use Rattle.qu_io.specs.declared.failed.Failed.{Failed}
-use Rattle.qu_io.specs.Known.{Known, Rose}
+use Rattle.qu_io.specs.Known.{Known, Rose, IsCalm}
 
 -- `before` and `now` are what is known of the source as the call begins and as it returns,
 -- and `into` is what its slice holds then
-pub record Reads (before now : Known) (result : Result ℕ Failed) (into : List ℕ) : Type 0 where
+pub record ReadsFrom (before now : Known) (result : Result ℕ Failed) (into : List ℕ) : Type 0 where
   -- it gives at most as many bytes as the slice has room for
   pub fits : ReadsAtMost result into
   -- they stand at the slice's front, and are the first of those that were left
@@ -17,9 +17,10 @@ pub record Reads (before now : Known) (result : Result ℕ Failed) (into : List 
   pub empty : IfOk result (λ count. before.bytes ≡ Some [] → count ≡ 0)
   -- a failed call takes nothing
   pub keeps : OnErr result (Keeps before.bytes now.bytes)
-  -- the count of faults never falls, and rises where the call failed
+  -- the count of faults never falls, rises where the call failed, and stays where it did not
   pub counts : before.faults ≤ now.faults
   pub rises : OnErr result (Rose before now)
+  pub stays : IfOk result (λ count. IsCalm before now)
 
 -- reads in a row took these bytes
 pub record HasRead (first now : Known) (bytes : List ℕ) : Type 0 where

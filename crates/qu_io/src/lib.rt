@@ -1,7 +1,7 @@
 //! Where bytes come from and where they go: in memory, for tests and theorems, and by std.
 //!
 //! A call moves a piece of any size, and may fail. Both traits say what is known after each call:
-//! `Reads` and `Writes` in specs/. For a loop of calls there are `HasRead` and `HasWritten` beside
+//! `ReadsFrom` and `WritesTo` in specs/. For a loop of calls there are `HasRead` and `HasWritten` beside
 //! them, and the rule sets `read_loop` and `write_loop` in proofs/Chains.antt.
 #![tactic(auto)]
 

@@ -1,6 +1,6 @@
 ghost use Rattle.std.specs.Prelude.{◌≡◌, ◌++◌, ◌<◌, [], min, length, take, is_ok, if◌then◌else◌, IsErr, IfOk, OnErr};
 ghost use Rattle.qu_io.specs.Known.{next_count};
-ghost use Rattle.qu_io.specs.Writes.{Writes};
+ghost use Rattle.qu_io.specs.Writes.{WritesTo};
 ghost use Rattle.qu_io.specs.InMemory.{known_of, CountsCall, HasToFail};
 
 use super::plan::Plan;
@@ -78,7 +78,7 @@ impl Sink for MemSink {
     /// Takes the piece up to the most that a write may take.
     #[tactic(auto, using(crate::proofs::Moves::writes_fault))]
     fn write(&mut self, piece: &[u8]) -> Result<usize, Failed>
-        ensures writes { Writes (known_of self.old) (known_of self.new) result piece.now }
+        ensures writes { WritesTo (known_of self.old) (known_of self.new) result piece.now }
 
         ensures call { CountsCall self.old self.new }
         ensures faults { self.new.faults ≡

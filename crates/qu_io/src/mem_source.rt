@@ -1,6 +1,6 @@
 ghost use Rattle.std.specs.Prelude.{◌≡◌, ◌↔◌, ◌++◌, ◌<◌, min, length, take, drop, is_ok, if◌then◌else◌, IsErr, IfOk, OnErr};
 ghost use Rattle.qu_io.specs.Known.{next_count};
-ghost use Rattle.qu_io.specs.Reads.{Reads};
+ghost use Rattle.qu_io.specs.Reads.{ReadsFrom};
 ghost use Rattle.qu_io.specs.InMemory.{known_of, CountsCall, HasToFail};
 
 use super::plan::Plan;
@@ -80,7 +80,7 @@ impl Source for MemSource {
     #[tactic(auto, using(crate::proofs::Moves::given_front, crate::proofs::Moves::reads_front, crate::proofs::Moves::reads_fault))]
     fn read(&mut self, into: &mut [u8]) -> Result<usize, Failed>
         requires { 0 < length into.old }
-        ensures reads { Reads (known_of self.old) (known_of self.new) result into.new }
+        ensures reads { ReadsFrom (known_of self.old) (known_of self.new) result into.new }
 
         ensures call { CountsCall self.old self.new }
         ensures faults { self.new.faults ≡

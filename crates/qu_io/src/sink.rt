@@ -1,5 +1,5 @@
 ghost use Rattle.qu_io.specs.Known.{Known};
-ghost use Rattle.qu_io.specs.Writes.{Writes};
+ghost use Rattle.qu_io.specs.Writes.{WritesTo};
 
 use super::Failed;
 
@@ -13,5 +13,5 @@ pub trait Sink {
     /// Of a piece that is not empty it takes at least one byte. A failed call takes nothing, and
     /// counts as a fault.
     fn write(&mut self, piece: &[u8]) -> Result<usize, Failed>
-        ensures writes { Writes (known self.old) (known self.new) result piece.now };
+        ensures writes { WritesTo (known self.old) (known self.new) result piece.now };
 }

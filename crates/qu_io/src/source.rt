@@ -1,6 +1,6 @@
 ghost use Rattle.std.specs.Prelude.{◌<◌, length};
 ghost use Rattle.qu_io.specs.Known.{Known};
-ghost use Rattle.qu_io.specs.Reads.{Reads};
+ghost use Rattle.qu_io.specs.Reads.{ReadsFrom};
 
 use super::Failed;
 
@@ -14,5 +14,5 @@ pub trait Source {
     /// 0 means that no byte is left. A failed call takes nothing, and counts as a fault.
     fn read(&mut self, into: &mut [u8]) -> Result<usize, Failed>
         requires { 0 < length into.old }
-        ensures reads { Reads (known self.old) (known self.new) result into.new };
+        ensures reads { ReadsFrom (known self.old) (known self.new) result into.new };
 }

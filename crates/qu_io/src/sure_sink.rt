@@ -1,5 +1,5 @@
 ghost use Rattle.std.specs.Prelude.{◌≡◌, None, Ok, ◌+◌, ◌-◌, ◌^◌, min, length};
-ghost use Rattle.qu_io.specs.Writes.{Writes};
+ghost use Rattle.qu_io.specs.Writes.{WritesTo};
 
 use super::{Failed, Sink};
 use std::marker::Model;
@@ -42,7 +42,7 @@ impl Sink for SureSink {
 
     /// Takes the whole piece.
     fn write(&mut self, piece: &[u8]) -> Result<usize, Failed>
-        ensures writes { Writes (record { bytes = None; faults = 0 })
+        ensures writes { WritesTo (record { bytes = None; faults = 0 })
             (record { bytes = None; faults = 0 }) result piece.now }
         ensures sure { result ≡ Ok (length piece.now) }
         ensures counted { self.new ≡ min (self.old + length piece.now) (2 ^ 64 - 1) }

@@ -1,5 +1,5 @@
 ghost use Rattle.std.specs.Prelude.{◌≡◌, Some, Ok, IfOk, ◌++◌, ◌<◌, min, length, take, drop};
-ghost use Rattle.qu_io.specs.Reads.{Reads};
+ghost use Rattle.qu_io.specs.Reads.{ReadsFrom};
 
 use super::{Failed, Source};
 use qu_base::List;
@@ -61,7 +61,7 @@ impl Source for SureSource {
     #[tactic(auto, using(crate::proofs::Moves::reads_front))]
     fn read(&mut self, into: &mut [u8]) -> Result<usize, Failed>
         requires { 0 < length into.old }
-        ensures reads { Reads (record { bytes = Some self.old; faults = 0 })
+        ensures reads { ReadsFrom (record { bytes = Some self.old; faults = 0 })
             (record { bytes = Some self.new; faults = 0 }) result into.new }
         ensures sure { result ≡ Ok (min (length self.old) (length into.old)) }
         ensures rest { IfOk result (λ count. self.new ≡ drop count self.old) }

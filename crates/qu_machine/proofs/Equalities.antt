@@ -30,16 +30,19 @@ use Rattle.qu_objects.specs.Alike.{same_item, same_answer}
 -- ---- equal operations and answers
 
 decides_method : (a b : Method) → Decides (same_method a b) (a ≡ b)
-decides_method (Add a) (Add b) = (λ same. ap (λ (n : ℕ). Add n) ((Decides-eqb a b).0 same), λ same. (Decides-eqb a b).1 (cc))
+decides_method (Add a) (Add b) =
+    (λ same. ap (λ (n : ℕ). Add n) ((Decides-eqb a b).0 same), λ same. (Decides-eqb a b).1 (cc))
 decides_method (Add a) (Take b) = (λ same. absurd (false≢true same), λ same. absurd (cc))
 decides_method (Take a) (Add b) = (λ same. absurd (false≢true same), λ same. absurd (cc))
-decides_method (Take a) (Take b) = (λ same. ap (λ (n : ℕ). Take n) ((Decides-eqb a b).0 same), λ same. (Decides-eqb a b).1 (cc))
+decides_method (Take a) (Take b) =
+    (λ same. ap (λ (n : ℕ). Take n) ((Decides-eqb a b).0 same), λ same. (Decides-eqb a b).1 (cc))
 
 decides_ask : (a b : Ask) → Decides (same_ask a b) (a ≡ b)
 decides_ask Read Read = (λ same. refl, λ same. refl)
 
 decides_item : (a b : Item) → Decides (same_item a b) (a ≡ b)
-decides_item (Number a) (Number b) = (λ same. ap (λ (n : ℕ). Number n) ((Decides-eqb a b).0 same), λ same. (Decides-eqb a b).1 (cc))
+decides_item (Number a) (Number b) =
+    (λ same. ap (λ (n : ℕ). Number n) ((Decides-eqb a b).0 same), λ same. (Decides-eqb a b).1 (cc))
 
 pub object_is : (a b : ObjectId) → a.0 ≡ b.0 → a ≡ b
 object_is a b same = ap (λ (it : ℕ). (let object : ObjectId = record { 0 = it } in object)) same
@@ -47,7 +50,8 @@ object_is a b same = ap (λ (it : ℕ). (let object : ObjectId = record { 0 = it
 pub client_is : (a b : ClientId) → a.0 ≡ b.0 → a ≡ b
 client_is a b same = ap (λ (it : ℕ). (let client : ClientId = record { 0 = it } in client)) same
 
-decides_part : {X : Type 0} (test : X → X → Bool) → ((a b : X) → Decides (test a b) (a ≡ b)) → (a b : ObjectId × X) → Decides (same_part test a b) (a ≡ b)
+decides_part : {X : Type 0} (test : X → X → Bool) → ((a b : X) → Decides (test a b) (a ≡ b))
+    → (a b : ObjectId × X) → Decides (same_part test a b) (a ≡ b)
 decides_part test decides a b = (
   λ same.
       let parts : ((a.0).0 == (b.0).0 ≡ true) × (test a.1 b.1 ≡ true) = and_parts _ _ same in
@@ -59,12 +63,14 @@ decides_part test decides a b = (
 
 pub decides_op : (a b : Op) → Decides (same_op a b) (a ≡ b)
 decides_op (op.Act a) (op.Act b) =
-    let parts : Decides (pointwise (same_part same_method) a b) (a ≡ b) = slice_eq-Decides (decides_part same_method decides_method) a b _ refl in
+    let parts : Decides (pointwise (same_part same_method) a b) (a ≡ b) =
+    slice_eq-Decides (decides_part same_method decides_method) a b _ refl in
     (λ same. ap (λ (it : List (ObjectId × Method)). op.Act it) (parts.0 same), λ same. parts.1 (cc))
 decides_op (op.Act a) (op.Query b) = (λ same. absurd (false≢true same), λ same. absurd (cc))
 decides_op (op.Query a) (op.Act b) = (λ same. absurd (false≢true same), λ same. absurd (cc))
 decides_op (op.Query a) (op.Query b) =
-    let parts : Decides (pointwise (same_part same_ask) a b) (a ≡ b) = slice_eq-Decides (decides_part same_ask decides_ask) a b _ refl in
+    let parts : Decides (pointwise (same_part same_ask) a b) (a ≡ b) =
+    slice_eq-Decides (decides_part same_ask decides_ask) a b _ refl in
     (λ same. ap (λ (it : List (ObjectId × Ask)). op.Query it) (parts.0 same), λ same. parts.1 (cc))
 
 pub decides_answer : (a b : Answer) → Decides (same_answer a b) (a ≡ b)
@@ -87,9 +93,13 @@ decides_answer (answer.Refused at why) (answer.Refused other reason) = (
 pub decides_stands : (operation : OpRecord) (point : Point) → Decides (stands operation point) (Stands operation point)
 decides_stands operation point = (
   λ test.
-      let correct : (not point.faulty ≡ true) × (((operation.client).0 == (point.client).0 && (operation.number == point.number && same_op operation.op point.op)) ≡ true) = and_parts _ _ test in
-      let client : ((operation.client).0 == (point.client).0 ≡ true) × ((operation.number == point.number && same_op operation.op point.op) ≡ true) = and_parts _ _ correct.1 in
-      let number : (operation.number == point.number ≡ true) × (same_op operation.op point.op ≡ true) = and_parts _ _ client.1 in
+      let correct : (not point.faulty ≡ true)
+      × (((operation.client).0 == (point.client).0 && (operation.number == point.number && same_op
+      operation.op point.op)) ≡ true) = and_parts _ _ test in
+      let client : ((operation.client).0 == (point.client).0 ≡ true)
+      × ((operation.number == point.number && same_op operation.op point.op) ≡ true) = and_parts _ _ correct.1 in
+      let number : (operation.number == point.number ≡ true) × (same_op operation.op point.op ≡ true) =
+      and_parts _ _ client.1 in
       record {
         correct = not-true point.faulty correct.0;
         client = client_is operation.client point.client ((Decides-eqb _ _).0 client.0);
@@ -98,16 +108,22 @@ decides_stands operation point = (
       },
   λ it.
       and_from _ _ (not_from_false point.faulty it.correct)
-      (and_from _ _ ((Decides-eqb (operation.client).0 (point.client).0).1 (ap (λ (client : ClientId). client.0) it.client))
-      (and_from _ _ ((Decides-eqb operation.number point.number).1 it.number) ((decides_op operation.op point.op).1 it.op))),
+      (and_from _ _
+      ((Decides-eqb (operation.client).0 (point.client).0).1 (ap (λ (client : ClientId). client.0) it.client))
+      (and_from _ _ ((Decides-eqb operation.number point.number).1 it.number)
+      ((decides_op operation.op point.op).1 it.op))),
 )
 
 pub decides_agree : (first second : Point) → Decides (agree first second) (Agree first second)
 decides_agree first second = (
   λ test.
-      let faulty : (beq first.faulty second.faulty ≡ true) × (((first.client).0 == (second.client).0 && (first.number == second.number && same_op first.op second.op)) ≡ true) = and_parts _ _ test in
-      let client : ((first.client).0 == (second.client).0 ≡ true) × ((first.number == second.number && same_op first.op second.op) ≡ true) = and_parts _ _ faulty.1 in
-      let number : (first.number == second.number ≡ true) × (same_op first.op second.op ≡ true) = and_parts _ _ client.1 in
+      let faulty : (beq first.faulty second.faulty ≡ true)
+      × (((first.client).0 == (second.client).0 && (first.number == second.number && same_op first.op
+      second.op)) ≡ true) = and_parts _ _ test in
+      let client : ((first.client).0 == (second.client).0 ≡ true)
+      × ((first.number == second.number && same_op first.op second.op) ≡ true) = and_parts _ _ faulty.1 in
+      let number : (first.number == second.number ≡ true) × (same_op first.op second.op ≡ true) =
+      and_parts _ _ client.1 in
       record {
         faulty = (booleans_Decides first.faulty second.faulty).0 faulty.0;
         client = client_is first.client second.client ((Decides-eqb _ _).0 client.0);
@@ -116,7 +132,8 @@ decides_agree first second = (
       },
   λ it.
       and_from _ _ ((booleans_Decides first.faulty second.faulty).1 it.faulty)
-      (and_from _ _ ((Decides-eqb (first.client).0 (second.client).0).1 (ap (λ (client : ClientId). client.0) it.client))
+      (and_from _ _
+      ((Decides-eqb (first.client).0 (second.client).0).1 (ap (λ (client : ClientId). client.0) it.client))
       (and_from _ _ ((Decides-eqb first.number second.number).1 it.number) ((decides_op first.op second.op).1 it.op))),
 )
 
@@ -133,13 +150,16 @@ passes_from_any test all any =
     let one = Any-from_list_any test all any in
     record { found = one.1; of_list = (one.0, one.2, one.3); passes = one.4 }
 
-pub any_from_passes : {X : Type 0} (test : X → Bool) (all : List X) (found : X) → Contains all found → test found ≡ true → list_any test all ≡ true
+pub any_from_passes : {X : Type 0} (test : X → Bool) (all : List X) (found : X) → Contains all found
+    → test found ≡ true → list_any test all ≡ true
 any_from_passes test all found held passes = list_any-from_Any test all (held.0, found, held.1, held.2, passes)
 
-pub decides_known : (operations : List OpRecord) (point : Point) → Decides (is_known operations point) (IsKnown operations point)
+pub decides_known : (operations : List OpRecord) (point : Point) → Decides (is_known operations point)
+    (IsKnown operations point)
 decides_known operations point = (
   λ any.
       let one = passes_from_any (λ (operation : OpRecord). stands operation point) operations any in
       record { operation = one.found; of_list = one.of_list; stands = (decides_stands one.found point).0 one.passes },
-  λ known. any_from_passes (λ (operation : OpRecord). stands operation point) operations known.operation known.of_list ((decides_stands known.operation point).1 known.stands),
+  λ known. any_from_passes (λ (operation : OpRecord). stands operation point) operations known.operation
+      known.of_list ((decides_stands known.operation point).1 known.stands),
 )

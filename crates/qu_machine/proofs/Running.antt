@@ -30,41 +30,55 @@ use Rattle.qu_machine.proofs.Firsts.{one_at}
 
 -- ---- values
 
-length-with_values : {X : Type 0} (values : List Value) (parts : List (ObjectId × X)) (made : List Value) → length (with_values values parts made) ≡ length values
+length-with_values : {X : Type 0} (values : List Value) (parts : List (ObjectId × X)) (made : List Value)
+    → length (with_values values parts made) ≡ length values
 length-with_values values [] made = refl
 length-with_values values (part ∷ parts) [] = refl
-length-with_values values (part ∷ parts) (value ∷ made) = length-with_values _ parts made ∙ length-set values (part.0).0 value
+length-with_values values (part ∷ parts) (value ∷ made) = length-with_values _ parts made
+    ∙ length-set values (part.0).0 value
 
 pub length-op_values : (values : List Value) (it : Op) → length (op_values values it) ≡ length values
 length-op_values values (op.Act act) = length-with_values values act (performed_values act (values_at values act))
 length-op_values values (op.Query query) = refl
 
-pub values_none : (kinds : List KindName) (order : List Point) → values_after kinds (take 0 order) ≡ map fresh_value kinds
+pub values_none : (kinds : List KindName) (order : List Point) → values_after kinds (take 0 order) ≡ map
+    fresh_value kinds
 unfolding values_after
 values_none kinds order = refl
 
-pub values_more : (kinds : List KindName) (order : List Point) (at : ℕ) (default : Point) → at < length order → values_after kinds (take (at + 1) order) ≡ op_values (values_after kinds (take at order)) (get_or order at default).op
+pub values_more : (kinds : List KindName) (order : List Point) (at : ℕ) (default : Point) → at < length order
+    → values_after kinds (take (at + 1) order) ≡ op_values (values_after kinds (take at order))
+    (get_or order at default).op
 unfolding values_after
 values_more kinds order at default below =
-    fold_more (λ (values : List Value) (point : Point). op_values values point.op) (map fresh_value kinds) order at default below
+    fold_more (λ (values : List Value) (point : Point). op_values values point.op) (map fresh_value kinds) order
+    at default below
 
 -- ---- another answer
 
-other_answer : (machine : Answer) (reply : Option (ℕ × Outcome)) → has_other_answer machine reply ≡ true → (event : ℕ) × (answer : Answer) × (reply ≡ Some (event, outcome.Done answer)) × (machine ≢ answer)
+other_answer : (machine : Answer) (reply : Option (ℕ × Outcome)) → has_other_answer machine reply ≡ true
+    → (event : ℕ) × (answer : Answer) × (reply ≡ Some (event, outcome.Done answer)) × (machine ≢ answer)
 other_answer machine None other = absurd (false≢true other)
 other_answer machine (Some (event, outcome.Done answer)) other =
     (event, answer, refl, λ same. false≢true (sym (not-true _ other) ∙ (decides_answer machine answer).1 same))
 other_answer machine (Some (event, outcome.GaveUp)) other = absurd (false≢true other)
 
-answer_other : (machine : Answer) (reply : Option (ℕ × Outcome)) (event : ℕ) (answer : Answer) → reply ≡ Some (event, outcome.Done answer) → machine ≢ answer → has_other_answer machine reply ≡ true
+answer_other : (machine : Answer) (reply : Option (ℕ × Outcome)) (event : ℕ) (answer : Answer)
+    → reply ≡ Some (event, outcome.Done answer) → machine ≢ answer → has_other_answer machine reply ≡ true
 answer_other machine reply event answer is other =
-    ap (has_other_answer machine) is ∙ not_from_false _ (false_from_ne_true _ (λ same. other ((decides_answer machine answer).0 same)))
+    ap (has_other_answer machine) is
+    ∙ not_from_false _ (false_from_ne_true _ (λ same. other ((decides_answer machine answer).0 same)))
 
-pub decides_differs : (kinds : List KindName) (operations : List OpRecord) (order : List Point) (at : ℕ) (point : Point) (machine : Answer) → slice_get order at ≡ Some point → machine ≡ answer_at kinds order at point → Decides (differs operations point machine) (DiffersAt kinds operations order at)
+pub decides_differs : (kinds : List KindName) (operations : List OpRecord) (order : List Point) (at : ℕ)
+    (point : Point) (machine : Answer) → slice_get order at ≡ Some point
+    → machine ≡ answer_at kinds order at point → Decides (differs operations point machine)
+    (DiffersAt kinds operations order at)
 decides_differs kinds operations order at point machine there is = (
   λ any.
-      let one = passes_from_any (λ (operation : OpRecord). is_answered_otherwise operation point machine) operations any in
-      let both : (stands one.found point ≡ true) × (has_other_answer machine one.found.reply ≡ true) = and_parts _ _ one.passes in
+      let one = passes_from_any (λ (operation : OpRecord). is_answered_otherwise operation point machine)
+      operations any in
+      let both : (stands one.found point ≡ true) × (has_other_answer machine one.found.reply ≡ true) =
+      and_parts _ _ one.passes in
       let other = other_answer machine one.found.reply both.1 in
       record {
         point = point;
@@ -78,15 +92,18 @@ decides_differs kinds operations order at point machine there is = (
       },
   λ it.
       let same : it.point ≡ point = one_at order at it.point point it.stands.there there in
-      any_from_passes (λ (operation : OpRecord). is_answered_otherwise operation point machine) operations it.operation it.of_list
+      any_from_passes (λ (operation : OpRecord). is_answered_otherwise operation point machine) operations
+      it.operation it.of_list
       (and_from _ _ ((decides_stands it.operation point).1 (subst (Stands it.operation) same it.stands.stands))
       (answer_other machine it.operation.reply it.reply it.answer it.completes
-      (λ equal. it.differs (subst (λ (second : Point). answer_at kinds order at second ≡ machine) (sym same) (sym is) ∙ equal)))),
+      (λ equal. it.differs (subst (λ (second : Point). answer_at kinds order at second ≡ machine) (sym same)
+      (sym is) ∙ equal)))),
 )
 
 -- ---- twice
 
-pub decides_twice : (order : List Point) (at : ℕ) (point : Point) → slice_get order at ≡ Some point → Decides (list_any (λ first. agree first point) (take at order)) (TwiceAt order at)
+pub decides_twice : (order : List Point) (at : ℕ) (point : Point) → slice_get order at ≡ Some point
+    → Decides (list_any (λ first. agree first point) (take at order)) (TwiceAt order at)
 decides_twice order at point there = (
   λ any.
       let one = passes_from_any (λ (first : Point). agree first point) (take at order) any in
@@ -100,7 +117,8 @@ decides_twice order at point there = (
         earlier = one.of_list.0;
         before = before;
         first = one.found;
-        first_there = slice_get_read order (length order) one.of_list.0 one.found refl (omega arith) (sym (one.of_list.2) ∙ get_or-take at order one.of_list.0 one.found before);
+        first_there = slice_get_read order (length order) one.of_list.0 one.found refl (omega arith)
+            (sym (one.of_list.2) ∙ get_or-take at order one.of_list.0 one.found before);
         agree = (decides_agree one.found point).0 one.passes;
       },
   λ it.
@@ -108,7 +126,11 @@ decides_twice order at point there = (
       let below : at < length order = slice_get_within order at point there in
       let size : length (take at order) ≡ at = length-take-le at order (omega arith) in
       let before : it.earlier < at = it.before in
-      any_from_passes (λ (first : Point). agree first point) (take at order) it.first
-      (it.earlier, omega arith, get_or-take at order it.earlier it.first before ∙ get_or_from_slice_get order it.earlier it.first it.first it.first_there)
+      any_from_passes (λ (first : Point). agree first point) (take at order) it.first (
+        it.earlier,
+        omega arith,
+        get_or-take at order it.earlier it.first before
+            ∙ get_or_from_slice_get order it.earlier it.first it.first it.first_there,
+      )
       (subst (λ (second : Point). agree it.first second ≡ true) same ((decides_agree it.first it.point).1 it.agree)),
 )

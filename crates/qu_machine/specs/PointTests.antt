@@ -59,7 +59,8 @@ is_completed (Some reply) = elim (reply.1) [ outcome.Done answer ↦ true | outc
 
 abbrev pub is_before_reply : ℕ → Option (ℕ × Outcome) → Bool
 is_before_reply event None = true
-is_before_reply event (Some reply) = elim (reply.1) [ outcome.Done answer ↦ nat_lt event reply.0 | outcome.GaveUp ↦ true ]
+is_before_reply event (Some reply) =
+    elim (reply.1) [ outcome.Done answer ↦ nat_lt event reply.0 | outcome.GaveUp ↦ true ]
 
 abbrev pub is_between : OpRecord → ℕ → Bool
 is_between operation event = nat_lt operation.invoked event && is_before_reply event operation.reply
@@ -67,7 +68,8 @@ is_between operation event = nat_lt operation.invoked event && is_before_reply e
 -- the answer of a completed operation is another one
 abbrev pub has_other_answer : Answer → Option (ℕ × Outcome) → Bool
 has_other_answer machine None = false
-has_other_answer machine (Some reply) = elim (reply.1) [ outcome.Done answer ↦ not (same_answer machine answer) | outcome.GaveUp ↦ false ]
+has_other_answer machine (Some reply) =
+    elim (reply.1) [ outcome.Done answer ↦ not (same_answer machine answer) | outcome.GaveUp ↦ false ]
 
 -- the operation's point is not between its invocation and its reply
 abbrev pub is_misplaced : OpRecord → Point → Bool

@@ -73,7 +73,8 @@ pub record StandsOnce (operation : OpRecord) (reply : ℕ) (order : List Point) 
 
 -- the operation stands in the order at most once, after its invocation
 pub record StandsAtMostOnce (operation : OpRecord) (order : List Point) : Type 0 where
-  pub alone : (at other : ℕ) (first second : Point) → StandsAt operation order at first → StandsAt operation order other second → other ≡ at
+  pub alone : (at other : ℕ) (first second : Point) → StandsAt operation order at first
+      → StandsAt operation order other second → other ≡ at
   pub after : (at : ℕ) (point : Point) → StandsAt operation order at point → operation.invoked < point.event
 
 -- the point is one of the operations
@@ -103,12 +104,17 @@ pub record IsSerial (kinds : List KindName) (operations : List OpRecord) (order 
   -- the events rise
   pub rising : IsRising order
   -- each completed operation stands in the order exactly once, after its invocation and before its reply
-  pub completed : (operation : OpRecord) (reply : ℕ) (answer : Answer) → Contains operations operation → Completes operation reply answer → StandsOnce operation reply order
+  pub completed : (operation : OpRecord) (reply : ℕ) (answer : Answer) → Contains operations operation
+      → Completes operation reply answer → StandsOnce operation reply order
   -- each operation stands in it at most once, after its invocation
   pub once : (operation : OpRecord) → Contains operations operation → StandsAtMostOnce operation order
   -- each point that is not a faulty client's is one of the operations
-  pub known : (at : ℕ) (point : Point) → slice_get order at ≡ Some point → point.faulty ≡ false → IsKnown operations point
+  pub known : (at : ℕ) (point : Point) → slice_get order at ≡ Some point → point.faulty ≡ false
+      → IsKnown operations point
   -- each point of a faulty client is one of an update, and no two of these agree
-  pub faulty : (at : ℕ) (point : Point) → slice_get order at ≡ Some point → point.faulty ≡ true → IsLoneUpdate order at point
+  pub faulty : (at : ℕ) (point : Point) → slice_get order at ≡ Some point → point.faulty ≡ true
+      → IsLoneUpdate order at point
   -- the machine, run along the order from fresh values, gives each completed operation its answer
-  pub answers : (operation : OpRecord) (reply : ℕ) (answer : Answer) → Contains operations operation → Completes operation reply answer → (at : ℕ) (point : Point) → StandsAt operation order at point → answer_at kinds order at point ≡ answer
+  pub answers : (operation : OpRecord) (reply : ℕ) (answer : Answer) → Contains operations operation
+      → Completes operation reply answer → (at : ℕ) (point : Point) → StandsAt operation order at point
+      → answer_at kinds order at point ≡ answer

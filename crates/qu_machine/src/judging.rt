@@ -26,7 +26,8 @@ pub fn judge(
 ) -> Result<(), JudgeFault>
     requires rising { IsRising order.now }
     requires objects { All (λ point. HasObjects (length kinds.now) point.op) order.now }
-    ensures verdict { MatchResult result (λ _. IsSerial kinds.now ops.now order.now) (λ fault. IsFault kinds.now ops.now order.now fault) }
+    ensures verdict { MatchResult result (λ _. IsSerial kinds.now ops.now order.now)
+        (λ fault. IsFault kinds.now ops.now order.now fault) }
     ensures accepted { IsSerial kinds.now ops.now order.now → IsOkUnless result faults.NoMemory }
 {
     if let Some(at) = first_differing(alloc, kinds, ops, order)? {
@@ -52,7 +53,8 @@ fn first_differing(
     order: &[Point],
 ) -> Result<Option<usize>, NoMemory>
     requires { All (λ point. HasObjects (length kinds.now) point.op) order.now }
-    ensures { IfOk result (λ found. MatchOption found (Nowhere (DiffersAt kinds.now ops.now order.now)) (λ at. IsFirst (DiffersAt kinds.now ops.now order.now) at)) }
+    ensures { IfOk result (λ found. MatchOption found (Nowhere (DiffersAt kinds.now ops.now order.now))
+        (λ at. IsFirst (DiffersAt kinds.now ops.now order.now) at)) }
 {
     let mut machine = Machine::fresh(alloc, kinds)?;
     for (index, point) in order.iter().enumerate() {

@@ -2,6 +2,7 @@
 use Rattle.std.proofs.Common.{◌≡◌, ◌<◌, Bool, List, [], ◌∷◌, Ok, arith}
 use Rattle.std.specs.Prelude.{IsTrue}
 use Rattle.std.proofs.lemmas.Bool.{lt-ltb}
+use Rattle.qu_base.specs.declared.limits.TheConstants.{OBJECT_IDS}
 use Rattle.qu_base.specs.declared.party.ObjectId.{ObjectId}
 use Rattle.qu_base.specs.Front.{Front}
 use Rattle.qu_base.specs.Format.{IsPrefixCode, object_form, Format, AreBytes}
@@ -15,22 +16,27 @@ use Rattle.qu_objects.specs.Text.{act_text_form}
 use Rattle.qu_objects.proofs.Forms.{method-exact, ask-exact, item-exact, act-exact, query-exact, answer-exact}
 use Rattle.qu_objects.proofs.Text.{act_text-exact}
 
-object_below : (object : ObjectId) → object_form.Fits object → object.0 < 64
+object_below : (object : ObjectId) → object_form.Fits object → object.0 < OBJECT_IDS
 object_below object fits = omega (arith, fits.1)
 
-pub in_order : {X : Type 0} (form : Format X) (known : ObjectId → Bool) (parts : List (ObjectId × X)) → (parts_form form known).Fits parts → IsTrue (are_parts parts)
+pub in_order : {X : Type 0} (form : Format X) (known : ObjectId → Bool) (parts : List (ObjectId × X))
+    → (parts_form form known).Fits parts → IsTrue (are_parts parts)
 in_order form known [] fits = absurd (omega (arith, fits.0))
 in_order form known (part ∷ []) fits = lt-ltb _ _ (object_below part.0 fits.1.1.0.0.0.0)
 in_order form known (first ∷ second ∷ parts) fits = absurd (omega (arith, fits.0))
 
 -- the parts of an act that were read are in order
-pub act_in_order : (known : ObjectId → Bool) (old new : Front) (parts : List (ObjectId × Method)) → AreBytes old.rest → (act_form known).read old ≡ Ok (parts, new) → IsTrue (are_parts parts)
+pub act_in_order : (known : ObjectId → Bool) (old new : Front) (parts : List (ObjectId × Method))
+    → AreBytes old.rest → (act_form known).read old ≡ Ok (parts, new) → IsTrue (are_parts parts)
 unfolding act_form
-act_in_order known old new parts fit read = in_order method_form known parts ((act-exact known).found old new parts fit read).fits
+act_in_order known old new parts fit read =
+    in_order method_form known parts ((act-exact known).found old new parts fit read).fits
 
-pub query_in_order : (known : ObjectId → Bool) (old new : Front) (parts : List (ObjectId × Ask)) → AreBytes old.rest → (query_form known).read old ≡ Ok (parts, new) → IsTrue (are_parts parts)
+pub query_in_order : (known : ObjectId → Bool) (old new : Front) (parts : List (ObjectId × Ask))
+    → AreBytes old.rest → (query_form known).read old ≡ Ok (parts, new) → IsTrue (are_parts parts)
 unfolding query_form
-query_in_order known old new parts fit read = in_order ask_form known parts ((query-exact known).found old new parts fit read).fits
+query_in_order known old new parts fit read =
+    in_order ask_form known parts ((query-exact known).found old new parts fit read).fits
 
 pub ruleset act_laws = (given_exactly, act-exact, act_in_order)
 

@@ -3,6 +3,7 @@ use Rattle.std.proofs.Common.{◌≡◌, ℕ, ◌-◌, ◌^◌, ◌<◌, List, [
 use Rattle.std.specs.Prelude.{IsTrue}
 use Rattle.std.proofs.lemmas.Bool.{ltb-true}
 use Rattle.std.specs.Int.{w16}
+use Rattle.qu_base.specs.declared.limits.TheConstants.{OBJECT_IDS}
 use Rattle.qu_base.specs.declared.party.ClientId.{ClientId}
 use Rattle.qu_base.specs.declared.party.ObjectId.{ObjectId}
 use Rattle.qu_base.specs.Format.{object_form, number, both, IsExact}
@@ -24,7 +25,8 @@ pub act_text-exact : IsExact act_text_form
 unfolding act_text_form
 act_text-exact =
     both-exact any_client (λ client. both word_form (λ number. act_form any_object)) client-exact
-    (λ client fits. both-exact word_form (λ number. act_form any_object) word-exact (λ number fits. act-exact any_object))
+    (λ client fits. both-exact word_form (λ number. act_form any_object) word-exact
+    (λ number fits. act-exact any_object))
 
 -- ---- what has a spelling
 
@@ -33,17 +35,21 @@ unfolding method_form
 method_fits (Add more) fits = (((omega arith, omega arith), refl), (omega arith, omega arith))
 method_fits (Take fewer) fits = (((omega arith, omega arith), refl), (omega arith, omega arith))
 
-object_fits : (object : ObjectId) → object.0 < 64 → object_form.Fits object
+object_fits : (object : ObjectId) → object.0 < OBJECT_IDS → object_form.Fits object
 object_fits object below = (omega arith, omega arith)
 
-act_fits : (parts : List (ObjectId × Method)) → IsTrue (are_parts parts) → PartsFit parts → (act_form any_object).Fits parts
+act_fits : (parts : List (ObjectId × Method)) → IsTrue (are_parts parts) → PartsFit parts
+    → (act_form any_object).Fits parts
 unfolding act_form
 act_fits [] in_order fits = absurd cc
-act_fits (part ∷ []) in_order fits =
-    ((omega arith, omega arith), (refl, ((((object_fits part.0 (ltb-true _ _ in_order), refl), refl), method_fits part.1 fits.0), tt)))
+act_fits (part ∷ []) in_order fits = (
+  (omega arith, omega arith),
+  (refl, ((((object_fits part.0 (ltb-true _ _ in_order), refl), refl), method_fits part.1 fits.0), tt)),
+)
 act_fits (first ∷ second ∷ parts) in_order fits = absurd cc
 
-text_fits : (client : ClientId) (number : ℕ) (parts : List (ObjectId × Method)) → client.0 < 2 ^ 16 → number < 2 ^ 64 → IsTrue (are_parts parts) → PartsFit parts
+text_fits : (client : ClientId) (number : ℕ) (parts : List (ObjectId × Method)) → client.0 < 2 ^ 16
+    → number < 2 ^ 64 → IsTrue (are_parts parts) → PartsFit parts
     → act_text_form.Fits (client, (number, parts))
 unfolding act_text_form
 text_fits client number parts is_client is_number in_order fits =
@@ -54,9 +60,11 @@ pub act_text-one : (client other : ClientId) (number turn : ℕ) (parts others :
     → IsTrue (are_parts parts) → IsTrue (are_parts others) → PartsFit parts → PartsFit others
     → act_text client number parts ≡ act_text other turn others → (client ≡ other) × (number ≡ turn) × (parts ≡ others)
 unfolding act_text
-act_text-one client other number turn parts others is_client is_other is_number is_turn in_order others_in_order fits others_fit same =
+act_text-one client other number turn parts others is_client is_other is_number is_turn in_order others_in_order
+    fits others_fit same =
     let one : (client, (number, parts)) ≡ (other, (turn, others)) =
     one_spelling act_text_form act_text-exact (client, (number, parts)) (other, (turn, others))
-    (text_fits client number parts is_client is_number in_order fits) (text_fits other turn others is_other is_turn others_in_order others_fit) same in
+    (text_fits client number parts is_client is_number in_order fits)
+    (text_fits other turn others is_other is_turn others_in_order others_fit) same in
     let V = ClientId × (ℕ × List (ObjectId × Method)) in
     (ap (λ (value : V). value.0) one, ap (λ (value : V). (value.1).0) one, ap (λ (value : V). (value.1).1) one)

@@ -4,7 +4,7 @@ use Rattle.std.specs.List.{list_any}
 use Rattle.std.specs.Int.{w8, w64}
 use Rattle.qu_base.specs.declared.bad_text.Why.TheVariants.{Range, Order}
 use Rattle.qu_base.specs.declared.party.ObjectId.{ObjectId}
-use Rattle.qu_base.specs.Format.{Format, number, both, tested, made, either, nothing, items, counted, tagged, object_form}
+use Rattle.qu_base.specs.Format.{Format, number, below, both, tested, made, either, nothing, items, counted, tagged, object_form}
 use Rattle.qu_objects.specs.declared.act.Method.{Method}
 use Rattle.qu_objects.specs.declared.act.Method.TheVariants.{Add, Take}
 use Rattle.qu_objects.specs.declared.query.Ask.{Ask}
@@ -13,7 +13,8 @@ use Rattle.qu_objects.specs.declared.answer.Item.{Item}
 use Rattle.qu_objects.specs.declared.answer.Item.TheVariants.{Number}
 use Rattle.qu_objects.specs.declared.answer.Answer.{Answer}
 use Rattle.qu_objects.specs.declared.answer.Answer.TheVariants as answer
-use Rattle.qu_objects.specs.declared.limits.TheConstants.{MOST_PARTS, LAST_METHOD, LAST_ASK, LAST_ITEM}
+use Rattle.qu_objects.specs.declared.limits.TheConstants.{MOST_PARTS, PARTS_LIMIT, LAST_METHOD, LAST_ASK, LAST_ITEM}
+use Rattle.qu_objects.specs.RefusalNumber.{is_refusal_number}
 
 -- a number of eight bytes
 abbrev pub word_form : Format ℕ
@@ -93,7 +94,8 @@ some_parts form known count = items (spelled_object form) (part_form form known)
 
 -- a count, and so many parts
 abbrev pub parts_form : {X : Type 0} → Format X → (ObjectId → Bool) → Format (List (ObjectId × X))
-parts_form form known = counted (number w8 1 MOST_PARTS) (spelled_object form) (part_form form known) (λ part. Some part.0) None
+parts_form form known = counted (number w8 1 MOST_PARTS) (spelled_object form) (part_form form known)
+    (λ part. Some part.0) None
 
 -- the parts of an act, of these known objects
 unfoldable pub act_form : (ObjectId → Bool) → Format (List (ObjectId × Method))
@@ -105,19 +107,16 @@ query_form known = parts_form ask_form known
 
 -- ---- answers
 
-abbrev pub is_refusal : ℕ → Bool
-is_refusal why = (nat_le 3 why && nat_le why 9) || (why == 12)
-
--- the position of a part, and the number of the refusal: 3 to 9, or 12
-abbrev pub refusal_form : Format (ℕ × ℕ)
-refusal_form = both (number w8 0 3) (λ at. tested is_refusal Range (number w8 0 255))
+-- the position of a part, and the number of the refusal
+abbrev pub part_refusal_form : Format (ℕ × ℕ)
+part_refusal_form = both (below w8 PARTS_LIMIT) (λ at. tested is_refusal_number Range (number w8 0 255))
 
 abbrev pub some_items : ℕ → Format (List Item)
 some_items count = items {K = Unit {0}} item_form.spell (λ before. item_form) (λ item. tt) tt count
 
--- one to four items
+-- one item or more
 abbrev pub items_form : Format (List Item)
-items_form = counted {K = Unit {0}} (number w8 1 4) item_form.spell (λ before. item_form) (λ item. tt) tt
+items_form = counted {K = Unit {0}} (number w8 1 PARTS_LIMIT) item_form.spell (λ before. item_form) (λ item. tt) tt
 
 abbrev pub answer_code : Answer → ℕ
 answer_code (answer.Ok items) = 0
@@ -136,7 +135,8 @@ is_answer_code code = nat_le code 1
 
 abbrev pub answer_body : ℕ → Format Answer
 answer_body code =
-    either (code == 0) (made answer.Ok answered items_form) (made (λ refused. answer.Refused refused.0 refused.1) refusal refusal_form)
+    either (code == 0) (made answer.Ok answered items_form)
+    (made (λ refused. answer.Refused refused.0 refused.1) refusal part_refusal_form)
 
 -- 0: the items; 1: the first refused part
 unfoldable pub answer_form : Format Answer

@@ -7,7 +7,7 @@ use Rattle.qu_objects.specs.declared.query.Ask.{Ask}
 use Rattle.qu_objects.specs.declared.query.Ask.TheVariants.{Read}
 use Rattle.qu_objects.specs.declared.answer.Item.{Item}
 use Rattle.qu_objects.specs.declared.answer.Item.TheVariants.{Number}
-use Rattle.qu_objects.specs.declared.answer.TheConstants.{OVER, UNDER}
+use Rattle.qu_objects.specs.declared.refusal_number.TheConstants.{OVER, UNDER}
 use Rattle.qu_objects.specs.declared.kind.KindName.{KindName}
 use Rattle.qu_objects.specs.declared.kind.KindName.TheVariants as kind
 use Rattle.qu_objects.specs.declared.kind.Value.{Value}
@@ -27,5 +27,5 @@ applied (Take fewer) (Counter number) =
     if nat_lt number fewer then Refused UNDER else Changed (Counter (number - fewer)) (Number (number - fewer))
 
 -- what a question tells of a value
-abbrev pub told : Ask → Value → Item
-told Read (Counter number) = Number number
+abbrev pub told_item : Ask → Value → Item
+told_item Read (Counter number) = Number number

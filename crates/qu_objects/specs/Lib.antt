@@ -1,5 +1,6 @@
 pub mod Parts
 pub mod Kind
+pub mod RefusalNumber
 pub mod Perform
 pub mod Forms
 pub mod Text

@@ -10,7 +10,7 @@ use Rattle.qu_objects.specs.declared.answer.Answer.TheVariants as answer
 use Rattle.qu_objects.specs.declared.kind.Value.{Value}
 use Rattle.qu_objects.specs.declared.kind.Applied.{Applied}
 use Rattle.qu_objects.specs.declared.kind.Applied.TheVariants.{Changed, Refused}
-use Rattle.qu_objects.specs.Kind.{applied, told}
+use Rattle.qu_objects.specs.Kind.{applied, told_item}
 
 -- what each part makes of its value
 abbrev pub outcomes : List (ObjectId × Method) → List Value → List Applied
@@ -54,7 +54,7 @@ performed_values parts values =
 abbrev pub told_items : List (ObjectId × Ask) → List Value → List Item
 told_items [] values = []
 told_items (part ∷ parts) [] = []
-told_items (part ∷ parts) (value ∷ values) = told part.1 value ∷ told_items parts values
+told_items (part ∷ parts) (value ∷ values) = told_item part.1 value ∷ told_items parts values
 
 -- a query answers an item for each part
 abbrev pub told_answer : List (ObjectId × Ask) → List Value → Answer

@@ -6,6 +6,7 @@ use Rattle.qu_base.specs.declared.party.ClientId.{ClientId}
 use Rattle.qu_base.specs.declared.party.Digest.{Digest}
 use Rattle.qu_base.specs.declared.party.ObjectId.{ObjectId}
 use Rattle.qu_base.specs.Format.{Format, number, both, made}
+use Rattle.qu_seal.specs.declared.constants.TheConstants.{ACT_TAG}
 use Rattle.qu_seal.specs.Digest.{digest_of}
 use Rattle.qu_objects.specs.declared.act.Method.{Method}
 use Rattle.qu_objects.specs.declared.act.Method.TheVariants.{Add, Take}
@@ -25,7 +26,7 @@ unfoldable pub act_text : ClientId → ℕ → List (ObjectId × Method) → Lis
 act_text client number parts = act_text_form.spell (client, (number, parts))
 
 unfoldable pub act_digest : ClientId → ℕ → List (ObjectId × Method) → Digest
-act_digest client number parts = record { 0 = digest_of 1 (act_text client number parts) }
+act_digest client number parts = record { 0 = digest_of ACT_TAG (act_text client number parts) }
 
 -- a method's numbers fit their bytes
 abbrev pub MethodFits : Method → Type 0

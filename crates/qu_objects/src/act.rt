@@ -1,7 +1,7 @@
 ghost use Rattle.std.specs.Prelude.{◌≡◌, ◌<◌, ◌↔◌, IsOk, IfOk, IfErr, IsTrue};
 ghost use Rattle.qu_objects.specs.Parts.{are_parts};
 
-use qu_base::{List, NoMemory, ObjectId};
+use qu_base::{List, NoMemory, OBJECT_IDS, ObjectId};
 use std::alloc::Global;
 use std::marker::Model;
 
@@ -38,13 +38,13 @@ impl Model for Act {
 }
 
 impl Act {
-    /// Refuses exactly where there is not one part, with an object below 64.
+    /// Refuses exactly where there is not one part, with an object below `OBJECT_IDS`.
     pub fn new(parts: List<(ObjectId, Method)>) -> Result<Act, BadParts>
         ensures accepted { IsOk result ↔ IsTrue (are_parts parts) }
         ensures value { IfOk result (λ act. act ≡ parts) }
     {
         match parts.as_slice() {
-            [(object, _)] if object.0 < 64 => Ok(Act { parts }),
+            [(object, _)] if object.0 < OBJECT_IDS => Ok(Act { parts }),
             _ => Err(BadParts),
         }
     }

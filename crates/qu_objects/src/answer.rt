@@ -3,12 +3,6 @@ ghost use Rattle.std.specs.Prelude.{◌≡◌, IfOk};
 use qu_base::{List, NoMemory};
 use std::alloc::Global;
 
-/// The number of a refusal: the sum would pass 2^64 - 1.
-pub const OVER: u8 = 3;
-
-/// The number of a refusal: more was to be taken than is there.
-pub const UNDER: u8 = 4;
-
 /// What one part of an operation answers.
 #[derive(Clone, Copy, Debug, PartialEq, Eq)]
 pub enum Item {

@@ -3,7 +3,7 @@ ghost use Rattle.qu_objects.specs.Text.{act_digest};
 
 use super::{Act, write_act};
 use qu_base::{ClientId, Digest, NoMemory, Outbytes};
-use qu_seal::digest;
+use qu_seal::{ACT_TAG, digest};
 use std::alloc::Global;
 
 /// The digest of an act of this client, which is its operation with this number, counted from 1.
@@ -19,6 +19,6 @@ pub fn act_digest(
     let mut text = Outbytes::new(alloc);
     text.u16(client.0)?;
     text.u64(number)?;
-    write_act(&mut text, act)?;
-    Ok(digest(1, text.done().as_slice()))
+    write_act(act, &mut text)?;
+    Ok(digest(ACT_TAG, text.done().as_slice()))
 }

@@ -24,7 +24,7 @@ pub enum Applied {
 }
 
 impl Value {
-    ghost use Rattle.qu_objects.specs.Kind.{fresh_value, applied, told};
+    ghost use Rattle.qu_objects.specs.Kind.{fresh_value, applied, told_item};
 
     /// The value before any update.
     pub fn fresh(kind: KindName) -> Value
@@ -52,7 +52,7 @@ impl Value {
 
     /// What a question tells of the value.
     pub fn tell(&self, ask: &Ask) -> Item
-        ensures { result ≡ told ask.now self.now }
+        ensures { result ≡ told_item ask.now self.now }
     {
         match (ask, self) {
             (Ask::Read, Value::Counter(number)) => Item::Number(*number),

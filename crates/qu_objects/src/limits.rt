@@ -1,5 +1,10 @@
-/// The most parts of an operation.
+ghost use Rattle.std.specs.Prelude.{◌≡◌};
+
+/// The most parts of an operation so far.
 pub const MOST_PARTS: u8 = 1;
+
+/// The most parts of which an answer has room to tell.
+pub const PARTS_LIMIT: u8 = 4;
 
 /// The last code of a method.
 pub const LAST_METHOD: u8 = 2;
@@ -9,3 +14,12 @@ pub const LAST_ASK: u8 = 1;
 
 /// The last code of an item.
 pub const LAST_ITEM: u8 = 1;
+
+/// The limits of this crate, by their numbers.
+pub fn limits_are_these()
+    ensures most_parts { MOST_PARTS ≡ 1 }
+    ensures parts_limit { PARTS_LIMIT ≡ 4 }
+    ensures last_method { LAST_METHOD ≡ 2 }
+    ensures last_ask { LAST_ASK ≡ 1 }
+    ensures last_item { LAST_ITEM ≡ 1 }
+{}

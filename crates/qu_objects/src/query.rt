@@ -2,7 +2,7 @@ ghost use Rattle.std.specs.Prelude.{◌≡◌, ◌<◌, ◌↔◌, IsOk, IfOk, I
 ghost use Rattle.qu_objects.specs.Parts.{are_parts};
 
 use super::BadParts;
-use qu_base::{List, NoMemory, ObjectId};
+use qu_base::{List, NoMemory, OBJECT_IDS, ObjectId};
 use std::alloc::Global;
 use std::marker::Model;
 
@@ -33,13 +33,13 @@ impl Model for Query {
 }
 
 impl Query {
-    /// Refuses exactly where there is not one part, with an object below 64.
+    /// Refuses exactly where there is not one part, with an object below `OBJECT_IDS`.
     pub fn new(parts: List<(ObjectId, Ask)>) -> Result<Query, BadParts>
         ensures accepted { IsOk result ↔ IsTrue (are_parts parts) }
         ensures value { IfOk result (λ query. query ≡ parts) }
     {
         match parts.as_slice() {
-            [(object, _)] if object.0 < 64 => Ok(Query { parts }),
+            [(object, _)] if object.0 < OBJECT_IDS => Ok(Query { parts }),
             _ => Err(BadParts),
         }
     }

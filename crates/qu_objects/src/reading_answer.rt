@@ -1,10 +1,11 @@
 //! Answers from bytes.
 ghost use Rattle.std.specs.Prelude.{◌≡◌, OnErr};
 ghost use Rattle.qu_base.specs.Reading.{Reads, Gives, IsGiven};
-ghost use Rattle.qu_objects.specs.Forms.{some_items, items_form, refusal_form, answer_form};
+ghost use Rattle.qu_objects.specs.Forms.{some_items, items_form, part_refusal_form, answer_form};
 
 use super::reading::read_item;
-use super::{Answer, Item};
+use super::refusal_number::is_refusal_number;
+use super::{Answer, Item, PARTS_LIMIT};
 use qu_base::{BadText, Cursor, List, ReadFail, Why};
 use std::alloc::Global;
 
@@ -44,7 +45,7 @@ fn coded_answer(alloc: Global, text: &mut Cursor<'_>) -> Result<Answer, ReadFail
 fn counted_items(alloc: Global, text: &mut Cursor<'_>) -> Result<List<Item>, ReadFail>
     ensures { Gives items_form result text.old text.new }
 {
-    let count = text.u8_within(1, 4)?;
+    let count = text.u8_within(1, PARTS_LIMIT)?;
     read_items(alloc, count, text)
 }
 
@@ -63,12 +64,12 @@ fn read_items(alloc: Global, count: u8, text: &mut Cursor<'_>) -> Result<List<It
 
 /// The position of a refused part, and the number of the refusal.
 fn read_refusal(text: &mut Cursor<'_>) -> Result<(u8, u8), BadText>
-    ensures { Reads refusal_form result text.old text.new }
+    ensures { Reads part_refusal_form result text.old text.new }
 {
-    let at = text.u8_within(0, 3)?;
+    let at = text.u8_within(0, PARTS_LIMIT - 1)?;
     let start = text.ahead();
     let why = text.u8_within(0, 255)?;
-    if !(3..=9).contains(&why) && why != 12 {
+    if !is_refusal_number(why) {
         return Err(start.refusal(Why::Range));
     }
     Ok((at, why))

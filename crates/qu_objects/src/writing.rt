@@ -6,12 +6,12 @@ use super::{Ask, Item, Method};
 use qu_base::{NoMemory, Outbytes};
 
 /// Appends an update: its code, and its number as eight bytes. Without memory the text stays as it is.
-pub fn write_method(out: &mut Outbytes, method: &Method) -> Result<(), NoMemory>
+pub fn write_method(method: &Method, out: &mut Outbytes) -> Result<(), NoMemory>
     ensures ok { OnOk result (out.new ≡ out.old ++ method_form.spell method.now) }
     ensures err { OnErr result (out.new ≡ out.old) }
 {
     let start = out.len();
-    let written = put_method(out, method);
+    let written = put_method(method, out);
     if written.is_err() {
         out.rewind(start);
     }
@@ -20,7 +20,7 @@ pub fn write_method(out: &mut Outbytes, method: &Method) -> Result<(), NoMemory>
 
 /// Appends a question: its code. Without memory the text stays as it is.
 #[tactic(auto, unfolding(crate::specs::Forms::ask_form))]
-pub fn write_ask(out: &mut Outbytes, ask: &Ask) -> Result<(), NoMemory>
+pub fn write_ask(ask: &Ask, out: &mut Outbytes) -> Result<(), NoMemory>
     ensures ok { OnOk result (out.new ≡ out.old ++ ask_form.spell ask.now) }
     ensures err { OnErr result (out.new ≡ out.old) }
 {
@@ -31,7 +31,7 @@ pub fn write_ask(out: &mut Outbytes, ask: &Ask) -> Result<(), NoMemory>
 
 /// Appends an update, and on failure a part of it.
 #[tactic(auto, unfolding(crate::specs::Forms::method_form), using(qu_base::proofs::Writing::writing_laws))]
-pub(crate) fn put_method(out: &mut Outbytes, method: &Method) -> Result<(), NoMemory>
+pub(crate) fn put_method(method: &Method, out: &mut Outbytes) -> Result<(), NoMemory>
     ensures ok { OnOk result (out.new ≡ out.old ++ method_form.spell method.now) }
     ensures err { OnErr result (take (length out.old) out.new ≡ out.old) }
 {
@@ -45,7 +45,7 @@ pub(crate) fn put_method(out: &mut Outbytes, method: &Method) -> Result<(), NoMe
 
 /// Appends an item: its code, and its number as eight bytes; on failure a part of it.
 #[tactic(auto, unfolding(crate::specs::Forms::item_form), using(qu_base::proofs::Writing::writing_laws))]
-pub(crate) fn put_item(out: &mut Outbytes, item: &Item) -> Result<(), NoMemory>
+pub(crate) fn put_item(item: &Item, out: &mut Outbytes) -> Result<(), NoMemory>
     ensures ok { OnOk result (out.new ≡ out.old ++ item_form.spell item.now) }
     ensures err { OnErr result (take (length out.old) out.new ≡ out.old) }
 {

@@ -9,14 +9,14 @@ use qu_base::{NoMemory, Outbytes};
 
 /// Appends an answer. Without memory the text stays as it is.
 ///
-/// It can be read again where it has one to four items, or where the refused part has a position
-/// from 0 to 3 and the refusal the number 3 to 9 or 12.
-pub fn write_answer(out: &mut Outbytes, answer: &Answer) -> Result<(), NoMemory>
+/// It can be read again where it has one to `PARTS_LIMIT` items, or where the refused part has a
+/// position below that and the refusal one of its numbers.
+pub fn write_answer(answer: &Answer, out: &mut Outbytes) -> Result<(), NoMemory>
     ensures ok { OnOk result (out.new ≡ out.old ++ answer_form.spell answer.now) }
     ensures err { OnErr result (out.new ≡ out.old) }
 {
     let start = out.len();
-    let written = put_answer(out, answer);
+    let written = put_answer(answer, out);
     if written.is_err() {
         out.rewind(start);
     }
@@ -25,7 +25,7 @@ pub fn write_answer(out: &mut Outbytes, answer: &Answer) -> Result<(), NoMemory>
 
 /// Appends an answer, and on failure a part of it.
 #[tactic(auto, unfolding(crate::specs::Forms::answer_form), using(qu_base::proofs::Writing::writing_laws))]
-fn put_answer(out: &mut Outbytes, answer: &Answer) -> Result<(), NoMemory>
+fn put_answer(answer: &Answer, out: &mut Outbytes) -> Result<(), NoMemory>
     ensures ok { OnOk result (out.new ≡ out.old ++ answer_form.spell answer.now) }
     ensures err { OnErr result (take (length out.old) out.new ≡ out.old) }
 {
@@ -33,7 +33,7 @@ fn put_answer(out: &mut Outbytes, answer: &Answer) -> Result<(), NoMemory>
         Answer::Ok(items) => {
             out.u8(0)?;
             out.count(items.len())?;
-            put_items(out, items.as_slice())
+            put_items(items.as_slice(), out)
         }
         Answer::Refused { at, why } => {
             out.u8(1)?;
@@ -45,12 +45,12 @@ fn put_answer(out: &mut Outbytes, answer: &Answer) -> Result<(), NoMemory>
 
 /// Appends items, and on failure a part of them.
 #[tactic(auto, using(qu_base::proofs::Writing::writing_laws))]
-fn put_items(out: &mut Outbytes, items: &[Item]) -> Result<(), NoMemory>
+fn put_items(items: &[Item], out: &mut Outbytes) -> Result<(), NoMemory>
     ensures ok { OnOk result (out.new ≡ out.old ++ flat_map item_form.spell items.now) }
     ensures err { OnErr result (take (length out.old) out.new ≡ out.old) }
 {
     for item in items {
-        put_item(out, item)?;
+        put_item(item, out)?;
     }
     Ok(())
 }

@@ -9,12 +9,12 @@ use super::{Act, Ask, Method, Query};
 use qu_base::{NoMemory, ObjectId, Outbytes};
 
 /// Appends the parts of an act, from their count on. Without memory the text stays as it is.
-pub fn write_act(out: &mut Outbytes, act: &Act) -> Result<(), NoMemory>
+pub fn write_act(act: &Act, out: &mut Outbytes) -> Result<(), NoMemory>
     ensures ok { (known : Object → Bool) → OnOk result (out.new ≡ out.old ++ (act_form known).spell act.now) }
     ensures err { OnErr result (out.new ≡ out.old) }
 {
     let start = out.len();
-    let written = put_act(out, act);
+    let written = put_act(act, out);
     if written.is_err() {
         out.rewind(start);
     }
@@ -23,35 +23,35 @@ pub fn write_act(out: &mut Outbytes, act: &Act) -> Result<(), NoMemory>
 
 /// Appends the parts of an act, and on failure a part of them.
 #[tactic(auto, unfolding(crate::specs::Forms::act_form), using(qu_base::proofs::Writing::writing_laws))]
-fn put_act(out: &mut Outbytes, act: &Act) -> Result<(), NoMemory>
+fn put_act(act: &Act, out: &mut Outbytes) -> Result<(), NoMemory>
     ensures ok { (known : Object → Bool) → OnOk result (out.new ≡ out.old ++ (act_form known).spell act.now) }
     ensures err { OnErr result (take (length out.old) out.new ≡ out.old) }
 {
     let parts = act.parts().as_slice();
     out.count(parts.len())?;
-    put_method_parts(out, parts)
+    put_method_parts(parts, out)
 }
 
 /// Appends parts of an act, and on failure a part of them.
 #[tactic(auto, using(qu_base::proofs::Writing::writing_laws))]
-fn put_method_parts(out: &mut Outbytes, parts: &[(ObjectId, Method)]) -> Result<(), NoMemory>
+fn put_method_parts(parts: &[(ObjectId, Method)], out: &mut Outbytes) -> Result<(), NoMemory>
     ensures ok { OnOk result (out.new ≡ out.old ++ flat_map (spelled_object method_form) parts.now) }
     ensures err { OnErr result (take (length out.old) out.new ≡ out.old) }
 {
     for part in parts {
         out.u16(part.0.0)?;
-        put_method(out, &part.1)?;
+        put_method(&part.1, out)?;
     }
     Ok(())
 }
 
 /// Appends the parts of a query, from their count on. Without memory the text stays as it is.
-pub fn write_query(out: &mut Outbytes, query: &Query) -> Result<(), NoMemory>
+pub fn write_query(query: &Query, out: &mut Outbytes) -> Result<(), NoMemory>
     ensures ok { (known : Object → Bool) → OnOk result (out.new ≡ out.old ++ (query_form known).spell query.now) }
     ensures err { OnErr result (out.new ≡ out.old) }
 {
     let start = out.len();
-    let written = put_query(out, query);
+    let written = put_query(query, out);
     if written.is_err() {
         out.rewind(start);
     }
@@ -60,24 +60,24 @@ pub fn write_query(out: &mut Outbytes, query: &Query) -> Result<(), NoMemory>
 
 /// Appends the parts of a query, and on failure a part of them.
 #[tactic(auto, unfolding(crate::specs::Forms::query_form), using(qu_base::proofs::Writing::writing_laws))]
-fn put_query(out: &mut Outbytes, query: &Query) -> Result<(), NoMemory>
+fn put_query(query: &Query, out: &mut Outbytes) -> Result<(), NoMemory>
     ensures ok { (known : Object → Bool) → OnOk result (out.new ≡ out.old ++ (query_form known).spell query.now) }
     ensures err { OnErr result (take (length out.old) out.new ≡ out.old) }
 {
     let parts = query.parts().as_slice();
     out.count(parts.len())?;
-    put_ask_parts(out, parts)
+    put_ask_parts(parts, out)
 }
 
 /// Appends parts of a query, and on failure a part of them.
 #[tactic(auto, using(qu_base::proofs::Writing::writing_laws))]
-fn put_ask_parts(out: &mut Outbytes, parts: &[(ObjectId, Ask)]) -> Result<(), NoMemory>
+fn put_ask_parts(parts: &[(ObjectId, Ask)], out: &mut Outbytes) -> Result<(), NoMemory>
     ensures ok { OnOk result (out.new ≡ out.old ++ flat_map (spelled_object ask_form) parts.now) }
     ensures err { OnErr result (take (length out.old) out.new ≡ out.old) }
 {
     for part in parts {
         out.u16(part.0.0)?;
-        write_ask(out, &part.1)?;
+        write_ask(&part.1, out)?;
     }
     Ok(())
 }

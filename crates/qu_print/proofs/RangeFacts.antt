@@ -9,7 +9,8 @@ range_with_len-above a n k e = ap (range_with_len a) e
 
 -- the numbers from the one behind `earlier` up to `last` begin with that one
 range_step : (earlier last : ℕ) → earlier < last
-    → range_with_len (earlier + 1) (last - earlier) ≡ (earlier + 1) ∷ range_with_len (earlier + 1 + 1) (last - (earlier + 1))
+    → range_with_len (earlier + 1) (last - earlier) ≡ (earlier + 1) ∷ range_with_len (earlier + 1 + 1)
+    (last - (earlier + 1))
 range_step earlier last h = range_with_len-above (earlier + 1) (last - earlier) (last - (earlier + 1)) (omega arith)
 
 -- what is written stays the front of the whole as the lines of the next number are written

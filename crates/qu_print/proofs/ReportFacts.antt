@@ -15,7 +15,8 @@ halves a b c d = rw append_assoc (lines_text-append (a ++ b) (c ++ d))
 -- what happened, and then how the operations ended
 pub report_parts : (trace : Trace) (order : List Point) → report_of trace order
     ≡ lines_text (bounds_line trace.setup.bounds ∷ [] ++ timeline trace.entries order)
-    ++ lines_text (open_lines trace.setup.clients (operations_of trace.entries) ++ end_line (operations_of trace.entries) ∷ [])
+    ++ lines_text (open_lines trace.setup.clients (operations_of trace.entries) ++ end_line
+    (operations_of trace.entries) ∷ [])
 unfolding report_of
 report_parts trace order =
     halves (bounds_line trace.setup.bounds ∷ []) (timeline trace.entries order)

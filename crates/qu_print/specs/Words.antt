@@ -8,7 +8,7 @@ use Rattle.qu_objects.specs.declared.act.Method.{Method}
 use Rattle.qu_objects.specs.declared.act.Method.TheVariants.{Add, Take}
 use Rattle.qu_objects.specs.declared.query.Ask.{Ask}
 use Rattle.qu_objects.specs.declared.query.Ask.TheVariants.{Read}
-use Rattle.qu_objects.specs.declared.answer.TheConstants.{OVER}
+use Rattle.qu_objects.specs.declared.refusal_number.TheConstants.{OVER}
 use Rattle.qu_objects.specs.declared.answer.Item.{Item}
 use Rattle.qu_objects.specs.declared.answer.Item.TheVariants.{Number}
 use Rattle.qu_objects.specs.declared.answer.Answer.{Answer}

@@ -8,39 +8,6 @@ use std::alloc::Global;
 use std::test::Fail;
 
 #[test]
-fn nothing_happens(rt: HostRuntime) -> Result<(), Fail> {
-    let trace = trace_of(rt.alloc(), 1, List::new(rt.alloc()))?;
-    let text = report_text(rt.alloc(), &trace, &[])?;
-    let expected = b"bounds b 1 n 6 q 5 r 3\nend calls 0 done 0 gaveup 0 open 0\n";
-    assert_eq!(rt; text.as_slice(), expected.as_slice());
-    Ok(())
-}
-
-#[test]
-fn one_operation_ends_and_one_stays_open(rt: HostRuntime) -> Result<(), Fail> {
-    let alloc = rt.alloc();
-    let mut entries = List::new(alloc);
-    entries.push(entry(alloc, Event::Invoke(ClientId(1), add(alloc, 5)?), None))?;
-    entries.push(entry(alloc, Event::Deliver(1), None))?;
-    let answer = Answer::Ok(List::one(alloc, Item::Number(5))?);
-    let ended = Some((ClientId(1), 1, Outcome::Done(answer)));
-    entries.push(entry(alloc, Event::Deliver(2), ended))?;
-    entries.push(entry(alloc, Event::Invoke(ClientId(2), read(alloc)?), None))?;
-    let trace = trace_of(alloc, 2, entries)?;
-    let order = List::one(alloc, point(alloc, 2, 1, 1)?)?;
-    let text = report_text(alloc, &trace, order.as_slice())?;
-    let expected = b"bounds b 1 n 6 q 5 r 3\n\
-        call 1.1 add 0 5\n\
-        point 1.1\n\
-        reply 1.1 5\n\
-        call 2.1 read 0\n\
-        open 2.1\n\
-        end calls 2 done 1 gaveup 0 open 1\n";
-    assert_eq!(rt; text.as_slice(), expected.as_slice());
-    Ok(())
-}
-
-#[test]
 fn one_operation_is_refused_and_one_gives_up(rt: HostRuntime) -> Result<(), Fail> {
     let alloc = rt.alloc();
     let mut entries = List::new(alloc);

@@ -6,12 +6,12 @@ use Rattle.std.proofs.lemmas.Option.{none-some, same_Some}
 use Rattle.qu_base.specs.declared.party.ClientId.{ClientId}
 use Rattle.qu_base.specs.declared.party.ObjectId.{ObjectId}
 use Rattle.qu_stamp.specs.declared.stamp.Stamp.{Stamp}
-use Rattle.qu_stamp.specs.declared.stamp.TheConstants.{LAST_TIME}
+use Rattle.qu_stamp.specs.declared.limits.TheConstants.{LAST_TIME}
 use Rattle.qu_stamp.specs.declared.candidate.Candidate.{Candidate}
 use Rattle.qu_stamp.specs.Stamp.{is_below}
 use Rattle.qu_stamp.proofs.Order.{is_below_by_time}
 use Rattle.qu_history.specs.declared.sets.SetOf.{SetOf}
-use Rattle.qu_history.specs.declared.history.TheConstants.{HISTORY_LIMIT}
+use Rattle.qu_history.specs.declared.limits.TheConstants.{HISTORY_LIMIT}
 use Rattle.qu_history.specs.History.{ObjectHistory, latest}
 use Rattle.qu_history.specs.Sets.{histories, entries_of, latest_of, method_at, if_method, object_candidate, candidates_of, greatest}
 use Rattle.qu_objects.specs.declared.act.Method.{Method}
@@ -38,13 +38,15 @@ use Rattle.qu_replica.proofs.Own.{accept_all-histories}
 abbrev MayGive : ReplicaState → Option Decision → Type 0
 MayGive state row = (decision : Decision) → row ≡ Some decision → MayDecide state decision
 
-past : (state : ReplicaState) (row : Option Decision) (later : List (Option Decision)) → MayGive state row → (row ≡ None → MayDecide state (first_given later)) → MayDecide state (first_given (row ∷ later))
+past : (state : ReplicaState) (row : Option Decision) (later : List (Option Decision)) → MayGive state row
+    → (row ≡ None → MayDecide state (first_given later)) → MayDecide state (first_given (row ∷ later))
 unfolding first_given
 past state None later may next = next refl
 past state (Some decision) later may next = may decision refl
 
 -- a refusal accepts nothing
-refusing : {A : Type 0} (state : ReplicaState) (why : A → Refusal) (refused : Option A) → MayGive state (option_map (λ it. refuse (why it)) refused)
+refusing : {A : Type 0} (state : ReplicaState) (why : A → Refusal) (refused : Option A)
+    → MayGive state (option_map (λ it. refuse (why it)) refused)
 refusing state why None decision given = absurd (none-some decision given)
 refusing state why (Some it) decision given = subst (MayDecide state) (same_Some (refuse (why it)) decision given) tt
 
@@ -56,11 +58,13 @@ thin : (state : ReplicaState) (asked : Asked) → MayGive state (row_thin state 
 unfolding row_thin
 thin state asked = refusing state _ _
 
-current : (state : ReplicaState) (asked : Asked) (objects : List ObjectId) → MayGive state (row_current state asked objects)
+current : (state : ReplicaState) (asked : Asked) (objects : List ObjectId)
+    → MayGive state (row_current state asked objects)
 unfolding row_current
 current state asked objects = refusing state _ _
 
-method : (state : ReplicaState) (asked : Asked) (objects : List ObjectId) → MayGive state (row_method state asked objects)
+method : (state : ReplicaState) (asked : Asked) (objects : List ObjectId)
+    → MayGive state (row_method state asked objects)
 unfolding row_method
 method state asked objects = refusing state _ _
 
@@ -77,7 +81,8 @@ pub method_at_none : (bounds : ℕ) → method_at bounds [] ≡ None
 unfolding method_at if_method object_candidate candidates_of greatest
 method_at_none bounds = refl
 
-pub not_first : {A : Type 0} (test : Bool) (it : A) (later : Option A) → cond test (Some it) later ≡ None → (test ≡ false) × (later ≡ None)
+pub not_first : {A : Type 0} (test : Bool) (it : A) (later : Option A) → cond test (Some it) later ≡ None
+    → (test ≡ false) × (later ≡ None)
 not_first test it later none =
     elim test as (λ (t : Bool). cond t (Some it) later ≡ None → (t ≡ false) × (later ≡ None)) [
       | true ↦ λ found. absurd (none-some it (sym found))
@@ -85,7 +90,9 @@ not_first test it later none =
     ] none
 
 -- no object of the sets is unknown, so one that has entries is known
-known_by_entries : (number : ℕ) (sets : List SetOf) (object : ObjectId) → find (λ (set : SetOf). nat_le number (set.object).0) sets ≡ None → (entries_of object sets ≡ [] → ⊥) → object.0 < number
+known_by_entries : (number : ℕ) (sets : List SetOf) (object : ObjectId)
+    → find (λ (set : SetOf). nat_le number (set.object).0) sets ≡ None → (entries_of object sets ≡ [] → ⊥)
+    → object.0 < number
 unfolding entries_of
 known_by_entries number [] object none some = absurd (some refl)
 known_by_entries number (set ∷ sets) object none some =
@@ -104,17 +111,20 @@ known_by_entries number (set ∷ sets) object none some =
     ]
 
 -- a stamp with the time after the latest is above all that the replica accepted
-pub fresh_later : (latest own fresh : Stamp) → fresh.time ≡ latest.time + 1 → is_below latest own ≡ false → is_below own fresh ≡ true
+pub fresh_later : (latest own fresh : Stamp) → fresh.time ≡ latest.time + 1 → is_below latest own ≡ false
+    → is_below own fresh ≡ true
 fresh_later latest own fresh next current =
     elim (cases_lt latest.time own.time) [
       | inl above ↦ absurd (false≢true (sym current ∙ is_below_by_time latest own above))
       | inr within ↦ is_below_by_time own fresh (omega arith)
     ]
 
-answering : (state : ReplicaState) (test : Bool) (stamps : List (ObjectId × Stamp)) (kept : Option Answer) → MayGive state (cond test (option_map (λ (answer : Answer). Answers (Done stamps answer) []) kept) None)
+answering : (state : ReplicaState) (test : Bool) (stamps : List (ObjectId × Stamp)) (kept : Option Answer)
+    → MayGive state (cond test (option_map (λ (answer : Answer). Answers (Done stamps answer) []) kept) None)
 answering state false stamps kept decision given = absurd (none-some decision given)
 answering state true stamps None decision given = absurd (none-some decision given)
-answering state true stamps (Some answer) decision given = subst (MayDecide state) (same_Some (Answers (Done stamps answer) []) decision given) tt
+answering state true stamps (Some answer) decision given =
+    subst (MayDecide state) (same_Some (Answers (Done stamps answer) []) decision given) tt
 
 waiting : (state : ReplicaState) (test : Bool) → MayGive state (cond test (Some Waits) None)
 waiting state false decision given = absurd (none-some decision given)
@@ -124,15 +134,19 @@ retry : (state : ReplicaState) (asked : Asked) (objects : List ObjectId) → May
 unfolding row_retry
 retry state asked objects = answering state _ _ _
 
-version : (state : ReplicaState) (asked : Asked) (objects : List ObjectId) → MayGive state (row_version state asked objects)
+version : (state : ReplicaState) (asked : Asked) (objects : List ObjectId)
+    → MayGive state (row_version state asked objects)
 unfolding row_version
 version state asked objects = waiting state _
 
-told : (state : ReplicaState) (asked : Asked) (parts : List (ObjectId × Ask)) (objects : List ObjectId) → MayGive state (row_told state asked parts objects)
+told-may : (state : ReplicaState) (asked : Asked) (parts : List (ObjectId × Ask)) (objects : List ObjectId)
+    → MayGive state (row_told state asked parts objects)
 unfolding row_told
-told state asked parts objects decision given = subst (MayDecide state) (same_Some _ decision given) tt
+told-may state asked parts objects decision given = subst (MayDecide state) (same_Some _ decision given) tt
 
-made_of : (asked : Asked) (object : ObjectId) (base : Option Candidate) (fresh : Candidate) → option_map (λ (it : Candidate). record { stamp = fresh_stamp asked object; prior = it.stamp }) base ≡ Some fresh → (base ≡ None → ⊥) × (fresh.stamp ≡ fresh_stamp asked object)
+made_of : (asked : Asked) (object : ObjectId) (base : Option Candidate) (fresh : Candidate)
+    → option_map (λ (it : Candidate). record { stamp = fresh_stamp asked object; prior = it.stamp }) base ≡ Some
+    fresh → (base ≡ None → ⊥) × (fresh.stamp ≡ fresh_stamp asked object)
 made_of asked object None fresh made = absurd (none-some fresh made)
 made_of asked object (Some it) fresh made =
     ((λ none. none-some it (sym none)), sym (ap (λ (candidate : Candidate). candidate.stamp) (same_Some _ _ made)))
@@ -153,46 +167,58 @@ may_accept_fresh : (state : ReplicaState) (asked : Asked) (object : ObjectId)
     → (fresh : Candidate) → fresh_on state asked object ≡ Some fresh → (version : ObjState)
     → MayAccept state (record { object = object; candidate = fresh; state = version })
 may_accept_fresh state asked object known current in_time room fresh made version =
-    let parts : (base_of state asked object ≡ None → ⊥) × (fresh.stamp ≡ fresh_stamp asked object) = made_of asked object (base_of state asked object) fresh made in
-    let next : fresh.stamp.time ≡ (latest_of (shown_of asked object)).time + 1 = ap (λ (stamp : Stamp). stamp.time) parts.1 in
+    let parts : (base_of state asked object ≡ None → ⊥) × (fresh.stamp ≡ fresh_stamp asked object) =
+    made_of asked object (base_of state asked object) fresh made in
+    let next : fresh.stamp.time ≡ (latest_of (shown_of asked object)).time + 1 =
+    ap (λ (stamp : Stamp). stamp.time) parts.1 in
     record {
       known = known_by_entries (length state.histories) asked.sets object known
-          (λ empty. parts.0 (ap (λ (entries : List ObjectHistory). method_at state.bounds entries) empty ∙ method_at_none state.bounds));
+          (λ empty. parts.0 (ap (λ (entries : List ObjectHistory). method_at state.bounds entries) empty
+          ∙ method_at_none state.bounds));
       later = fresh_later (latest_of (shown_of asked object)) (own_latest state object) fresh.stamp next current;
       room = leb-false _ _ room;
       in_time = in_time_of (latest_of (shown_of asked object)) fresh.stamp next (leb-false _ _ in_time);
     }
 
-may_accept_made : (state : ReplicaState) (asked : Asked) (answer : Answer) (object : ObjectId) (values : List Value) (made : Option Candidate) → fresh_on state asked object ≡ made
-    → ((fresh : Candidate) → fresh_on state asked object ≡ Some fresh → (version : ObjState) → MayAccept state (record { object = object; candidate = fresh; state = version }))
+may_accept_made : (state : ReplicaState) (asked : Asked) (answer : Answer) (object : ObjectId)
+    (values : List Value) (made : Option Candidate) → fresh_on state asked object ≡ made
+    → ((fresh : Candidate) → fresh_on state asked object ≡ Some fresh → (version : ObjState)
+    → MayAccept state (record { object = object; candidate = fresh; state = version }))
     → MayAcceptAll state (accepted_by state asked answer (object ∷ []) values)
 unfolding accepted_by
 may_accept_made state asked answer object [] made is_made may = tt
 may_accept_made state asked answer object (value ∷ values) None is_made may = rw (is_made, MayAcceptAll) tt
-may_accept_made state asked answer object (value ∷ values) (Some fresh) is_made may = rw (is_made, MayAcceptAll) (may fresh is_made (record { value = value; answer = answer }))
+may_accept_made state asked answer object (value ∷ values) (Some fresh) is_made may =
+    rw (is_made, MayAcceptAll) (may fresh is_made (record { value = value; answer = answer }))
 
-pub no_first : (why : ObjectId → Refusal) (bad : Bool) (object : ObjectId) → option_map (λ (it : ObjectId). refuse (why it)) (cond bad (Some object) None) ≡ None → bad ≡ false
+pub no_first : (why : ObjectId → Refusal) (bad : Bool) (object : ObjectId)
+    → option_map (λ (it : ObjectId). refuse (why it)) (cond bad (Some object) None) ≡ None → bad ≡ false
 no_first why true object none = absurd (none-some (refuse (why object)) (sym none))
 no_first why false object none = refl
 
-no_unknown : (state : ReplicaState) (asked : Asked) → row_unknown state asked ≡ None → find (λ (set : SetOf). nat_le (length state.histories) (set.object).0) asked.sets ≡ None
+no_unknown : (state : ReplicaState) (asked : Asked) → row_unknown state asked ≡ None
+    → find (λ (set : SetOf). nat_le (length state.histories) (set.object).0) asked.sets ≡ None
 unfolding row_unknown
 no_unknown state asked none = unmapped (λ (set : SetOf). refuse (UnknownObject set.object)) _ none
 
 done : (state : ReplicaState) (asked : Asked) (part : ObjectId × Method) (object : ObjectId)
-    → row_unknown state asked ≡ None → row_current state asked (object ∷ []) ≡ None → row_time state asked (object ∷ []) ≡ None → row_full state asked (object ∷ []) ≡ None
+    → row_unknown state asked ≡ None → row_current state asked (object ∷ []) ≡ None
+    → row_time state asked (object ∷ []) ≡ None → row_full state asked (object ∷ []) ≡ None
     → MayGive state (row_done state asked (part ∷ []) (object ∷ []))
 unfolding row_current row_time row_full row_done
 done state asked part object unknown current time full decision given =
     subst (MayDecide state) (same_Some _ decision given)
     (may_accept_made state asked _ object _ _ refl
-    (may_accept_fresh state asked object (no_unknown state asked unknown) (no_first (λ it. NotCurrent it (own_latest state it)) _ object current) (no_first TimeSpent _ object time) (no_first HistoryFull _ object full)))
+    (may_accept_fresh state asked object (no_unknown state asked unknown)
+    (no_first (λ it. NotCurrent it (own_latest state it)) _ object current) (no_first TimeSpent _ object time)
+    (no_first HistoryFull _ object full)))
 
 nothing : (state : ReplicaState) → MayDecide state (first_given [])
 unfolding first_given
 nothing state = tt
 
-may_act : (state : ReplicaState) (asked : Asked) (part : ObjectId × Method) (object : ObjectId) → MayDecide state (decide_act state asked (part ∷ []) (object ∷ []))
+may_act : (state : ReplicaState) (asked : Asked) (part : ObjectId × Method) (object : ObjectId)
+    → MayDecide state (decide_act state asked (part ∷ []) (object ∷ []))
 unfolding decide_act
 may_act state asked part object =
     past state _ _ (unknown state asked) (λ known.
@@ -205,7 +231,8 @@ may_act state asked part object =
     past state _ _ (full state asked (object ∷ [])) (λ room.
     past state _ _ (done state asked part object known is_current in_time room) (λ _. nothing state)))))))))
 
-may_ask : (state : ReplicaState) (asked : Asked) (part : ObjectId × Ask) (object : ObjectId) → MayDecide state (decide_ask state asked (part ∷ []) (object ∷ []))
+may_ask : (state : ReplicaState) (asked : Asked) (part : ObjectId × Ask) (object : ObjectId)
+    → MayDecide state (decide_ask state asked (part ∷ []) (object ∷ []))
 unfolding decide_ask
 may_ask state asked part object =
     past state _ _ (unknown state asked) (λ _.
@@ -213,9 +240,10 @@ may_ask state asked part object =
     past state _ _ (current state asked (object ∷ [])) (λ _.
     past state _ _ (method state asked (object ∷ [])) (λ _.
     past state _ _ (version state asked (object ∷ [])) (λ _.
-    past state _ _ (told state asked (part ∷ []) (object ∷ [])) (λ _. nothing state))))))
+    past state _ _ (told-may state asked (part ∷ []) (object ∷ [])) (λ _. nothing state))))))
 
-pub decision_on-may : (state : ReplicaState) (asked : Asked) (asks : Body) → IsTrue (has_parts asks) → MayDecide state (decision_on state asked asks)
+pub decision_on-may : (state : ReplicaState) (asked : Asked) (asks : Body) → IsTrue (has_parts asks)
+    → MayDecide state (decision_on state asked asks)
 decision_on-may state asked (body.Act []) parts = absurd (false≢true parts)
 decision_on-may state asked (body.Act (part ∷ [])) parts = may_act state asked part part.0
 decision_on-may state asked (body.Act (first ∷ second ∷ later)) parts = absurd (false≢true parts)
@@ -223,13 +251,18 @@ decision_on-may state asked (body.Ask []) parts = absurd (false≢true parts)
 decision_on-may state asked (body.Ask (part ∷ [])) parts = may_ask state asked part part.0
 decision_on-may state asked (body.Ask (first ∷ second ∷ later)) parts = absurd (false≢true parts)
 
-pub carried_out-histories : (state : ReplicaState) (client : ClientId) (number round : ℕ) (sets : List SetOf) (decision : Decision) → AreHistories state → MayDecide state decision → AreHistories (carried_out state client number round sets decision).0
-carried_out-histories state client number round sets (Answers verdict accepted) own may = accept_all-histories state accepted own may
+pub carried_out-histories : (state : ReplicaState) (client : ClientId) (number round : ℕ) (sets : List SetOf)
+    (decision : Decision) → AreHistories state → MayDecide state decision
+    → AreHistories (carried_out state client number round sets decision).0
+carried_out-histories state client number round sets (Answers verdict accepted) own may =
+    accept_all-histories state accepted own may
 carried_out-histories state client number round sets Waits own may = own
 
 -- a step keeps the histories as they must be
-pub on_frame-histories : (state : ReplicaState) (received : Frame) → HasParts received → AreHistories state → AreHistories (on_frame state received).0
+pub on_frame-histories : (state : ReplicaState) (received : Frame) → HasParts received → AreHistories state
+    → AreHistories (on_frame state received).0
 on_frame-histories state (frame.Request client number round sets asks mac) parts own =
     let asked : Asked = asked_of client number sets asks in
-    carried_out-histories state client number round sets (decision_on state asked asks) own (decision_on-may state asked asks parts)
+    carried_out-histories state client number round sets (decision_on state asked asks) own
+    (decision_on-may state asked asks parts)
 on_frame-histories state (frame.Reply replica client number round verdict culled shown mac) parts own = own

@@ -5,13 +5,14 @@ use Rattle.std.specs.List.{filter, flat_map}
 use Rattle.std.proofs.lemmas.Bool.{false≢true, and_from, and_parts, cases_Bool}
 use Rattle.std.proofs.lemmas.Option.{none-some, same_Some, cond_some}
 use Rattle.std.proofs.lemmas.List.Folds.{list_any-append}
+use Rattle.qu_base.specs.declared.limits.TheConstants.{LAST_CLIENT}
 use Rattle.qu_base.specs.declared.party.ClientId.{ClientId}
 use Rattle.qu_base.specs.declared.party.Digest.{Digest}
 use Rattle.qu_base.specs.declared.party.ObjectId.{ObjectId}
 use Rattle.qu_base.specs.Thresholds.{quorum, repair}
 use Rattle.qu_base.specs.Format.{FitsFrom, optional, digest_form}
 use Rattle.qu_stamp.specs.declared.stamp.Stamp.{Stamp}
-use Rattle.qu_stamp.specs.declared.stamp.TheConstants.{LAST_TIME}
+use Rattle.qu_stamp.specs.declared.limits.TheConstants.{LAST_TIME}
 use Rattle.qu_stamp.specs.declared.candidate.Candidate.{Candidate}
 use Rattle.qu_stamp.specs.Stamp.{opening_stamp, is_below, same_stamp}
 use Rattle.qu_stamp.specs.Candidate.{same}
@@ -26,12 +27,14 @@ use Rattle.qu_history.proofs.Greatest.{greatest_cases, holds-filter}
 
 -- ---- a fresh stamp
 
-act_fits : (act : Option Digest) → ((digest : Digest) → act ≡ Some digest → length digest.0 ≡ 32) → (optional true digest_form).Fits act
+act_fits : (act : Option Digest) → ((digest : Digest) → act ≡ Some digest → length digest.0 ≡ 32)
+    → (optional true digest_form).Fits act
 act_fits None sized = ((omega arith, omega arith), refl)
 act_fits (Some digest) sized = ((omega arith, omega arith), sized digest refl)
 
 -- a stamp above time 0 that is no barrier's
-pub stamp_fits : (time : ℕ) (client : ClientId) (act : Option Digest) (set : Digest) → (time == 0) ≡ false → time ≤ LAST_TIME → 1 ≤ client.0 → client.0 ≤ 64
+pub stamp_fits : (time : ℕ) (client : ClientId) (act : Option Digest) (set : Digest) → (time == 0) ≡ false
+    → time ≤ LAST_TIME → 1 ≤ client.0 → client.0 ≤ LAST_CLIENT
     → ((digest : Digest) → act ≡ Some digest → length digest.0 ≡ 32) → length set.0 ≡ 32
     → stamp_form.Fits (record { time = time; barrier = false; client = client; act = act; set = set })
 unfolding stamp_with
@@ -42,14 +45,24 @@ pub not_opening : (stamp : Stamp) → (stamp.time == 0) ≡ false → same_stamp
 unfolding same_stamp
 not_opening stamp above = rw above refl
 
-pub prior_fits : (stamp prior : Stamp) → same_stamp stamp opening_stamp ≡ false → stamp_form.Fits prior → is_below prior stamp ≡ true → prior.barrier ≡ false → (prior_form stamp).Fits prior
+pub prior_fits : (stamp prior : Stamp) → same_stamp stamp opening_stamp ≡ false → stamp_form.Fits prior
+    → is_below prior stamp ≡ true → prior.barrier ≡ false → (prior_form stamp).Fits prior
 unfolding prior_form
-prior_fits stamp prior other fits below plain =
-    ((fits, and_from _ _ (ap (λ (test : Bool). cond test (same_stamp prior opening_stamp) (is_below prior stamp)) other ∙ below) (ap not plain)), (omega arith, omega arith))
+prior_fits stamp prior other fits below plain = (
+  (
+    fits,
+    and_from _ _ (ap (λ (test : Bool). cond test (same_stamp prior opening_stamp) (is_below prior stamp))
+        other ∙ below) (ap not plain),
+  ),
+  (omega arith, omega arith),
+)
 
 pub opening_fits : stamp_form.Fits opening_stamp
 unfolding stamp_with same_stamp
-opening_fits = ((omega arith, omega arith), ((omega arith, omega arith), ((omega arith, omega arith), (((omega arith, omega arith), refl), (refl, refl)))))
+opening_fits = (
+  (omega arith, omega arith),
+  ((omega arith, omega arith), ((omega arith, omega arith), (((omega arith, omega arith), refl), (refl, refl)))),
+)
 
 -- the prior of the opening candidate
 pub prior_of_opening_fits : (prior_form opening_stamp).Fits opening_stamp
@@ -67,14 +80,17 @@ pub of_either : {P : Type 0} (left right : Bool) → (left ≡ true → P) → (
 of_either true right one two is = one refl
 of_either false right one two is = two is
 
-pub stamps_fit_from : (before : Option Stamp) (candidates : List Candidate) → FitsFrom next_candidate (λ (candidate : Candidate). Some candidate.stamp) before candidates → StampsFit candidates
+pub stamps_fit_from : (before : Option Stamp) (candidates : List Candidate)
+    → FitsFrom next_candidate (λ (candidate : Candidate). Some candidate.stamp) before candidates → StampsFit candidates
 unfolding next_candidate
 stamps_fit_from before [] fits held holding = absurd (false≢true holding)
 stamps_fit_from None (first ∷ later) fits held holding =
-    of_either (same first held) (holds held later) (λ is. subst (λ (it : Candidate). stamp_form.Fits it.stamp) (equal_by_same first held is) (((fits.0).0).0))
+    of_either (same first held) (holds held later)
+    (λ is. subst (λ (it : Candidate). stamp_form.Fits it.stamp) (equal_by_same first held is) (((fits.0).0).0))
     (λ there. stamps_fit_from (Some first.stamp) later fits.1 held there) holding
 stamps_fit_from (Some stamp) (first ∷ later) fits held holding =
-    of_either (same first held) (holds held later) (λ is. subst (λ (it : Candidate). stamp_form.Fits it.stamp) (equal_by_same first held is) (((fits.0).0).0))
+    of_either (same first held) (holds held later)
+    (λ is. subst (λ (it : Candidate). stamp_form.Fits it.stamp) (equal_by_same first held is) (((fits.0).0).0))
     (λ there. stamps_fit_from (Some first.stamp) later fits.1 held there) holding
 
 pub stamps_fit : (candidates : List Candidate) → candidates_form.Fits candidates → StampsFit candidates
@@ -83,48 +99,61 @@ stamps_fit candidates fits = stamps_fit_from None candidates (fits.1).1
 
 joined_fit : (one two : List Candidate) → StampsFit one → StampsFit two → StampsFit (one ++ two)
 joined_fit one two fits later held holding =
-    of_either (holds held one) (holds held two) (fits held) (later held) (sym (list_any-append (λ (it : Candidate). same it held) one two) ∙ holding)
+    of_either (holds held one) (holds held two) (fits held) (later held)
+    (sym (list_any-append (λ (it : Candidate). same it held) one two) ∙ holding)
 
-entries_fit : (object : ObjectId) (least : ℕ) (entries : List Sealed) → FitsFrom (sealed_entry_form object) next_entry least entries → StampsFit (candidates_of (histories entries))
+entries_fit : (object : ObjectId) (least : ℕ) (entries : List Sealed)
+    → FitsFrom (sealed_entry_form object) next_entry least entries → StampsFit (candidates_of (histories entries))
 unfolding sealed_entry_form entry_form candidates_of
 entries_fit object least [] fits = λ held holding. absurd (false≢true holding)
 entries_fit object least (sealed ∷ later) fits =
     let each : ObjectHistory → List Candidate = λ (entry : ObjectHistory). entry.candidates in
-    joined_fit (sealed.history).candidates (flat_map each (histories later)) (stamps_fit (sealed.history).candidates ((((fits.0).0).1).1))
+    joined_fit (sealed.history).candidates (flat_map each (histories later))
+    (stamps_fit (sealed.history).candidates ((((fits.0).0).1).1))
     (entries_fit object (next_entry sealed) later fits.1)
 
 none_fit : StampsFit (candidates_of [])
 unfolding candidates_of
 none_fit held holding = absurd (false≢true holding)
 
-sets_fit_from : (least : ℕ) (sets : List SetOf) → FitsFrom set_form (λ (set : SetOf). (set.object).0 + 1) least sets → (object : ObjectId) → StampsFit (candidates_of (entries_of object sets))
+sets_fit_from : (least : ℕ) (sets : List SetOf) → FitsFrom set_form (λ (set : SetOf). (set.object).0 + 1) least
+    sets → (object : ObjectId) → StampsFit (candidates_of (entries_of object sets))
 unfolding set_form entries_form entries_of
 sets_fit_from least [] fits object = none_fit
 sets_fit_from least (set ∷ later) fits object =
     elim (cases_Bool ((set.object).0 == object.0)) [
       | inl is ↦
-          subst (λ (test : Bool). StampsFit (candidates_of (cond test (histories set.entries) (entries_of object later)))) (sym is)
+          subst (λ (test : Bool). StampsFit
+          (candidates_of (cond test (histories set.entries) (entries_of object later)))) (sym is)
           (entries_fit set.object 0 set.entries (((fits.0).1).1).1)
       | inr other ↦
-          subst (λ (test : Bool). StampsFit (candidates_of (cond test (histories set.entries) (entries_of object later)))) (sym other)
+          subst (λ (test : Bool). StampsFit
+          (candidates_of (cond test (histories set.entries) (entries_of object later)))) (sym other)
           (sets_fit_from ((set.object).0 + 1) later fits.1 object)
     ]
 
 -- all that fitting sets show of an object
-pub shown_fit : (sets : List SetOf) → sets_form.Fits sets → (object : ObjectId) → StampsFit (candidates_of (entries_of object sets))
+pub shown_fit : (sets : List SetOf) → sets_form.Fits sets → (object : ObjectId)
+    → StampsFit (candidates_of (entries_of object sets))
 unfolding sets_form
 shown_fit sets fits object = sets_fit_from 0 sets (fits.1).1 object
 
 -- ---- what operations rest upon
 
 module _ (bounds : ℕ) (entries : List ObjectHistory) (base : Candidate) where
-  found_passes : (found : Option Candidate) → if_method bounds entries found ≡ Some base → (found ≡ Some base) × (base.stamp ≡ latest_of entries)
+  found_passes : (found : Option Candidate) → if_method bounds entries found ≡ Some base → (found ≡ Some base)
+      × (base.stamp ≡ latest_of entries)
   unfolding if_method
   found_passes None given = absurd (none-some base given)
   found_passes (Some candidate) given =
-      let passing : ((same_stamp candidate.stamp (latest_of entries) && nat_le (quorum bounds) (order_of candidate entries)) ≡ true) × (candidate ≡ base) = cond_some _ candidate base given in
-      let parts = and_parts _ _ passing.0 in
-      (ap Some passing.1, ap (λ (it : Candidate). it.stamp) (sym passing.1) ∙ equal_by_same_stamp candidate.stamp (latest_of entries) parts.0)
+      let passing :
+      ((same_stamp candidate.stamp (latest_of entries) && nat_le (quorum bounds) (order_of candidate entries))
+      ≡ true) × (candidate ≡ base) = cond_some _ candidate base given in
+      let parts = and_parts _ _ passing.0 in (
+        ap Some passing.1,
+        ap (λ (it : Candidate). it.stamp) (sym passing.1) ∙ equal_by_same_stamp candidate.stamp
+            (latest_of entries) parts.0,
+      )
 
   pub base_latest : method_at bounds entries ≡ Some base → base.stamp ≡ latest_of entries
   unfolding method_at
@@ -133,11 +162,14 @@ module _ (bounds : ℕ) (entries : List ObjectHistory) (base : Candidate) where
   pub base_shown : method_at bounds entries ≡ Some base → holds base (candidates_of entries) ≡ true
   unfolding method_at object_candidate
   base_shown given =
-      let test : Candidate → Bool = λ (other : Candidate). not other.stamp.barrier && nat_le (repair bounds) (order_of other entries) in
-      let is_found : greatest (filter test (candidates_of entries)) ≡ Some base = (found_passes (greatest (filter test (candidates_of entries))) given).0 in
+      let test : Candidate → Bool = λ (other : Candidate). not other.stamp.barrier && nat_le (repair bounds)
+      (order_of other entries) in
+      let is_found : greatest (filter test (candidates_of entries)) ≡ Some base =
+      (found_passes (greatest (filter test (candidates_of entries))) given).0 in
       elim (greatest_cases (filter test (candidates_of entries))) [
         | inl none ↦ absurd (none-some base (sym none.0 ∙ is_found))
         | inr found ↦
             let equal : found.0 ≡ base = same_Some found.0 base (sym found.1 ∙ is_found) in
-            ap (λ (it : Candidate). holds it (candidates_of entries)) (sym equal) ∙ (holds-filter test found.0 (candidates_of entries) (found.2).held).0
+            ap (λ (it : Candidate). holds it (candidates_of entries)) (sym equal)
+            ∙ (holds-filter test found.0 (candidates_of entries) (found.2).held).0
       ]

@@ -1,11 +1,12 @@
 -- All that a replica holds fits its format, at the beginning and once it accepted a candidate that fits.
-use Rattle.std.proofs.Common.{◌≡◌, ℕ, zero, suc, ◌+◌, ◌<◌, ◌≤◌, Bool, true, cond, List, [], ◌∷◌, ◌++◌, length, length-append, Option, None, Some, inl, inr, refl, sym, ap, subst, ◌∙◌, arith}
+use Rattle.std.proofs.Common.{◌≡◌, ◌-◌, ℕ, zero, suc, ◌+◌, ◌<◌, ◌≤◌, Bool, true, cond, List, [], ◌∷◌, ◌++◌, length, length-append, Option, None, Some, inl, inr, refl, sym, ap, subst, ◌∙◌, arith}
 use Rattle.std.specs.Prelude.{IsTrue, slice_get}
 use Rattle.std.proofs.lemmas.Bool.{cases_Bool, and_parts, false≢true}
 use Rattle.std.proofs.lemmas.Option.{none-some, same_Some}
+use Rattle.qu_base.specs.declared.limits.TheConstants.{OBJECT_IDS, REPLICA_IDS}
 use Rattle.qu_base.specs.declared.party.ObjectId.{ObjectId}
 use Rattle.qu_base.specs.declared.party.ReplicaId.{ReplicaId}
-use Rattle.qu_base.specs.Thresholds.{replicas}
+use Rattle.qu_base.specs.Thresholds.{replicas, is_replica_count}
 use Rattle.qu_base.specs.Format.{FitsFrom}
 use Rattle.qu_seal.specs.Keys.{Ring}
 use Rattle.qu_stamp.specs.declared.stamp.Stamp.{Stamp}
@@ -14,9 +15,9 @@ use Rattle.qu_stamp.specs.Stamp.{opening_stamp, is_below, same_stamp}
 use Rattle.qu_stamp.specs.Candidate.{opening}
 use Rattle.qu_stamp.specs.Forms.{stamp_form, prior_form}
 use Rattle.qu_stamp.proofs.Order.{same_stamp-self, equal_by_same_stamp}
-use Rattle.qu_history.specs.declared.history.TheConstants.{HISTORY_LIMIT}
+use Rattle.qu_history.specs.declared.limits.TheConstants.{HISTORY_LIMIT}
 use Rattle.qu_history.specs.History.{ObjectHistory, is_history, latest, last_from}
-use Rattle.qu_history.specs.Forms.{is_mac_count, next_candidate, candidates_form}
+use Rattle.qu_history.specs.Forms.{next_candidate, candidates_form}
 use Rattle.qu_history.proofs.Rising.{latest_is_last}
 use Rattle.qu_objects.specs.declared.kind.KindName.{KindName}
 use Rattle.qu_objects.specs.declared.kind.KindName.TheVariants as kind
@@ -39,33 +40,49 @@ abbrev stamp_after : Option Stamp → List Candidate → Option Stamp
 stamp_after before [] = before
 stamp_after before (first ∷ later) = stamp_after (Some first.stamp) later
 
-after_is_last : (first : Candidate) (later : List Candidate) → stamp_after (Some first.stamp) later ≡ Some (last_from first later).stamp
+after_is_last : (first : Candidate) (later : List Candidate) → stamp_after (Some first.stamp) later ≡ Some
+    (last_from first later).stamp
 unfolding last_from
 after_is_last first [] = refl
 after_is_last first (next ∷ later) = after_is_last next later
 
-fits_after : (before : Option Stamp) (candidates : List Candidate) (candidate : Candidate) → FitsFrom next_candidate (λ (it : Candidate). Some it.stamp) before candidates
-    → (next_candidate (stamp_after before candidates)).Fits candidate → FitsFrom next_candidate (λ (it : Candidate). Some it.stamp) before (candidates ++ candidate ∷ [])
+fits_after : (before : Option Stamp) (candidates : List Candidate) (candidate : Candidate)
+    → FitsFrom next_candidate (λ (it : Candidate). Some it.stamp) before candidates
+    → (next_candidate (stamp_after before candidates)).Fits candidate
+    → FitsFrom next_candidate (λ (it : Candidate). Some it.stamp) before (candidates ++ candidate ∷ [])
 fits_after before [] candidate fits here = (here, tt)
-fits_after before (first ∷ later) candidate fits here = (fits.0, fits_after (Some first.stamp) later candidate fits.1 here)
+fits_after before (first ∷ later) candidate fits here =
+    (fits.0, fits_after (Some first.stamp) later candidate fits.1 here)
 
 -- a candidate that fits, above the stamp before it
-next_fits : (before : Stamp) (candidate : Candidate) → stamp_form.Fits candidate.stamp → is_below before candidate.stamp ≡ true → (prior_form candidate.stamp).Fits candidate.prior → (next_candidate (Some before)).Fits candidate
+next_fits : (before : Stamp) (candidate : Candidate) → stamp_form.Fits candidate.stamp
+    → is_below before candidate.stamp ≡ true → (prior_form candidate.stamp).Fits candidate.prior
+    → (next_candidate (Some before)).Fits candidate
 unfolding next_candidate
 next_fits before candidate fits below prior = ((fits, below), prior)
 
-last_is : (candidates : List Candidate) → IsTrue (is_history candidates) → stamp_after None candidates ≡ Some (latest candidates)
+last_is : (candidates : List Candidate) → IsTrue (is_history candidates) → stamp_after None candidates ≡ Some
+    (latest candidates)
 unfolding is_history last_from
 last_is [] rises = absurd (false≢true rises)
 last_is (first ∷ later) rises = after_is_last first later ∙ ap Some (sym (latest_is_last (first ∷ later) rises))
 
-pub push_fits : (candidates : List Candidate) (candidate : Candidate) → candidates_form.Fits candidates → IsTrue (is_history candidates) → is_below (latest candidates) candidate.stamp ≡ true → length candidates < HISTORY_LIMIT
-    → stamp_form.Fits candidate.stamp → (prior_form candidate.stamp).Fits candidate.prior → candidates_form.Fits (candidates ++ candidate ∷ [])
+pub push_fits : (candidates : List Candidate) (candidate : Candidate) → candidates_form.Fits candidates
+    → IsTrue (is_history candidates) → is_below (latest candidates) candidate.stamp ≡ true
+    → length candidates < HISTORY_LIMIT
+    → stamp_form.Fits candidate.stamp → (prior_form candidate.stamp).Fits candidate.prior
+    → candidates_form.Fits (candidates ++ candidate ∷ [])
 unfolding candidates_form
 push_fits candidates candidate fits rises later room stamp prior =
-    let count : length (candidates ++ candidate ∷ []) ≡ length candidates + 1 = length-append candidates (candidate ∷ []) in (
+    let count : length (candidates ++ candidate ∷ []) ≡ length candidates + 1 =
+    length-append candidates (candidate ∷ []) in (
       (omega (arith, count), omega (arith, count, room)),
-      (refl, fits_after None candidates candidate (fits.1).1 (subst (λ (before : Option Stamp). (next_candidate before).Fits candidate) (sym (last_is candidates rises)) (next_fits (latest candidates) candidate stamp later prior))),
+      (
+        refl,
+        fits_after None candidates candidate (fits.1).1
+            (subst (λ (before : Option Stamp). (next_candidate before).Fits candidate)
+            (sym (last_is candidates rises)) (next_fits (latest candidates) candidate stamp later prior)),
+      ),
     )
 
 -- ---- a candidate is accepted
@@ -76,42 +93,56 @@ pub record AcceptFits (accepted : Accepted) : Type 0 where
   pub value : ValueFits accepted.state.value
   pub answer : answer_form.Fits accepted.state.answer
 
-histories_with : (number : ℕ) (candidate : Candidate) (histories : List ObjectHistory) → ((place : ℕ) (history : ObjectHistory) → slice_get histories place ≡ Some history → candidates_form.Fits history.candidates)
-    → ((history : ObjectHistory) → slice_get histories number ≡ Some history → candidates_form.Fits (history.candidates ++ candidate ∷ []))
-    → (place : ℕ) (history : ObjectHistory) → slice_get (with_candidate number candidate histories) place ≡ Some history → candidates_form.Fits history.candidates
+histories_with : (number : ℕ) (candidate : Candidate) (histories : List ObjectHistory)
+    → ((place : ℕ) (history : ObjectHistory) → slice_get histories place ≡ Some history
+    → candidates_form.Fits history.candidates)
+    → ((history : ObjectHistory) → slice_get histories number ≡ Some history
+    → candidates_form.Fits (history.candidates ++ candidate ∷ []))
+    → (place : ℕ) (history : ObjectHistory) → slice_get (with_candidate number candidate histories) place ≡ Some
+    history → candidates_form.Fits history.candidates
 unfolding with_candidate
 histories_with number candidate [] before grown place history found = before place history found
 histories_with zero candidate (here ∷ later) before grown zero history found =
-    subst (λ (it : ObjectHistory). candidates_form.Fits it.candidates) (same_Some (record here { candidates = here.candidates ++ candidate ∷ [] }) history found) (grown here refl)
+    subst (λ (it : ObjectHistory). candidates_form.Fits it.candidates)
+    (same_Some (record here { candidates = here.candidates ++ candidate ∷ [] }) history found) (grown here refl)
 histories_with zero candidate (here ∷ later) before grown (suc place) history found = before (suc place) history found
 histories_with (suc number) candidate (here ∷ later) before grown zero history found = before zero history found
 histories_with (suc number) candidate (here ∷ later) before grown (suc place) history found =
     histories_with number candidate later (λ at it. before (suc at) it) grown place history found
 
-versions_with : (versions : List Stored) (stored : Stored) → VersionsFit versions → VersionFits stored.stamp stored.state → VersionsFit (versions ++ stored ∷ [])
+versions_with : (versions : List Stored) (stored : Stored) → VersionsFit versions
+    → VersionFits stored.stamp stored.state → VersionsFit (versions ++ stored ∷ [])
 versions_with [] stored fits here = (here, tt)
 versions_with (first ∷ later) stored fits here = (fits.0, versions_with later stored fits.1 here)
 
-pub accept-fits : (state : ReplicaState) (accepted : Accepted) → StateFits state → MayAccept state accepted → AcceptFits accepted → StateFits (accept state accepted)
+pub accept-fits : (state : ReplicaState) (accepted : Accepted) → StateFits state → MayAccept state accepted
+    → AcceptFits accepted → StateFits (accept state accepted)
 accept-fits state accepted fits may made = record {
   me = fits.me;
   bounds = fits.bounds;
   few =
-      let number : length (with_candidate (accepted.object).0 accepted.candidate state.histories) ≡ length state.histories = length-with_candidate (accepted.object).0 accepted.candidate state.histories in
+      let number : length (with_candidate (accepted.object).0 accepted.candidate state.histories) ≡ length
+      state.histories = length-with_candidate (accepted.object).0 accepted.candidate state.histories in
       omega (arith, number, fits.few);
   own = accept-histories state accepted fits.own may;
   histories = histories_with (accepted.object).0 accepted.candidate state.histories fits.histories (λ history found.
-      let later : is_below (latest history.candidates) accepted.candidate.stamp ≡ true = ap (λ (it : Option ObjectHistory). is_below (latest (candidates_in it)) accepted.candidate.stamp) (sym found) ∙ may.later in
-      let room : length history.candidates < HISTORY_LIMIT = subst (λ (it : Option ObjectHistory). length (candidates_in it) < HISTORY_LIMIT) found may.room in
-      push_fits history.candidates accepted.candidate (fits.histories (accepted.object).0 history found) (own_history state (accepted.object).0 history fits.own found).rises later room made.stamp made.prior);
-  versions = versions_with state.versions _ fits.versions (record { value = made.value; answer = λ other. made.answer });
+      let later : is_below (latest history.candidates) accepted.candidate.stamp ≡ true =
+      ap (λ (it : Option ObjectHistory). is_below (latest (candidates_in it)) accepted.candidate.stamp)
+      (sym found) ∙ may.later in
+      let room : length history.candidates < HISTORY_LIMIT =
+      subst (λ (it : Option ObjectHistory). length (candidates_in it) < HISTORY_LIMIT) found may.room in
+      push_fits history.candidates accepted.candidate (fits.histories (accepted.object).0 history found)
+      (own_history state (accepted.object).0 history fits.own found).rises later room made.stamp made.prior);
+  versions = versions_with state.versions _ fits.versions
+      (record { value = made.value; answer = λ other. made.answer });
 }
 
 abbrev pub AcceptAllFit : List Accepted → Type 0
 AcceptAllFit [] = Unit {0}
 AcceptAllFit (accepted ∷ later) = AcceptFits accepted × AcceptAllFit later
 
-pub accept_all-fits : (state : ReplicaState) (accepted : List Accepted) → StateFits state → MayAcceptAll state accepted → AcceptAllFit accepted → StateFits (accept_all state accepted)
+pub accept_all-fits : (state : ReplicaState) (accepted : List Accepted) → StateFits state
+    → MayAcceptAll state accepted → AcceptAllFit accepted → StateFits (accept_all state accepted)
 unfolding accept_all
 accept_all-fits state [] fits may made = fits
 accept_all-fits state (accepted ∷ []) fits may made = accept-fits state accepted fits may made.0
@@ -123,16 +154,20 @@ opening_candidates : candidates_form.Fits (opening ∷ [])
 unfolding candidates_form next_candidate same_stamp
 opening_candidates = ((omega arith, omega arith), (refl, (((opening_fits, refl), prior_of_opening_fits), tt)))
 
-pub opening_number : (me : ReplicaId) (first : ℕ) (kinds : List KindName) → length (opening_histories me first kinds) ≡ length kinds
+pub opening_number : (me : ReplicaId) (first : ℕ) (kinds : List KindName)
+    → length (opening_histories me first kinds) ≡ length kinds
 unfolding opening_histories
 opening_number me first [] = refl
 opening_number me first (kind ∷ kinds) = ap suc (opening_number me (first + 1) kinds)
 
-opening_histories_fit : (me : ReplicaId) (first : ℕ) (kinds : List KindName) (place : ℕ) (history : ObjectHistory) → slice_get (opening_histories me first kinds) place ≡ Some history → candidates_form.Fits history.candidates
+opening_histories_fit : (me : ReplicaId) (first : ℕ) (kinds : List KindName) (place : ℕ) (history : ObjectHistory)
+    → slice_get (opening_histories me first kinds) place ≡ Some history → candidates_form.Fits history.candidates
 unfolding opening_histories
 opening_histories_fit me first [] place history found = absurd (none-some history found)
-opening_histories_fit me first (kind ∷ kinds) zero history found = subst (λ (it : ObjectHistory). candidates_form.Fits it.candidates) (same_Some _ history found) opening_candidates
-opening_histories_fit me first (kind ∷ kinds) (suc place) history found = opening_histories_fit me (first + 1) kinds place history found
+opening_histories_fit me first (kind ∷ kinds) zero history found =
+    subst (λ (it : ObjectHistory). candidates_form.Fits it.candidates) (same_Some _ history found) opening_candidates
+opening_histories_fit me first (kind ∷ kinds) (suc place) history found =
+    opening_histories_fit me (first + 1) kinds place history found
 
 fresh_fits : (kind : KindName) → ValueFits (fresh_value kind)
 fresh_fits kind.Counter = omega arith
@@ -140,15 +175,24 @@ fresh_fits kind.Counter = omega arith
 opening_versions_fit : (first : ℕ) (kinds : List KindName) → VersionsFit (opening_versions first kinds)
 unfolding opening_versions
 opening_versions_fit first [] = tt
-opening_versions_fit first (kind ∷ kinds) =
-    (record { value = fresh_fits kind; answer = λ other. absurd (false≢true (sym other ∙ same_stamp-self opening_stamp)) }, opening_versions_fit (first + 1) kinds)
+opening_versions_fit first (kind ∷ kinds) = (
+  record {
+    value = fresh_fits kind;
+    answer = λ other. absurd
+        (false≢true (sym other ∙ same_stamp-self opening_stamp));
+  },
+  opening_versions_fit (first + 1) kinds,
+)
 
 -- a replica begins so
-pub opening-fits : (me : ReplicaId) (keys : Ring) (bounds : ℕ) (kinds : List KindName) → me.0 ≤ 15 → IsTrue (is_mac_count (replicas bounds)) → length kinds ≤ 64 → StateFits (opening_state me keys bounds kinds)
+pub opening-fits : (me : ReplicaId) (keys : Ring) (bounds : ℕ) (kinds : List KindName) → me.0 ≤ REPLICA_IDS - 1
+    → IsTrue (is_replica_count (replicas bounds)) → length kinds ≤ OBJECT_IDS
+    → StateFits (opening_state me keys bounds kinds)
 opening-fits me keys bounds kinds within sized few = record {
   me = within;
   bounds = sized;
-  few = let number : length (opening_histories me 0 kinds) ≡ length kinds = opening_number me 0 kinds in omega (arith, number, few);
+  few = let number : length (opening_histories me 0 kinds) ≡ length kinds =
+      opening_number me 0 kinds in omega (arith, number, few);
   own = opening-histories me keys bounds kinds;
   histories = opening_histories_fit me 0 kinds;
   versions = opening_versions_fit 0 kinds;
@@ -156,15 +200,19 @@ opening-fits me keys bounds kinds within sized few = record {
 
 -- ---- a version that is found
 
-pub version_fits : (object : ObjectId) (stamp : Stamp) (versions : List Stored) (version : ObjState) → VersionsFit versions → version_at object stamp versions ≡ Some version → VersionFits stamp version
+pub version_fits : (object : ObjectId) (stamp : Stamp) (versions : List Stored) (version : ObjState)
+    → VersionsFit versions → version_at object stamp versions ≡ Some version → VersionFits stamp version
 unfolding version_at
 version_fits object stamp [] version fits found = absurd (none-some version found)
 version_fits object stamp (first ∷ later) version fits found =
     elim (cases_Bool (is_stored object stamp first)) [
       | inl is ↦
-          let here : first.state ≡ version = same_Some first.state version (sym (ap (λ (test : Bool). cond test (Some first.state) (version_at object stamp later)) is) ∙ found) in
+          let here : first.state ≡ version =
+          same_Some first.state version
+          (sym (ap (λ (test : Bool). cond test (Some first.state) (version_at object stamp later)) is) ∙ found) in
           let under : first.stamp ≡ stamp = equal_by_same_stamp first.stamp stamp (and_parts _ _ is).1 in
           subst (λ (it : Stamp). VersionFits it version) under (subst (VersionFits first.stamp) here fits.0)
       | inr not ↦
-          version_fits object stamp later version fits.1 (sym (ap (λ (test : Bool). cond test (Some first.state) (version_at object stamp later)) not) ∙ found)
+          version_fits object stamp later version fits.1
+          (sym (ap (λ (test : Bool). cond test (Some first.state) (version_at object stamp later)) not) ∙ found)
     ]

@@ -1,6 +1,7 @@
 -- What a replica answers to a request that was decoded fits its format.
 use Rattle.std.proofs.Common.{◌≡◌, ℕ, ◌+◌, ◌-◌, ◌^◌, ◌<◌, ◌≤◌, ltb, Bool, cond, [], ◌∷◌, inl, inr, refl, sym, subst, arith}
 use Rattle.std.proofs.lemmas.Bool.{cases_Bool, ltb-true, le-leb}
+use Rattle.qu_base.specs.declared.limits.TheConstants.{OBJECT_IDS}
 use Rattle.qu_base.specs.declared.party.ObjectId.{ObjectId}
 use Rattle.qu_stamp.specs.declared.stamp.Stamp.{Stamp}
 use Rattle.qu_stamp.specs.Forms.{stamp_form}
@@ -11,7 +12,7 @@ use Rattle.qu_objects.specs.declared.query.Ask.TheVariants.{Read}
 use Rattle.qu_objects.specs.declared.answer.Item.TheVariants.{Number}
 use Rattle.qu_objects.specs.declared.answer.Answer.{Answer}
 use Rattle.qu_objects.specs.declared.answer.Answer.TheVariants as answer
-use Rattle.qu_objects.specs.declared.answer.TheConstants.{OVER, UNDER}
+use Rattle.qu_objects.specs.declared.refusal_number.TheConstants.{OVER, UNDER}
 use Rattle.qu_objects.specs.declared.kind.Applied.{Applied}
 use Rattle.qu_objects.specs.declared.kind.Applied.TheVariants as made
 use Rattle.qu_objects.specs.declared.kind.Value.{Value}
@@ -32,7 +33,7 @@ refused_fits : (why : Refusal) → refusal_form.Fits why → verdict_form.Fits (
 unfolding verdict_form
 refused_fits why fits = (((omega arith, omega arith), refl), fits)
 
-module _ (object : ObjectId) (within : object.0 ≤ 63) where
+module _ (object : ObjectId) (within : object.0 ≤ OBJECT_IDS - 1) where
   pub unknown_fits : verdict_form.Fits (Refused (UnknownObject object))
   unfolding refusal_form
   unknown_fits = refused_fits _ (((omega arith, omega arith), refl), (omega arith, within))
@@ -60,13 +61,16 @@ module _ (object : ObjectId) (within : object.0 ≤ 63) where
   -- one stamp that is told
   one_stamp : (stamp : Stamp) → stamp_form.Fits stamp → stamps_form.Fits ((object, stamp) ∷ [])
   unfolding stamps_form
-  one_stamp stamp fits = ((omega arith, omega arith), (refl, ((((omega arith, within), le-leb _ _ (omega arith)), fits), tt)))
+  one_stamp stamp fits =
+      ((omega arith, omega arith), (refl, ((((omega arith, within), le-leb _ _ (omega arith)), fits), tt)))
 
-  pub done_fits : (stamp : Stamp) (answer : Answer) → stamp_form.Fits stamp → answer_form.Fits answer → verdict_form.Fits (Done ((object, stamp) ∷ []) answer)
+  pub done_fits : (stamp : Stamp) (answer : Answer) → stamp_form.Fits stamp → answer_form.Fits answer
+      → verdict_form.Fits (Done ((object, stamp) ∷ []) answer)
   unfolding verdict_form
   done_fits stamp answer fits answered = (((omega arith, omega arith), refl), (one_stamp stamp fits, answered))
 
-  pub told_fits : (stamp : Stamp) (answer : Answer) → stamp_form.Fits stamp → answer_form.Fits answer → verdict_form.Fits (Told ((object, stamp) ∷ []) answer)
+  pub told_fits : (stamp : Stamp) (answer : Answer) → stamp_form.Fits stamp → answer_form.Fits answer
+      → verdict_form.Fits (Told ((object, stamp) ∷ []) answer)
   unfolding verdict_form
   told_fits stamp answer fits answered = (((omega arith, omega arith), refl), (one_stamp stamp fits, answered))
 
@@ -74,8 +78,10 @@ module _ (object : ObjectId) (within : object.0 ≤ 63) where
 
 number_fits : (number : ℕ) → number ≤ 2 ^ 64 - 1 → answer_form.Fits (answer.Ok (Number number ∷ []))
 unfolding answer_form item_form
-number_fits number within =
-    (((omega arith, omega arith), refl), ((omega arith, omega arith), (refl, ((((omega arith, omega arith), refl), (omega arith, within)), tt))))
+number_fits number within = (
+  ((omega arith, omega arith), refl),
+  ((omega arith, omega arith), (refl, ((((omega arith, omega arith), refl), (omega arith, within)), tt))),
+)
 
 over_fits : answer_form.Fits (answer.Refused 0 OVER)
 unfolding answer_form
@@ -92,10 +98,13 @@ record OutcomeFits (value : Value) (outcome : Applied) : Type 0 where
   is_after : values_by (refusal_from 0 (outcome ∷ [])) (value ∷ []) (changed_values (outcome ∷ [])) ≡ after ∷ []
   fits : ValueFits after
 
-changed_fits : (value : Value) (number : ℕ) → number ≤ 2 ^ 64 - 1 → OutcomeFits value (made.Changed (Counter number) (Number number))
-changed_fits value number within = record { answer = number_fits number within; after = Counter number; is_after = refl; fits = within }
+changed_fits : (value : Value) (number : ℕ) → number ≤ 2 ^ 64 - 1
+    → OutcomeFits value (made.Changed (Counter number) (Number number))
+changed_fits value number within =
+    record { answer = number_fits number within; after = Counter number; is_after = refl; fits = within }
 
-kept_fits : (value : Value) (why : ℕ) → ValueFits value → answer_form.Fits (answer.Refused 0 why) → OutcomeFits value (made.Refused why)
+kept_fits : (value : Value) (why : ℕ) → ValueFits value → answer_form.Fits (answer.Refused 0 why)
+    → OutcomeFits value (made.Refused why)
 kept_fits value why fits refused = record { answer = refused; after = value; is_after = refl; fits = fits }
 
 outcome_fits : (method : Method) (value : Value) → ValueFits value → OutcomeFits value (applied method value)
@@ -103,19 +112,27 @@ outcome_fits (Add more) (Counter number) fits =
     elim (cases_Bool (ltb (number + more) (2 ^ 64))) [
       | inl is ↦
           let below : number + more < 2 ^ 64 = ltb-true _ _ is in
-          subst (λ (test : Bool). OutcomeFits (Counter number) (cond test (made.Changed (Counter (number + more)) (Number (number + more))) (made.Refused OVER))) (sym is)
+          subst (λ (test : Bool). OutcomeFits (Counter number)
+          (cond test (made.Changed (Counter (number + more)) (Number (number + more))) (made.Refused OVER)))
+          (sym is)
           (changed_fits (Counter number) (number + more) (omega (arith, below)))
       | inr not ↦
-          subst (λ (test : Bool). OutcomeFits (Counter number) (cond test (made.Changed (Counter (number + more)) (Number (number + more))) (made.Refused OVER))) (sym not)
+          subst (λ (test : Bool). OutcomeFits (Counter number)
+          (cond test (made.Changed (Counter (number + more)) (Number (number + more))) (made.Refused OVER)))
+          (sym not)
           (kept_fits (Counter number) OVER fits over_fits)
     ]
 outcome_fits (Take fewer) (Counter number) fits =
     elim (cases_Bool (ltb number fewer)) [
       | inl is ↦
-          subst (λ (test : Bool). OutcomeFits (Counter number) (cond test (made.Refused UNDER) (made.Changed (Counter (number - fewer)) (Number (number - fewer))))) (sym is)
+          subst (λ (test : Bool). OutcomeFits (Counter number)
+          (cond test (made.Refused UNDER)
+          (made.Changed (Counter (number - fewer)) (Number (number - fewer))))) (sym is)
           (kept_fits (Counter number) UNDER fits under_fits)
       | inr not ↦
-          subst (λ (test : Bool). OutcomeFits (Counter number) (cond test (made.Refused UNDER) (made.Changed (Counter (number - fewer)) (Number (number - fewer))))) (sym not)
+          subst (λ (test : Bool). OutcomeFits (Counter number)
+          (cond test (made.Refused UNDER)
+          (made.Changed (Counter (number - fewer)) (Number (number - fewer))))) (sym not)
           (changed_fits (Counter number) (number - fewer) (omega (arith, fits)))
     ]
 
@@ -128,5 +145,6 @@ module _ (part : ObjectId × Method) (value : Value) (fits : ValueFits value) wh
   after_fits = let outcome = outcome_fits part.1 value fits in (outcome.after, outcome.is_after, outcome.fits)
 
 -- what a query is told
-pub read_fits : (part : ObjectId × Ask) (value : Value) → ValueFits value → answer_form.Fits (told_answer (part ∷ []) (value ∷ []))
+pub read_fits : (part : ObjectId × Ask) (value : Value) → ValueFits value
+    → answer_form.Fits (told_answer (part ∷ []) (value ∷ []))
 read_fits (object, Read) (Counter number) fits = number_fits number fits

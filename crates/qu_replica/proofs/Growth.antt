@@ -25,19 +25,24 @@ use Rattle.qu_replica.specs.Step.{carried_out, on_frame, on_received, replica_st
 use Rattle.qu_replica.specs.Versions.{version_at}
 use Rattle.qu_replica.specs.Growth.{Grows}
 
-pub length-with_candidate : (number : ℕ) (candidate : Candidate) (histories : List ObjectHistory) → length (with_candidate number candidate histories) ≡ length histories
+pub length-with_candidate : (number : ℕ) (candidate : Candidate) (histories : List ObjectHistory)
+    → length (with_candidate number candidate histories) ≡ length histories
 unfolding with_candidate
 length-with_candidate number candidate [] = refl
 length-with_candidate zero candidate (history ∷ later) = refl
 length-with_candidate (suc number) candidate (history ∷ later) = ap suc (length-with_candidate number candidate later)
 
-candidates-with_candidate : (number place : ℕ) (candidate : Candidate) (histories : List ObjectHistory) → (more : List Candidate) × (candidates_in (slice_get (with_candidate number candidate histories) place) ≡ candidates_in (slice_get histories place) ++ more)
+candidates-with_candidate : (number place : ℕ) (candidate : Candidate) (histories : List ObjectHistory)
+    → (more : List Candidate)
+    × (candidates_in (slice_get (with_candidate number candidate histories) place) ≡ candidates_in
+    (slice_get histories place) ++ more)
 unfolding with_candidate
 candidates-with_candidate number place candidate [] = ([], refl)
 candidates-with_candidate zero zero candidate (history ∷ later) = (candidate ∷ [], refl)
 candidates-with_candidate zero (suc place) candidate (history ∷ later) = ([], sym (append-nil _))
 candidates-with_candidate (suc number) zero candidate (history ∷ later) = ([], sym (append-nil _))
-candidates-with_candidate (suc number) (suc place) candidate (history ∷ later) = candidates-with_candidate number place candidate later
+candidates-with_candidate (suc number) (suc place) candidate (history ∷ later) =
+    candidates-with_candidate number place candidate later
 
 pub grows-self : (state : ReplicaState) → Grows state state
 grows-self state = record {
@@ -57,12 +62,18 @@ grows-chain old middle new first second = record {
   number = second.number ∙ first.number;
   candidates = λ object.
       let one = first.candidates object in
-      let two = second.candidates object in
-      (one.0 ++ two.0, two.1 ∙ ap (λ (held : List Candidate). held ++ two.0) one.1 ∙ append_assoc (own_candidates old object) one.0 two.0);
+      let two = second.candidates object in (
+        one.0 ++ two.0,
+        two.1 ∙ ap (λ (held : List Candidate). held ++ two.0) one.1
+            ∙ append_assoc (own_candidates old object) one.0 two.0,
+      );
   versions =
       let one = first.versions in
-      let two = second.versions in
-      (one.0 ++ two.0, two.1 ∙ ap (λ (held : List Stored). held ++ two.0) one.1 ∙ append_assoc old.versions one.0 two.0);
+      let two = second.versions in (
+        one.0 ++ two.0,
+        two.1 ∙ ap (λ (held : List Stored). held ++ two.0) one.1
+            ∙ append_assoc old.versions one.0 two.0,
+      );
 }
 
 pub accept-grows : (state : ReplicaState) (accepted : Accepted) → Grows state (accept state accepted)
@@ -88,10 +99,12 @@ accept_all-me state accepted = (accept_all-grows state accepted).me
 pub accept_all-keys : (state : ReplicaState) (accepted : List Accepted) → (accept_all state accepted).keys ≡ state.keys
 accept_all-keys state accepted = (accept_all-grows state accepted).keys
 
-pub accept_all-bounds : (state : ReplicaState) (accepted : List Accepted) → (accept_all state accepted).bounds ≡ state.bounds
+pub accept_all-bounds : (state : ReplicaState) (accepted : List Accepted)
+    → (accept_all state accepted).bounds ≡ state.bounds
 accept_all-bounds state accepted = (accept_all-grows state accepted).bounds
 
-pub carried_out-grows : (state : ReplicaState) (client : ClientId) (number round : ℕ) (sets : List SetOf) (decision : Decision) → Grows state (carried_out state client number round sets decision).0
+pub carried_out-grows : (state : ReplicaState) (client : ClientId) (number round : ℕ) (sets : List SetOf)
+    (decision : Decision) → Grows state (carried_out state client number round sets decision).0
 carried_out-grows state client number round sets (Answers verdict accepted) = accept_all-grows state accepted
 carried_out-grows state client number round sets Waits = grows-self state
 
@@ -109,16 +122,21 @@ pub step-grows : (state : ReplicaState) (text : List ℕ) → Grows state (repli
 step-grows state text = on_received-grows state (brought state.keys (party.Replica state.me) text)
 
 -- a version stays
-pub version_at-append : (object : ObjectId) (stamp : Stamp) (versions more : List Stored) (state : ObjState) → version_at object stamp versions ≡ Some state → version_at object stamp (versions ++ more) ≡ Some state
+pub version_at-append : (object : ObjectId) (stamp : Stamp) (versions more : List Stored) (state : ObjState)
+    → version_at object stamp versions ≡ Some state → version_at object stamp (versions ++ more) ≡ Some state
 unfolding version_at
 version_at-append object stamp [] more state found = absurd (none-some state found)
 version_at-append object stamp (held ∷ later) more state found =
     let is_it : Bool = (held.object).0 == object.0 && same_stamp held.stamp stamp in
-    elim is_it as (λ (test : Bool). cond test (Some held.state) (version_at object stamp later) ≡ Some state → cond test (Some held.state) (version_at object stamp (later ++ more)) ≡ Some state) [
+    elim is_it as (λ (test : Bool). cond test (Some held.state) (version_at object stamp later) ≡ Some state
+    → cond test (Some held.state) (version_at object stamp (later ++ more)) ≡ Some state) [
       | true ↦ λ here. here
       | false ↦ λ there. version_at-append object stamp later more state there
     ] found
 
-pub version_at-grows : (old new : ReplicaState) → Grows old new → (object : ObjectId) (stamp : Stamp) (version : ObjState) → version_at object stamp old.versions ≡ Some version → version_at object stamp new.versions ≡ Some version
+pub version_at-grows : (old new : ReplicaState) → Grows old new → (object : ObjectId) (stamp : Stamp)
+    (version : ObjState) → version_at object stamp old.versions ≡ Some version
+    → version_at object stamp new.versions ≡ Some version
 version_at-grows old new grows object stamp version found =
-    ap (λ (held : List Stored). version_at object stamp held) (grows.versions).1 ∙ version_at-append object stamp old.versions (grows.versions).0 version found
+    ap (λ (held : List Stored). version_at object stamp held) (grows.versions).1
+    ∙ version_at-append object stamp old.versions (grows.versions).0 version found

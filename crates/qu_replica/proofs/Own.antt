@@ -6,7 +6,7 @@ use Rattle.std.proofs.lemmas.Option.{none-some, same_Some}
 use Rattle.qu_base.specs.declared.party.ReplicaId.{ReplicaId}
 use Rattle.qu_seal.specs.Keys.{Ring}
 use Rattle.qu_stamp.specs.declared.stamp.Stamp.{Stamp}
-use Rattle.qu_stamp.specs.declared.stamp.TheConstants.{LAST_TIME}
+use Rattle.qu_stamp.specs.declared.limits.TheConstants.{LAST_TIME}
 use Rattle.qu_stamp.specs.declared.candidate.Candidate.{Candidate}
 use Rattle.qu_stamp.specs.Stamp.{opening_stamp, is_below}
 use Rattle.qu_stamp.specs.Candidate.{opening}
@@ -24,12 +24,16 @@ pub record IsOwn (me : ReplicaId) (number : ℕ) (history : ObjectHistory) : Typ
   pub rises : IsTrue (is_history history.candidates)
   pub in_time : (latest history.candidates).time ≤ LAST_TIME
 
-pub IsOwn_from : (me : ReplicaId) (number : ℕ) (history : ObjectHistory) → is_own me number history ≡ true → IsOwn me number history
+pub IsOwn_from : (me : ReplicaId) (number : ℕ) (history : ObjectHistory) → is_own me number history ≡ true
+    → IsOwn me number history
 unfolding is_own
 IsOwn_from me number history own =
-    let last : (((history.object).0 == number && (history.replica).0 == me.0 && is_history history.candidates) ≡ true) × (nat_le (latest history.candidates).time LAST_TIME ≡ true) = and_parts _ _ own in
-    let third : (((history.object).0 == number && (history.replica).0 == me.0) ≡ true) × (is_history history.candidates ≡ true) = and_parts _ _ last.0 in
-    let second : (((history.object).0 == number) ≡ true) × (((history.replica).0 == me.0) ≡ true) = and_parts _ _ third.0 in
+    let last : (((history.object).0 == number && (history.replica).0 == me.0 && is_history history.candidates)
+    ≡ true) × (nat_le (latest history.candidates).time LAST_TIME ≡ true) = and_parts _ _ own in
+    let third : (((history.object).0 == number && (history.replica).0 == me.0) ≡ true)
+    × (is_history history.candidates ≡ true) = and_parts _ _ last.0 in
+    let second : (((history.object).0 == number) ≡ true) × (((history.replica).0 == me.0) ≡ true) =
+    and_parts _ _ third.0 in
     record {
       object = eqb-true _ _ second.0;
       replica = eqb-true _ _ second.1;
@@ -38,17 +42,26 @@ IsOwn_from me number history own =
     }
 
 -- a history stays its replica's own where a later candidate in time follows
-is_own_push : (me : ReplicaId) (number : ℕ) (history : ObjectHistory) (candidate : Candidate) → is_own me number history ≡ true → is_below (latest history.candidates) candidate.stamp ≡ true → candidate.stamp.time ≤ LAST_TIME → is_own me number (record history { candidates = history.candidates ++ candidate ∷ [] }) ≡ true
+is_own_push : (me : ReplicaId) (number : ℕ) (history : ObjectHistory) (candidate : Candidate)
+    → is_own me number history ≡ true → is_below (latest history.candidates) candidate.stamp ≡ true
+    → candidate.stamp.time ≤ LAST_TIME
+    → is_own me number (record history { candidates = history.candidates ++ candidate ∷ [] }) ≡ true
 unfolding is_own
 is_own_push me number history candidate own later in_time =
-    let last : (((history.object).0 == number && (history.replica).0 == me.0 && is_history history.candidates) ≡ true) × (nat_le (latest history.candidates).time LAST_TIME ≡ true) = and_parts _ _ own in
-    let third : (((history.object).0 == number && (history.replica).0 == me.0) ≡ true) × (is_history history.candidates ≡ true) = and_parts _ _ last.0 in
+    let last : (((history.object).0 == number && (history.replica).0 == me.0 && is_history history.candidates)
+    ≡ true) × (nat_le (latest history.candidates).time LAST_TIME ≡ true) = and_parts _ _ own in
+    let third : (((history.object).0 == number && (history.replica).0 == me.0) ≡ true)
+    × (is_history history.candidates ≡ true) = and_parts _ _ last.0 in
     and_from _ _
     (and_from _ _ third.0 (is_history_push history.candidates candidate third.1 later))
-    (ap (λ (stamp : Stamp). nat_le stamp.time LAST_TIME) (latest_push history.candidates candidate third.1 later) ∙ le-leb _ _ in_time)
+    (ap (λ (stamp : Stamp). nat_le stamp.time LAST_TIME) (latest_push history.candidates candidate third.1 later)
+    ∙ le-leb _ _ in_time)
 
 -- `place` is that of the object among these histories
-pub are_own-with_candidate : (me : ReplicaId) (first place : ℕ) (candidate : Candidate) (histories : List ObjectHistory) → are_own me first histories ≡ true → is_below (latest (candidates_in (slice_get histories place))) candidate.stamp ≡ true → candidate.stamp.time ≤ LAST_TIME → are_own me first (with_candidate place candidate histories) ≡ true
+pub are_own-with_candidate : (me : ReplicaId) (first place : ℕ) (candidate : Candidate)
+    (histories : List ObjectHistory) → are_own me first histories ≡ true
+    → is_below (latest (candidates_in (slice_get histories place))) candidate.stamp ≡ true
+    → candidate.stamp.time ≤ LAST_TIME → are_own me first (with_candidate place candidate histories) ≡ true
 unfolding are_own with_candidate
 are_own-with_candidate me first place candidate [] own later in_time = own
 are_own-with_candidate me first zero candidate (history ∷ histories) own later in_time =
@@ -58,42 +71,51 @@ are_own-with_candidate me first (suc place) candidate (history ∷ histories) ow
     let parts : (is_own me first history ≡ true) × (are_own me (first + 1) histories ≡ true) = and_parts _ _ own in
     and_from _ _ parts.0 (are_own-with_candidate me (first + 1) place candidate histories parts.1 later in_time)
 
-pub accept-histories : (state : ReplicaState) (accepted : Accepted) → AreHistories state → MayAccept state accepted → AreHistories (accept state accepted)
+pub accept-histories : (state : ReplicaState) (accepted : Accepted) → AreHistories state
+    → MayAccept state accepted → AreHistories (accept state accepted)
 accept-histories state accepted own may =
     are_own-with_candidate state.me 0 (accepted.object).0 accepted.candidate state.histories own may.later may.in_time
 
-pub accept_all-histories : (state : ReplicaState) (accepted : List Accepted) → AreHistories state → MayAcceptAll state accepted → AreHistories (accept_all state accepted)
+pub accept_all-histories : (state : ReplicaState) (accepted : List Accepted) → AreHistories state
+    → MayAcceptAll state accepted → AreHistories (accept_all state accepted)
 unfolding accept_all
 accept_all-histories state [] own may = own
 accept_all-histories state (first ∷ []) own may = accept-histories state first own may
 accept_all-histories state (first ∷ second ∷ later) own may = absurd may
 
-are_own-at : (me : ReplicaId) (first place : ℕ) (histories : List ObjectHistory) (history : ObjectHistory) → are_own me first histories ≡ true → slice_get histories place ≡ Some history → IsOwn me (first + place) history
+are_own-at : (me : ReplicaId) (first place : ℕ) (histories : List ObjectHistory) (history : ObjectHistory)
+    → are_own me first histories ≡ true → slice_get histories place ≡ Some history → IsOwn me (first + place) history
 unfolding are_own
 are_own-at me first place [] history own found = absurd (none-some history found)
 are_own-at me first zero (here ∷ histories) history own found =
     let parts : (is_own me first here ≡ true) × (are_own me (first + 1) histories ≡ true) = and_parts _ _ own in
-    rw add-zero (IsOwn_from me first history (ap (λ (it : ObjectHistory). is_own me first it) (sym (same_Some here history found)) ∙ parts.0))
+    rw add-zero (IsOwn_from me first history
+    (ap (λ (it : ObjectHistory). is_own me first it) (sym (same_Some here history found)) ∙ parts.0))
 are_own-at me first (suc place) (here ∷ histories) history own found =
     let parts : (is_own me first here ≡ true) × (are_own me (first + 1) histories ≡ true) = and_parts _ _ own in
     let count : (first + 1) + place ≡ first + suc place = omega arith in
     rw (← count) (are_own-at me (first + 1) place histories history parts.1 found)
 
 -- the history of an object, where every history is the replica's own
-pub own_history : (state : ReplicaState) (place : ℕ) (history : ObjectHistory) → AreHistories state → slice_get state.histories place ≡ Some history → IsOwn state.me place history
+pub own_history : (state : ReplicaState) (place : ℕ) (history : ObjectHistory) → AreHistories state
+    → slice_get state.histories place ≡ Some history → IsOwn state.me place history
 own_history state place history own found =
     rw zero-add at (are_own-at state.me 0 place state.histories history own found)
 
-is_own-opening : (me : ReplicaId) (number : ℕ) → is_own me number (record { object = record { 0 = number }; replica = me; candidates = opening ∷ [] }) ≡ true
+is_own-opening : (me : ReplicaId) (number : ℕ)
+    → is_own me number (record { object = record { 0 = number }; replica = me; candidates = opening ∷ [] }) ≡ true
 unfolding is_own greatest_stamp
 is_own-opening me number =
     and_from _ _ (and_from _ _ (and_from _ _ (eq-eqb number number refl) (eq-eqb me.0 me.0 refl)) is_history_opening)
-    (ap (λ (above : Bool). nat_le (cond above opening_stamp opening_stamp).time LAST_TIME) (is_below-self opening_stamp))
+    (ap (λ (above : Bool). nat_le (cond above opening_stamp opening_stamp).time LAST_TIME)
+    (is_below-self opening_stamp))
 
-pub are_own_opening : (me : ReplicaId) (first : ℕ) (kinds : List KindName) → are_own me first (opening_histories me first kinds) ≡ true
+pub are_own_opening : (me : ReplicaId) (first : ℕ) (kinds : List KindName)
+    → are_own me first (opening_histories me first kinds) ≡ true
 unfolding are_own opening_histories
 are_own_opening me first [] = refl
 are_own_opening me first (kind ∷ kinds) = and_from _ _ (is_own-opening me first) (are_own_opening me (first + 1) kinds)
 
-pub opening-histories : (me : ReplicaId) (keys : Ring) (bounds : ℕ) (kinds : List KindName) → AreHistories (opening_state me keys bounds kinds)
+pub opening-histories : (me : ReplicaId) (keys : Ring) (bounds : ℕ) (kinds : List KindName)
+    → AreHistories (opening_state me keys bounds kinds)
 opening-histories me keys bounds kinds = are_own_opening me 0 kinds

@@ -1,11 +1,12 @@
 -- What a replica holds, and what it sends, fits the formats of bytes.
 use Rattle.std.specs.Prelude.{◌≡◌, ℕ, false, ◌-◌, ◌^◌, ◌≤◌, List, length, slice_get, Some, IsTrue}
 use Rattle.std.specs.List.{AllByRecursion}
-use Rattle.qu_base.specs.Thresholds.{replicas}
+use Rattle.qu_base.specs.declared.limits.TheConstants.{OBJECT_IDS, REPLICA_IDS}
+use Rattle.qu_base.specs.Thresholds.{replicas, is_replica_count}
 use Rattle.qu_stamp.specs.declared.stamp.Stamp.{Stamp}
 use Rattle.qu_stamp.specs.Stamp.{opening_stamp, same_stamp}
 use Rattle.qu_history.specs.History.{ObjectHistory}
-use Rattle.qu_history.specs.Forms.{is_mac_count, candidates_form}
+use Rattle.qu_history.specs.Forms.{candidates_form}
 use Rattle.qu_objects.specs.declared.kind.Value.{Value}
 use Rattle.qu_objects.specs.declared.kind.Value.TheVariants.{Counter}
 use Rattle.qu_objects.specs.declared.state.ObjState.{ObjState}
@@ -29,13 +30,14 @@ pub record VersionFits (stamp : Stamp) (version : ObjState) : Type 0 where
 abbrev pub VersionsFit : List Stored → Type 0
 VersionsFit versions = AllByRecursion (λ stored. VersionFits stored.stamp stored.state) versions
 
--- a replica below 16, of 6, 11 or 16 replicas, with at most 64 objects
+-- a replica that has a number, of as many as some number of faults wants, with no more objects than have numbers
 pub record StateFits (state : ReplicaState) : Type 0 where
-  pub me : (state.me).0 ≤ 15
-  pub bounds : IsTrue (is_mac_count (replicas state.bounds))
-  pub few : length state.histories ≤ 64
+  pub me : (state.me).0 ≤ REPLICA_IDS - 1
+  pub bounds : IsTrue (is_replica_count (replicas state.bounds))
+  pub few : length state.histories ≤ OBJECT_IDS
   pub own : AreHistories state
-  pub histories : (place : ℕ) (history : ObjectHistory) → slice_get state.histories place ≡ Some history → candidates_form.Fits history.candidates
+  pub histories : (place : ℕ) (history : ObjectHistory) → slice_get state.histories place ≡ Some history
+      → candidates_form.Fits history.candidates
   pub versions : VersionsFit state.versions
 
 -- a letter carries the one spelling of a frame that fits

@@ -2,10 +2,10 @@
 use Rattle.std.specs.Prelude.{◌≡◌, ℕ, Bool, true, ◌+◌, ◌==◌, ◌&&◌, nat_le, ◌<◌, ◌≤◌, List, [], ◌∷◌, ◌++◌, length, IsTrue}
 use Rattle.qu_base.specs.declared.party.ObjectId.{ObjectId}
 use Rattle.qu_base.specs.declared.party.ReplicaId.{ReplicaId}
-use Rattle.qu_stamp.specs.declared.stamp.TheConstants.{LAST_TIME}
+use Rattle.qu_stamp.specs.declared.limits.TheConstants.{LAST_TIME}
 use Rattle.qu_stamp.specs.declared.candidate.Candidate.{Candidate}
 use Rattle.qu_stamp.specs.Stamp.{is_below}
-use Rattle.qu_history.specs.declared.history.TheConstants.{HISTORY_LIMIT}
+use Rattle.qu_history.specs.declared.limits.TheConstants.{HISTORY_LIMIT}
 use Rattle.qu_history.specs.History.{ObjectHistory, is_history, latest}
 use Rattle.qu_objects.specs.Parts.{are_parts}
 use Rattle.qu_frames.specs.declared.frame.Body.{Body}
@@ -21,7 +21,8 @@ use Rattle.qu_replica.specs.State.{ReplicaState, own_candidates, own_latest}
 -- a history of this object at this replica: its stamps rise, up to the last time
 unfoldable pub is_own : ReplicaId → ℕ → ObjectHistory → Bool
 is_own me number history =
-    (history.object).0 == number && (history.replica).0 == me.0 && is_history history.candidates && nat_le (latest history.candidates).time LAST_TIME
+    (history.object).0 == number && (history.replica).0 == me.0 && is_history history.candidates && nat_le
+    (latest history.candidates).time LAST_TIME
 
 -- the histories of the objects from this number on
 unfoldable pub are_own : ReplicaId → ℕ → List ObjectHistory → Bool
@@ -55,7 +56,8 @@ pub record Grows (old new : ReplicaState) : Type 0 where
   pub keys : new.keys ≡ old.keys
   pub bounds : new.bounds ≡ old.bounds
   pub number : length new.histories ≡ length old.histories
-  pub candidates : (object : ObjectId) → (more : List Candidate) × (own_candidates new object ≡ own_candidates old object ++ more)
+  pub candidates : (object : ObjectId) → (more : List Candidate)
+      × (own_candidates new object ≡ own_candidates old object ++ more)
   pub versions : (more : List Stored) × (new.versions ≡ old.versions ++ more)
 
 -- the parts of a request are those of an act or a query

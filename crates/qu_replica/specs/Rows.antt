@@ -6,10 +6,10 @@ use Rattle.qu_base.specs.declared.party.Digest.{Digest}
 use Rattle.qu_base.specs.declared.party.ObjectId.{ObjectId}
 use Rattle.qu_base.specs.Thresholds.{quorum}
 use Rattle.qu_stamp.specs.declared.stamp.Stamp.{Stamp}
-use Rattle.qu_stamp.specs.declared.stamp.TheConstants.{LAST_TIME}
+use Rattle.qu_stamp.specs.declared.limits.TheConstants.{LAST_TIME}
 use Rattle.qu_stamp.specs.declared.candidate.Candidate.{Candidate}
 use Rattle.qu_stamp.specs.Stamp.{is_below}
-use Rattle.qu_history.specs.declared.history.TheConstants.{HISTORY_LIMIT}
+use Rattle.qu_history.specs.declared.limits.TheConstants.{HISTORY_LIMIT}
 use Rattle.qu_history.specs.declared.sets.SetOf.{SetOf}
 use Rattle.qu_history.specs.History.{ObjectHistory, holds}
 use Rattle.qu_history.specs.Sets.{entries_of, latest_of, method_at}
@@ -72,7 +72,13 @@ base_version state asked object =
 -- a fresh stamp has the time after the latest, and the digests of the act and of the sets
 abbrev pub fresh_stamp : Asked → ObjectId → Stamp
 fresh_stamp asked object =
-    record { time = (latest_of (shown_of asked object)).time + 1; barrier = false; client = asked.client; act = asked.act; set = asked.set }
+    record {
+      time = (latest_of (shown_of asked object)).time + 1;
+      barrier = false;
+      client = asked.client;
+      act = asked.act;
+      set = asked.set;
+    }
 
 -- the candidate that the act makes on an object
 abbrev pub fresh_on : ReplicaState → Asked → ObjectId → Option Candidate
@@ -84,13 +90,16 @@ abbrev pub stamps_by : (ObjectId → Option Stamp) → List ObjectId → List (O
 stamps_by stamp objects = filter_map (λ object. option_map (λ (found : Stamp). (object, found)) (stamp object)) objects
 
 abbrev pub fresh_stamps : ReplicaState → Asked → List ObjectId → List (ObjectId × Stamp)
-fresh_stamps state asked objects = stamps_by (λ object. option_map (λ fresh. fresh.stamp) (fresh_on state asked object)) objects
+fresh_stamps state asked objects =
+    stamps_by (λ object. option_map (λ fresh. fresh.stamp) (fresh_on state asked object)) objects
 
 abbrev pub base_stamps : ReplicaState → Asked → List ObjectId → List (ObjectId × Stamp)
-base_stamps state asked objects = stamps_by (λ object. option_map (λ base. base.stamp) (base_of state asked object)) objects
+base_stamps state asked objects =
+    stamps_by (λ object. option_map (λ base. base.stamp) (base_of state asked object)) objects
 
 abbrev pub base_values : ReplicaState → Asked → List ObjectId → List Value
-base_values state asked objects = filter_map (λ object. option_map (λ version. version.value) (base_version state asked object)) objects
+base_values state asked objects =
+    filter_map (λ object. option_map (λ version. version.value) (base_version state asked object)) objects
 
 -- the first object of which the fact holds is refused
 abbrev pub refuse_first : (ObjectId → Bool) → (ObjectId → Refusal) → List ObjectId → Option Decision
@@ -99,33 +108,39 @@ refuse_first bad why objects = option_map (λ object. refuse (why object)) (find
 -- an object of the sets is not the replica's
 unfoldable pub row_unknown : ReplicaState → Asked → Option Decision
 row_unknown state asked =
-    option_map (λ set. refuse (refusal.UnknownObject set.object)) (find (λ set. nat_le (length state.histories) (set.object).0) asked.sets)
+    option_map (λ set. refuse (refusal.UnknownObject set.object))
+    (find (λ set. nat_le (length state.histories) (set.object).0) asked.sets)
 
 -- fewer entries than a quorum
 unfoldable pub row_thin : ReplicaState → Asked → Option Decision
 row_thin state asked =
-    option_map (λ set. refuse (refusal.Thin set.object)) (find (λ set. nat_lt (length set.entries) (quorum state.bounds)) asked.sets)
+    option_map (λ set. refuse (refusal.Thin set.object))
+    (find (λ set. nat_lt (length set.entries) (quorum state.bounds)) asked.sets)
 
 -- the fresh candidate of an object is held already
 unfoldable pub is_held : ReplicaState → Asked → ObjectId → Bool
-is_held state asked object = elim (fresh_on state asked object) [ None ↦ false | Some fresh ↦ holds fresh (own_candidates state object) ]
+is_held state asked object =
+    elim (fresh_on state asked object) [ None ↦ false | Some fresh ↦ holds fresh (own_candidates state object) ]
 
 -- what the act answered when its candidates were accepted
 unfoldable pub kept_answer : ReplicaState → Asked → List ObjectId → Option Answer
 kept_answer state asked [] = None
-kept_answer state asked (object ∷ objects) = option_map (λ version. version.answer) (version_at object (fresh_stamp asked object) state.versions)
+kept_answer state asked (object ∷ objects) =
+    option_map (λ version. version.answer) (version_at object (fresh_stamp asked object) state.versions)
 
 -- a retry whose candidates are all held is told the kept answer
 unfoldable pub row_retry : ReplicaState → Asked → List ObjectId → Option Decision
 row_retry state asked objects =
     if list_all (is_held state asked) objects
-    then option_map (λ kept. Answers (verdict.Done (fresh_stamps state asked objects) kept) []) (kept_answer state asked objects)
+    then option_map (λ kept. Answers (verdict.Done (fresh_stamps state asked objects) kept) [])
+    (kept_answer state asked objects)
     else None
 
 -- the replica has a later candidate than the sets show
 unfoldable pub row_current : ReplicaState → Asked → List ObjectId → Option Decision
 row_current state asked objects =
-    refuse_first (λ object. is_below (latest_of (shown_of asked object)) (own_latest state object)) (λ object. refusal.NotCurrent object (own_latest state object)) objects
+    refuse_first (λ object. is_below (latest_of (shown_of asked object)) (own_latest state object))
+    (λ object. refusal.NotCurrent object (own_latest state object)) objects
 
 -- the object is of another class than METHOD
 unfoldable pub row_method : ReplicaState → Asked → List ObjectId → Option Decision
@@ -140,12 +155,14 @@ row_version state asked objects =
 -- the time of the object is spent
 unfoldable pub row_time : ReplicaState → Asked → List ObjectId → Option Decision
 row_time state asked objects =
-    refuse_first (λ object. nat_le LAST_TIME (latest_of (shown_of asked object)).time) (λ object. refusal.TimeSpent object) objects
+    refuse_first (λ object. nat_le LAST_TIME (latest_of (shown_of asked object)).time)
+    (λ object. refusal.TimeSpent object) objects
 
 -- the history of the object is full
 unfoldable pub row_full : ReplicaState → Asked → List ObjectId → Option Decision
 row_full state asked objects =
-    refuse_first (λ object. nat_le HISTORY_LIMIT (length (own_candidates state object))) (λ object. refusal.HistoryFull object) objects
+    refuse_first (λ object. nat_le HISTORY_LIMIT (length (own_candidates state object)))
+    (λ object. refusal.HistoryFull object) objects
 
 -- each object's fresh candidate, with the value after the act and its answer as version
 unfoldable pub accepted_by : ReplicaState → Asked → Answer → List ObjectId → List Value → List Accepted
@@ -153,7 +170,8 @@ accepted_by state asked answer [] values = []
 accepted_by state asked answer (object ∷ objects) [] = []
 accepted_by state asked answer (object ∷ objects) (value ∷ values) = elim (fresh_on state asked object) [
   | None ↦ accepted_by state asked answer objects values
-  | Some fresh ↦ record { object = object; candidate = fresh; state = record { value = value; answer = answer } } ∷ accepted_by state asked answer objects values
+  | Some fresh ↦ record { object = object; candidate = fresh; state = record { value = value; answer = answer } }
+      ∷ accepted_by state asked answer objects values
 ]
 
 -- the act is performed upon the versions, and all its candidates are accepted
@@ -161,12 +179,14 @@ unfoldable pub row_done : ReplicaState → Asked → List (ObjectId × Method) �
 row_done state asked parts objects =
     let values = base_values state asked objects in
     let answer = performed_answer parts values in
-    Some (Answers (verdict.Done (fresh_stamps state asked objects) answer) (accepted_by state asked answer objects (performed_values parts values)))
+    Some (Answers (verdict.Done (fresh_stamps state asked objects) answer)
+    (accepted_by state asked answer objects (performed_values parts values)))
 
 -- the query is answered from the versions
 unfoldable pub row_told : ReplicaState → Asked → List (ObjectId × Ask) → List ObjectId → Option Decision
 row_told state asked parts objects =
-    Some (Answers (verdict.Told (base_stamps state asked objects) (told_answer parts (base_values state asked objects))) [])
+    Some (Answers
+    (verdict.Told (base_stamps state asked objects) (told_answer parts (base_values state asked objects))) [])
 
 -- the first row that fits
 unfoldable pub first_given : List (Option Decision) → Decision

@@ -38,14 +38,19 @@ own_latest state object = latest (own_candidates state object)
 -- the histories with a candidate at the end of that of the object with this number
 unfoldable pub with_candidate : ℕ → Candidate → List ObjectHistory → List ObjectHistory
 with_candidate number candidate [] = []
-with_candidate zero candidate (history ∷ later) = record history { candidates = history.candidates ++ candidate ∷ [] } ∷ later
+with_candidate zero candidate (history ∷ later) =
+    record history { candidates = history.candidates ++ candidate ∷ [] } ∷ later
 with_candidate (suc number) candidate (history ∷ later) = history ∷ with_candidate number candidate later
 
 -- a candidate is accepted with its version
 abbrev pub accept : ReplicaState → Accepted → ReplicaState
 accept state accepted = record state {
   histories = with_candidate (accepted.object).0 accepted.candidate state.histories;
-  versions = state.versions ++ (record { object = accepted.object; stamp = accepted.candidate.stamp; state = accepted.state }) ∷ [];
+  versions = state.versions ++ (record {
+    object = accepted.object;
+    stamp = accepted.candidate.stamp;
+    state = accepted.state;
+  }) ∷ [];
 }
 
 unfoldable pub accept_all : ReplicaState → List Accepted → ReplicaState
@@ -56,14 +61,25 @@ accept_all state (accepted ∷ later) = accept_all (accept state accepted) later
 unfoldable pub opening_histories : ReplicaId → ℕ → List KindName → List ObjectHistory
 opening_histories me number [] = []
 opening_histories me number (kind ∷ kinds) =
-    record { object = record { 0 = number }; replica = me; candidates = opening ∷ [] } ∷ opening_histories me (number + 1) kinds
+    record { object = record { 0 = number }; replica = me; candidates = opening ∷ [] } ∷ opening_histories me
+    (number + 1) kinds
 
 unfoldable pub opening_versions : ℕ → List KindName → List Stored
 opening_versions number [] = []
 opening_versions number (kind ∷ kinds) =
-    record { object = record { 0 = number }; stamp = opening_stamp; state = record { value = fresh_value kind; answer = answer.Ok [] } } ∷ opening_versions (number + 1) kinds
+    record {
+      object = record { 0 = number };
+      stamp = opening_stamp;
+      state = record { value = fresh_value kind; answer = answer.Ok [] };
+    } ∷ opening_versions (number + 1) kinds
 
 -- a replica that has accepted nothing but the opening candidates
 abbrev pub opening_state : ReplicaId → Ring → ℕ → List KindName → ReplicaState
 opening_state me keys bounds kinds =
-    record { me = me; keys = keys; bounds = bounds; histories = opening_histories me 0 kinds; versions = opening_versions 0 kinds }
+    record {
+      me = me;
+      keys = keys;
+      bounds = bounds;
+      histories = opening_histories me 0 kinds;
+      versions = opening_versions 0 kinds;
+    }

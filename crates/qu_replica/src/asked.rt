@@ -27,7 +27,13 @@ impl<'a> Model for Asked<'a> {
 
     ghost Value = { Request };
 
-    ghost view = { λ asked. record { client = asked.client; number = asked.number; sets = asked.sets.now; act = asked.act; set = asked.set } };
+    ghost view = { λ asked. record {
+      client = asked.client;
+      number = asked.number;
+      sets = asked.sets.now;
+      act = asked.act;
+      set = asked.set;
+    } };
 }
 
 impl<'a> Asked<'a> {

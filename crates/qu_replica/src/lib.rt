@@ -9,6 +9,3 @@ mod versions;
 pub use decision::{Accepted, Decision};
 pub use replica::Replica;
 pub use versions::Stored;
-
-#[cfg(test)]
-mod tests;

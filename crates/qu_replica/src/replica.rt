@@ -1,14 +1,15 @@
-ghost use Rattle.std.specs.Prelude.{◌≡◌, ◌≤◌, length, slice_get, IfOk, OnOk, OnErr};
+ghost use Rattle.std.specs.Prelude.{◌≡◌, ◌<◌, ◌≤◌, length, slice_get, IfOk, OnOk, OnErr};
 ghost use Rattle.std.specs.Option.{option_copied};
+ghost use Rattle.std.specs.List.{AllByRecursion};
+ghost use Rattle.qu_base.specs.Format.{AreBytes};
+ghost use Rattle.qu_base.specs.declared.limits.TheConstants.{OBJECT_IDS, REPLICA_IDS};
 ghost use Rattle.qu_replica.specs.State.{opening_state};
 ghost use Rattle.qu_replica.specs.Versions.{version_at};
 ghost use Rattle.qu_replica.specs.Step.{on_frame, replica_step};
 ghost use Rattle.qu_replica.specs.Growth.{AreHistories, HasParts, Grows};
+ghost use Rattle.qu_replica.specs.Fits.{StateFits, LetterFits};
 
-mod acts;
-mod decide;
 mod opening;
-mod queries;
 mod reply;
 mod rows;
 
@@ -41,7 +42,13 @@ impl Model for Replica {
 
     ghost Value = { ReplicaState };
 
-    ghost view = { λ replica. record { me = replica.me; keys = replica.keys; bounds = replica.bounds; histories = replica.histories.items; versions = replica.versions.items } };
+    ghost view = { λ replica. record {
+      me = replica.me;
+      keys = replica.keys;
+      bounds = replica.bounds;
+      histories = replica.histories.items;
+      versions = replica.versions.items;
+    } };
 
     ghost invariant = { λ replica. IsTrue (are_own replica.me 0 replica.histories.items) };
 }
@@ -57,9 +64,12 @@ impl Replica {
         bounds: Bounds,
         kinds: &[KindName],
     ) -> Result<Replica, NoMemory>
-        requires { length kinds.now ≤ 64 }
-        ensures { IfOk result (λ replica. replica ≡ opening_state me keys bounds kinds.now) }
+        requires { length kinds.now ≤ OBJECT_IDS }
+        ensures value { IfOk result (λ replica. replica ≡ opening_state me keys bounds kinds.now) }
+        ensures fits { me.0 < REPLICA_IDS → IfOk result StateFits }
     {
+        // Tells the proof that the number of faults is in its range.
+        bounds.b();
         Ok(Replica {
             alloc,
             me,
@@ -102,7 +112,10 @@ impl Replica {
         ensures err { OnErr result (self.new ≡ self.old) }
         ensures histories { AreHistories self.new }
         ensures grows { Grows self.old self.new }
+        ensures holds_what_fits { StateFits self.old → StateFits self.new }
+        ensures sends_what_fits { StateFits self.old → IfOk result (AllByRecursion LetterFits) }
     {
+        are_bytes(text);
         match receive(self.alloc, &self.keys, Party::Replica(self.me), text)? {
             Some(frame) => self.on_frame(&frame),
             None => Ok(List::new(self.alloc)),
@@ -134,3 +147,11 @@ impl Replica {
         }
     }
 }
+
+/// What a slice of bytes holds are bytes.
+fn are_bytes(text: &[u8])
+    ensures { AreBytes text.now }
+{}
+
+#[cfg(test)]
+mod tests;

@@ -1,35 +1,39 @@
--- A completed act has a point before its reply: the first event after which its candidate is established.
-use Rattle.std.proofs.Common.{◌≡◌, ℕ, suc, ◌-◌, ◌<◌, ◌≤◌, false, List, [], ◌∷◌, length, Some, refl, sym, ap, subst, ◌∙◌, arith, inl, inr}
+-- The point of an update is at the step that decides it.
+use Rattle.std.proofs.Common.{◌≡◌, ℕ, zero, suc, ◌-◌, ◌<◌, ◌≤◌, true, List, length, refl, sym, subst, ◌∙◌, arith, inl, inr}
 use Rattle.std.specs.Prelude.{Contains}
 use Rattle.std.proofs.lemmas.Bool.{false≢true, cases_Bool}
 use Rattle.qu_base.specs.declared.party.ObjectId.{ObjectId}
 use Rattle.qu_stamp.specs.declared.candidate.Candidate.{Candidate}
+use Rattle.qu_stamp.specs.Stamp.{is_below}
 use Rattle.qu_stamp.specs.Candidate.{opening}
-use Rattle.qu_chain.proofs.Ancestors.{established-later}
-use Rattle.qu_chain.proofs.Arrival.{Turn, turn_between}
-use Rattle.qu_chain.proofs.Chain.{Acceptor}
+use Rattle.qu_chain.specs.Laws.{Laws}
+use Rattle.qu_chain.specs.Decided.{IsDecided, IsTop, IsDecidedBy}
+use Rattle.qu_chain.specs.Joint.{Joint}
+use Rattle.qu_chain.proofs.Ancestry.{Acceptor, acceptor, accepted_by_decided, decided-later, some-later}
+use Rattle.qu_chain.proofs.Tops.{top, under_top}
+use Rattle.qu_chain.proofs.Updates.{first_of}
 use Rattle.qu_objects.specs.declared.act.Method.{Method}
-use Rattle.qu_objects.specs.declared.answer.Answer.{Answer}
+use Rattle.qu_objects.specs.declared.kind.Value.{Value}
 use Rattle.qu_objects.specs.declared.op.Op.{Op}
 use Rattle.qu_objects.specs.declared.op.Op.TheVariants as op
-use Rattle.qu_objects.specs.declared.op.Outcome.TheVariants as outcome
+use Rattle.qu_objects.specs.Text.{act_digest}
 use Rattle.qu_machine.specs.declared.record.OpRecord.{OpRecord}
 use Rattle.qu_machine.specs.declared.record.Point.{Point}
+use Rattle.qu_machine.specs.Machine.{act_values}
 use Rattle.qu_machine.specs.Serial.{Stands}
 use Rattle.qu_trace.specs.declared.trace.Trace.{Trace}
 use Rattle.qu_trace.specs.Operations.{operations_of}
-use Rattle.qu_world.specs.Run.{IsRun}
-use Rattle.qu_objects.specs.Text.{act_digest}
-use Rattle.qu_safety.proofs.OneAct.{ActsAreOne}
-use Rattle.qu_safety.specs.Digested.{IsMadeFor}
-use Rattle.qu_safety.specs.Decided.{is_established, IsDecided, TookEffect}
-use Rattle.qu_safety.specs.Order.{world_after, DecidesAt, effect_of, IsPoint}
-use Rattle.qu_safety.specs.Views.{ArePlain}
-use Rattle.qu_safety.proofs.ChainLaws.{setting, laws, established_of}
-use Rattle.qu_safety.proofs.CompletedActs.{CompletedAct, completed_act}
-use Rattle.qu_safety.proofs.Established.{Established, is_established_by, acceptor, accepted_by_established, established_by_decided}
-use Rattle.qu_safety.proofs.Numbered.{act_late}
-use Rattle.qu_safety.proofs.OneCandidate.{one_candidate}
+use Rattle.qu_runs.specs.Decided.{TookEffect}
+use Rattle.qu_runs.specs.Digested.{IsHandled, IsMadeFor}
+use Rattle.qu_runs.specs.Setting.{setting}
+use Rattle.qu_points.specs.Order.{DecidesAt, effect_of, IsPoint, IsPrintedOrder}
+use Rattle.qu_points.specs.Points.{point_at}
+use Rattle.qu_safety.specs.Updates.{Update, Names, IsOf, IsEverAccepted}
+use Rattle.qu_points.proofs.Folding.{IsQuestion}
+use Rattle.qu_safety.proofs.MachineValues.{IsValues, object_known, known_object, stay, change}
+use Rattle.qu_safety.proofs.OneAct.{ActsAreOne, one_made_for}
+use Rattle.qu_safety.proofs.Updates.{last_is, acts, one_of, opening_no_act}
+use Rattle.qu_safety.proofs.UpdateFacts.{MadeFor, UpdateFacts}
 
 -- the operation has a point, which is before the event of its reply
 pub record StandsBefore (trace : Trace) (operation : OpRecord) (reply : ℕ) : Type 0 where
@@ -38,93 +42,238 @@ pub record StandsBefore (trace : Trace) (operation : OpRecord) (reply : ℕ) : T
   pub stands : Stands operation point
   pub before : point.event < reply
 
-module _ (trace : Trace) (is_run : IsRun trace) (have : ArePlain trace) (one_act : ActsAreOne trace) where
-  -- no replica begins with a candidate that has a time
-  not_at_first : (object : ObjectId) (candidate : Candidate) → 1 ≤ (candidate.stamp).time → is_established (world_after trace 0) object candidate ≡ false
+module _ (trace : Trace) (laws : Laws (setting trace)) (joint : Joint (setting trace)) (one_act : ActsAreOne trace)
+    (facts : UpdateFacts trace) where
+  accepted_by : (time : ℕ) → time ≤ (setting trace).last → (object : ObjectId) (candidate : Candidate)
+      → IsDecided (setting trace) time object candidate → IsEverAccepted trace object candidate
+  accepted_by time within object candidate decided =
+      some-later (setting trace) laws time (setting trace).last within object candidate
+      (accepted_by_decided (setting trace) laws time object candidate decided)
+
+  -- a candidate of the update is decided at this time
+  pub record HasEffect (time : ℕ) (update : Update) : Type 0 where
+    pub object : ObjectId
+    pub candidate : Candidate
+    pub is_of : IsOf trace update object candidate
+    pub decided : IsDecided (setting trace) time object candidate
+
+  effect_by : (time : ℕ) → time ≤ length trace.entries → (update : Update)
+      → IsHandled trace update.client update.number update.parts
+      → TookEffect trace time update.client (act_digest update.client update.number update.parts)
+      → HasEffect time update
   unfolding setting
-  not_at_first object candidate late =
-      elim (cases_Bool (is_established (world_after trace 0) object candidate)) [
-        | inl there ↦
-            let who : Acceptor (setting trace) 0 object candidate = acceptor trace is_run have 0 object candidate (established_of trace 0 object candidate there) in
-            let begins : candidate ≡ opening = (laws trace is_run have).start object who.replica candidate refl who.within who.accepted in
-            let none : (candidate.stamp).time ≡ 0 = ap (λ (it : Candidate). (it.stamp).time) begins in
-            absurd (omega arith)
-        | inr not_there ↦ not_there
+  effect_by time within update handled took =
+      let decided : IsDecided (setting trace) time took.object took.candidate =
+      took.is_decided in
+      let its : IsMadeFor trace took.candidate update.client update.number update.parts =
+      record { handled = handled; of_client = took.of_client; of_act = took.of_act } in
+      let made : MadeFor trace took.object took.candidate =
+      facts.made took.object took.candidate (accepted_by time within took.object took.candidate decided)
+      (rw took.of_act refl) in
+      let same =
+      one_made_for trace one_act took.candidate (made.operation).client update.client (made.operation).number
+      update.number made.parts update.parts (made.is_of).made its in
+      record {
+        object = took.object;
+        candidate = took.candidate;
+        is_of = record {
+          made = its;
+          names = subst (λ (parts : List (ObjectId × Method)). Names parts took.object) same.2 (made.is_of).names;
+        };
+        decided = decided;
+      }
+
+  -- ---- the step at which it is decided first
+
+  not_at_first : (object : ObjectId) (candidate : Candidate) → (setting trace).is_act candidate ≡ true
+      → IsDecided (setting trace) 0 object candidate → ⊥
+  unfolding setting
+  not_at_first object candidate is_act decided =
+      let who : Acceptor (setting trace) 0 object candidate =
+      acceptor (setting trace) 0 object candidate
+      (accepted_by_decided (setting trace) laws 0 object candidate decided) in
+      let is_opening : candidate ≡ opening = laws.start object who.replica candidate who.good who.within who.accepted in
+      opening_no_act trace candidate is_opening is_act
+
+  -- no update takes effect before the first event
+  none_at_first : (update : Update) → HasEffect 0 update → ⊥
+  none_at_first update it =
+      not_at_first it.object it.candidate (acts trace update it.object it.candidate it.is_of)
+      it.decided
+
+  -- the step by which it is decided, before this time
+  pub record DecidedBefore (end : ℕ) (object : ObjectId) (candidate : Candidate) : Type 0 where
+    pub time : ℕ
+    pub earlier : time < end
+    pub turn : IsDecidedBy (setting trace) time object candidate
+
+  pub decided_first : (end : ℕ) → end ≤ (setting trace).last → (object : ObjectId) (candidate : Candidate)
+      → (setting trace).is_act candidate ≡ true → IsDecided (setting trace) end object candidate
+      → DecidedBefore end object candidate
+  decided_first zero within object candidate is_act decided =
+      absurd (not_at_first object candidate is_act decided)
+  decided_first (suc end) within object candidate is_act decided =
+      let late : IsDecided (setting trace) (setting trace).last object candidate =
+      decided-later (setting trace) laws (suc end) (setting trace).last within object candidate decided in
+      let here : (it : Candidate) × IsTop (setting trace) end object it =
+      top (setting trace) laws joint end (omega arith) object
+      (known_object trace laws joint one_act facts object
+      (object_known trace laws joint one_act facts object candidate
+      (accepted_by (suc end) within object candidate decided))) in
+      elim (cases_Bool (is_below (here.0).stamp candidate.stamp)) [
+        | inl above ↦ record {
+          time = end;
+          earlier = omega arith;
+          turn = record {
+            within = omega arith;
+            after = decided;
+            before = λ already. false≢true (sym ((here.1).nothing_above candidate already) ∙ above);
+          };
+        }
+        | inr not_above ↦
+            let before : DecidedBefore end object candidate =
+            decided_first end (omega arith) object candidate is_act
+            (under_top (setting trace) laws joint end (omega arith) object here.0 candidate here.1 late not_above) in
+            let earlier : before.time < end = before.earlier in
+            record { time = before.time; earlier = omega arith; turn = before.turn }
       ]
 
-  -- ---- an update with an established candidate
+  -- ---- the event at which an update takes effect is such a step
 
-  module _ (operation : OpRecord) (parts : List (ObjectId × Method)) (object : ObjectId) (candidate : Candidate) (made : IsMadeFor trace candidate operation.client operation.number parts) where
-    late : (time : ℕ) → time ≤ length trace.entries → Established trace is_run have time object candidate → 1 ≤ (candidate.stamp).time
-    late time within established =
-        act_late trace is_run have object candidate (accepted_by_established trace is_run have time within object candidate established) _ made.of_act
+  -- a step that decides a candidate of the update
+  pub record IsTurnOf (time : ℕ) (update : Update) : Type 0 where
+    pub object : ObjectId
+    pub candidate : Candidate
+    pub is_of : IsOf trace update object candidate
+    pub turn : IsDecidedBy (setting trace) time object candidate
 
-    -- where the update took effect its candidate is established
-    effect_establishes : (end : ℕ) → end ≤ length trace.entries → Established trace is_run have end object candidate
-        → (time : ℕ) → time ≤ length trace.entries → TookEffect (world_after trace time) operation.client (act_digest operation.client operation.number parts) → Established trace is_run have time object candidate
-    effect_establishes end within established time among took =
-        let other : Candidate = took.candidate in
-        let there : Established trace is_run have time took.object other = established_by_decided trace is_run have time among took.object other took.is_decided in
-        let same : (took.object ≡ object) × (other ≡ candidate) =
-        one_candidate trace is_run have one_act took.object object other candidate
-        (accepted_by_established trace is_run have time among took.object other there) (accepted_by_established trace is_run have end within object candidate established)
-        _ took.of_act made.of_act in
-        subst (λ (it : Candidate). Established trace is_run have time object it) same.1
-        (subst (λ (it : ObjectId). Established trace is_run have time it other) same.0 there)
+  pub turn_of : (update : Update) (time : ℕ) → DecidesAt trace update.client update.number update.parts (suc time)
+      → IsTurnOf time update
+  turn_of update time decides =
+      let happened : suc time ≤ length trace.entries = decides.happened in
+      let it : HasEffect (suc time) update = effect_by (suc time) happened update decides.handled decides.by_then in
+      record {
+        object = it.object;
+        candidate = it.candidate;
+        is_of = it.is_of;
+        turn = record {
+          within = omega (arith, last_is trace, happened);
+          after = it.decided;
+          before = λ already. decides.not_before time (omega arith) (record {
+            object = it.object;
+            candidate = it.candidate;
+            is_decided = already;
+            of_client = ((it.is_of).made).of_client;
+            of_act = ((it.is_of).made).of_act;
+          });
+        };
+      }
 
-    -- it decides at the first event after which the candidate is established
-    decides_at_turn : (end : ℕ) → end ≤ length trace.entries → Established trace is_run have end object candidate
-        → (turn : Turn (λ (time : ℕ). is_established (world_after trace time) object candidate) 0 end) → DecidesAt trace operation.client operation.number parts (suc turn.time)
-    decides_at_turn end within established turn =
-        let below : turn.time < end = turn.within in
-        record {
-          handled = made.handled;
-          happened = omega arith;
-          by_then = record {
-            object = object;
-            candidate = candidate;
-            is_decided = IsDecided.by_acceptors candidate turn.after;
-            of_client = made.of_client;
-            of_act = made.of_act;
-          };
-          not_before = λ earlier before took.
-              let there : Established trace is_run have earlier object candidate = effect_establishes end within established earlier (omega arith) took in
-              let then : Established trace is_run have turn.time object candidate =
-              established-later (setting trace) (laws trace is_run have) earlier turn.time (omega arith) object candidate there in
-              false≢true (sym turn.before ∙ is_established_by trace is_run have turn.time object candidate then);
-        }
+  pub turn_at : (update : Update) (event : ℕ) → DecidesAt trace update.client update.number update.parts event
+      → (time : ℕ) × (event ≡ suc time) × IsTurnOf time update
+  turn_at update zero decides =
+      absurd (none_at_first update (effect_by 0 decides.happened update decides.handled decides.by_then))
+  turn_at update (suc time) decides = (time, refl, turn_of update time decides)
 
-    first_turn : (end : ℕ) → end ≤ length trace.entries → Established trace is_run have end object candidate → Turn (λ (time : ℕ). is_established (world_after trace time) object candidate) 0 end
-    first_turn end within established =
-        turn_between (λ (time : ℕ). is_established (world_after trace time) object candidate) 0 end (omega arith)
-        (not_at_first object candidate (late end within established))
-        (is_established_by trace is_run have end object candidate established)
+  pub turn_decides : (update : Update) (time : ℕ) (object : ObjectId) (candidate : Candidate)
+      → IsOf trace update object candidate → IsDecidedBy (setting trace) time object candidate
+      → DecidesAt trace update.client update.number update.parts (suc time)
+  turn_decides update time object candidate is_of turn =
+      let within : time < (setting trace).last = turn.within in
+      record {
+        handled = (is_of.made).handled;
+        happened = omega (arith, last_is trace, within);
+        by_then = record {
+          object = object;
+          candidate = candidate;
+          is_decided = turn.after;
+          of_client = (is_of.made).of_client;
+          of_act = (is_of.made).of_act;
+        };
+        not_before = λ earlier before took.
+            let it : HasEffect earlier update =
+            effect_by earlier (omega (arith, last_is trace, within, before)) update (is_of.made).handled took in
+            first_of (setting trace) laws joint Update (IsOf trace) (one_of trace one_act) facts.shared
+            facts.spread facts.once (acts trace) update time object candidate is_of turn
+            it.object it.candidate it.is_of
+            (decided-later (setting trace) laws earlier time (omega arith) it.object it.candidate it.decided);
+      }
 
--- a completed act has a point before its reply
-pub act_has_point : (trace : Trace) → IsRun trace → ArePlain trace → ActsAreOne trace → (operation : OpRecord) → Contains (operations_of trace.entries) operation → (reply : ℕ) (answer : Answer) → operation.reply ≡ Some (reply, outcome.Done answer)
-    → (act : List (ObjectId × Method)) → operation.op ≡ op.Act act → StandsBefore trace operation reply
-act_has_point trace is_run have one_act operation among reply answer replied act is_act =
-    let done : CompletedAct trace operation reply answer = completed_act trace is_run have operation among reply answer replied act is_act in
-    let ended : reply ≤ length trace.entries = done.within in
-    let begins : 1 ≤ reply = done.begins in
-    let end : ℕ = reply - 1 in
-    let within : end ≤ length trace.entries = omega arith in
-    let turn : Turn (λ (time : ℕ). is_established (world_after trace time) done.object done.candidate) 0 end =
-    first_turn trace is_run have one_act operation ((done.object, done.method) ∷ []) done.object done.candidate done.made end within done.established in
-    let decides : DecidesAt trace operation.client operation.number ((done.object, done.method) ∷ []) (suc turn.time) =
-    decides_at_turn trace is_run have one_act operation ((done.object, done.method) ∷ []) done.object done.candidate done.made end within done.established turn in
-    let below : turn.time < end = turn.within in
-    record {
-      point = record { event = suc turn.time; client = operation.client; number = operation.number; op = operation.op; faulty = false };
-      is_point = record {
-        operation = operation;
-        of_trace = among;
-        client = refl;
-        number = refl;
-        op = refl;
-        correct = refl;
-        effect = subst (λ (it : Op). effect_of trace operation (suc turn.time) it) (sym done.is_act) decides;
-      };
-      stands = record { correct = refl; client = refl; number = refl; op = refl };
-      before = omega arith;
-    }
+  -- the point of an operation at a step that decides its update
+  pub turn_point : (operation : OpRecord) → Contains (operations_of trace.entries) operation
+      → (parts : List (ObjectId × Method)) → operation.op ≡ op.Act parts
+      → (time : ℕ) (object : ObjectId) (candidate : Candidate)
+      → IsOf trace (record { client = operation.client; number = operation.number; parts = parts }) object candidate
+      → IsDecidedBy (setting trace) time object candidate → IsPoint trace (point_at operation (suc time))
+  turn_point operation among parts is_act time object candidate is_of turn = record {
+    operation = operation;
+    of_trace = among;
+    client = refl;
+    number = refl;
+    op = refl;
+    correct = refl;
+    effect = subst (λ (it : Op). effect_of trace operation (suc time) it) (sym is_act)
+        (turn_decides (record { client = operation.client; number = operation.number; parts = parts }) time object
+        candidate is_of turn);
+  }
+
+  -- an operation of which a candidate is decided before its reply has a point before it
+  pub act_has_point : (operation : OpRecord) → Contains (operations_of trace.entries) operation
+      → (parts : List (ObjectId × Method)) → operation.op ≡ op.Act parts
+      → (reply : ℕ) → 1 ≤ reply → reply ≤ length trace.entries → (object : ObjectId) (candidate : Candidate)
+      → IsOf trace (record { client = operation.client; number = operation.number; parts = parts }) object candidate
+      → IsDecided (setting trace) (reply - 1) object candidate → StandsBefore trace operation reply
+  act_has_point operation among parts is_act reply begins ends object candidate is_of decided =
+      let first : DecidedBefore (reply - 1) object candidate =
+      decided_first (reply - 1) (omega (arith, last_is trace, ends)) object candidate
+      (acts trace
+      (record { client = operation.client; number = operation.number; parts = parts }) object candidate is_of) decided
+      in
+      let earlier : first.time < reply - 1 = first.earlier in
+      record {
+        point = point_at operation (suc first.time);
+        is_point = turn_point operation among parts is_act first.time object candidate is_of first.turn;
+        stands = record { correct = refl; client = refl; number = refl; op = refl };
+        before = omega arith;
+      }
+
+  -- ---- the values of the machine at points
+
+  no_question : (what : Op) (parts : List (ObjectId × Method)) → what ≡ op.Act parts → IsQuestion what → ⊥
+  no_question (op.Act act) parts is question = question
+  no_question (op.Query query) parts is question = absurd (cc)
+
+  abbrev Values : ℕ → List Value → Type 0
+  Values time values = IsValues trace laws joint one_act facts time values
+
+  -- an event without a point of an update leaves the values
+  pub quiet_values : (order : List Point) → IsPrintedOrder trace order → (time : ℕ) (values : List Value)
+      → time < length trace.entries → Values time values
+      → ((point : Point) → Contains order point → point.event ≡ suc time → IsQuestion point.op)
+      → Values (suc time) values
+  quiet_values order printed time values within are quiet =
+      stay trace laws joint one_act facts time (omega (arith, last_is trace, within)) values are
+      (λ object act is_act turn.
+      let made : MadeFor trace object act =
+      facts.made object act (accepted_by (suc time) (omega (arith, last_is trace, within)) object act turn.after) is_act
+      in
+      no_question (made.operation).op made.parts made.is_act
+      (quiet (point_at made.operation (suc time))
+      (printed.complete (point_at made.operation (suc time))
+      (turn_point made.operation made.of_trace made.parts made.is_act time object act made.is_of turn)) refl))
+
+  -- one with such a point does what the update does
+  pub loud_values : (order : List Point) → IsPrintedOrder trace order → (time : ℕ) (values : List Value) (point : Point)
+      (parts : List (ObjectId × Method)) → time < length trace.entries → Values time values
+      → Contains order point → point.event ≡ suc time → point.op ≡ op.Act parts
+      → Values (suc time) (act_values values parts)
+  loud_values order printed time values point parts within are contained at is =
+      let it : IsPoint trace point = printed.sound point contained in
+      let operation : OpRecord = it.operation in
+      let decides : DecidesAt trace operation.client operation.number parts (suc time) =
+      subst (λ (event : ℕ). DecidesAt trace operation.client operation.number parts event) at
+      (subst (λ (what : Op). effect_of trace operation point.event what) (it.op ∙ is) it.effect) in
+      let update : Update = record { client = operation.client; number = operation.number; parts = parts } in
+      let here : IsTurnOf time update = turn_of update time decides in
+      change trace laws joint one_act facts time (omega (arith, last_is trace, within)) values are update here.object
+      here.candidate here.is_of here.turn

@@ -1,7 +1,7 @@
--- A completed query answers from the greatest candidate that was established when a replica first answered
--- its round.
+-- A completed query answers from the tops of its objects when a replica first answered its round.
 use Rattle.std.proofs.Common.{◌≡◌, ◌≢◌, ℕ, zero, suc, ◌+◌, ◌-◌, ◌<◌, ◌≤◌, Bool, true, false, ◌==◌, List, [], ◌∷◌, length, Option, None, Some, refl, sym, ap, subst, ◌∙◌, arith, inl, inr, slice_get, All, AllPairs, Contains}
-use Rattle.std.specs.List.{Any}
+use Rattle.std.specs.Prelude.{count_by}
+use Rattle.std.specs.List.{Any, AllZip}
 use Rattle.std.proofs.lemmas.Bool.{false≢true, cases_Bool, cases_lt, and_from, eqb-true, eq-eqb}
 use Rattle.std.proofs.lemmas.List.Elements.{All-contains, All-weaker}
 use Rattle.std.proofs.lemmas.List.Folds.{Any-from_list_any, list_any-from_Any}
@@ -9,22 +9,29 @@ use Rattle.std.proofs.lemmas.Option.{none-some, same_Some, slice_get_within}
 use Rattle.qu_base.specs.declared.party.ClientId.{ClientId}
 use Rattle.qu_base.specs.declared.party.ObjectId.{ObjectId}
 use Rattle.qu_base.specs.declared.party.ReplicaId.{ReplicaId}
-use Rattle.qu_base.specs.Thresholds.{replicas, quorum}
+use Rattle.qu_base.specs.Thresholds.{replicas, quorum, AreThresholds}
+use Rattle.qu_base.proofs.ThresholdFacts.{are_thresholds}
 use Rattle.qu_stamp.specs.declared.stamp.Stamp.{Stamp}
 use Rattle.qu_stamp.specs.declared.candidate.Candidate.{Candidate}
 use Rattle.qu_stamp.specs.Stamp.{is_below}
+use Rattle.qu_stamp.proofs.Order.{is_below-not_chain}
 use Rattle.qu_history.specs.declared.sets.SetOf.{SetOf}
-use Rattle.qu_history.specs.History.{holds}
+use Rattle.qu_history.specs.History.{ObjectHistory, holds}
 use Rattle.qu_history.specs.Sets.{entries_of, method_at}
 use Rattle.qu_chain.specs.Count.{count, test_at}
-use Rattle.qu_chain.proofs.Ancestors.{accepted-later}
+use Rattle.qu_chain.specs.Setting.{acceptors, IsEstablished}
+use Rattle.qu_chain.specs.Laws.{Laws}
+use Rattle.qu_chain.specs.Decided.{IsTop}
+use Rattle.qu_chain.specs.Joint.{Joint}
+use Rattle.qu_chain.proofs.Ancestry.{Acceptor, acceptor, accepted-later, some-later, accepted_by_attested, attested_by_established}
 use Rattle.qu_chain.proofs.Counting.{count-le, Shared, shared, test_at-here}
+use Rattle.qu_chain.proofs.Tops.{top}
 use Rattle.qu_objects.specs.declared.answer.Answer.{Answer}
 use Rattle.qu_objects.specs.declared.op.Op.{Op}
 use Rattle.qu_objects.specs.declared.op.Op.TheVariants as op
 use Rattle.qu_objects.specs.declared.op.Outcome.TheVariants as outcome
+use Rattle.qu_objects.specs.declared.kind.Value.{Value}
 use Rattle.qu_objects.specs.declared.query.Ask.{Ask}
-use Rattle.qu_objects.specs.declared.state.ObjState.{ObjState}
 use Rattle.qu_objects.specs.Perform.{told_answer}
 use Rattle.qu_frames.specs.declared.frame.Body.{Body}
 use Rattle.qu_frames.specs.declared.frame.Body.TheVariants as body
@@ -43,44 +50,48 @@ use Rattle.qu_trace.specs.declared.trace.Trace.{Trace}
 use Rattle.qu_trace.specs.Operations.{operations_of}
 use Rattle.qu_world.specs.State.{letter_of}
 use Rattle.qu_world.specs.Run.{IsRun}
-use Rattle.qu_safety.proofs.Recorded.{recorded_op}
-use Rattle.qu_safety.specs.Chained.{last_world}
-use Rattle.qu_safety.specs.Completions.{Replied, RepliedAt, IsCompleted}
-use Rattle.qu_safety.specs.Decided.{accepts, is_accepted}
-use Rattle.qu_safety.specs.Invocations.{IsRequestOf}
-use Rattle.qu_safety.specs.Order.{is_answer, world_after, answers, sends_answer, answers_at, AnswersFirst, query_effect, effect_of, IsPoint}
-use Rattle.qu_safety.specs.Points.{point_at}
-use Rattle.qu_safety.specs.Replies.{IsReplyTo, TellsQuery}
+use Rattle.qu_points.proofs.Recorded.{recorded_op}
+use Rattle.qu_rounds.specs.Completions.{Replied, RepliedAt, IsCompleted}
+use Rattle.qu_runs.specs.Accepted.{accepts}
+use Rattle.qu_runs.specs.Setting.{setting}
+use Rattle.qu_rounds.specs.Invocations.{IsRequestOf}
+use Rattle.qu_runs.specs.Answers.{is_answer, answers, sends_answer, answers_at}
+use Rattle.qu_runs.specs.Times.{world_after}
+use Rattle.qu_runs.proofs.Settings.{acceptors_are}
+use Rattle.qu_points.specs.Order.{AnswersFirst, query_effect, effect_of, IsPoint}
+use Rattle.qu_points.specs.Points.{point_at}
+use Rattle.qu_grounds.specs.Replies.{IsReplyTo, TellsQuery}
+use Rattle.qu_safety.specs.Updates.{IsEverAccepted}
 use Rattle.qu_safety.specs.Values.{HasVersion}
-use Rattle.qu_safety.specs.Views.{ArePlain, IsOfKept}
-use Rattle.qu_safety.proofs.Acceptors.{method_is_shown}
-use Rattle.qu_safety.proofs.Chained.{somewhere_accepted}
-use Rattle.qu_safety.proofs.ChainLaws.{setting, acceptors_are, laws}
-use Rattle.qu_safety.proofs.Established.{Established, IsTop, accepted_by_established, same_accepted}
-use Rattle.qu_safety.proofs.HeldInRuns.{held_versions}
-use Rattle.qu_safety.proofs.HeldVersions.{AreOfHeld, HoldsUnder}
-use Rattle.qu_safety.proofs.LaterLetters.{letter_later}
-use Rattle.qu_safety.proofs.Members.{is_among, members_count}
-use Rattle.qu_safety.proofs.RepliesInRuns.{IsAskOf, ask_of_told, told_in_run}
-use Rattle.qu_safety.proofs.Replying.{reply_sent}
-use Rattle.qu_safety.proofs.Verdicts.{equal_told}
+use Rattle.qu_runs.specs.Plain.{ArePlain}
+use Rattle.qu_grounds.specs.Views.{IsOfKept}
+use Rattle.qu_grounds.proofs.Acceptors.{method_is_shown}
+use Rattle.qu_grounds.proofs.HeldInRuns.{held_versions}
+use Rattle.qu_grounds.proofs.HeldVersions.{AreOfHeld, HoldsUnder}
+use Rattle.qu_runs.proofs.LaterLetters.{letter_later}
+use Rattle.qu_rounds.proofs.Members.{is_among, members_count}
+use Rattle.qu_grounds.proofs.RepliesInRuns.{IsAskOf, ask_of_told, told_in_run}
+use Rattle.qu_grounds.proofs.Replying.{reply_sent, reply_asks}
+use Rattle.qu_rounds.proofs.Verdicts.{equal_told}
 use Rattle.qu_safety.proofs.StoredValues.{version_is}
-use Rattle.qu_safety.proofs.Values.{Known}
-use Rattle.qu_safety.proofs.Views.{view_of_request}
-use Rattle.qu_safety.proofs.WorldGrowth.{has_more, world_after-grows, is_accepted-more}
-use Rattle.qu_safety.proofs.Small.{some_member, some_quorum}
-use Rattle.qu_safety.proofs.OpeningReplicas.{bounds_are}
-use Rattle.qu_safety.proofs.PointRequests.{IsReplyIn, reply_in}
-use Rattle.qu_safety.specs.Carried.{Asks, Tells}
+use Rattle.qu_safety.proofs.UpdateFacts.{HasValue, UpdateFacts}
+use Rattle.qu_rounds.proofs.Invocations.{request_of}
+use Rattle.qu_safety.proofs.Updates.{same_accepted}
+use Rattle.qu_safety.proofs.EverAccepted.{held_ever}
+use Rattle.qu_grounds.proofs.Views.{view_of_request}
+use Rattle.qu_runs.proofs.Small.{some_member, some_quorum}
+use Rattle.qu_runs.proofs.OpeningReplicas.{bounds_are}
+use Rattle.qu_safety.proofs.PointEvents.{IsReplyIn, reply_in}
+use Rattle.qu_runs.specs.Carried.{Asks, Tells}
 use Rattle.qu_history.specs.declared.sealed.Sealed.{Sealed}
-use Rattle.qu_safety.proofs.Carrying.{reply_asks}
 
 -- ---- what the theorem is given of the run
 
 -- a quorum answered what completed
 abbrev pub CompletesByQuorum : Trace → Type 0
 CompletesByQuorum trace =
-    (operation : OpRecord) → Contains (operations_of trace.entries) operation → (event : ℕ) (answer : Answer) → operation.reply ≡ Some (event, outcome.Done answer) → IsCompleted trace operation event answer
+    (operation : OpRecord) → Contains (operations_of trace.entries) operation → (event : ℕ) (answer : Answer) →
+    operation.reply ≡ Some (event, outcome.Done answer) → IsCompleted trace operation event answer
 
 -- a client asks all replicas the same in a round
 abbrev pub AsksAlike : Trace → Type 0
@@ -99,11 +110,14 @@ record FirstTrue (test : ℕ → Bool) (most : ℕ) : Type 0 where
   passed : test first ≡ true
   not_before : (earlier : ℕ) → earlier < first → test earlier ≡ false
 
-none_earlier : (test : ℕ → Bool) (first : ℕ) → test 0 ≡ false → ((earlier : ℕ) → earlier < first → test (suc earlier) ≡ false) → (earlier : ℕ) → earlier < suc first → test earlier ≡ false
+none_earlier : (test : ℕ → Bool) (first : ℕ) → test 0 ≡ false →
+    ((earlier : ℕ) → earlier < first → test (suc earlier) ≡ false) → (earlier : ℕ) → earlier < suc first → test earlier
+    ≡ false
 none_earlier test first none later zero below = none
 none_earlier test first none later (suc earlier) below = later earlier (omega arith)
 
-first_later : (test : ℕ → Bool) (most : ℕ) → test 0 ≡ false → FirstTrue (λ (n : ℕ). test (suc n)) most → FirstTrue test (suc most)
+first_later : (test : ℕ → Bool) (most : ℕ) → test 0 ≡ false → FirstTrue (λ (n : ℕ). test (suc n)) most → FirstTrue test
+    (suc most)
 first_later test most none found =
     let within : found.first ≤ most = found.within in
     record {
@@ -114,17 +128,31 @@ first_later test most none found =
     }
 
 first_true : (test : ℕ → Bool) (most : ℕ) → test most ≡ true → FirstTrue test most
-first_true test zero passed = record { first = 0; within = omega arith; passed = passed; not_before = λ earlier below. absurd (omega arith) }
+first_true test zero passed = record {
+  first = 0;
+  within = omega arith;
+  passed = passed;
+  not_before = λ earlier below.
+      absurd (omega arith);
+}
 first_true test (suc most) passed =
     elim (cases_Bool (test 0)) [
-      | inl here ↦ record { first = 0; within = omega arith; passed = here; not_before = λ earlier below. absurd (omega arith) }
+      | inl here ↦ record {
+        first = 0;
+        within = omega arith;
+        passed = here;
+        not_before = λ earlier below. absurd
+            (omega arith);
+      }
       | inr none ↦ first_later test most none (first_true (λ (n : ℕ). test (suc n)) most passed)
     ]
 
 -- ---- the letters that answer a round
 
 -- a reply answers its round
-reply_answers : (client : ClientId) (number round : ℕ) (letter : Letter) (replica : ReplicaId) (told : Verdict) (shown : List Sealed) → Tells letter replica client number round told shown → answers client number round letter ≡ true
+reply_answers : (client : ClientId) (number round : ℕ) (letter : Letter) (replica : ReplicaId) (told : Verdict)
+    (shown : List Sealed) → Tells letter replica client number round told shown → answers client number round letter ≡
+    true
 reply_answers client number round letter replica told shown is =
     ap (is_answer client number round) is.carries ∙
     and_from _ _ (eq-eqb client.0 client.0 refl) (and_from _ _ (eq-eqb number number refl) (eq-eqb round round refl))
@@ -136,10 +164,13 @@ record IsAnsweredAt (trace : Trace) (client : ClientId) (number round at : ℕ) 
   told : Verdict
   reply : IsReplyTo trace at replica client number round told
 
-answered_with : (trace : Trace) → IsRun trace → ArePlain trace → (client : ClientId) (number round at : ℕ) (found : Option Entry) → slice_get trace.entries at ≡ found → sends_answer client number round found ≡ true → IsAnsweredAt trace client number round at
+answered_with : (trace : Trace) → IsRun trace → ArePlain trace → (client : ClientId) (number round at : ℕ)
+    (found : Option Entry) → slice_get trace.entries at ≡ found → sends_answer client number round found ≡ true →
+    IsAnsweredAt trace client number round at
 answered_with trace is_run have client number round at None is passed = absurd (false≢true passed)
 answered_with trace is_run have client number round at (Some entry) is passed =
-    let any : Any (λ (letter : Letter). answers client number round letter ≡ true) entry.letters = Any-from_list_any (answers client number round) entry.letters passed in
+    let any : Any (λ (letter : Letter). answers client number round letter ≡ true) entry.letters =
+    Any-from_list_any (answers client number round) entry.letters passed in
     let letter : Letter = any.1 in
     let answer : IsReplyIn client number round letter = reply_in client number round letter any.4 in
     let below : at < length trace.entries = slice_get_within trace.entries at entry is in
@@ -147,15 +178,18 @@ answered_with trace is_run have client number round at (Some entry) is passed =
       below = below;
       replica = (answer.replica).0;
       told = answer.verdict;
-      reply = reply_sent trace is_run have at below entry is letter (any.0, any.2, any.3) answer.replica client number round answer.verdict answer.shown answer.is_reply;
+      reply = reply_sent trace is_run have at below entry is letter (any.0, any.2, any.3) answer.replica client number
+          round answer.verdict answer.shown answer.is_reply;
     }
 
-answered_at : (trace : Trace) → IsRun trace → ArePlain trace → (client : ClientId) (number round at : ℕ) → answers_at trace client number round (suc at) ≡ true → IsAnsweredAt trace client number round at
+answered_at : (trace : Trace) → IsRun trace → ArePlain trace → (client : ClientId) (number round at : ℕ)
+    → answers_at trace client number round (suc at) ≡ true → IsAnsweredAt trace client number round at
 answered_at trace is_run have client number round at passed =
     answered_with trace is_run have client number round at (slice_get trace.entries at) refl passed
 
 -- nothing is answered at the beginning
-answered_after : (trace : Trace) (client : ClientId) (number round event : ℕ) → answers_at trace client number round event ≡ true → (time : ℕ) × (event ≡ suc time)
+answered_after : (trace : Trace) (client : ClientId) (number round event : ℕ)
+    → answers_at trace client number round event ≡ true → (time : ℕ) × (event ≡ suc time)
 answered_after trace client number round zero passed = absurd (false≢true passed)
 answered_after trace client number round (suc time) passed = (time, refl)
 
@@ -166,15 +200,18 @@ pub record IsTold (given : Verdict) (answer : Answer) : Type 0 where
   pub stamps : List (ObjectId × Stamp)
   pub is_told : given ≡ verdict.Told stamps answer
 
-pub told_by_fit : (query : List (ObjectId × Ask)) (given : Verdict) (answer : Answer) → fitting (op.Query query) given ≡ Some answer → IsTold given answer
+pub told_by_fit : (query : List (ObjectId × Ask)) (given : Verdict) (answer : Answer) → fitting (op.Query query) given
+    ≡ Some answer → IsTold given answer
 told_by_fit query (verdict.Done stamps other) answer fits = absurd (none-some answer fits)
-told_by_fit query (verdict.Told stamps other) answer fits = record { stamps = stamps; is_told = ap (verdict.Told stamps) (same_Some other answer fits) }
+told_by_fit query (verdict.Told stamps other) answer fits = record
+    { stamps = stamps; is_told = ap (verdict.Told stamps) (same_Some other answer fits) }
 told_by_fit query (verdict.Already other) answer fits = absurd (none-some answer fits)
 told_by_fit query (verdict.Mended object stamp) answer fits = absurd (none-some answer fits)
 told_by_fit query (verdict.Refused refusal) answer fits = absurd (none-some answer fits)
 
 -- the replica told this answer, before an event, from a base and with nothing above it
-pub record ToldBefore (trace : Trace) (client : ClientId) (number round before : ℕ) (stamps : List (ObjectId × Stamp)) (answer : Answer) (replica : ℕ) : Type 0 where
+pub record ToldBefore (trace : Trace) (client : ClientId) (number round before : ℕ) (stamps : List (ObjectId × Stamp))
+    (answer : Answer) (replica : ℕ) : Type 0 where
   pub at : ℕ
   pub earlier : at < before
   pub below : at < length trace.entries
@@ -186,19 +223,25 @@ pub record ToldBefore (trace : Trace) (client : ClientId) (number round before :
   pub is_ask : reply.body ≡ body.Ask ((object, ask) ∷ [])
   pub tells : TellsQuery reply.old reply.sets object ask stamps answer
 
-pub tells_by_reply : (trace : Trace) → IsRun trace → ArePlain trace → (client : ClientId) (number round before : ℕ) (given : Verdict) (answer : Answer) (told : IsTold given answer) (replica : ℕ) → Replied trace before client number round given replica → ToldBefore trace client number round before told.stamps answer replica
+pub tells_by_reply : (trace : Trace) → IsRun trace → ArePlain trace → (client : ClientId) (number round before : ℕ)
+    (given : Verdict) (answer : Answer) (told : IsTold given answer) (replica : ℕ) → Replied trace before client number
+    round given replica → ToldBefore trace client number round before told.stamps answer replica
 tells_by_reply trace is_run have client number round before given answer told replica replied =
     let at : ℕ = replied.at in
     let it = replied.replied in
     let letter : Letter = it.letter in
     let below : at < length trace.entries = slice_get_within trace.entries at it.entry it.is_entry in
     let is_told : it.told ≡ verdict.Told told.stamps answer =
-    equal_told it.told told.stamps answer (ap (λ (other : Verdict). same_verdict it.told other) (sym told.is_told) ∙ it.same) in
+    equal_told it.told told.stamps answer (ap (λ (other : Verdict). same_verdict it.told other) (sym told.is_told) ∙
+    it.same) in
     let me : ReplicaId = record { 0 = replica } in
     let said : IsReplyTo trace at replica client number round it.told =
-    reply_sent trace is_run have at below it.entry it.is_entry letter it.sent me client number round it.told it.shown it.is_reply in
-    let reply : IsReplyTo trace at replica client number round (verdict.Told told.stamps answer) = subst (IsReplyTo trace at replica client number round) is_told said in
-    let query : IsAskOf reply.body = ask_of_told trace is_run have at below replica client number round told.stamps answer reply in
+    reply_sent trace is_run have at below it.entry it.is_entry letter it.sent me client number round it.told it.shown
+    it.is_reply in
+    let reply : IsReplyTo trace at replica client number round (verdict.Told told.stamps answer) =
+    subst (IsReplyTo trace at replica client number round) is_told said in
+    let query : IsAskOf reply.body =
+    ask_of_told trace is_run have at below replica client number round told.stamps answer reply in
     let sent : Contains (it.entry).letters letter = it.sent in
     record {
       at = at;
@@ -226,8 +269,11 @@ abbrev stamped : ObjectId → Stamp → List (ObjectId × Stamp)
 stamped object stamp = (object, stamp) ∷ []
 
 pub same_stamped : (a b : ObjectId) (s t : Stamp) → stamped a s ≡ stamped b t → (a ≡ b) × (s ≡ t)
-same_stamped a b s t same =
-    (ap (λ (it : List (ObjectId × Stamp)). (stamp_in (a, s) it).0) same, ap (λ (it : List (ObjectId × Stamp)). (stamp_in (a, s) it).1) same)
+same_stamped a b s t same = (
+  ap (λ (it : List (ObjectId × Stamp)). (stamp_in (a, s) it).0) same,
+  ap
+      (λ (it : List (ObjectId × Stamp)). (stamp_in (a, s) it).1) same,
+)
 
 abbrev asks_in : Body → List (ObjectId × Ask)
 asks_in (body.Act parts) = []
@@ -235,39 +281,59 @@ asks_in (body.Ask parts) = parts
 
 -- ---- the point of the query
 
-module _ (trace : Trace) (is_run : IsRun trace) (have : ArePlain trace) where
-  -- where the query took effect, and the greatest candidate established before, whose value it answers
-  pub record CompletedQuery (operation : OpRecord) (reply : ℕ) (answer : Answer) : Type 0 where
-    pub object : ObjectId
-    pub ask : Ask
-    pub is_query : operation.op ≡ op.Query ((object, ask) ∷ [])
-    pub event : ℕ
-    pub first : AnswersFirst trace operation.client operation.number reply event
-    pub time : ℕ
-    pub is_after : event ≡ suc time
-    pub before : event < reply
-    pub base : Candidate
-    pub top : IsTop trace is_run have time object base
-    pub version : ObjState
-    pub has : HasVersion trace object base version
-    pub answer_is : answer ≡ told_answer ((object, ask) ∷ []) (version.value ∷ [])
+-- on this object a query is answered with the value of the top
+pub record HasTopValue (trace : Trace) (time : ℕ) (object : ObjectId) (value : Value) : Type 0 where
+  pub base : Candidate
+  pub top : IsTop (setting trace) time object base
+  pub has : HasValue trace object base value
 
-  -- what a replica held at an event is accepted in the end
-  held_last : (at : ℕ) → at ≤ length trace.entries → (place : ℕ) (state : ReplicaState) → slice_get (world_after trace at).replicas place ≡ Some state → (object : ObjectId) (candidate : Candidate) → holds candidate (own_candidates state object) ≡ true → is_accepted (last_world trace) object candidate ≡ true
-  held_last at within place state is_state object candidate held =
-      is_accepted-more (world_after trace at) (last_world trace)
-      (has_more (world_after trace at) (last_world trace) (world_after-grows trace at (length trace.entries) within)) object candidate
-      (somewhere_accepted object candidate (world_after trace at).replicas place
-      (test_at-here (accepts object candidate) (world_after trace at).replicas place state is_state ∙ held))
+-- where the query took effect, and the tops before, from whose values it is answered
+pub record CompletedQuery (trace : Trace) (operation : OpRecord) (reply : ℕ) (answer : Answer) : Type 0 where
+  pub parts : List (ObjectId × Ask)
+  pub is_query : operation.op ≡ op.Query parts
+  pub event : ℕ
+  pub first : AnswersFirst trace operation.client operation.number reply event
+  pub time : ℕ
+  pub is_after : event ≡ suc time
+  pub before : event < reply
+  pub values : List Value
+  pub each : AllZip (λ (part : ObjectId × Ask) (value : Value). HasTopValue trace time part.0 value) parts values
+  pub answer_is : answer ≡ told_answer parts values
 
+-- the point of a completed query is at the event at which it took effect
+pub point_of_query : (trace : Trace) (operation : OpRecord) → Contains (operations_of trace.entries) operation
+    → (reply : ℕ) (answer : Answer) → operation.reply ≡ Some (reply, outcome.Done answer)
+    → (at : CompletedQuery trace operation reply answer)
+    → IsPoint trace (point_at operation at.event) × Stands operation (point_at operation at.event)
+point_of_query trace operation among reply answer replied at =
+    let effect : query_effect trace operation at.event operation.reply =
+    subst (query_effect trace operation at.event) (sym replied) at.first in (
+      record {
+        operation = operation;
+        of_trace = among;
+        client = refl;
+        number = refl;
+        op = refl;
+        correct = refl;
+        effect = subst (effect_of trace operation at.event) (sym at.is_query) effect;
+      },
+      record { correct = refl; client = refl; number = refl; op = refl },
+    )
+
+module _ (trace : Trace) (is_run : IsRun trace) (have : ArePlain trace) (laws : Laws (setting trace))
+    (joint : Joint (setting trace)) (facts : UpdateFacts trace) where
   -- what was accepted by an event is held at each later one
-  held_later : (time at : ℕ) → time ≤ at → (place : ℕ) (state : ReplicaState) → slice_get (world_after trace at).replicas place ≡ Some state → (object : ObjectId) (candidate : Candidate) → test_at (accepts object candidate) (world_after trace time).replicas place ≡ true → holds candidate (own_candidates state object) ≡ true
+  held_later : (time at : ℕ) → time ≤ at → (place : ℕ) (state : ReplicaState)
+      → slice_get (world_after trace at).replicas place ≡ Some state → (object : ObjectId) (candidate : Candidate)
+      → test_at (accepts object candidate) (world_after trace time).replicas place ≡ true
+      → holds candidate (own_candidates state object) ≡ true
   unfolding setting
   held_later time at order place state is_state object candidate accepted =
       sym (test_at-here (accepts object candidate) (world_after trace at).replicas place state is_state) ∙
-      accepted-later (setting trace) (laws trace is_run have) time at order object place candidate accepted
+      accepted-later (setting trace) laws time at order object place candidate accepted
 
-  module _ (client : ClientId) (number round before : ℕ) (stamps : List (ObjectId × Stamp)) (answer : Answer) (time : ℕ) where
+  module _ (client : ClientId) (number round before : ℕ) (stamps : List (ObjectId × Stamp)) (answer : Answer)
+      (time : ℕ) where
     abbrev Member : ℕ → Type 0
     Member = ToldBefore trace client number round before stamps answer
 
@@ -278,19 +344,25 @@ module _ (trace : Trace) (is_run : IsRun trace) (have : ArePlain trace) where
       accepted : test_at (accepts object other) (world_after trace time).replicas member ≡ true
 
     -- a quorum and those that accepted an established candidate meet
-    meets : (members : List ℕ) → AllPairs (λ (a b : ℕ). a ≢ b) members → quorum trace.setup.bounds ≤ length members → All (λ (member : ℕ). member < replicas trace.setup.bounds) members → All Member members
-        → (object : ObjectId) (other : Candidate) → Established trace is_run have time object other → Meets object other
-    unfolding setting quorum replicas
+    meets : (members : List ℕ) → AllPairs (λ (a b : ℕ). a ≢ b) members
+        → quorum trace.setup.bounds ≤ length members
+        → All (λ (member : ℕ). member < replicas trace.setup.bounds) members → All Member members
+        → (object : ObjectId) (other : Candidate) → IsEstablished (setting trace) time object other
+        → Meets object other
+    unfolding setting
     meets members different enough within all object other established =
         let bounds : ℕ = trace.setup.bounds in
+        let thresholds : AreThresholds bounds = are_thresholds bounds (is_run.setup).some_faults in
         let n : ℕ = replicas bounds in
         let accepted : ℕ → Bool = test_at (accepts object other) (world_after trace time).replicas in
         let told : length members ≤ count n (is_among members) = members_count n members different within in
         let counted : quorum bounds ≤ count n accepted + bounds = established in
         let most : count n (λ (index : ℕ). true) ≤ n = count-le n (λ (index : ℕ). true) in
         let found : Shared n (is_among members) accepted =
-        shared n (is_among members) accepted (λ (index : ℕ). true) (λ index passes. refl) (λ index passes. refl) (omega arith) in
-        let any : Any (λ (it : ℕ). (it == found.index) ≡ true) members = Any-from_list_any (λ (it : ℕ). it == found.index) members found.in_first in
+        shared n (is_among members) accepted (λ (index : ℕ). true) (λ index passes. refl) (λ index passes. refl)
+        (omega arith) in
+        let any : Any (λ (it : ℕ). (it == found.index) ≡ true) members =
+        Any-from_list_any (λ (it : ℕ). it == found.index) members found.in_first in
         let same : any.1 ≡ found.index = eqb-true any.1 found.index any.4 in
         record {
           member = found.index;
@@ -299,19 +371,27 @@ module _ (trace : Trace) (is_run : IsRun trace) (have : ArePlain trace) where
         }
 
     -- what a member accepted by then is not above the base
-    not_above : (object : ObjectId) (base other : Candidate) → stamps ≡ (object, base.stamp) ∷ [] → (member : ℕ) (tells : Member member) → time ≤ tells.at → test_at (accepts object other) (world_after trace time).replicas member ≡ true → is_below base.stamp other.stamp ≡ false
+    not_above : (object : ObjectId) (base other : Candidate) → stamps ≡ (object, base.stamp) ∷ [] → (member : ℕ)
+        (tells : Member member) → time ≤ tells.at
+        → test_at (accepts object other) (world_after trace time).replicas member ≡ true
+        → is_below base.stamp other.stamp ≡ false
     not_above object base other stamps_are member tells order accepted =
         let told = tells.tells in
         let reply = tells.reply in
-        let same : (object ≡ tells.object) × (base.stamp ≡ (told.base).stamp) = same_stamped object tells.object base.stamp (told.base).stamp (sym stamps_are ∙ told.stamps_are) in
-        let held : holds other (own_candidates reply.old object) ≡ true = held_later time tells.at order member reply.old reply.is_old object other accepted in
+        let same : (object ≡ tells.object) × (base.stamp ≡ (told.base).stamp) =
+        same_stamped object tells.object base.stamp (told.base).stamp (sym stamps_are ∙ told.stamps_are) in
+        let held : holds other (own_candidates reply.old object) ≡ true =
+        held_later time tells.at order member reply.old reply.is_old object other accepted in
         ap (λ (it : Stamp). is_below it other.stamp) same.1 ∙
         told.nothing_above other (ap (λ (it : ObjectId). holds other (own_candidates reply.old it)) (sym same.0) ∙ held)
 
-    -- the base was shown in the request that was answered first, so it was established
-    base_established : AsksAlike trace → (member : ℕ) (tells : Member member) → time ≤ tells.at → (answered : IsAnsweredAt trace client number round time) → Established trace is_run have time tells.object (tells.tells).base
+    -- the base was shown in the request that was answered first
+    base_shown : AsksAlike trace → (member : ℕ) (tells : Member member) → time ≤ tells.at
+        → (answered : IsAnsweredAt trace client number round time)
+        → (entries : List ObjectHistory) × (method_at trace.setup.bounds entries ≡ Some (tells.tells).base)
+        × (quorum trace.setup.bounds ≤ acceptors (setting trace) time tells.object (tells.tells).base)
     unfolding setting
-    base_established alike member tells order answered =
+    base_shown alike member tells order answered =
         let at : ℕ = tells.at in
         let object : ObjectId = tells.object in
         let told = tells.tells in
@@ -323,20 +403,31 @@ module _ (trace : Trace) (is_run : IsRun trace) (have : ArePlain trace) where
         let same : (first.sets ≡ mine.sets) × (first.body ≡ mine.body) =
         alike at (omega arith) first.asked mine.asked first.letter mine.letter
         (letter_later trace time at first.asked first.letter order (omega arith) first.is_letter) mine.is_letter
-        client number round first.sets mine.sets first.body mine.body (reply_asks _ _ _ _ _ _ _ first) (reply_asks _ _ _ _ _ _ _ mine) in
+        client number round first.sets mine.sets first.body mine.body (reply_asks _ _ _ _ _ _ _ first)
+        (reply_asks _ _ _ _ _ _ _ mine) in
         let view : IsOfKept trace time first.sets first.body =
-        view_of_request trace is_run have time within first.asked first.letter first.is_letter client number round first.sets first.body (reply_asks _ _ _ _ _ _ _ first) in
+        view_of_request trace is_run have time within first.asked first.letter first.is_letter client number round
+        first.sets first.body (reply_asks _ _ _ _ _ _ _ first) in
         let method : method_at trace.setup.bounds (entries_of object first.sets) ≡ Some base =
         ap (λ (it : List SetOf). method_at trace.setup.bounds (entries_of object it)) same.0 ∙
-        ap (λ (it : ℕ). method_at it (entries_of object mine.sets)) (sym (bounds_are trace at member mine.old mine.is_old)) ∙
-        told.method in
-        let shown : quorum trace.setup.bounds ≤ _ = method_is_shown trace is_run time within first.sets first.body view object base method in
+        ap (λ (it : ℕ). method_at it (entries_of object mine.sets))
+        (sym (bounds_are trace at member mine.old mine.is_old)) ∙ told.method in
+        let shown : quorum trace.setup.bounds ≤ count_by (accepts object base) (world_after trace time).replicas =
+        method_is_shown trace is_run time within first.sets first.body view object base method in
         let counted = acceptors_are trace time object base in
-        omega (arith, shown, counted)
+        (entries_of object first.sets, method, omega (arith, shown, counted))
+
+    established_by : (object : ObjectId) (base : Candidate)
+        → quorum trace.setup.bounds ≤ acceptors (setting trace) time object base
+        → IsEstablished (setting trace) time object base
+    unfolding setting
+    established_by object base enough = omega (arith, enough)
 
     -- the version of the base is the one that the member stores
-    base_version : Known trace → (member : ℕ) (tells : Member member) → time ≤ length trace.entries → Established trace is_run have time tells.object (tells.tells).base → HasVersion trace tells.object (tells.tells).base (tells.tells).version
-    base_version known member tells within established =
+    base_version : (member : ℕ) (tells : Member member)
+        → IsEverAccepted trace tells.object (tells.tells).base
+        → HasVersion trace tells.object (tells.tells).base (tells.tells).version
+    base_version member tells accepted =
         let at : ℕ = tells.at in
         let below : at < length trace.entries = tells.below in
         let object : ObjectId = tells.object in
@@ -347,19 +438,25 @@ module _ (trace : Trace) (is_run : IsRun trace) (have : ArePlain trace) where
         let under : HoldsUnder mine.old object base.stamp = are.of_held object base.stamp told.version told.of_base in
         let held : Candidate = under.held in
         let is_base : held ≡ base =
-        same_accepted trace is_run have object held base
-        (held_last at (omega arith) member mine.old mine.is_old object held under.is_held)
-        (accepted_by_established trace is_run have time within object base established) under.under in
-        version_is trace known is_run have at (omega arith) member mine.old mine.is_old object base
-        (ap (λ (it : Candidate). holds it (own_candidates mine.old object)) (sym is_base) ∙ under.is_held) told.version told.of_base
+        same_accepted trace laws joint object held base (held_ever trace laws at (omega arith) member mine.old
+        mine.is_old object held under.is_held) accepted
+        under.under in
+        version_is trace laws joint is_run have at (omega arith) member mine.old mine.is_old object base
+        (ap (λ (it : Candidate). holds it (own_candidates mine.old object)) (sym is_base) ∙ under.is_held) told.version
+        told.of_base
 
     -- what the member was asked is the operation's query
-    query_asked : Known trace → (operation : OpRecord) → Contains (operations_of trace.entries) operation → operation.client ≡ client → operation.number ≡ number → (query : List (ObjectId × Ask)) → operation.op ≡ op.Query query → (member : ℕ) (tells : Member member) → operation.op ≡ op.Query ((tells.object, tells.ask) ∷ [])
-    query_asked known operation among of_client of_number query is_query member tells =
+    pub query_asked : (operation : OpRecord) → Contains (operations_of trace.entries) operation
+        → operation.client ≡ client → operation.number ≡ number → (query : List (ObjectId × Ask))
+        → operation.op ≡ op.Query query → (member : ℕ) (tells : Member member)
+        → operation.op ≡ op.Query ((tells.object, tells.ask) ∷ [])
+    query_asked operation among of_client of_number query is_query member tells =
         let mine = tells.reply in
         let below : tells.at < length trace.entries = tells.below in
         let request : IsRequestOf trace tells.at client number mine.body =
-        known.request_of tells.at (omega arith) mine.asked mine.letter mine.is_letter client number round mine.sets mine.body (reply_asks _ _ _ _ _ _ _ mine) in
+        request_of trace is_run have tells.at (omega arith) mine.asked mine.letter mine.is_letter client number round
+        mine.sets
+        mine.body (reply_asks _ _ _ _ _ _ _ mine) in
         let same : request.operation ≡ operation =
         recorded_op trace request.operation operation request.of_trace among
         (ap (λ (it : ClientId). it.0) (request.of_client ∙ sym of_client)) (request.of_number ∙ sym of_number) in
@@ -367,41 +464,54 @@ module _ (trace : Trace) (is_run : IsRun trace) (have : ArePlain trace) where
         sym tells.is_ask ∙ request.asks ∙ ap (λ (it : OpRecord). body_of it.op) same ∙ ap body_of is_query in
         is_query ∙ ap (λ (it : Body). op.Query (asks_in it)) (sym asks)
 
-  -- the point of a completed query is at the event at which it took effect
-  pub point_of_query : (operation : OpRecord) → Contains (operations_of trace.entries) operation → (reply : ℕ) (answer : Answer) → operation.reply ≡ Some (reply, outcome.Done answer) → (at : CompletedQuery operation reply answer) → IsPoint trace (point_at operation at.event) × Stands operation (point_at operation at.event)
-  point_of_query operation among reply answer replied at =
-      let effect : query_effect trace operation at.event operation.reply = subst (query_effect trace operation at.event) (sym replied) at.first in (
-        record {
-          operation = operation;
-          of_trace = among;
-          client = refl;
-          number = refl;
-          op = refl;
-          correct = refl;
-          effect = subst (effect_of trace operation at.event) (sym at.is_query) effect;
-        },
-        record { correct = refl; client = refl; number = refl; op = refl },
-      )
+  -- what no established candidate is above, no decided one is
+  top_by : (time : ℕ) → time ≤ (setting trace).last → (object : ObjectId) (base : Candidate)
+      → (setting trace).known object ≡ true → (setting trace).plain base ≡ true
+      → IsEstablished (setting trace) time object base
+      → ((other : Candidate) → IsEstablished (setting trace) time object other
+      → is_below base.stamp other.stamp ≡ false)
+      → IsTop (setting trace) time object base
+  top_by time within object base known plain established not_over =
+      let highest : (it : Candidate) × IsTop (setting trace) time object it =
+      top (setting trace) laws joint time within object known in
+      record {
+        plain_top = plain;
+        established = established;
+        nothing_above = λ other decided.
+            is_below-not_chain base.stamp (highest.0).stamp other.stamp
+            (not_over highest.0 (highest.1).established) ((highest.1).nothing_above other decided);
+      }
 
-  module _ (completion : CompletesByQuorum trace) (known : Known trace) (alike : AsksAlike trace) (operation : OpRecord) (among : Contains (operations_of trace.entries) operation) (reply : ℕ) (answer : Answer) (replied : operation.reply ≡ Some (reply, outcome.Done answer)) (query : List (ObjectId × Ask)) (is_query : operation.op ≡ op.Query query) where
-    pub completed_query : CompletedQuery operation reply answer
+  module _ (completion : CompletesByQuorum trace) (alike : AsksAlike trace) (operation : OpRecord)
+      (among : Contains (operations_of trace.entries) operation) (reply : ℕ) (answer : Answer)
+      (replied : operation.reply ≡ Some (reply, outcome.Done answer)) (query : List (ObjectId × Ask))
+      (is_query : operation.op ≡ op.Query query) where
+    pub completed_query : CompletedQuery trace operation reply answer
+    unfolding setting
     completed_query =
         let client : ClientId = operation.client in
         let number : ℕ = operation.number in
         let done : IsCompleted trace operation reply answer = completion operation among reply answer replied in
         let round : ℕ = done.round in
-        let told : IsTold done.verdict answer = told_by_fit query done.verdict answer (ap (λ (it : Op). fitting it done.verdict) (sym is_query) ∙ done.fits) in
+        let told : IsTold done.verdict answer =
+        told_by_fit query done.verdict answer (ap (λ (it : Op). fitting it done.verdict) (sym is_query) ∙ done.fits) in
         let stamps : List (ObjectId × Stamp) = told.stamps in
         let P : ℕ → Type 0 = ToldBefore trace client number round (reply - 1) stamps answer in
         let enough : quorum trace.setup.bounds ≤ length done.members = done.enough in
         let all : All P done.members =
         All-weaker (Replied trace (reply - 1) client number round done.verdict) P
-        (tells_by_reply trace is_run have client number round (reply - 1) done.verdict answer told) done.members done.replied in
-        let one : (member : ℕ) × P member = some_member P done.members (omega (arith, some_quorum trace.setup.bounds)) all in
+        (tells_by_reply trace is_run have client number round (reply - 1) done.verdict answer told) done.members
+        done.replied in
+        let one : (member : ℕ) × P member =
+        some_member P done.members (omega (arith, some_quorum trace.setup.bounds (is_run.setup).some_faults)) all in
         let member : ℕ = one.0 in
         let tells : P member = one.1 in
-        let first : FirstTrue (answers_at trace client number round) (suc tells.at) = first_true (answers_at trace client number round) (suc tells.at) tells.answered in
-        let after : (time : ℕ) × (first.first ≡ suc time) = answered_after trace client number round first.first first.passed in
+        let object : ObjectId = tells.object in
+        let base : Candidate = (tells.tells).base in
+        let first : FirstTrue (answers_at trace client number round) (suc tells.at) =
+        first_true (answers_at trace client number round) (suc tells.at) tells.answered in
+        let after : (time : ℕ) × (first.first ≡ suc time) =
+        answered_after trace client number round first.first first.passed in
         let time : ℕ = after.0 in
         let is_after : first.first ≡ suc time = after.1 in
         let not_after : first.first ≤ suc tells.at = first.within in
@@ -410,34 +520,65 @@ module _ (trace : Trace) (is_run : IsRun trace) (have : ArePlain trace) where
         let order : time ≤ tells.at = omega arith in
         let within : time ≤ length trace.entries = omega arith in
         let answered : IsAnsweredAt trace client number round time =
-        answered_at trace is_run have client number round time (ap (answers_at trace client number round) (sym is_after) ∙ first.passed) in
-        let established : Established trace is_run have time tells.object (tells.tells).base =
-        base_established client number round (reply - 1) stamps answer time alike member tells order answered in
+        answered_at trace is_run have client number round time
+        (ap (answers_at trace client number round) (sym is_after) ∙ first.passed) in
+        let shown : (entries : List ObjectHistory) × (method_at trace.setup.bounds entries ≡ Some base)
+        × (quorum trace.setup.bounds ≤ acceptors (setting trace) time object base) =
+        base_shown client number round (reply - 1) stamps answer time alike member tells order answered in
+        let established : IsEstablished (setting trace) time object base =
+        established_by client number round (reply - 1) stamps answer time object base shown.2 in
+        let accepted : IsEverAccepted trace object base =
+        some-later (setting trace) laws time (length trace.entries) within object base
+        (accepted_by_attested (setting trace) laws time object base
+        (attested_by_established (setting trace) laws time object base established)) in
+        let who : Acceptor (setting trace) (length trace.entries) object base =
+        acceptor (setting trace) (length trace.entries) object base accepted in
+        let is_known : (setting trace).known object ≡ true =
+        laws.only_known (length trace.entries) object who.replica base who.good who.within who.accepted in
+        let is_top : IsTop (setting trace) time object base =
+        top_by time within object base is_known (facts.plain_base object base shown.0 shown.1 accepted) established
+        (λ other other_established.
+        let met : Meets client number round (reply - 1) stamps answer time object other =
+        meets client number round (reply - 1) stamps answer time done.members done.different done.enough done.within all
+        object other other_established in
+        not_above client number round (reply - 1) stamps answer time object base other (tells.tells).stamps_are
+        met.member met.tells
+        (not_earlier client number round first.first time is_after first.not_before (met.tells).at (met.tells).answered)
+        met.accepted) in
         record {
-          object = tells.object;
-          ask = tells.ask;
-          is_query = query_asked client number round (reply - 1) stamps answer time known operation among refl refl query is_query member tells;
+          parts = (object, tells.ask) ∷ [];
+          is_query = query_asked client number round (reply - 1) stamps answer time operation among refl refl
+              query is_query member tells;
           event = first.first;
-          first = record { round = round; completed = done.delivered; by_then = first.passed; not_before = first.not_before };
+          first = record {
+            round = round;
+            completed = done.delivered;
+            by_then = first.passed;
+            not_before = first.not_before;
+          };
           time = time;
           is_after = is_after;
           before = omega arith;
-          base = (tells.tells).base;
-          top = record {
-            established = established;
-            nothing_above = λ other other_established.
-                let met : Meets client number round (reply - 1) stamps answer time tells.object other =
-                meets client number round (reply - 1) stamps answer time done.members done.different done.enough done.within all tells.object other other_established in
-                not_above client number round (reply - 1) stamps answer time tells.object (tells.tells).base other (tells.tells).stamps_are met.member met.tells
-                (not_earlier client number round first.first time is_after first.not_before (met.tells).at (met.tells).answered) met.accepted;
-          };
-          version = (tells.tells).version;
-          has = base_version client number round (reply - 1) stamps answer time known member tells within established;
+          values = ((tells.tells).version).value ∷ [];
+          each = (
+            record {
+              base = base;
+              top = is_top;
+              has = record {
+                version = (tells.tells).version;
+                has = base_version client number round (reply - 1) stamps answer time member tells accepted;
+                value_is = refl;
+              };
+            },
+            tt,
+          );
           answer_is = (tells.tells).answer_is;
         }
       where
         -- no answer is sent before the first
-        not_earlier : (client : ClientId) (number round event time : ℕ) → event ≡ suc time → ((earlier : ℕ) → earlier < event → answers_at trace client number round earlier ≡ false) → (at : ℕ) → answers_at trace client number round (suc at) ≡ true → time ≤ at
+        not_earlier : (client : ClientId) (number round event time : ℕ) → event ≡ suc time
+            → ((earlier : ℕ) → earlier < event → answers_at trace client number round earlier ≡ false) → (at : ℕ)
+            → answers_at trace client number round (suc at) ≡ true → time ≤ at
         not_earlier client number round event time is_after none at answered =
             elim (cases_lt at time) [
               | inl before ↦ absurd (false≢true (sym (none (suc at) (omega arith)) ∙ answered))
@@ -447,6 +588,7 @@ module _ (trace : Trace) (is_run : IsRun trace) (have : ArePlain trace) where
     -- the query has its point at that event
     pub query_has_point : (point : Point) × IsPoint trace point × Stands operation point × (point.event < reply)
     query_has_point =
-        let at : CompletedQuery operation reply answer = completed_query in
-        let is : IsPoint trace (point_at operation at.event) × Stands operation (point_at operation at.event) = point_of_query operation among reply answer replied at in
+        let at : CompletedQuery trace operation reply answer = completed_query in
+        let is : IsPoint trace (point_at operation at.event) × Stands operation (point_at operation at.event) =
+        point_of_query trace operation among reply answer replied at in
         (point_at operation at.event, is.0, is.1, at.before)

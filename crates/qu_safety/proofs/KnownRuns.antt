@@ -1,4 +1,4 @@
--- What the theorems on completed operations ask of a run holds of every run.
+-- A quorum answered each operation of a run that completed.
 use Rattle.std.proofs.Common.{◌≡◌, ℕ, Some, ap}
 use Rattle.std.specs.Prelude.{Contains}
 use Rattle.qu_base.specs.declared.party.ClientId.{ClientId}
@@ -9,26 +9,18 @@ use Rattle.qu_machine.specs.declared.record.OpRecord.{OpRecord}
 use Rattle.qu_trace.specs.declared.trace.Trace.{Trace}
 use Rattle.qu_trace.specs.Operations.{operations_of}
 use Rattle.qu_world.specs.Run.{IsRun}
-use Rattle.qu_safety.specs.Completions.{IsCompleted}
-use Rattle.qu_safety.specs.Invocations.{IsRequestOf}
-use Rattle.qu_safety.specs.Views.{ArePlain}
-use Rattle.qu_safety.proofs.Chained.{one_prior}
-use Rattle.qu_safety.proofs.Completions.{WorkIsRecorded, IsOneRecord, completed}
-use Rattle.qu_safety.proofs.Invocations.{request_of, work_of, op_of}
-use Rattle.qu_safety.proofs.Recorded.{recorded_op}
-use Rattle.qu_safety.proofs.Values.{Known}
-
--- what the versions of a run rest on
-pub known : (trace : Trace) → IsRun trace → ArePlain trace → Known trace
-known trace is_run have = record {
-  one_prior = one_prior trace is_run have;
-  request_of = request_of trace is_run have;
-}
+use Rattle.qu_rounds.specs.Completions.{IsCompleted}
+use Rattle.qu_rounds.specs.Invocations.{IsRequestOf}
+use Rattle.qu_runs.specs.Plain.{ArePlain}
+use Rattle.qu_rounds.proofs.Completions.{WorkIsRecorded, IsOneRecord, completed}
+use Rattle.qu_rounds.proofs.Invocations.{work_of, op_of}
+use Rattle.qu_points.proofs.Recorded.{recorded_op}
 
 -- what a client has under way is an operation of the trace
 work_recorded : (trace : Trace) → IsRun trace → ArePlain trace → WorkIsRecorded trace
 work_recorded trace is_run have count within client state found work working =
-    let request : IsRequestOf trace count client work.number (body_of work.op) = work_of trace is_run have count within client state found work working in
+    let request : IsRequestOf trace count client work.number (body_of work.op) =
+    work_of trace is_run have count within client state found work working in
     record {
       operation = request.operation;
       of_trace = request.of_trace;
@@ -43,6 +35,9 @@ one_record trace first second one two clients numbers =
     recorded_op trace first second one two (ap (λ (it : ClientId). it.0) clients) numbers
 
 -- an operation that completed was answered by a quorum
-pub completion : (trace : Trace) → IsRun trace → ArePlain trace → (operation : OpRecord) → Contains (operations_of trace.entries) operation → (event : ℕ) (answer : Answer) → operation.reply ≡ Some (event, outcome.Done answer) → IsCompleted trace operation event answer
+pub completion : (trace : Trace) → IsRun trace → ArePlain trace → (operation : OpRecord) → Contains
+    (operations_of trace.entries) operation → (event : ℕ) (answer : Answer) → operation.reply ≡ Some
+    (event, outcome.Done answer) → IsCompleted trace operation event answer
 completion trace is_run have operation among event answer replied =
-    completed trace is_run have (work_recorded trace is_run have) (one_record trace) operation among event answer replied
+    completed trace is_run have (work_recorded trace is_run have) (one_record trace) operation among event answer
+    replied

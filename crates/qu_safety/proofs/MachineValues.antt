@@ -1,269 +1,366 @@
--- The values of the machine after so many events: of each object that of the version of the
--- greatest candidate that was established by then.
-use Rattle.std.proofs.Common.{◌≡◌, ℕ, zero, suc, ◌+◌, ◌<◌, Bool, true, false, cond, List, [], ◌∷◌, length, map, get_or, Option, Some, refl, sym, ap, subst, ◌∙◌, arith, inl, inr}
-use Rattle.std.specs.Prelude.{slice_get, slice_set, count_by, Contains}
-use Rattle.std.proofs.lemmas.Bool.{false≢true, cases_Bool, or_left, cases_eq}
-use Rattle.std.proofs.lemmas.List.{length-map, length-set}
-use Rattle.std.proofs.lemmas.List.Sums.{sum_by-cons}
-use Rattle.std.proofs.lemmas.Option.{slice_get-map, slice_get-get_or}
+-- The values of the machine after so many events: of each object that of the version of its top.
+use Rattle.std.proofs.Common.{◌≡◌, ◌⊎◌, ℕ, zero, suc, ◌<◌, ◌≤◌, true, List, [], ◌∷◌, length, map, get_or, Some, refl, sym, ap, subst, ◌∙◌, arith, inl, inr}
+use Rattle.std.specs.Prelude.{slice_get, slice_set}
+use Rattle.std.specs.List.{AllZip}
 use Rattle.std.specs.Option.{option_map}
+use Rattle.std.proofs.lemmas.Bool.{cases_eq, lt-ltb, ltb-true}
+use Rattle.std.proofs.lemmas.List.{length-map, length-set}
+use Rattle.std.proofs.lemmas.Option.{slice_get-map, slice_get-get_or}
 use Rattle.qu_base.specs.declared.party.ObjectId.{ObjectId}
-use Rattle.qu_base.specs.declared.party.ReplicaId.{ReplicaId}
-use Rattle.qu_base.specs.Thresholds.{replicas, quorum}
 use Rattle.qu_stamp.specs.declared.candidate.Candidate.{Candidate}
-use Rattle.qu_stamp.specs.Stamp.{is_below}
-use Rattle.qu_stamp.specs.Candidate.{opening, same}
-use Rattle.qu_stamp.proofs.Order.{is_below-self, is_below-chain, same-self}
-use Rattle.qu_history.specs.History.{holds}
-use Rattle.qu_chain.specs.Chain.{acceptors}
-use Rattle.qu_chain.proofs.Ancestors.{established-later}
-use Rattle.qu_chain.proofs.Chain.{Acceptor}
-use Rattle.qu_chain.proofs.Counting.{Found, found_at}
+use Rattle.qu_stamp.specs.Candidate.{opening}
+use Rattle.qu_chain.specs.Laws.{Laws}
+use Rattle.qu_chain.specs.Decided.{UponTop, IsTop, IsDecidedBy}
+use Rattle.qu_chain.specs.Joint.{Joint, IsOneAct}
+use Rattle.qu_chain.proofs.Ancestry.{Acceptor, acceptor, accepted_by_decided, some-later}
+use Rattle.qu_chain.proofs.Groups.{whole_turn}
+use Rattle.qu_chain.proofs.Tops.{top, top_decided, one_top}
+use Rattle.qu_chain.proofs.Turns.{upon_top, one_turn, accepted_at_last}
+use Rattle.qu_chain.proofs.Updates.{one_update}
+use Rattle.qu_chain.proofs.Values.{Moved, top_moves}
 use Rattle.qu_objects.specs.declared.act.Method.{Method}
 use Rattle.qu_objects.specs.declared.answer.Answer.TheVariants as answer
 use Rattle.qu_objects.specs.declared.kind.KindName.{KindName}
 use Rattle.qu_objects.specs.declared.kind.KindName.TheVariants as kind
 use Rattle.qu_objects.specs.declared.kind.Value.{Value}
-use Rattle.qu_objects.specs.declared.op.Op.{Op}
-use Rattle.qu_objects.specs.declared.op.Op.TheVariants as op
 use Rattle.qu_objects.specs.declared.state.ObjState.{ObjState}
 use Rattle.qu_objects.specs.Kind.{fresh_value}
-use Rattle.qu_objects.specs.Perform.{performed_values}
-use Rattle.qu_machine.specs.declared.record.Point.{Point}
+use Rattle.qu_objects.specs.Perform.{performed_answer, performed_values}
 use Rattle.qu_machine.specs.Machine.{act_values, with_values, values_at}
-use Rattle.qu_replica.specs.State.{ReplicaState, candidates_in, opening_histories, opening_state}
-use Rattle.qu_trace.specs.declared.trace.Trace.{Trace}
-use Rattle.qu_world.specs.Run.{IsRun}
-use Rattle.qu_world.specs.State.{WorldState, opening_replicas, ring_of}
-use Rattle.qu_objects.specs.Text.{act_digest}
-use Rattle.std.proofs.lemmas.Option.{none-some}
-use Rattle.qu_safety.proofs.OneAct.{ActsAreOne}
-use Rattle.qu_safety.proofs.OneAct.{one_made_for}
-use Rattle.qu_safety.specs.Digested.{IsMadeFor}
-use Rattle.qu_safety.specs.Decided.{accepts, IsDecided, TookEffect}
-use Rattle.qu_safety.specs.Order.{world_after, DecidesAt, effect_of, IsPoint, IsPrintedOrder}
-use Rattle.qu_safety.specs.Values.{HasVersion}
-use Rattle.qu_safety.specs.Views.{ArePlain}
-use Rattle.qu_safety.proofs.Accepting.{opening_alone}
-use Rattle.qu_safety.proofs.ChainLaws.{setting, acceptors_are, laws}
-use Rattle.qu_safety.proofs.Changes.{established_cases, Change, change, how_updated, point_of, is_point}
-use Rattle.qu_safety.proofs.Established.{Established, is_established_by, established_by_decided, acceptor, accepted_by_established, IsTop, Rests, rests, same_accepted}
-use Rattle.qu_safety.proofs.Folding.{IsQuestion}
-use Rattle.qu_safety.proofs.Tops.{AreOne, one_accepted, base_is_top, one_top}
-use Rattle.qu_safety.proofs.Values.{Known, one_version, same_method, IsUpdated}
-use Rattle.qu_safety.proofs.WorldGrowth.{world_after-none}
-use Rattle.qu_world.proofs.Each.{set_other}
 use Rattle.qu_machine.proofs.Equalities.{object_is}
-use Rattle.qu_seal.specs.Keys.{Ring}
+use Rattle.qu_trace.specs.declared.trace.Trace.{Trace}
+use Rattle.qu_world.proofs.Each.{set_other}
+use Rattle.qu_runs.specs.Setting.{setting}
+use Rattle.qu_safety.specs.Updates.{Update, Names, IsOf, IsEverAccepted}
+use Rattle.qu_safety.specs.Values.{HasVersion}
+use Rattle.qu_safety.proofs.OneAct.{ActsAreOne}
+use Rattle.qu_safety.proofs.Updates.{acts, one_of, same_accepted, one_companion}
+use Rattle.qu_safety.proofs.UpdateFacts.{HasValue, MadeFor, ValueStep, befores, afters, IsStep, IsPerformed, UpdateFacts}
 
 -- ---- lists
 
-set_same : {X : Type 0} (items : List X) (place : ℕ) (new : X) → place < length items → slice_get (slice_set items place new) place ≡ Some new
+set_same : {X : Type 0} (items : List X) (place : ℕ) (new : X) → place < length items
+    → slice_get (slice_set items place new) place ≡ Some new
 set_same [] place new below = absurd (omega arith)
 set_same (item ∷ later) zero new below = refl
 set_same (item ∷ later) (suc place) new below = set_same later place new (omega arith)
 
--- ---- at the beginning
+-- what each part of an update does to its object
+abbrev Each : (ObjectId → ValueStep → Type 0) → List (ObjectId × Method) → List ValueStep → Type 0
+Each P parts steps = AllZip (λ (part : ObjectId × Method) (step : ValueStep). P part.0 step) parts steps
 
-opening_held : (me : ReplicaId) (number : ℕ) (kinds : List KindName) (place : ℕ) → place < length kinds → holds opening (candidates_in (slice_get (opening_histories me number kinds) place)) ≡ true
-unfolding opening_histories
-opening_held me number [] place below = absurd (omega arith)
-opening_held me number (first ∷ kinds) zero below = or_left (same opening opening) false (same-self opening)
-opening_held me number (first ∷ kinds) (suc place) below = opening_held me (number + 1) kinds place (omega arith)
+-- the values of the objects that an update names
+pub values_before : (P : ObjectId → ValueStep → Type 0) (values : List Value)
+    → ((object : ObjectId) (step : ValueStep) → P object step → slice_get values object.0 ≡ Some step.before)
+    → (parts : List (ObjectId × Method)) (steps : List ValueStep) → Each P parts steps
+    → values_at values parts ≡ befores steps
+values_before P values found [] [] each = refl
+values_before P values found [] (step ∷ steps) each = absurd each
+values_before P values found (part ∷ parts) [] each = absurd each
+values_before P values found (part ∷ parts) (step ∷ steps) each =
+    rw (found part.0 step each.0)
+    (ap (λ (more : List Value). step.before ∷ more) (values_before P values found parts steps each.1))
 
-abbrev counted : ObjectId → ReplicaState → ℕ
-counted object state = cond (accepts object opening state) 1 0
+-- the part on this object
+pub step_of : (P : ObjectId → ValueStep → Type 0) (object : ObjectId) (parts : List (ObjectId × Method))
+    (steps : List ValueStep) → Each P parts steps → Names parts object → (step : ValueStep) × P object step
+step_of P object [] steps each names = absurd names
+step_of P object (part ∷ parts) [] each names = absurd each
+step_of P object (part ∷ parts) (step ∷ steps) each (inl here) =
+    (step, subst (λ (it : ObjectId). P it step) here each.0)
+step_of P object (part ∷ parts) (step ∷ steps) each (inr later) = step_of P object parts steps each.1 later
 
-all_accept : (object : ObjectId) (number count : ℕ) (keys : Ring) (bounds : ℕ) (kinds : List KindName) → object.0 < length kinds → count_by (accepts object opening) (opening_replicas number count keys bounds kinds) ≡ count
-unfolding opening_replicas
-all_accept object number zero keys bounds kinds below = refl
-all_accept object number (suc count) keys bounds kinds below =
-    let here : counted object (opening_state (record { 0 = number }) keys bounds kinds) ≡ 1 = ap (λ (it : Bool). cond it 1 0) (opening_held (record { 0 = number }) 0 kinds object.0 below) in
-    let there : count_by (accepts object opening) (opening_replicas (number + 1) count keys bounds kinds) ≡ count = all_accept object (number + 1) count keys bounds kinds below in
-    let whole : count_by (accepts object opening) (opening_state (record { 0 = number }) keys bounds kinds ∷ opening_replicas (number + 1) count keys bounds kinds) ≡ counted object (opening_state (record { 0 = number }) keys bounds kinds) + count_by (accepts object opening) (opening_replicas (number + 1) count keys bounds kinds) =
-    sum_by-cons (counted object) (opening_state (record { 0 = number }) keys bounds kinds) (opening_replicas (number + 1) count keys bounds kinds) in
-    omega (arith, here, there, whole)
+length-with : (P : ObjectId → ValueStep → Type 0) (values : List Value) (parts : List (ObjectId × Method))
+    (steps : List ValueStep) → Each P parts steps → length (with_values values parts (afters steps)) ≡ length values
+length-with P values [] [] each = refl
+length-with P values [] (step ∷ steps) each = absurd each
+length-with P values (part ∷ parts) [] each = absurd each
+length-with P values (part ∷ parts) (step ∷ steps) each =
+    length-with P (slice_set values (part.0).0 step.after) parts steps each.1
+    ∙ length-set values (part.0).0 step.after
 
-module _ (trace : Trace) (is_run : IsRun trace) (have : ArePlain trace) (known : Known trace) (one_act : ActsAreOne trace) where
-  -- the value of an object after so many events
+-- the value of an object afterwards: that of each part on it, or the one it had
+value_after : (P : ObjectId → ValueStep → Type 0) (object : ObjectId) (value : Value)
+    → ((step : ValueStep) → P object step → step.after ≡ value)
+    → (values : List Value) (parts : List (ObjectId × Method)) (steps : List ValueStep) → Each P parts steps
+    → object.0 < length values → Names parts object ⊎ (slice_get values object.0 ≡ Some value)
+    → slice_get (with_values values parts (afters steps)) object.0 ≡ Some value
+value_after P object value is values [] [] each below (inl names) = absurd names
+value_after P object value is values [] [] each below (inr same) = same
+value_after P object value is values [] (step ∷ steps) each below which = absurd each
+value_after P object value is values (part ∷ parts) [] each below which = absurd each
+value_after P object value is values (part ∷ parts) (step ∷ steps) each below which =
+    elim (cases_eq object.0 (part.0).0) [
+      | inl here ↦
+          let same : part.0 ≡ object = object_is part.0 object (sym here) in
+          let after : step.after ≡ value = is step (subst (λ (it : ObjectId). P it step) same each.0) in
+          value_after P object value is (slice_set values (part.0).0 step.after) parts steps each.1 (still_below)
+          (inr (subst (λ (place : ℕ). slice_get (slice_set values (part.0).0 step.after) place ≡ Some value) (sym here)
+          (set_same values (part.0).0 step.after (subst (λ (place : ℕ). place < length values) here below)
+          ∙ ap (λ (it : Value). Some it) after)))
+      | inr apart ↦
+          value_after P object value is (slice_set values (part.0).0 step.after) parts steps each.1 (still_below)
+          (elsewhere apart which)
+    ]
+  where
+    still_below : object.0 < length (slice_set values (part.0).0 step.after)
+    still_below = let same = length-set values (part.0).0 step.after in omega (arith, same, below)
+
+    elsewhere : (object.0 ≡ (part.0).0 → ⊥) → Names (part ∷ parts) object ⊎ (slice_get values object.0 ≡ Some value)
+        → Names parts object ⊎ (slice_get (slice_set values (part.0).0 step.after) object.0 ≡ Some value)
+    elsewhere apart (inl (inl here)) = absurd (apart (ap (λ (it : ObjectId). it.0) (sym here)))
+    elsewhere apart (inl (inr later)) = inl later
+    elsewhere apart (inr same) = inr (set_other values (part.0).0 object.0 step.after apart ∙ same)
+
+module _ (trace : Trace) (laws : Laws (setting trace)) (joint : Joint (setting trace)) (one_act : ActsAreOne trace)
+    (facts : UpdateFacts trace) where
+  abbrev pub last : ℕ
+  last = (setting trace).last
+
+  -- ---- one of each
+
+  pub one_value : (object : ObjectId) (candidate : Candidate) (first second : Value)
+      → HasValue trace object candidate first → HasValue trace object candidate second → first ≡ second
+  one_value object candidate first second one two =
+      sym one.value_is
+      ∙ ap (λ (it : ObjState). it.value) (facts.one_version object candidate one.version two.version one.has two.has)
+      ∙ two.value_is
+
+  -- ---- the values at a time
+
   pub record ValueAt (time : ℕ) (object : ObjectId) (values : List Value) : Type 0 where
     pub candidate : Candidate
-    pub top : IsTop trace is_run have time object candidate
-    pub version : ObjState
-    pub has : HasVersion trace object candidate version
-    pub value_is : slice_get values object.0 ≡ Some version.value
+    pub top : IsTop (setting trace) time object candidate
+    pub value : Value
+    pub has : HasValue trace object candidate value
+    pub value_is : slice_get values object.0 ≡ Some value
 
   pub record IsValues (time : ℕ) (values : List Value) : Type 0 where
     pub number : length values ≡ length trace.setup.kinds
     pub each : (object : ObjectId) → object.0 < length trace.setup.kinds → ValueAt time object values
 
-  first_top : (object : ObjectId) → object.0 < length trace.setup.kinds → IsTop trace is_run have 0 object opening
-  unfolding setting quorum replicas
-  first_top object below =
-      let counted : acceptors (setting trace) 0 object opening ≡ count_by (accepts object opening) (world_after trace 0).replicas = acceptors_are trace 0 object opening in
-      let all : count_by (accepts object opening) (world_after trace 0).replicas ≡ replicas trace.setup.bounds =
-      ap (λ (world : WorldState). count_by (accepts object opening) world.replicas) (world_after-none trace) ∙ all_accept object 0 (replicas trace.setup.bounds) (ring_of trace.setup) trace.setup.bounds trace.setup.kinds below in
-      record {
-        established = omega (arith, counted, all);
-        nothing_above = λ other established.
-            let who : Acceptor (setting trace) 0 object other = acceptor trace is_run have 0 object other established in
-            let found : Found (accepts object other) (world_after trace 0).replicas who.replica = found_at (accepts object other) (world_after trace 0).replicas who.replica who.accepted in
-            let is : other ≡ opening = opening_alone trace who.replica found.item object other found.is_at found.passed in
-            subst (λ (it : Candidate). is_below opening.stamp it.stamp ≡ false) (sym is) (is_below-self opening.stamp);
-      }
+  pub known_object : (object : ObjectId) → object.0 < length trace.setup.kinds → (setting trace).known object ≡ true
+  unfolding setting
+  known_object object below = lt-ltb object.0 (length trace.setup.kinds) below
+
+  pub object_known : (object : ObjectId) (candidate : Candidate) → IsEverAccepted trace object candidate
+      → object.0 < length trace.setup.kinds
+  unfolding setting
+  object_known object candidate accepted =
+      let who : Acceptor (setting trace) last object candidate =
+      acceptor (setting trace) last object candidate accepted in
+      ltb-true object.0 (length trace.setup.kinds)
+      (laws.only_known last object who.replica candidate who.good who.within who.accepted)
+
+  -- the value of an object is that of its top
+  pub value_of_top : (time : ℕ) → time ≤ last → (values : List Value) → IsValues time values
+      → (object : ObjectId) (candidate : Candidate) (value : Value) → IsTop (setting trace) time object candidate
+      → HasValue trace object candidate value → slice_get values object.0 ≡ Some value
+  value_of_top time within values are object candidate value is_top has =
+      let accepted : IsEverAccepted trace object candidate =
+      some-later (setting trace) laws time last within object candidate
+      (accepted_by_decided (setting trace) laws time object candidate
+      (top_decided (setting trace) laws joint time object candidate is_top)) in
+      let there : ValueAt time object values = are.each object (object_known object candidate accepted) in
+      let same : there.candidate ≡ candidate =
+      one_top (setting trace) laws joint time within object there.candidate candidate there.top is_top in
+      there.value_is
+      ∙ ap (λ (it : Value). Some it) (one_value object candidate there.value value
+      (subst (λ (it : Candidate). HasValue trace object it there.value) same there.has) has)
+
+  -- ---- at the beginning
 
   pub first_values : IsValues 0 (map fresh_value trace.setup.kinds)
   first_values = record {
     number = length-map trace.setup.kinds fresh_value;
     each = λ object below.
-        let found : slice_get trace.setup.kinds object.0 ≡ Some (get_or trace.setup.kinds object.0 kind.Counter) = slice_get-get_or trace.setup.kinds object.0 kind.Counter below in
+        let kinds : List KindName = trace.setup.kinds in
+        let first : KindName = get_or kinds object.0 kind.Counter in
+        let found : slice_get kinds object.0 ≡ Some first = slice_get-get_or kinds object.0 kind.Counter below in
+        let it : (candidate : Candidate) × IsTop (setting trace) 0 object candidate =
+        top (setting trace) laws joint 0 (omega arith) object (known_object object below) in
+        let who : Acceptor (setting trace) 0 object it.0 =
+        acceptor (setting trace) 0 object it.0 (accepted_by_decided (setting trace) laws 0 object it.0
+        (top_decided (setting trace) laws joint 0 object it.0 it.1)) in
+        let is_opening : it.0 ≡ opening = laws.start object who.replica it.0 who.good who.within who.accepted in
         record {
-          candidate = opening;
-          top = first_top object below;
-          version = record { value = fresh_value (get_or trace.setup.kinds object.0 kind.Counter); answer = answer.Ok [] };
-          has = HasVersion.of_opening (get_or trace.setup.kinds object.0 kind.Counter) found;
-          value_is = slice_get-map fresh_value trace.setup.kinds object.0 ∙ ap (option_map fresh_value) found;
+          candidate = it.0;
+          top = it.1;
+          value = fresh_value first;
+          has = subst (λ (one : Candidate). HasValue trace object one (fresh_value first)) (sym is_opening) (record {
+            version = record { value = fresh_value first; answer = answer.Ok [] };
+            has = HasVersion.of_opening object first found;
+            value_is = refl;
+          });
+          value_is = slice_get-map fresh_value kinds object.0 ∙ ap (option_map fresh_value) found;
         };
   }
 
-  -- ---- an event that establishes nothing
+  -- ---- a step
 
-  top_stays : (time : ℕ) → time < length trace.entries → (object : ObjectId) (candidate : Candidate) → IsTop trace is_run have time object candidate
-      → ((other : Candidate) → Established trace is_run have (suc time) object other → Established trace is_run have time object other) → IsTop trace is_run have (suc time) object candidate
-  top_stays time within object candidate top before = record {
-    established = established-later (setting trace) (laws trace is_run have) time (suc time) (omega arith) object candidate top.established;
-    nothing_above = λ other established. top.nothing_above other (before other established);
-  }
+  module _ (time : ℕ) (within : time < last) (values : List Value) (are : IsValues time values) where
+    next_top : (object : ObjectId) → object.0 < length trace.setup.kinds
+        → (candidate : Candidate) × IsTop (setting trace) (suc time) object candidate
+    next_top object below =
+        top (setting trace) laws joint (suc time) (omega arith) object (known_object object below)
 
-  pub quiet_values : (order : List Point) → IsPrintedOrder trace order → (time : ℕ) (values : List Value) → time < length trace.entries → IsValues time values
-      → ((point : Point) → Contains order point → point.event ≡ suc time → IsQuestion point.op) → IsValues (suc time) values
-  quiet_values order printed time values within are quiet = record {
-    number = are.number;
-    each = λ object below.
-        let before : ValueAt time object values = are.each object below in
-        record {
-          candidate = before.candidate;
-          top = top_stays time within object before.candidate before.top (λ other established. was_there object other established);
-          version = before.version;
-          has = before.has;
-          value_is = before.value_is;
-        };
-  }
-    where
-      no_question : (what : Op) (act : List (ObjectId × Method)) → what ≡ op.Act act → IsQuestion what → ⊥
-      no_question (op.Act act) parts is question = question
-      no_question (op.Query query) parts is question = absurd (cc)
+    abbrev TopMoves : ObjectId → Candidate → Candidate → Type 0
+    TopMoves object old new =
+        Moved (setting trace) laws joint Value (HasValue trace) facts.copied time object old new
 
-      was_there : (object : ObjectId) (other : Candidate) → Established trace is_run have (suc time) object other → Established trace is_run have time object other
-      was_there object other established = elim (established_cases trace is_run have known one_act time object other) [
-        | inl is ↦ is
-        | inr not ↦
-            let changed : Change trace is_run have known one_act time object other = change trace is_run have known one_act time within object other established not in
-            let point : Point = point_of trace is_run have known one_act time object other changed in
-            let contained : Contains order point = printed.complete point (is_point trace is_run have known one_act time within object other established not changed) in
-            absurd (no_question (changed.operation).op ((object, changed.method) ∷ []) changed.is_act (quiet point contained refl))
-      ]
+    moves : (object : ObjectId) (below : object.0 < length trace.setup.kinds)
+        → TopMoves object (are.each object below).candidate (next_top object below).0
+    moves object below =
+        top_moves (setting trace) laws joint Value (HasValue trace) facts.copied time object
+        (are.each object below).candidate (next_top object below).0 within (are.each object below).top
+        (next_top object below).1
 
-  -- ---- an event that establishes an update
+    -- a step that decides no act leaves the values
+    pub stay : ((object : ObjectId) (act : Candidate) → (setting trace).is_act act ≡ true
+        → IsDecidedBy (setting trace) time object act → ⊥) → IsValues (suc time) values
+    stay none = record {
+      number = are.number;
+      each = λ object below. by object below (are.each object below) (next_top object below) (moves object below);
+    }
+      where
+        by : (object : ObjectId) → object.0 < length trace.setup.kinds → (old : ValueAt time object values)
+            → (new : (candidate : Candidate) × IsTop (setting trace) (suc time) object candidate)
+            → TopMoves object old.candidate new.0 → ValueAt (suc time) object values
+        by object below old new (Moved.quiet passes no_act) = record {
+          candidate = new.0;
+          top = new.1;
+          value = old.value;
+          has = passes old.value old.has;
+          value_is = old.value_is;
+        }
+        by object below old new (Moved.loud act is_act turn prior passes) = absurd (none object act is_act turn)
 
-  -- what an update makes of the values
-  act_sets : (values : List Value) (object : ObjectId) (method : Method) (before after : Value) → slice_get values object.0 ≡ Some before → performed_values ((object, method) ∷ []) (before ∷ []) ≡ after ∷ []
-      → act_values values ((object, method) ∷ []) ≡ slice_set values object.0 after
-  act_sets values object method before after found performed =
-      ap (λ (it : List Value). with_values values ((object, method) ∷ []) (performed_values ((object, method) ∷ []) it)) (at_one (slice_get values object.0) found) ∙
-      ap (with_values values ((object, method) ∷ [])) performed
-    where
-      at_one : (there : Option Value) → there ≡ Some before → values_at values ((object, method) ∷ []) ≡ before ∷ []
-      at_one there is = rw found refl
+    -- a step that decides an update does to the values what the update does
+    module _ (update : Update) (object : ObjectId) (candidate : Candidate) (is_of : IsOf trace update object candidate)
+        (turn : IsDecidedBy (setting trace) time object candidate) where
+      accepted : IsEverAccepted trace object candidate
+      accepted = accepted_at_last (setting trace) laws joint time object candidate turn
 
-  changed_values : (time : ℕ) (values : List Value) → time < length trace.entries → IsValues time values → (object : ObjectId) (candidate : Candidate) → Established trace is_run have (suc time) object candidate → ¬ (Established trace is_run have time object candidate)
-      → (changed : Change trace is_run have known one_act time object candidate) → IsUpdated trace object candidate changed.version → IsValues (suc time) (act_values values ((object, changed.method) ∷ []))
-  changed_values time values within are object candidate after before changed updated =
-      let on : Rests trace is_run have time object candidate = rests trace is_run have time object changed.place candidate changed.new in
-      let base : on.base ≡ updated.base =
-      same_accepted trace is_run have object on.base updated.base (accepted_by_established trace is_run have time (omega arith) object on.base on.established) updated.accepted (sym on.prior ∙ updated.prior) in
-      let top : IsTop trace is_run have time object on.base = base_is_top trace is_run have time within object candidate on after before in
-      let was : ValueAt time object values = are.each object changed.known_object in
-      let same : was.candidate ≡ updated.base = one_top trace is_run have time (omega arith) object was.candidate on.base was.top top ∙ base in
-      let versions : was.version ≡ updated.before =
-      one_version trace known one_act object updated.base was.version updated.before (subst (λ (it : Candidate). HasVersion trace object it was.version) same was.has) updated.has in
-      let found : slice_get values object.0 ≡ Some (updated.before).value = was.value_is ∙ ap (λ (it : ObjState). Some it.value) versions in
-      let methods : changed.method ≡ updated.method =
-      same_method object changed.method updated.method
-      (ap op.Act (one_made_for trace one_act candidate (changed.operation).client (updated.operation).client (changed.operation).number (updated.operation).number ((object, changed.method) ∷ []) ((object, updated.method) ∷ []) changed.made updated.made).2) in
-      let sets : act_values values ((object, changed.method) ∷ []) ≡ slice_set values object.0 (changed.version).value =
-      ap (λ (it : Method). act_values values ((object, it) ∷ [])) methods ∙ act_sets values object updated.method (updated.before).value (changed.version).value found updated.values in
-      subst (IsValues (suc time)) (sym sets) (record {
-        number = length-set values object.0 (changed.version).value ∙ are.number;
-        each = λ other below. elim (cases_eq other.0 object.0) [
-          | inl here ↦ subst (λ (it : ObjectId). ValueAt (suc time) it (slice_set values object.0 (changed.version).value)) (object_is object other (sym here)) (record {
-            candidate = candidate;
-            top = record {
-              established = after;
-              nothing_above = λ rival established. not_above on top rival established;
-            };
-            version = changed.version;
-            has = changed.has;
-            value_is = set_same values object.0 (changed.version).value (let known_object : object.0 < length trace.setup.kinds = changed.known_object in let number = are.number in omega arith);
-          })
-          | inr apart ↦
-              let there : ValueAt time other values = are.each other below in
+      pub done : IsPerformed trace update object candidate
+      done = facts.performed update object candidate is_of accepted
+
+      abbrev pub Steps : ObjectId → ValueStep → Type 0
+      Steps other step = IsStep trace object candidate (performed_answer update.parts (befores done.steps)) other step
+
+      -- the companions are decided at the step
+      companion_turn : (other : ObjectId) (companion : Candidate)
+          → IsOneAct (setting trace) object other candidate companion → IsEverAccepted trace other companion
+          → IsDecidedBy (setting trace) time other companion
+      companion_turn other companion (inl same) also =
+          subst (λ (it : ObjectId). IsDecidedBy (setting trace) time it companion) same.0
+          (subst (IsDecidedBy (setting trace) time object) same.1 turn)
+      companion_turn other companion (inr group) also =
+          let it : (found : Candidate) × (found.stamp ≡ companion.stamp) × IsDecidedBy
+          (setting trace) time other found =
+          whole_turn (setting trace) laws joint time object candidate other companion.stamp turn group.apart
+          group.is_member in
+          subst (IsDecidedBy (setting trace) time other)
+          (same_accepted trace laws joint other it.0 companion
+          (accepted_at_last (setting trace) laws joint time other it.0 it.2) also
+          it.1) it.2
+
+      -- an act that is decided at the step is the companion
+      is_companion : (other : ObjectId) (act companion : Candidate) → (setting trace).is_act act ≡ true
+          → IsDecidedBy (setting trace) time other act → IsOneAct (setting trace) object other candidate companion
+          → IsEverAccepted trace other companion → companion ≡ act
+      is_companion other act companion is_act act_turn one also =
+          one_companion trace laws joint object other candidate companion act one
+          (one_turn (setting trace) laws joint time object other candidate act turn act_turn
+          (acts trace update object candidate is_of) is_act) also
+          (accepted_at_last (setting trace) laws joint time other act act_turn)
+
+      companion_act : (other : ObjectId) (companion : Candidate)
+          → IsOneAct (setting trace) object other candidate companion → IsEverAccepted trace other companion
+          → (setting trace).is_act companion ≡ true
+      companion_act other companion (inl same) also =
+          subst (λ (it : Candidate). (setting trace).is_act it ≡ true) same.1 (acts trace update object candidate is_of)
+      companion_act other companion (inr group) also =
+          acts trace update other companion
+          (facts.shared update object other candidate companion is_of accepted group.apart group.is_member also)
+
+      pub before_is : (other : ObjectId) (step : ValueStep) → Steps other step
+          → slice_get values other.0 ≡ Some step.before
+      before_is other step it =
+          let its : IsDecidedBy (setting trace) time other it.companion =
+          companion_turn other it.companion it.is_companion it.accepted in
+          let upon : UponTop (setting trace) time other it.companion =
+          upon_top (setting trace) laws joint time other it.companion its
+          (companion_act other it.companion it.is_companion it.accepted) in
+          let base_accepted : IsEverAccepted trace other upon.base =
+          some-later (setting trace) laws time last (omega arith) other upon.base
+          (accepted_by_decided (setting trace) laws time other upon.base
+          (top_decided (setting trace) laws joint time other upon.base upon.top)) in
+          let same : upon.base ≡ it.base =
+          same_accepted trace laws joint other upon.base it.base base_accepted it.base_accepted
+          (sym upon.prior ∙ it.prior) in
+          value_of_top time (omega arith) values are other it.base step.before
+          (subst (IsTop (setting trace) time other) same upon.top) it.before
+
+      -- the values upon which the update is performed
+      pub befores_are : values_at values update.parts ≡ befores done.steps
+      befores_are = values_before Steps values before_is update.parts done.steps done.each
+
+      sets : act_values values update.parts ≡ with_values values update.parts (afters done.steps)
+      sets =
+          ap (λ (it : List Value). with_values values update.parts (performed_values update.parts it)) befores_are
+          ∙ ap (with_values values update.parts) done.values
+
+      pub change : IsValues (suc time) (act_values values update.parts)
+      change = subst (IsValues (suc time)) (sym sets) (record {
+        number = length-with Steps values update.parts done.steps done.each ∙ are.number;
+        each = λ other below. by other below (are.each other below) (next_top other below) (moves other below);
+      })
+        where
+          new_values : List Value
+          new_values = with_values values update.parts (afters done.steps)
+
+          is_within : (other : ObjectId) → other.0 < length trace.setup.kinds → other.0 < length values
+          is_within other below = let number = are.number in omega (arith, number, below)
+
+          by : (other : ObjectId) → other.0 < length trace.setup.kinds → (old : ValueAt time other values)
+              → (new : (it : Candidate) × IsTop (setting trace) (suc time) other it)
+              → TopMoves other old.candidate new.0 → ValueAt (suc time) other new_values
+          by other below old new (Moved.quiet passes no_act) = record {
+            candidate = new.0;
+            top = new.1;
+            value = old.value;
+            has = passes old.value old.has;
+            value_is = value_after Steps other old.value
+                (λ step it. absurd (no_act it.companion (companion_act other it.companion it.is_companion it.accepted)
+                (companion_turn other it.companion it.is_companion it.accepted)))
+                values update.parts done.steps done.each (is_within other below) (inr old.value_is);
+          }
+          by other below old new (Moved.loud act is_act act_turn prior passes) =
+              let made : MadeFor trace other act =
+              facts.made other act (accepted_at_last (setting trace) laws joint time other act act_turn) is_act in
+              let its : Update =
+              record { client = (made.operation).client; number = (made.operation).number; parts = made.parts } in
+              let same : its ≡ update =
+              one_update (setting trace) laws joint Update (IsOf trace) (one_of trace one_act) facts.shared
+              facts.spread facts.once (acts trace)
+              its update time other object act candidate made.is_of is_of act_turn turn in
+              let names : Names update.parts other =
+              subst (λ (it : Update). Names it.parts other) same (made.is_of).names in
+              let here : (step : ValueStep) × Steps other step =
+              step_of Steps other update.parts done.steps done.each names in
+              let value : (step : ValueStep) → Steps other step → HasValue trace other act step.after =
+              λ step it. record {
+                version = it.version;
+                has = subst (λ (one : Candidate). HasVersion trace other one it.version)
+                    (is_companion other act it.companion is_act act_turn it.is_companion it.accepted) it.has;
+                value_is = it.after_is;
+              } in
               record {
-                candidate = there.candidate;
-                top = top_stays time within other there.candidate there.top (λ rival established. elsewhere other apart rival established);
-                version = there.version;
-                has = there.has;
-                value_is = set_other values object.0 other.0 (changed.version).value apart ∙ there.value_is;
+                candidate = new.0;
+                top = new.1;
+                value = (here.0).after;
+                has = passes (here.0).after (value here.0 here.1);
+                value_is = value_after Steps other (here.0).after
+                    (λ step it. one_value other act step.after (here.0).after (value step it) (value here.0 here.1))
+                    values update.parts done.steps done.each (is_within other below) (inl names);
               }
-        ];
-      })
-    where
-      -- what is newly established at this event is the candidate
-      only : (other : ObjectId) (rival : Candidate) → Established trace is_run have (suc time) other rival → ¬ (Established trace is_run have time other rival) → AreOne trace is_run have object other candidate rival
-      only other rival established not =
-          let change_there : Change trace is_run have known one_act time other rival = change trace is_run have known one_act time within other rival established not in
-          one_accepted trace is_run have time object other changed.place change_there.place candidate rival changed.new change_there.new
-
-      elsewhere : (other : ObjectId) → (other.0 ≡ object.0 → ⊥) → (rival : Candidate) → Established trace is_run have (suc time) other rival → Established trace is_run have time other rival
-      elsewhere other apart rival established = elim (established_cases trace is_run have known one_act time other rival) [
-        | inl is ↦ is
-        | inr not ↦ absurd (apart (ap (λ (it : ObjectId). it.0) (sym (only other rival established not).objects)))
-      ]
-
-      not_above : (on : Rests trace is_run have time object candidate) → IsTop trace is_run have time object on.base → (rival : Candidate) → Established trace is_run have (suc time) object rival → is_below candidate.stamp rival.stamp ≡ false
-      not_above on top rival established = elim (established_cases trace is_run have known one_act time object rival) [
-        | inl is ↦ elim (cases_Bool (is_below candidate.stamp rival.stamp)) [
-          | inl above ↦ absurd (false≢true (sym (top.nothing_above rival is) ∙ is_below-chain (on.base).stamp candidate.stamp rival.stamp on.below above))
-          | inr not ↦ not
-        ]
-        | inr not ↦ subst (λ (it : Candidate). is_below candidate.stamp it.stamp ≡ false) (only object rival established not).candidates (is_below-self candidate.stamp)
-      ]
-
-  pub loud_values : (order : List Point) → IsPrintedOrder trace order → (time : ℕ) (values : List Value) (point : Point) (parts : List (ObjectId × Method)) → time < length trace.entries → IsValues time values
-      → Contains order point → point.event ≡ suc time → point.op ≡ op.Act parts → IsValues (suc time) (act_values values parts)
-  loud_values order printed time values point parts within are contained at is =
-      let it : IsPoint trace point = printed.sound point contained in
-      let act : (it.operation).op ≡ op.Act parts = it.op ∙ is in
-      let decides : DecidesAt trace (it.operation).client (it.operation).number parts (suc time) =
-      subst (λ (event : ℕ). DecidesAt trace (it.operation).client (it.operation).number parts event) at (subst (λ (what : Op). effect_of trace it.operation point.event what) act it.effect) in
-      let took : TookEffect (world_after trace (suc time)) (it.operation).client (act_digest (it.operation).client (it.operation).number parts) = decides.by_then in
-      let after : Established trace is_run have (suc time) took.object took.candidate = established_by_decided trace is_run have (suc time) (omega arith) took.object took.candidate took.is_decided in
-      let changed : Change trace is_run have known one_act time took.object took.candidate = change trace is_run have known one_act time within took.object took.candidate after (not_yet it decides took) in
-      let made : IsMadeFor trace took.candidate (it.operation).client (it.operation).number parts = record { handled = decides.handled; of_client = took.of_client; of_act = took.of_act } in
-      let same : parts ≡ (took.object, changed.method) ∷ [] =
-      (one_made_for trace one_act took.candidate (it.operation).client (changed.operation).client (it.operation).number (changed.operation).number parts ((took.object, changed.method) ∷ []) made changed.made).2 in
-      subst (λ (all : List (ObjectId × Method)). IsValues (suc time) (act_values values all)) (sym same)
-      (elim (how_updated trace took.object took.candidate changed.version changed.has) [
-        | inl first ↦
-            absurd (none-some _ (sym (ap (λ (one : Candidate). (one.stamp).act) first) ∙ took.of_act))
-        | inr updated ↦ changed_values time values within are took.object took.candidate after (not_yet it decides took) changed updated
-      ])
-    where
-      not_yet : (it : IsPoint trace point) → (decides : DecidesAt trace (it.operation).client (it.operation).number parts (suc time)) → (took : TookEffect (world_after trace (suc time)) (it.operation).client (act_digest (it.operation).client (it.operation).number parts)) → ¬ (Established trace is_run have time took.object took.candidate)
-      not_yet it decides took already = decides.not_before time (omega arith) (record {
-        object = took.object;
-        candidate = took.candidate;
-        is_decided = IsDecided.by_acceptors took.candidate (is_established_by trace is_run have time took.object took.candidate already);
-        of_client = took.of_client;
-        of_act = took.of_act;
-      })

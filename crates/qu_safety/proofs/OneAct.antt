@@ -1,13 +1,11 @@
 -- Where no two texts have one digest, two acts that were handled and have one digest are one.
-use Rattle.std.proofs.Common.{◌≡◌, ℕ, ◌<◌, ◌^◌, List, [], ◌∷◌, length, Some, refl, sym, ap, subst, ◌∙◌, arith, inl, inr}
+use Rattle.std.proofs.Common.{◌≡◌, ℕ, ◌<◌, ◌^◌, List, length, Some, refl, sym, ap, subst, ◌∙◌, arith}
 use Rattle.std.specs.Prelude.{Contains}
-use Rattle.std.specs.List.{flat_map}
-use Rattle.std.proofs.lemmas.List.Concat.{flat_map-cons}
 use Rattle.std.proofs.lemmas.Option.{same_Some}
-use Rattle.std.proofs.lemmas.List.Elements.{Contains-append_left, Contains-append_right, Contains-append_cases, Contains-push_cases}
 use Rattle.qu_base.specs.declared.party.ClientId.{ClientId}
 use Rattle.qu_base.specs.declared.party.Digest.{Digest}
 use Rattle.qu_base.specs.declared.party.ObjectId.{ObjectId}
+use Rattle.qu_seal.specs.declared.constants.TheConstants.{ACT_TAG}
 use Rattle.qu_seal.specs.Digest.{digest_of}
 use Rattle.qu_stamp.specs.declared.candidate.Candidate.{Candidate}
 use Rattle.qu_objects.specs.declared.act.Method.{Method}
@@ -20,34 +18,20 @@ use Rattle.qu_frames.specs.Body.{body_of}
 use Rattle.qu_trace.specs.declared.trace.Entry.{Entry}
 use Rattle.qu_trace.specs.declared.trace.Trace.{Trace}
 use Rattle.qu_world.specs.Run.{IsRun}
-use Rattle.qu_safety.specs.Digested.{Request, handled_by, IsHandled, IsMadeFor, Text, texts_of, digested, NoCollision}
-use Rattle.qu_safety.specs.Invocations.{IsRequestOf}
-use Rattle.qu_safety.specs.Views.{HasOpParts, ArePlain}
-use Rattle.qu_safety.proofs.Handled.{asked_by_handled}
-use Rattle.qu_safety.proofs.Ranges.{Fits, operation_fits}
+use Rattle.qu_runs.specs.Digested.{Request, handled_by, IsHandled, IsMadeFor, Text, texts_of, digested, NoCollision}
+use Rattle.qu_rounds.specs.Invocations.{IsRequestOf}
+use Rattle.qu_runs.specs.Plain.{HasOpParts, ArePlain}
+use Rattle.qu_safety.proofs.SentRequests.{asked_by_handled}
+use Rattle.qu_runs.proofs.Ranges.{Fits, operation_fits}
+use Rattle.qu_runs.proofs.Small.{contains_mapped}
 
 -- ---- its text was digested
 
-pub only_one : {X : Type 0} (first it : X) → Contains (first ∷ []) it → first ≡ it
-only_one first it held =
-    elim (Contains-push_cases [] first it held) [
-      | inl none ↦ absurd (omega (arith, none.1))
-      | inr same ↦ same
-    ]
-
-pub contains_mapped : {X Y : Type 0} (f : X → List Y) (items : List X) (item : X) (it : Y) → Contains items item → Contains (f item) it → Contains (flat_map f items) it
-contains_mapped f [] item it held inside = absurd (omega (arith, held.1))
-contains_mapped f (first ∷ later) item it held inside =
-    subst (λ all. Contains all it) (sym (flat_map-cons f first later))
-    (elim (Contains-append_cases (first ∷ []) later item held) [
-      | inl here ↦ Contains-append_left (f first) (flat_map f later) it (subst (λ one. Contains (f one) it) (sym (only_one first item here)) inside)
-      | inr there ↦ Contains-append_right (f first) (flat_map f later) it (contains_mapped f later item it there inside)
-    ])
-
 abbrev text_of : ClientId → ℕ → List (ObjectId × Method) → Text
-text_of client number parts = record { tag = 1; bytes = act_text client number parts }
+text_of client number parts = record { tag = ACT_TAG; bytes = act_text client number parts }
 
-text_digested : (trace : Trace) (client : ClientId) (number : ℕ) (parts : List (ObjectId × Method)) → IsHandled trace client number parts → Contains (digested trace) (text_of client number parts)
+text_digested : (trace : Trace) (client : ClientId) (number : ℕ) (parts : List (ObjectId × Method))
+    → IsHandled trace client number parts → Contains (digested trace) (text_of client number parts)
 unfolding digested
 text_digested trace client number parts it =
     let texts : Entry → List Text = λ entry. texts_of (handled_by trace entry.event) in
@@ -67,9 +51,11 @@ pub act_by : (parts : List (ObjectId × Method)) (what : Op) → body.Act parts 
 act_by parts (op.Act act) same = cc
 act_by parts (op.Query query) same = absurd (cc)
 
-fit : (trace : Trace) → IsRun trace → ArePlain trace → (client : ClientId) (number : ℕ) (parts : List (ObjectId × Method)) → IsHandled trace client number parts → IsFit client number parts
+fit : (trace : Trace) → IsRun trace → ArePlain trace → (client : ClientId) (number : ℕ)
+    (parts : List (ObjectId × Method)) → IsHandled trace client number parts → IsFit client number parts
 fit trace is_run have client number parts it =
-    let request : IsRequestOf trace (length trace.entries) client number (body.Act parts) = asked_by_handled trace is_run have client number parts it in
+    let request : IsRequestOf trace (length trace.entries) client number (body.Act parts) =
+    asked_by_handled trace is_run have client number parts it in
     let fits : Fits request.operation = operation_fits trace is_run have request.operation request.of_trace in
     record {
       client = subst (λ (who : ClientId). who.0 < 2 ^ 16) request.of_client fits.client;
@@ -79,28 +65,36 @@ fit trace is_run have client number parts it =
 
 -- ---- acts of one digest
 
-same_digested : (client other : ClientId) (number turn : ℕ) (parts others : List (ObjectId × Method)) → act_digest client number parts ≡ act_digest other turn others
-    → digest_of 1 (act_text client number parts) ≡ digest_of 1 (act_text other turn others)
+same_digested : (client other : ClientId) (number turn : ℕ) (parts others : List (ObjectId × Method))
+    → act_digest client number parts ≡ act_digest other turn others
+    → digest_of ACT_TAG (act_text client number parts) ≡ digest_of ACT_TAG (act_text other turn others)
 unfolding act_digest
 same_digested client other number turn parts others same = ap (λ (it : Digest). it.0) same
 
 -- handled acts with one digest are one
 abbrev pub ActsAreOne : Trace → Type 0
 ActsAreOne trace = (client other : ClientId) (number turn : ℕ) (parts others : List (ObjectId × Method))
-    → IsHandled trace client number parts → IsHandled trace other turn others → act_digest client number parts ≡ act_digest other turn others → (client ≡ other) × (number ≡ turn) × (parts ≡ others)
+    → IsHandled trace client number parts → IsHandled trace other turn others
+    → act_digest client number parts ≡ act_digest other turn others → (client ≡ other) × (number ≡ turn)
+    × (parts ≡ others)
 
 pub acts_are_one : (trace : Trace) → IsRun trace → ArePlain trace → NoCollision trace → ActsAreOne trace
 acts_are_one trace is_run have no_collision client other number turn parts others one two same =
     let first : IsFit client number parts = fit trace is_run have client number parts one in
     let second : IsFit other turn others = fit trace is_run have other turn others two in
     let texts : text_of client number parts ≡ text_of other turn others =
-    no_collision (text_of client number parts) (text_of other turn others) (text_digested trace client number parts one) (text_digested trace other turn others two)
+    no_collision (text_of client number parts) (text_of other turn others)
+    (text_digested trace client number parts one) (text_digested trace other turn others two)
     (same_digested client other number turn parts others same) in
-    act_text-one client other number turn parts others first.client second.client first.number second.number (first.parts).0 (second.parts).0 (first.parts).1 (second.parts).1
+    act_text-one client other number turn parts others first.client second.client first.number second.number
+    (first.parts).0 (second.parts).0 (first.parts).1 (second.parts).1
     (ap (λ (it : Text). it.bytes) texts)
 
 -- a candidate was made for one act
-pub one_made_for : (trace : Trace) → ActsAreOne trace → (candidate : Candidate) (client other : ClientId) (number turn : ℕ) (parts others : List (ObjectId × Method))
-    → IsMadeFor trace candidate client number parts → IsMadeFor trace candidate other turn others → (client ≡ other) × (number ≡ turn) × (parts ≡ others)
+pub one_made_for : (trace : Trace) → ActsAreOne trace → (candidate : Candidate) (client other : ClientId)
+    (number turn : ℕ) (parts others : List (ObjectId × Method))
+    → IsMadeFor trace candidate client number parts → IsMadeFor trace candidate other turn others
+    → (client ≡ other) × (number ≡ turn) × (parts ≡ others)
 one_made_for trace one candidate client other number turn parts others made besides =
-    one client other number turn parts others made.handled besides.handled (same_Some _ _ (sym made.of_act ∙ besides.of_act))
+    one client other number turn parts others made.handled besides.handled
+    (same_Some _ _ (sym made.of_act ∙ besides.of_act))

@@ -1,8 +1,6 @@
 -- An update has one candidate: what replicas accepted with one act digest is on one object, and is the same.
-use Rattle.std.proofs.Common.{◌≡◌, ◌⊎◌, ℕ, suc, ◌<◌, Bool, true, IsTrue, List, [], ◌∷◌, length, Some, refl, sym, ap, ◌∙◌, arith, inl, inr}
+use Rattle.std.proofs.Common.{◌≡◌, ◌⊎◌, ℕ, ◌<◌, true, IsTrue, List, [], ◌∷◌, length, Some, refl, sym, ap, ◌∙◌, arith, inl, inr}
 use Rattle.std.specs.Prelude.{slice_get}
-use Rattle.std.specs.List.{list_any}
-use Rattle.std.proofs.lemmas.Bool.{false≢true, or_cases}
 use Rattle.std.proofs.lemmas.Option.{none-some, same_Some}
 use Rattle.qu_base.specs.declared.party.ClientId.{ClientId}
 use Rattle.qu_base.specs.declared.party.Digest.{Digest}
@@ -17,55 +15,44 @@ use Rattle.qu_objects.specs.Text.{act_digest}
 use Rattle.qu_frames.specs.declared.frame.Body.TheVariants as body
 use Rattle.qu_frames.specs.declared.frame.Letter.{Letter}
 use Rattle.qu_replica.specs.Rows.{asked_of, fresh_stamp}
-use Rattle.qu_replica.specs.State.{ReplicaState}
 use Rattle.qu_client.specs.Rounds.{are_full}
 use Rattle.qu_trace.specs.declared.trace.Trace.{Trace}
 use Rattle.qu_world.specs.State.{WorldState, letter_of}
 use Rattle.qu_world.specs.Run.{IsRun}
-use Rattle.qu_safety.specs.Chained.{last_world}
-use Rattle.qu_safety.specs.Decided.{accepts, is_accepted}
-use Rattle.qu_safety.specs.Digested.{IsHandled, IsMadeFor}
-use Rattle.qu_safety.specs.Grounds.{IsGround, AcceptsOne}
-use Rattle.qu_safety.specs.Origins.{Origin}
-use Rattle.qu_safety.specs.Views.{ArePlain}
-use Rattle.qu_safety.proofs.FullSets.{accepted_upon_full}
-use Rattle.qu_safety.proofs.Handled.{handled, made_for}
-use Rattle.qu_safety.proofs.LaterLetters.{letter_later}
+use Rattle.qu_grounds.specs.Chained.{last_world}
+use Rattle.qu_runs.specs.Accepted.{is_accepted}
+use Rattle.qu_runs.specs.Digested.{IsHandled, IsMadeFor}
+use Rattle.qu_grounds.specs.Grounds.{IsGround, AcceptsOne}
+use Rattle.qu_grounds.specs.Origins.{Origin}
+use Rattle.qu_runs.specs.Plain.{ArePlain}
+use Rattle.qu_grounds.proofs.FullSets.{accepted_upon_full}
+use Rattle.qu_grounds.proofs.Handled.{handled, made_for}
+use Rattle.qu_runs.proofs.LaterLetters.{letter_later}
 use Rattle.qu_safety.proofs.OneAct.{ActsAreOne}
-use Rattle.qu_safety.proofs.OneRequest.{one_full_request}
-use Rattle.qu_safety.proofs.OpeningReplicas.{bounds_are}
-use Rattle.qu_safety.proofs.Origins.{origin}
-use Rattle.qu_safety.proofs.Values.{same_candidate}
-use Rattle.qu_safety.specs.Carried.{Asks}
-use Rattle.qu_safety.proofs.Carrying.{asks_so, asks_as, brings_carries}
+use Rattle.qu_rounds.proofs.OneRequest.{one_full_request}
+use Rattle.qu_runs.proofs.OpeningReplicas.{bounds_are}
+use Rattle.qu_grounds.proofs.Origins.{accepted_from}
+use Rattle.qu_runs.proofs.Small.{same_candidate}
+use Rattle.qu_runs.specs.Carried.{Asks}
+use Rattle.qu_runs.proofs.Carrying.{asks_so, asks_as, brings_carries}
 
 -- ---- where an accepted candidate came from
 
-any_place : {X : Type 0} (test : X → Bool) (items : List X) → list_any test items ≡ true → (place : ℕ) × (item : X) × (slice_get items place ≡ Some item) × (test item ≡ true)
-any_place test [] some = absurd (false≢true some)
-any_place test (item ∷ later) some =
-    elim (or_cases (test item) (list_any test later) some) [
-      | inl here ↦ (0, item, refl, here)
-      | inr there ↦
-          let rest = any_place test later there in
-          (suc rest.0, rest.1, rest.2, rest.3)
-    ]
-
 -- the opening candidate has no act
-not_opening : (trace : Trace) (count : ℕ) (object : ObjectId) (candidate : Candidate) (act : Digest) → (candidate.stamp).act ≡ Some act → (candidate ≡ opening) ⊎ Origin trace count object candidate → Origin trace count object candidate
-not_opening trace count object candidate act of_act (inl begins) = absurd (none-some act (sym (ap (λ (it : Candidate). (it.stamp).act) begins) ∙ of_act))
+not_opening : (trace : Trace) (count : ℕ) (object : ObjectId) (candidate : Candidate) (act : Digest)
+    → (candidate.stamp).act ≡ Some act → (candidate ≡ opening) ⊎ Origin trace count object candidate
+    → Origin trace count object candidate
+not_opening trace count object candidate act of_act (inl begins) =
+    absurd (none-some act (sym (ap (λ (it : Candidate). (it.stamp).act) begins) ∙ of_act))
 not_opening trace count object candidate act of_act (inr came) = came
 
--- an accepted candidate is the opening one, or has an origin
-pub accepted_from : (trace : Trace) → IsRun trace → ArePlain trace → (object : ObjectId) (candidate : Candidate) → IsTrue (is_accepted (last_world trace) object candidate) → (candidate ≡ opening) ⊎ Origin trace (length trace.entries) object candidate
-accepted_from trace is_run have object candidate accepted =
-    let found : (place : ℕ) × (state : ReplicaState) × (slice_get (last_world trace).replicas place ≡ Some state) × (accepts object candidate state ≡ true) = any_place (accepts object candidate) (last_world trace).replicas accepted in
-    origin trace is_run have (length trace.entries) (omega arith) found.0 found.1 found.2 object candidate found.3
-
 -- with an act it has an origin
-pub accepted_origin : (trace : Trace) → IsRun trace → ArePlain trace → (object : ObjectId) (candidate : Candidate) → IsTrue (is_accepted (last_world trace) object candidate) → (act : Digest) → (candidate.stamp).act ≡ Some act → Origin trace (length trace.entries) object candidate
+pub accepted_origin : (trace : Trace) → IsRun trace → ArePlain trace → (object : ObjectId) (candidate : Candidate)
+    → IsTrue (is_accepted (last_world trace) object candidate) → (act : Digest) → (candidate.stamp).act ≡ Some act
+    → Origin trace (length trace.entries) object candidate
 accepted_origin trace is_run have object candidate accepted act of_act =
-    not_opening trace (length trace.entries) object candidate act of_act (accepted_from trace is_run have object candidate accepted)
+    not_opening trace (length trace.entries) object candidate act of_act
+    (accepted_from trace is_run have object candidate accepted)
 
 -- ---- of one request
 
@@ -78,10 +65,11 @@ first_of_parts default (part ∷ later) = part.0
 
 -- the stamp that a request of an act makes on the object of its first part
 abbrev stamp_made : ObjectId → ClientId → ℕ → List SetOf → List (ObjectId × Method) → Stamp
-stamp_made default client number sets parts = fresh_stamp (asked_of client number sets (body.Act parts)) (first_of_parts default parts)
+stamp_made default client number sets parts =
+    fresh_stamp (asked_of client number sets (body.Act parts)) (first_of_parts default parts)
 
 -- the request upon full sets that a candidate came from
-record IsAsked (trace : Trace) (object : ObjectId) (candidate : Candidate) : Type 0 where
+record CameFrom (trace : Trace) (object : ObjectId) (candidate : Candidate) : Type 0 where
   at : ℕ
   letter : Letter
   is_letter : letter_of (last_world trace) at ≡ Some letter
@@ -98,54 +86,79 @@ record IsAsked (trace : Trace) (object : ObjectId) (candidate : Candidate) : Typ
   is_base : method_at trace.setup.bounds (entries_of object sets) ≡ Some base
   prior : candidate.prior ≡ base.stamp
 
-asked_by : (trace : Trace) → IsRun trace → (object : ObjectId) (candidate : Candidate) → Origin trace (length trace.entries) object candidate → IsAsked trace object candidate
+asked_by : (trace : Trace) → IsRun trace → (object : ObjectId) (candidate : Candidate)
+    → Origin trace (length trace.entries) object candidate → CameFrom trace object candidate
 asked_by trace is_run object candidate came =
     let one : AcceptsOne came.old came.new (came.delivered).carried object = (came.delivered).accepts in
-    let why : IsGround came.old (asked_of one.client one.number one.sets (body.Act ((object, one.method) ∷ []))) object one.candidate = one.grounds in
+    let why : IsGround came.old (asked_of one.client one.number one.sets (body.Act ((object, one.method) ∷ [])))
+    object one.candidate = one.grounds in
     let before : came.past < length trace.entries = came.earlier in
     let was : IsHandled trace one.client one.number ((object, one.method) ∷ []) =
-    handled trace is_run came.past before came.entry came.of_trace came.event came.event_is came.place came.old came.new came.is_old
-    (ap (λ (it : WorldState). slice_get it.replicas came.place) (sym came.is_step) ∙ came.is_new) object came.delivered in
+    handled trace is_run came.past before came.entry came.of_trace came.event came.event_is came.place came.old
+    came.new came.is_old
+    (ap (λ (it : WorldState). slice_get it.replicas came.place) (sym came.is_step) ∙ came.is_new) object
+    came.delivered in
     record {
       at = (came.delivered).number;
       letter = (came.delivered).letter;
-      is_letter = letter_later trace came.past (length trace.entries) (came.delivered).number (came.delivered).letter (omega arith) (omega arith) (came.delivered).is_letter;
+      is_letter = letter_later trace came.past (length trace.entries) (came.delivered).number
+          (came.delivered).letter (omega arith) (omega arith) (came.delivered).is_letter;
       client = one.client;
       number = one.number;
       round = one.round;
       sets = one.sets;
       method = one.method;
-      is_request = asks_so (came.delivered).letter (came.delivered).carried one.client one.number one.round one.sets (body.Act ((object, one.method) ∷ [])) one.mac (brings_carries came.old (came.delivered).letter (came.delivered).carried (came.delivered).brings) one.is_request;
+      is_request = asks_so (came.delivered).letter (came.delivered).carried one.client one.number one.round
+          one.sets (body.Act ((object, one.method) ∷ [])) one.mac
+          (brings_carries came.old (came.delivered).letter (came.delivered).carried (came.delivered).brings)
+          one.is_request;
       full = accepted_upon_full trace (length trace.entries) object candidate came;
       stamp = ap (λ (it : Candidate). it.stamp) (sym came.is_candidate) ∙ why.stamp;
       made = made_for trace came.old came.new (came.delivered).carried object one candidate came.is_candidate was;
       base = why.base;
-      is_base = ap (λ (size : ℕ). method_at size (entries_of object one.sets)) (sym (bounds_are trace came.past came.place came.old came.is_old)) ∙ why.method;
+      is_base = ap (λ (size : ℕ). method_at size (entries_of object one.sets))
+          (sym (bounds_are trace came.past came.place came.old came.is_old)) ∙ why.method;
       prior = ap (λ (it : Candidate). it.prior) (sym came.is_candidate) ∙ why.prior;
     }
 
 -- one request upon the same sets makes the same candidate
-one_made : (trace : Trace) (object other : ObjectId) (first second : Candidate) (one : IsAsked trace object first) (two : IsAsked trace other second) → one.client ≡ two.client → one.number ≡ two.number → one.sets ≡ two.sets → acts_on object one.method ≡ acts_on other two.method → first ≡ second
+one_made : (trace : Trace) (object other : ObjectId) (first second : Candidate)
+    (one : CameFrom trace object first) (two : CameFrom trace other second) → one.client ≡ two.client
+    → one.number ≡ two.number → one.sets ≡ two.sets → acts_on object one.method ≡ acts_on other two.method
+    → first ≡ second
 one_made trace object other first second one two clients numbers sets parts =
     let objects : object ≡ other = ap (first_of_parts object) parts in
-    let entries : entries_of object one.sets ≡ entries_of other two.sets = ap (entries_of object) sets ∙ ap (λ (it : ObjectId). entries_of it two.sets) objects in
-    let bases : one.base ≡ two.base = same_Some one.base two.base (sym one.is_base ∙ ap (method_at trace.setup.bounds) entries ∙ two.is_base) in
+    let entries : entries_of object one.sets ≡ entries_of other two.sets =
+    ap (entries_of object) sets ∙ ap (λ (it : ObjectId). entries_of it two.sets) objects in
+    let bases : one.base ≡ two.base =
+    same_Some one.base two.base (sym one.is_base ∙ ap (method_at trace.setup.bounds) entries ∙ two.is_base) in
     same_candidate first second
     (one.stamp ∙ (λ i. stamp_made object (clients i) (numbers i) (sets i) (parts i)) ∙ sym two.stamp)
     (one.prior ∙ ap (λ (it : Candidate). it.stamp) bases ∙ sym two.prior)
 
 -- what was accepted with one act digest is one candidate of one object
-pub one_candidate : (trace : Trace) → IsRun trace → ArePlain trace → ActsAreOne trace → (object other : ObjectId) (first second : Candidate) → IsTrue (is_accepted (last_world trace) object first) → IsTrue (is_accepted (last_world trace) other second)
-    → (act : Digest) → (first.stamp).act ≡ Some act → (second.stamp).act ≡ Some act → (object ≡ other) × (first ≡ second)
+pub one_candidate : (trace : Trace) → IsRun trace → ArePlain trace → ActsAreOne trace → (object other : ObjectId)
+    (first second : Candidate) → IsTrue (is_accepted (last_world trace) object first)
+    → IsTrue (is_accepted (last_world trace) other second)
+    → (act : Digest) → (first.stamp).act ≡ Some act → (second.stamp).act ≡ Some act → (object ≡ other)
+    × (first ≡ second)
 one_candidate trace is_run have one_act object other first second accepted besides act of_first of_second =
-    let one : IsAsked trace object first = asked_by trace is_run object first (accepted_origin trace is_run have object first accepted act of_first) in
-    let two : IsAsked trace other second = asked_by trace is_run other second (accepted_origin trace is_run have other second besides act of_second) in
-    let digests : act_digest one.client one.number (acts_on object one.method) ≡ act_digest two.client two.number (acts_on other two.method) =
+    let one : CameFrom trace object first =
+    asked_by trace is_run object first (accepted_origin trace is_run have object first accepted act of_first) in
+    let two : CameFrom trace other second =
+    asked_by trace is_run other second (accepted_origin trace is_run have other second besides act of_second) in
+    let digests : act_digest one.client one.number (acts_on object one.method) ≡ act_digest two.client two.number
+    (acts_on other two.method) =
     same_Some _ _ (sym (one.made).of_act ∙ of_first ∙ sym of_second ∙ (two.made).of_act) in
-    let acts = one_act one.client two.client one.number two.number (acts_on object one.method) (acts_on other two.method) (one.made).handled (two.made).handled digests in
+    let acts = one_act one.client two.client one.number two.number (acts_on object one.method)
+    (acts_on other two.method) (one.made).handled (two.made).handled digests in
     let is_second : Asks (two.letter) one.client one.number two.round two.sets (body.Act ((other, two.method) ∷ [])) =
-    asks_as two.letter two.client one.client two.number one.number two.round two.round two.sets (body.Act ((other, two.method) ∷ [])) (body.Act ((other, two.method) ∷ [])) (sym acts.0) (sym acts.1) refl refl two.is_request in
+    asks_as two.letter two.client one.client two.number one.number two.round two.round two.sets
+    (body.Act ((other, two.method) ∷ [])) (body.Act ((other, two.method) ∷ [])) (sym acts.0) (sym acts.1) refl
+    refl two.is_request in
     let same : (one.sets ≡ two.sets) × (acts_on object one.method ≡ acts_on other two.method) =
-    one_full_request trace is_run have (length trace.entries) (omega arith) one.at two.at one.letter two.letter one.is_letter two.is_letter
-    one.client one.number one.round two.round one.sets two.sets ((object, one.method) ∷ []) ((other, two.method) ∷ []) one.is_request is_second one.full two.full in
+    one_full_request trace is_run have (length trace.entries) (omega arith) one.at two.at one.letter two.letter
+    one.is_letter two.is_letter
+    one.client one.number one.round two.round one.sets two.sets ((object, one.method) ∷ [])
+    ((other, two.method) ∷ []) one.is_request is_second one.full two.full in
     (ap (first_of_parts object) acts.2, one_made trace object other first second one two acts.0 acts.1 same.0 acts.2)

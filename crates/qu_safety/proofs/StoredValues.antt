@@ -1,25 +1,23 @@
 -- Every replica that accepted a candidate stores the version of the candidate with it.
 use Rattle.std.proofs.Common.{◌≡◌, ℕ, zero, suc, ◌+◌, ◌<◌, ◌≤◌, Bool, true, false, ◌&&◌, cond, List, [], ◌∷◌, length, get_or, Some, inl, inr, refl, sym, ap, subst, ◌∙◌, arith, add-one}
-use Rattle.std.specs.Prelude.{◌==◌, slice_get, count_by, Contains}
-use Rattle.std.proofs.lemmas.Bool.{false≢true, cases_Bool, or_cases, and_from, and_parts, eq-eqb, eqb-true, le-leb}
+use Rattle.std.specs.Prelude.{◌==◌, slice_get, Contains}
+use Rattle.std.proofs.lemmas.Bool.{false≢true, cases_Bool, or_cases, and_from, and_parts, eq-eqb, eqb-true}
 use Rattle.std.proofs.lemmas.Option.{same_Some}
 use Rattle.qu_base.specs.declared.party.ObjectId.{ObjectId}
 use Rattle.qu_base.specs.declared.party.ReplicaId.{ReplicaId}
-use Rattle.qu_base.specs.Thresholds.{quorum}
 use Rattle.qu_stamp.specs.declared.candidate.Candidate.{Candidate}
-use Rattle.qu_stamp.specs.Stamp.{opening_stamp, same_stamp}
+use Rattle.qu_stamp.specs.Stamp.{is_below, opening_stamp, same_stamp}
 use Rattle.qu_stamp.specs.Candidate.{opening, same}
 use Rattle.qu_stamp.proofs.Order.{same_stamp-self, equal_by_same}
 use Rattle.qu_history.specs.History.{holds}
 use Rattle.qu_history.specs.Sets.{entries_of, method_at}
-use Rattle.qu_history.proofs.Rising.{holds_push}
+use Rattle.qu_history.proofs.Rising.{holds_push, holds_pushed}
 use Rattle.qu_objects.specs.declared.answer.Answer.TheVariants as answer
 use Rattle.qu_objects.specs.declared.kind.KindName.{KindName}
 use Rattle.qu_objects.specs.declared.state.ObjState.{ObjState}
 use Rattle.qu_objects.specs.Kind.{fresh_value}
 use Rattle.qu_frames.specs.declared.frame.Body.TheVariants as body
 use Rattle.qu_frames.specs.declared.frame.Letter.{Letter}
-use Rattle.qu_machine.specs.declared.record.OpRecord.{OpRecord}
 use Rattle.qu_replica.specs.State.{ReplicaState, candidates_in, own_candidates, opening_histories, opening_versions, opening_state}
 use Rattle.qu_replica.specs.Growth.{HasParts, Grows}
 use Rattle.qu_replica.specs.Versions.{version_at}
@@ -30,45 +28,49 @@ use Rattle.qu_trace.specs.declared.trace.Trace.{Trace}
 use Rattle.qu_world.specs.State.{WorldState, letter_of, ring_of}
 use Rattle.qu_world.specs.Step.{world_step}
 use Rattle.qu_world.specs.Run.{IsRun}
-use Rattle.qu_chain.proofs.Counting.{test_at-here}
 use Rattle.qu_replica.specs.Rows.{asked_of}
 use Rattle.std.proofs.lemmas.List.Elements.{Contains-get_or}
-use Rattle.qu_safety.proofs.OneAct.{act_by}
-use Rattle.qu_safety.proofs.Handled.{handled, made_for, made_for_operation}
-use Rattle.qu_safety.specs.Digested.{IsHandled}
-use Rattle.qu_safety.specs.Chained.{last_world}
-use Rattle.qu_safety.specs.Decided.{accepts, is_accepted, is_established, IsDecided}
-use Rattle.qu_safety.specs.Grounds.{IsGround, IsPerformed, AcceptsOne, IsMoved}
-use Rattle.qu_safety.specs.Invocations.{IsRequestOf}
-use Rattle.qu_safety.specs.Order.{world_after}
-use Rattle.qu_safety.specs.Values.{HasVersion}
-use Rattle.qu_safety.specs.Views.{ArePlain, IsOfKept, IsPlain}
-use Rattle.qu_safety.proofs.Acceptance.{accepts_on}
-use Rattle.qu_safety.proofs.Acceptors.{method_is_shown}
-use Rattle.qu_safety.proofs.Grounds.{above_base}
-use Rattle.qu_safety.proofs.Happenings.{WasBefore, was_before, event_moves}
-use Rattle.qu_safety.proofs.HeldVersions.{HoldsUnder, AreOfHeld, opening_of_held, still_of_held, version_of_fresh}
-use Rattle.qu_safety.proofs.Marking.{bounds_after}
-use Rattle.qu_safety.proofs.Values.{Known, same_candidate}
-use Rattle.qu_safety.proofs.Views.{sent_has_parts, view_of_request}
-use Rattle.qu_safety.proofs.WorldGrowth.{world_after-none, world_after-next, world_after-grows, has_more, is_accepted-more, accepted_by_decided}
-use Rattle.qu_safety.proofs.Small.{some_entry}
-use Rattle.qu_safety.proofs.OpeningReplicas.{opening_replica}
-use Rattle.qu_safety.proofs.Chained.{somewhere_accepted}
-use Rattle.qu_safety.specs.Carried.{Carries, Asks, Brings}
-use Rattle.qu_safety.proofs.Carrying.{asks_so, brings_carries}
+use Rattle.qu_chain.specs.Laws.{Laws}
+use Rattle.qu_chain.specs.Joint.{Joint}
+use Rattle.qu_objects.specs.declared.act.Method.{Method}
+use Rattle.qu_stamp.specs.declared.stamp.Stamp.{Stamp}
+use Rattle.qu_grounds.proofs.Handled.{handled, made_for}
+use Rattle.qu_runs.specs.Digested.{IsHandled}
+use Rattle.qu_grounds.specs.Grounds.{IsGround, IsPerformed, AcceptsOne, IsMoved}
+use Rattle.qu_runs.specs.Times.{world_after}
+use Rattle.qu_safety.specs.Updates.{Names, IsEverAccepted}
+use Rattle.qu_safety.specs.Values.{RestsOn, HasVersion}
+use Rattle.qu_runs.specs.Setting.{setting}
+use Rattle.qu_runs.specs.Plain.{ArePlain, IsPlain}
+use Rattle.qu_grounds.specs.Views.{IsOfKept}
+use Rattle.qu_grounds.proofs.Acceptance.{accepts_on}
+use Rattle.qu_grounds.proofs.Acceptors.{method_is_shown}
+use Rattle.qu_grounds.proofs.Grounds.{above_base}
+use Rattle.qu_runs.proofs.Befores.{WasBefore, was_before}
+use Rattle.qu_grounds.proofs.Happenings.{event_moves}
+use Rattle.qu_grounds.proofs.HeldVersions.{HoldsUnder, AreOfHeld, opening_of_held, still_of_held, version_of_fresh}
+use Rattle.qu_safety.proofs.Updates.{same_accepted}
+use Rattle.qu_safety.proofs.EverAccepted.{held_ever, quorum_ever}
+use Rattle.qu_grounds.proofs.Views.{sent_has_parts, view_of_request}
+use Rattle.qu_runs.proofs.WorldGrowth.{world_after-none, world_after-next}
+use Rattle.qu_runs.proofs.Small.{some_entry}
+use Rattle.qu_runs.proofs.OpeningReplicas.{opening_replica}
+use Rattle.qu_runs.specs.Carried.{Carries, Asks, Brings}
+use Rattle.qu_runs.proofs.Carrying.{asks_so, brings_carries}
 use Rattle.qu_frames.specs.declared.frame.Frame.{Frame}
 
 -- the replica stores the version of the candidate
 abbrev pub Stores : Trace → ObjectId → ReplicaState → Candidate → Type 0
 Stores trace object state candidate =
-    (version : ObjState) × (version_at object candidate.stamp state.versions ≡ Some version) × HasVersion trace object candidate version
+    (version : ObjState) × (version_at object candidate.stamp state.versions ≡ Some version) × HasVersion trace object
+    candidate version
 
 -- a replica that stores the versions of all candidates that it holds, and no others
 record IsVersioned (trace : Trace) (state : ReplicaState) : Type 0 where
   bounds : state.bounds ≡ trace.setup.bounds
   of_held : AreOfHeld state
-  stores : (object : ObjectId) (candidate : Candidate) → holds candidate (own_candidates state object) ≡ true → Stores trace object state candidate
+  stores : (object : ObjectId) (candidate : Candidate) → holds candidate (own_candidates state object) ≡ true
+      → Stores trace object state candidate
 
 -- ---- at the beginning
 
@@ -76,26 +78,31 @@ abbrev fresh_version : KindName → ObjState
 fresh_version kind = record { value = fresh_value kind; answer = answer.Ok [] }
 
 -- an object begins with the opening candidate and its version
-record IsBegun (first : ℕ) (kinds : List KindName) (object : ObjectId) (place : ℕ) (candidate : Candidate) : Type 0 where
+record IsBegun (first : ℕ) (kinds : List KindName) (object : ObjectId) (place : ℕ)
+    (candidate : Candidate) : Type 0 where
   kind : KindName
   is_kind : slice_get kinds place ≡ Some kind
   alone : opening ≡ candidate
   fresh : version_at object opening_stamp (opening_versions first kinds) ≡ Some (fresh_version kind)
 
-later_begun : (first : ℕ) (kind : KindName) (kinds : List KindName) (object : ObjectId) (place : ℕ) (candidate : Candidate) → object.0 ≡ first + suc place → IsBegun (first + 1) kinds object place candidate → IsBegun first (kind ∷ kinds) object (suc place) candidate
+later_begun : (first : ℕ) (kind : KindName) (kinds : List KindName) (object : ObjectId) (place : ℕ)
+    (candidate : Candidate) → object.0 ≡ first + suc place → IsBegun (first + 1) kinds object place candidate → IsBegun
+    first (kind ∷ kinds) object (suc place) candidate
 unfolding version_at opening_versions
 later_begun first kind kinds object place candidate at later =
     let test : Bool = first == object.0 && same_stamp opening_stamp opening_stamp in
     elim (cases_Bool test) [
       | inl here ↦
-          let parts : ((first == object.0) ≡ true) × (same_stamp opening_stamp opening_stamp ≡ true) = and_parts _ _ here in
+          let parts : ((first == object.0) ≡ true) × (same_stamp opening_stamp opening_stamp ≡ true) =
+          and_parts _ _ here in
           let equal : first ≡ object.0 = eqb-true _ _ parts.0 in
           absurd (omega arith)
       | inr there ↦ record {
         kind = later.kind;
         is_kind = later.is_kind;
         alone = later.alone;
-        fresh = ap (λ (b : Bool). cond b (Some (fresh_version kind)) (version_at object opening_stamp (opening_versions (first + 1) kinds))) there ∙ later.fresh;
+        fresh = ap (λ (b : Bool). cond b (Some (fresh_version kind))
+            (version_at object opening_stamp (opening_versions (first + 1) kinds))) there ∙ later.fresh;
       }
     ]
 
@@ -106,7 +113,10 @@ only_opening candidate held =
       | inr never ↦ absurd (false≢true never)
     ]
 
-begun_from : (me : ReplicaId) (first : ℕ) (kinds : List KindName) (object : ObjectId) (place : ℕ) (candidate : Candidate) → object.0 ≡ first + place → holds candidate (candidates_in (slice_get (opening_histories me first kinds) place)) ≡ true → IsBegun first kinds object place candidate
+begun_from : (me : ReplicaId) (first : ℕ) (kinds : List KindName) (object : ObjectId) (place : ℕ)
+    (candidate : Candidate) → object.0 ≡ first + place → holds candidate
+    (candidates_in (slice_get (opening_histories me first kinds) place)) ≡ true → IsBegun first kinds object place
+    candidate
 unfolding opening_histories version_at opening_versions
 begun_from me first [] object place candidate at held = absurd (false≢true held)
 begun_from me first (kind ∷ kinds) object zero candidate at held =
@@ -115,129 +125,178 @@ begun_from me first (kind ∷ kinds) object zero candidate at held =
       kind = kind;
       is_kind = refl;
       alone = only_opening candidate held;
-      fresh = ap (λ (b : Bool). cond b (Some (fresh_version kind)) (version_at object opening_stamp (opening_versions (first + 1) kinds)))
+      fresh = ap (λ (b : Bool). cond b (Some (fresh_version kind))
+          (version_at object opening_stamp (opening_versions (first + 1) kinds)))
           (and_from _ _ (eq-eqb first object.0 equal) (same_stamp-self opening_stamp));
     }
 begun_from me first (kind ∷ kinds) object (suc place) candidate at held =
-    later_begun first kind kinds object place candidate at (begun_from me (first + 1) kinds object place candidate (omega arith) held)
+    later_begun first kind kinds object place candidate at (begun_from me (first + 1) kinds object place candidate
+    (omega arith) held)
 
-begun_stores : (trace : Trace) (me : ReplicaId) (object : ObjectId) (candidate : Candidate) → IsBegun 0 trace.setup.kinds object object.0 candidate → Stores trace object (opening_state me (ring_of trace.setup) trace.setup.bounds trace.setup.kinds) candidate
+begun_stores : (trace : Trace) (me : ReplicaId) (object : ObjectId) (candidate : Candidate)
+    → IsBegun 0 trace.setup.kinds object object.0 candidate → Stores trace object
+    (opening_state me (ring_of trace.setup) trace.setup.bounds trace.setup.kinds) candidate
 begun_stores trace me object candidate begun =
-    subst (Stores trace object (opening_state me (ring_of trace.setup) trace.setup.bounds trace.setup.kinds)) begun.alone
-    (fresh_version begun.kind, begun.fresh, HasVersion.of_opening begun.kind begun.is_kind)
+    subst (Stores trace object (opening_state me (ring_of trace.setup) trace.setup.bounds trace.setup.kinds))
+    begun.alone
+    (fresh_version begun.kind, begun.fresh, HasVersion.of_opening object begun.kind begun.is_kind)
 
-opening-versioned : (trace : Trace) (me : ReplicaId) → IsVersioned trace (opening_state me (ring_of trace.setup) trace.setup.bounds trace.setup.kinds)
+opening-versioned : (trace : Trace) (me : ReplicaId) → IsVersioned trace
+    (opening_state me (ring_of trace.setup) trace.setup.bounds trace.setup.kinds)
 opening-versioned trace me = record {
   bounds = refl;
   of_held = opening_of_held me (ring_of trace.setup) trace.setup.bounds trace.setup.kinds;
-  stores = λ object candidate held. begun_stores trace me object candidate (begun_from me 0 trace.setup.kinds object object.0 candidate (omega arith) held);
+  stores = λ object candidate held. begun_stores trace me object candidate
+      (begun_from me 0 trace.setup.kinds object object.0 candidate (omega arith) held);
 }
 
 -- ---- what an accepted candidate is made of
 
-module _ (trace : Trace) (known : Known trace) (is_run : IsRun trace) (have : ArePlain trace) (count : ℕ) (within : count ≤ length trace.entries) where
-  still_accepted : (object : ObjectId) (candidate : Candidate) → is_accepted (world_after trace count) object candidate ≡ true → is_accepted (last_world trace) object candidate ≡ true
-  still_accepted object candidate accepted =
-      is_accepted-more (world_after trace count) (last_world trace)
-      (has_more (world_after trace count) (last_world trace) (world_after-grows trace count (length trace.entries) within)) object candidate accepted
+module _ (trace : Trace) (laws : Laws (setting trace)) (joint : Joint (setting trace)) (is_run : IsRun trace)
+    (have : ArePlain trace) (count : ℕ) (within : count ≤ length trace.entries) where
+  module _ (number : ℕ) (letter : Letter) (sent : letter_of (world_after trace count) number ≡ Some letter)
+      (carried : Frame) (place : ℕ) (old new : ReplicaState) (brings : Brings old letter carried)
+      (is_old : slice_get (world_after trace count).replicas place ≡ Some old) (before : IsVersioned trace old)
+      (object : ObjectId) (one : AcceptsOne old new carried object) where
+    abbrev parts : List (ObjectId × Method)
+    parts = (object, one.method) ∷ []
 
-  -- a replica at this place holds the candidate
-  held_accepted : (place : ℕ) (state : ReplicaState) → slice_get (world_after trace count).replicas place ≡ Some state → (object : ObjectId) (candidate : Candidate) → holds candidate (own_candidates state object) ≡ true → is_accepted (last_world trace) object candidate ≡ true
-  held_accepted place state is_state object candidate held =
-      still_accepted object candidate (somewhere_accepted object candidate (world_after trace count).replicas place (test_at-here (accepts object candidate) (world_after trace count).replicas place state is_state ∙ held))
+    abbrev base : Candidate
+    base = (one.grounds).base
 
-  quorum_accepted : (object : ObjectId) (candidate : Candidate) → quorum trace.setup.bounds ≤ count_by (accepts object candidate) (world_after trace count).replicas → is_accepted (last_world trace) object candidate ≡ true
-  quorum_accepted object candidate enough =
-      let world : WorldState = world_after trace count in
-      let bounds : world.setup.bounds ≡ trace.setup.bounds = bounds_after trace count world refl in
-      let established : is_established world object candidate ≡ true =
-      le-leb (quorum world.setup.bounds) (count_by (accepts object candidate) world.replicas + world.setup.bounds) (rw bounds (omega arith)) in
-      still_accepted object candidate (accepted_by_decided world object candidate (IsDecided.by_acceptors candidate established))
+    asks : Asks letter one.client one.number one.round one.sets (body.Act parts)
+    asks = asks_so letter carried one.client one.number one.round one.sets (body.Act parts) one.mac
+        (brings_carries old letter carried brings) one.is_request
 
-  module _ (number : ℕ) (letter : Letter) (sent : letter_of (world_after trace count) number ≡ Some letter) (carried : Frame) (place : ℕ) (old new : ReplicaState) (brings : Brings old letter carried) (is_old : slice_get (world_after trace count).replicas place ≡ Some old) (before : IsVersioned trace old) (object : ObjectId) (one : AcceptsOne old new carried object) where
-    asks : Asks letter one.client one.number one.round one.sets (body.Act ((object, one.method) ∷ []))
-    asks = asks_so letter carried one.client one.number one.round one.sets (body.Act ((object, one.method) ∷ [])) one.mac (brings_carries old letter carried brings) one.is_request
-
-    view : IsOfKept trace count one.sets (body.Act ((object, one.method) ∷ []))
-    view = view_of_request trace is_run have count within number letter sent one.client one.number one.round one.sets (body.Act ((object, one.method) ∷ [])) asks
-
-    request : IsRequestOf trace count one.client one.number (body.Act ((object, one.method) ∷ []))
-    request = known.request_of count within number letter sent one.client one.number one.round one.sets (body.Act ((object, one.method) ∷ [])) asks
+    view : IsOfKept trace count one.sets (body.Act parts)
+    view = view_of_request trace is_run have count within number letter sent one.client one.number one.round one.sets
+        (body.Act parts) asks
 
     -- a quorum showed the base, so it was accepted
-    base_accepted : is_accepted (last_world trace) object (one.grounds).base ≡ true
+    base_accepted : IsEverAccepted trace object base
     base_accepted =
-        let grounds : IsGround old (asked_of one.client one.number one.sets (body.Act ((object, one.method) ∷ []))) object one.candidate = one.grounds in
-        quorum_accepted object grounds.base
-        (method_is_shown trace is_run count within one.sets (body.Act ((object, one.method) ∷ [])) view object grounds.base
-        (ap (λ (bounds : ℕ). method_at bounds (entries_of object one.sets)) (sym before.bounds) ∙ grounds.method))
+        quorum_ever trace laws count within object base (is_run.setup).some_faults
+        (method_is_shown trace is_run count within one.sets (body.Act parts) view object base
+        (ap (λ (bounds : ℕ). method_at bounds (entries_of object one.sets)) (sym before.bounds) ∙ (one.grounds).method))
 
     -- the version that the replica stores under the stamp of the base is that of the base
-    base_version : HasVersion trace object (one.grounds).base (one.performed).before
+    base_version : HasVersion trace object base (one.performed).before
     base_version =
-        let grounds : IsGround old (asked_of one.client one.number one.sets (body.Act ((object, one.method) ∷ []))) object one.candidate = one.grounds in
-        let performed : IsPerformed old object grounds.base one.method one.version = one.performed in
-        let base : Candidate = grounds.base in
-        let under : HoldsUnder old object base.stamp = before.of_held.of_held object base.stamp performed.before performed.of_base in
+        let performed : IsPerformed old object base one.method one.version = one.performed in
+        let under : HoldsUnder old object base.stamp =
+        before.of_held.of_held object base.stamp performed.before performed.of_base in
         let held : Candidate = under.held in
         let is_base : held ≡ base =
-        same_candidate held base under.under
-        (known.one_prior object held base (held_accepted place old is_old object held under.is_held) base_accepted under.under) in
-        let stored : Stores trace object old base = subst (Stores trace object old) is_base (before.stores object held under.is_held) in
-        let is_before : stored.0 ≡ performed.before = same_Some stored.0 performed.before (sym stored.1 ∙ performed.of_base) in
+        same_accepted trace laws joint object held base (held_ever trace laws count within place old is_old object held
+        under.is_held) base_accepted
+        under.under in
+        let stored : Stores trace object old base =
+        subst (Stores trace object old) is_base (before.stores object held under.is_held) in
+        let is_before : stored.0 ≡ performed.before =
+        same_Some stored.0 performed.before (sym stored.1 ∙ performed.of_base) in
         subst (HasVersion trace object base) is_before stored.2
 
-    accepted_stores : IsHandled trace one.client one.number ((object, one.method) ∷ []) → Stores trace object new one.candidate
-    accepted_stores was =
-        let grounds : IsGround old (asked_of one.client one.number one.sets (body.Act ((object, one.method) ∷ []))) object one.candidate = one.grounds in
-        let performed : IsPerformed old object grounds.base one.method one.version = one.performed in
-        let operation : OpRecord = request.operation in (
+    here : (other : ObjectId) → Names parts other → object ≡ other
+    here other (inl same) = same
+    here other (inr none) = absurd none
+
+    accepted_stores : IsHandled trace one.client one.number parts → IsEverAccepted trace object one.candidate
+        → Stores trace object new one.candidate
+    accepted_stores was accepted =
+        let grounds : IsGround old (asked_of one.client one.number one.sets (body.Act parts)) object one.candidate =
+        one.grounds in (
           one.version,
           version_of_fresh before.of_held one,
-          HasVersion.of_update one.candidate grounds.base operation one.method performed.before one.version
-              grounds.prior (above_base grounds) base_accepted request.of_trace
-              (act_by ((object, one.method) ∷ []) operation.op request.asks)
-              (made_for_operation trace count one.candidate one.client one.number ((object, one.method) ∷ []) (body.Act ((object, one.method) ∷ [])) request
-              (made_for trace old new carried object one one.candidate refl was))
-              base_version performed.value performed.answer,
+          HasVersion.of_update object one.candidate
+              (record { client = one.client; number = one.number; parts = parts }) (λ other. base)
+              (λ other. (one.performed).before) (λ other. (one.version).value) one.version
+              (ap (λ (it : Stamp). is_below it (one.candidate).stamp) grounds.prior ∙ above_base grounds)
+              (record {
+                made = made_for trace old new carried object one one.candidate refl was;
+                names = inl refl;
+              })
+              (λ other names.
+              subst (λ (it : ObjectId). RestsOn trace object one.candidate it base) (here other names) (record {
+                companion = one.candidate;
+                is_companion = inl (refl, refl);
+                accepted = accepted;
+                prior = grounds.prior;
+                base_accepted = base_accepted;
+              }))
+              (λ other names.
+              subst (λ (it : ObjectId). HasVersion trace it base (one.performed).before) (here other names)
+              base_version)
+              (one.performed).value refl (one.performed).answer,
         )
 
 -- ---- an event
 
 -- what was held before is still stored
-still_stores : (trace : Trace) (old new : ReplicaState) → Grows old new → (object : ObjectId) (candidate : Candidate) → Stores trace object old candidate → Stores trace object new candidate
+still_stores : (trace : Trace) (old new : ReplicaState) → Grows old new → (object : ObjectId) (candidate : Candidate)
+    → Stores trace object old candidate → Stores trace object new candidate
 still_stores trace old new grows object candidate stored =
     (stored.0, version_at-grows old new grows object candidate.stamp stored.0 stored.1, stored.2)
 
-module _ (trace : Trace) (known : Known trace) (is_run : IsRun trace) (have : ArePlain trace) (count : ℕ) (within : count ≤ length trace.entries) (below : count < length trace.entries) (entry : Entry) (of_trace : Contains trace.entries entry) (event : Event) (event_is : event ≡ entry.event) (plain : IsPlain (world_after trace count) event) (place : ℕ) (old new : ReplicaState) (is_old : slice_get (world_after trace count).replicas place ≡ Some old) (is_new : slice_get (world_step (world_after trace count) event).replicas place ≡ Some new) (grows : Grows old new) (before : IsVersioned trace old) where
-  one_handled : (moved : IsMoved (world_after trace count) event place old new) (object : ObjectId) (one : AcceptsOne old new moved.carried object) → IsHandled trace one.client one.number ((object, one.method) ∷ [])
+module _ (trace : Trace) (laws : Laws (setting trace)) (joint : Joint (setting trace)) (is_run : IsRun trace)
+    (have : ArePlain trace) (count : ℕ) (within : count ≤ length trace.entries) (below : count < length trace.entries)
+    (entry : Entry) (of_trace : Contains trace.entries entry) (event : Event) (event_is : event ≡ entry.event)
+    (plain : IsPlain (world_after trace count) event) (place : ℕ) (old new : ReplicaState)
+    (is_old : slice_get (world_after trace count).replicas place ≡ Some old)
+    (is_new : slice_get (world_step (world_after trace count) event).replicas place ≡ Some new)
+    (is_next : slice_get (world_after trace (count + 1)).replicas place ≡ Some new) (grows : Grows old new)
+    (before : IsVersioned trace old) where
+  one_handled : (moved : IsMoved (world_after trace count) event place old new) (object : ObjectId)
+      (one : AcceptsOne old new moved.carried object) → IsHandled trace one.client one.number
+      ((object, one.method) ∷ [])
   one_handled moved object one =
       handled trace is_run count below entry of_trace event event_is place old new is_old is_new object
-      (record { number = moved.number; letter = moved.letter; is_letter = moved.is_letter; is_handed = moved.is_handed; to = moved.to; carried = moved.carried; brings = moved.brings; accepts = one })
+      (record {
+        number = moved.number;
+        letter = moved.letter;
+        is_letter = moved.is_letter;
+        is_handed = moved.is_handed;
+        to = moved.to;
+        carried = moved.carried;
+        brings = moved.brings;
+        accepts = one;
+      })
 
-  one_stores : (moved : IsMoved (world_after trace count) event place old new) (object : ObjectId) → AcceptsOne old new moved.carried object
+  now_accepted : (moved : IsMoved (world_after trace count) event place old new) (object : ObjectId)
+      (one : AcceptsOne old new moved.carried object) → IsEverAccepted trace object one.candidate
+  now_accepted moved object one =
+      held_ever trace laws (count + 1) (omega arith) place new (is_next) object one.candidate
+      (ap (holds one.candidate) one.added ∙ holds_pushed one.candidate (own_candidates old object))
+
+  one_stores : (moved : IsMoved (world_after trace count) event place old new) (object : ObjectId)
+      → AcceptsOne old new moved.carried object
       → (candidate : Candidate) → holds candidate (own_candidates new object) ≡ true → Stores trace object new candidate
   one_stores moved object one candidate held =
-      elim (or_cases _ _ (sym (holds_push candidate one.candidate (own_candidates old object)) ∙ ap (holds candidate) (sym one.added) ∙ held)) [
+      elim (or_cases _ _ (sym (holds_push candidate one.candidate (own_candidates old object)) ∙ ap (holds candidate)
+      (sym one.added) ∙ held)) [
         | inl earlier ↦ still_stores trace old new grows object candidate (before.stores object candidate earlier)
         | inr last ↦ elim (or_cases (same one.candidate candidate) false last) [
           | inl is ↦
               subst (Stores trace object new) (equal_by_same one.candidate candidate is)
-              (accepted_stores trace known is_run have count within moved.number moved.letter moved.is_letter moved.carried place old new moved.brings is_old before object one (one_handled moved object one))
+              (accepted_stores trace laws joint is_run have count within moved.number moved.letter moved.is_letter
+              moved.carried place old new moved.brings is_old before object one (one_handled moved object one)
+              (now_accepted moved object one))
           | inr never ↦ absurd (false≢true never)
         ]
       ]
 
-  moved_stores : IsMoved (world_after trace count) event place old new → (object : ObjectId) (candidate : Candidate) → holds candidate (own_candidates new object) ≡ true → Stores trace object new candidate
+  moved_stores : IsMoved (world_after trace count) event place old new → (object : ObjectId) (candidate : Candidate)
+      → holds candidate (own_candidates new object) ≡ true → Stores trace object new candidate
   moved_stores moved object candidate held =
       elim (accepts_on old new moved.carried moved.accepts object) [
-        | inl alike ↦ still_stores trace old new grows object candidate (before.stores object candidate (ap (holds candidate) (sym alike) ∙ held))
+        | inl alike ↦ still_stores trace old new grows object candidate
+            (before.stores object candidate (ap (holds candidate) (sym alike) ∙ held))
         | inr one ↦ one_stores moved object one candidate held
       ]
 
   event-versioned : IsVersioned trace new
   event-versioned =
-      let parts : (number : ℕ) (letter : Letter) → letter_of (world_after trace count) number ≡ Some letter → (carried : Frame) → Carries letter carried → HasParts carried =
+      let parts : (number : ℕ) (letter : Letter) → letter_of (world_after trace count) number ≡ Some letter →
+      (carried : Frame) → Carries letter carried → HasParts carried =
       λ number letter sent. sent_has_parts trace is_run have count within number letter sent in
       elim (event_moves (world_after trace count) event place old new is_old is_new parts plain) [
         | inl alike ↦ subst (IsVersioned trace) (sym alike) before
@@ -251,42 +310,57 @@ module _ (trace : Trace) (known : Known trace) (is_run : IsRun trace) (have : Ar
 -- ---- all worlds of a run
 
 abbrev AreVersioned : Trace → ℕ → Type 0
-AreVersioned trace count = (place : ℕ) (state : ReplicaState) → slice_get (world_after trace count).replicas place ≡ Some state → IsVersioned trace state
+AreVersioned trace count = (place : ℕ) (state : ReplicaState) → slice_get (world_after trace count).replicas place ≡
+    Some state → IsVersioned trace state
 
 versioned_none : (trace : Trace) → AreVersioned trace 0
 versioned_none trace = λ place state is_state.
-    let begun : (me : ReplicaId) × (state ≡ opening_state me (ring_of trace.setup) trace.setup.bounds trace.setup.kinds) =
-    opening_replica 0 _ (ring_of trace.setup) trace.setup.bounds trace.setup.kinds place state (ap (λ (world : WorldState). slice_get world.replicas place) (sym (world_after-none trace)) ∙ is_state) in
+    let begun : (me : ReplicaId) × (state ≡ opening_state me
+    (ring_of trace.setup) trace.setup.bounds trace.setup.kinds) =
+    opening_replica 0 _ (ring_of trace.setup) trace.setup.bounds trace.setup.kinds place state
+    (ap (λ (world : WorldState). slice_get world.replicas place) (sym (world_after-none trace)) ∙ is_state) in
     subst (IsVersioned trace) (sym begun.1) (opening-versioned trace begun.0)
 
-versioned_next : (trace : Trace) → Known trace → IsRun trace → ArePlain trace → (count : ℕ) → count < length trace.entries → AreVersioned trace count → AreVersioned trace (count + 1)
-versioned_next trace known is_run have count below before = λ place new is_new.
+versioned_next : (trace : Trace) → Laws (setting trace) → Joint (setting trace) → IsRun trace → ArePlain trace →
+    (count : ℕ) → count < length trace.entries → AreVersioned trace count → AreVersioned trace (count + 1)
+versioned_next trace laws joint is_run have count below before = λ place new is_new.
     let default : Entry = some_entry trace.entries (omega arith) in
     let event : Event = (get_or trace.entries count default).event in
-    let next : world_after trace (count + 1) ≡ world_step (world_after trace count) event = world_after-next trace count default below in
+    let next : world_after trace (count + 1) ≡ world_step (world_after trace count) event =
+    world_after-next trace count default below in
     let now : slice_get (world_step (world_after trace count) event).replicas place ≡ Some new =
     ap (λ (world : WorldState). slice_get world.replicas place) (sym next) ∙ is_new in
-    let was : WasBefore (world_after trace count).replicas place new = was_before (world_after trace count) event place new now in
-    event-versioned trace known is_run have count (omega arith) below (get_or trace.entries count default) (Contains-get_or trace.entries count default below) event refl (have.plain_at count default below) place was.old new was.is_old now was.grows (before place was.old was.is_old)
+    let was : WasBefore (world_after trace count).replicas place new =
+    was_before (world_after trace count) event place new now in
+    event-versioned trace laws joint is_run have count (omega arith) below (get_or trace.entries count default)
+    (Contains-get_or trace.entries count default below) event refl (have.plain_at count default below) place was.old new
+    was.is_old now is_new was.grows (before place was.old was.is_old)
 
-versioned : (trace : Trace) → Known trace → IsRun trace → ArePlain trace → (count : ℕ) → count ≤ length trace.entries → AreVersioned trace count
-versioned trace known is_run have zero within = versioned_none trace
-versioned trace known is_run have (suc count) within =
+versioned : (trace : Trace) → Laws (setting trace) → Joint (setting trace) → IsRun trace → ArePlain trace → (count : ℕ)
+    → count ≤ length trace.entries → AreVersioned trace count
+versioned trace laws joint is_run have zero within = versioned_none trace
+versioned trace laws joint is_run have (suc count) within =
     subst (AreVersioned trace) (add-one count)
-    (versioned_next trace known is_run have count (omega arith) (versioned trace known is_run have count (omega arith)))
+    (versioned_next trace laws joint is_run have count (omega arith)
+    (versioned trace laws joint is_run have count (omega arith)))
 
-pub version_held : (trace : Trace) → Known trace → IsRun trace → ArePlain trace → (count : ℕ) → count ≤ length trace.entries
+pub version_held : (trace : Trace) → Laws (setting trace) → Joint (setting trace) → IsRun trace → ArePlain trace →
+    (count : ℕ) → count ≤ length trace.entries
     → (place : ℕ) (state : ReplicaState) → slice_get (world_after trace count).replicas place ≡ Some state
     → (object : ObjectId) (candidate : Candidate) → holds candidate (own_candidates state object) ≡ true
-    → (version : ObjState) × (version_at object candidate.stamp state.versions ≡ Some version) × HasVersion trace object candidate version
-version_held trace known is_run have count within place state is_state object candidate held =
-    (versioned trace known is_run have count within place state is_state).stores object candidate held
+    → (version : ObjState) × (version_at object candidate.stamp state.versions ≡ Some version) × HasVersion trace object
+    candidate version
+version_held trace laws joint is_run have count within place state is_state object candidate held =
+    (versioned trace laws joint is_run have count within place state is_state).stores object candidate held
 
 -- the version that is found is the candidate's
-pub version_is : (trace : Trace) → Known trace → IsRun trace → ArePlain trace → (count : ℕ) → count ≤ length trace.entries
+pub version_is : (trace : Trace) → Laws (setting trace) → Joint (setting trace) → IsRun trace → ArePlain trace →
+    (count : ℕ) → count ≤ length trace.entries
     → (place : ℕ) (state : ReplicaState) → slice_get (world_after trace count).replicas place ≡ Some state
     → (object : ObjectId) (candidate : Candidate) → holds candidate (own_candidates state object) ≡ true
-    → (version : ObjState) → version_at object candidate.stamp state.versions ≡ Some version → HasVersion trace object candidate version
-version_is trace known is_run have count within place state is_state object candidate held version found =
-    let stored : Stores trace object state candidate = version_held trace known is_run have count within place state is_state object candidate held in
+    → (version : ObjState) → version_at object candidate.stamp state.versions ≡ Some version → HasVersion trace object
+    candidate version
+version_is trace laws joint is_run have count within place state is_state object candidate held version found =
+    let stored : Stores trace object state candidate =
+    version_held trace laws joint is_run have count within place state is_state object candidate held in
     subst (HasVersion trace object candidate) (same_Some stored.0 version (sym stored.1 ∙ found)) stored.2

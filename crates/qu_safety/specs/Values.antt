@@ -1,5 +1,6 @@
--- The version of a candidate: the one that its update makes of the version of its base.
-use Rattle.std.specs.Prelude.{◌≡◌, true, [], ◌∷◌, slice_get, Some, IsTrue, Contains}
+-- The version of a candidate: the one that its update makes of the versions of its bases.
+use Rattle.std.specs.Prelude.{◌≡◌, true, List, [], map, slice_get, Some}
+use Rattle.qu_chain.specs.Joint.{IsOneAct}
 use Rattle.qu_base.specs.declared.party.ObjectId.{ObjectId}
 use Rattle.qu_stamp.specs.declared.candidate.Candidate.{Candidate}
 use Rattle.qu_stamp.specs.Stamp.{is_below}
@@ -7,27 +8,41 @@ use Rattle.qu_stamp.specs.Candidate.{opening}
 use Rattle.qu_objects.specs.declared.act.Method.{Method}
 use Rattle.qu_objects.specs.declared.answer.Answer.TheVariants as answer
 use Rattle.qu_objects.specs.declared.kind.KindName.{KindName}
-use Rattle.qu_objects.specs.declared.op.Op.TheVariants as op
+use Rattle.qu_objects.specs.declared.kind.Value.{Value}
 use Rattle.qu_objects.specs.declared.state.ObjState.{ObjState}
 use Rattle.qu_objects.specs.Kind.{fresh_value}
 use Rattle.qu_objects.specs.Perform.{performed_answer, performed_values}
-use Rattle.qu_machine.specs.declared.record.OpRecord.{OpRecord}
 use Rattle.qu_trace.specs.declared.trace.Trace.{Trace}
-use Rattle.qu_trace.specs.Operations.{operations_of}
-use Rattle.qu_safety.specs.Decided.{is_accepted}
-use Rattle.qu_safety.specs.Digested.{IsMadeFor}
-use Rattle.qu_safety.specs.Chained.{last_world}
+use Rattle.qu_runs.specs.Setting.{setting}
+use Rattle.qu_safety.specs.Updates.{Update, Names, IsOf, IsEverAccepted}
 
--- the version of a candidate of an object: the opening one's is fresh; another's is what its update makes
--- of the version of its base, which is below it
-pub data HasVersion (trace : Trace) (object : ObjectId) : Candidate → ObjState → Type 0 where
-  of_opening : (kind : KindName) → slice_get trace.setup.kinds object.0 ≡ Some kind
+-- on this object the candidate's update is performed upon this base
+pub record RestsOn (trace : Trace) (object : ObjectId) (candidate : Candidate) (other : ObjectId) (base : Candidate)
+    : Type 0 where
+  pub companion : Candidate
+  pub is_companion : IsOneAct (setting trace) object other candidate companion
+  pub accepted : IsEverAccepted trace other companion
+  pub prior : companion.prior ≡ base.stamp
+  pub base_accepted : IsEverAccepted trace other base
+
+-- the values of the objects that the parts name
+abbrev pub values_of : (ObjectId → Value) → List (ObjectId × Method) → List Value
+values_of value parts = map (λ (part : ObjectId × Method). value part.0) parts
+
+-- the version of a candidate of an object: the opening one's is fresh; another's is what its update makes of the
+-- versions of its bases, one on each of its objects
+pub data HasVersion (trace : Trace) : ObjectId → Candidate → ObjState → Type 0 where
+  of_opening : (object : ObjectId) (kind : KindName) → slice_get trace.setup.kinds object.0 ≡ Some kind
       → HasVersion trace object opening (record { value = fresh_value kind; answer = answer.Ok [] })
-  of_update : (candidate base : Candidate) (operation : OpRecord) (method : Method) (before version : ObjState)
-      → candidate.prior ≡ base.stamp → is_below base.stamp candidate.stamp ≡ true → IsTrue (is_accepted (last_world trace) object base)
-      → Contains (operations_of trace.entries) operation → operation.op ≡ op.Act ((object, method) ∷ [])
-      → IsMadeFor trace candidate operation.client operation.number ((object, method) ∷ [])
-      → HasVersion trace object base before
-      → performed_values ((object, method) ∷ []) (before.value ∷ []) ≡ version.value ∷ []
-      → performed_answer ((object, method) ∷ []) (before.value ∷ []) ≡ version.answer
+  of_update : (object : ObjectId) (candidate : Candidate) (update : Update) (bases : ObjectId → Candidate)
+      (befores : ObjectId → ObjState) (afters : ObjectId → Value) (version : ObjState)
+      → is_below candidate.prior candidate.stamp ≡ true
+      → IsOf trace update object candidate
+      → ((other : ObjectId) → Names update.parts other → RestsOn trace object candidate other (bases other))
+      → ((other : ObjectId) → Names update.parts other → HasVersion trace other (bases other) (befores other))
+      → performed_values update.parts (values_of (λ (other : ObjectId). (befores other).value) update.parts)
+      ≡ values_of afters update.parts
+      → afters object ≡ version.value
+      → performed_answer update.parts (values_of (λ (other : ObjectId). (befores other).value) update.parts)
+      ≡ version.answer
       → HasVersion trace object candidate version

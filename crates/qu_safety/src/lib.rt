@@ -1,16 +1,8 @@
-//! The points at which operations took effect, in one order.
+//! Why the printed order of a run is right: the machine that runs whole operations in this order gives each its answer.
 #![tactic(auto)]
 
-mod acts;
-mod answers;
-mod effects;
-mod facts;
-mod news;
 mod order;
 mod parts;
-mod replay;
-mod tracked;
-mod tracker;
 
 pub use order::order_of;
 

@@ -1,15 +1,16 @@
-ghost use Rattle.std.specs.Prelude.{◌<◌, ◌^◌};
+ghost use Rattle.std.specs.Prelude.{◌<◌, ◌^◌, length};
 ghost use Rattle.qu_objects.specs.Text.{MethodFits, PartsFit};
-ghost use Rattle.qu_safety.specs.Views.{HaveParts, HasEventParts};
+ghost use Rattle.qu_runs.specs.Plain.{HaveParts, HasEventParts};
 
 use qu_base::{ClientId, ObjectId};
 use qu_objects::{Method, Op};
 use qu_trace::{Entry, Event};
 
-/// Each operation that begins has parts, and its numbers fit their bytes. Its type keeps this; here
-/// it is told of a whole run, and nothing is computed.
+/// Each operation that begins has parts, and its numbers fit their bytes; and a run that is in memory has fewer
+/// than 2^63 events. Types and memory keep this; here it is told of a whole run, and nothing is computed.
 pub fn have_parts(entries: &[Entry])
-    ensures { HaveParts entries.now }
+    ensures parts { HaveParts entries.now }
+    ensures few { length entries.now < 2 ^ 63 }
 {
     for entry in entries {
         has_parts(&entry.event);

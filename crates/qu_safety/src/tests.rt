@@ -1,14 +1,14 @@
+//! That a run meets the premise that no two texts that its replicas digest have one digest.
 ghost use Rattle.std.specs.Prelude.{◌≤◌};
 
-use super::order_of;
-use qu_base::{Bounds, ClientId, List, ObjectId, Party, ReplicaId};
-use qu_objects::{Act, Ask, KindName, Method, Op, Query};
-use qu_trace::{Event, Setup};
+use qu_base::{Bounds, ClientId, Digest, List, ObjectId, Outbytes};
+use qu_frames::{Body, Frame, decode};
+use qu_history::{Sets, write_sets};
+use qu_objects::{Act, Ask, KindName, Method, Op, Query, act_digest, write_act};
+use qu_trace::{Event, Setup, Trace};
 use qu_world::{World, WorldFail, letter_at};
 use std::alloc::Global;
 use std::test::Fail;
-
-mod digests;
 
 /// A world of six replicas, so many clients and one counter.
 fn started(alloc: Global, clients: u16) -> Result<World, Fail>
@@ -54,118 +54,93 @@ fn deliver(world: &mut World, first: u64, last: u64) -> Result<(), Fail> {
     Ok(())
 }
 
-/// Injects the bytes of the letter with this number to its receiver.
-fn inject(alloc: Global, world: &mut World, number: u64) -> Result<(), Fail> {
-    let (to, text) = match letter_at(world.trace().entries.as_slice(), number) {
-        Some(letter) => (letter.to, letter.text.copy(alloc)?),
-        None => return Ok(()),
-    };
-    world.apply(Event::Inject(to, text))?;
-    Ok(())
+/// What a replica digests, and its digest. The sets are spelled with their HMACs, which are all alike.
+#[derive(Drop)]
+struct Digested {
+    tag: u8,
+    text: List<u8>,
+    digest: Digest,
 }
 
-/// The event, client and number of each point.
-fn points_of(alloc: Global, world: &World) -> Result<Vec<(u64, u16, u64)>, Fail> {
-    let mut points = Vec::new(alloc);
-    for point in &order_of(alloc, world.trace())? {
-        points.push((point.event, point.client.0, point.number))?;
+fn of_sets(alloc: Global, sets: &Sets) -> Result<Digested, Fail> {
+    let mut text = Outbytes::new(alloc);
+    write_sets(sets, &mut text)?;
+    Ok(Digested {
+        tag: 2,
+        text: text.done(),
+        digest: sets.digest_of(alloc)?,
+    })
+}
+
+fn of_act(alloc: Global, client: ClientId, number: u64, act: &Act) -> Result<Digested, Fail> {
+    let mut text = Outbytes::new(alloc);
+    text.u16(client.0)?;
+    text.u64(number)?;
+    write_act(&mut text, act)?;
+    Ok(Digested {
+        tag: 1,
+        text: text.done(),
+        digest: act_digest(alloc, client, number, act)?,
+    })
+}
+
+/// Adds what is digested of a frame.
+fn add(alloc: Global, digested: &mut List<Digested>, frame: &Frame) -> Result<(), Fail> {
+    if let Frame::Request {
+        client,
+        number,
+        sets,
+        body,
+        ..
+    } = frame
+    {
+        digested.push(of_sets(alloc, sets)?)?;
+        if let Body::Act(act) = body {
+            digested.push(of_act(alloc, *client, *number, act)?)?;
+        }
     }
-    Ok(points)
-}
-
-// In its first round a client knows nothing, and each replica tells it that the sets are thin: the
-// letters 1 to 6 and 7 to 12, at events 2 to 13. The requests of the second round are the letters
-// 13 to 18, which reach the replicas at events 14 to 19: the fourth accepts at event 17. The second
-// operation begins at event 26 upon what the replies showed, so that its first requests, which
-// arrive at events 27 to 32, are accepted: by the fourth replica at event 30.
-#[test]
-fn two_updates_in_order(rt: HostRuntime) -> Result<(), Fail> {
-    let mut world = started(rt.alloc(), 1)?;
-    invoke_add(rt.alloc(), &mut world, 1, 5)?;
-    deliver(&mut world, 1, 100)?;
-    invoke_add(rt.alloc(), &mut world, 1, 2)?;
-    deliver(&mut world, 25, 100)?;
-    let points = points_of(rt.alloc(), &world)?;
-    assert_eq!(rt; points.as_slice(), [(17, 1, 1), (30, 1, 2)].as_slice());
     Ok(())
 }
 
-// The second client knows nothing either: its requests arrive at events 27 to 32, those of its second
-// round at events 39 to 44, and the fourth replica accepts at event 42.
+/// All that is digested in a run.
+fn of_run(alloc: Global, trace: &Trace) -> Result<List<Digested>, Fail> {
+    let mut digested = List::new(alloc);
+    for entry in trace.entries.as_slice() {
+        let letter = match &entry.event {
+            Event::Deliver(number) => letter_at(trace.entries.as_slice(), *number),
+            _ => None,
+        };
+        if let Some(letter) = letter {
+            let frame = decode(alloc, letter.text.as_slice())
+                .ok()
+                .ok_or("no frame")?;
+            add(alloc, &mut digested, &frame)?;
+        }
+    }
+    Ok(digested)
+}
+
+/// Whether one digest stands for two texts.
+fn collide(first: &Digested, second: &Digested) -> bool {
+    first.digest == second.digest && (first.tag != second.tag || first.text != second.text)
+}
+
+// Two updates and a query, each of two rounds with six requests: 36 texts of sets and 24 of acts.
 #[test]
-fn equal_updates_of_two_clients_have_their_own_points(rt: HostRuntime) -> Result<(), Fail> {
+fn no_two_texts_of_a_run_have_one_digest(rt: HostRuntime) -> Result<(), Fail> {
     let mut world = started(rt.alloc(), 2)?;
     invoke_add(rt.alloc(), &mut world, 1, 5)?;
     deliver(&mut world, 1, 100)?;
     invoke_add(rt.alloc(), &mut world, 2, 5)?;
     deliver(&mut world, 25, 100)?;
-    let points = points_of(rt.alloc(), &world)?;
-    assert_eq!(rt; points.as_slice(), [(17, 1, 1), (42, 2, 1)].as_slice());
-    Ok(())
-}
-
-#[test]
-fn an_open_update_takes_effect_with_the_fourth_acceptance(rt: HostRuntime) -> Result<(), Fail> {
-    let mut world = started(rt.alloc(), 1)?;
-    invoke_add(rt.alloc(), &mut world, 1, 5)?;
-    deliver(&mut world, 1, 15)?;
-    assert!(rt; points_of(rt.alloc(), &world)?.is_empty());
-    deliver(&mut world, 16, 16)?;
-    let points = points_of(rt.alloc(), &world)?;
-    assert_eq!(rt; points.as_slice(), [(17, 1, 1)].as_slice());
-    Ok(())
-}
-
-// The second round completes the query: its first request arrives at event 14. While the query is
-// open it has no point.
-#[test]
-fn a_query_takes_effect_at_the_first_answer_of_its_last_round(rt: HostRuntime) -> Result<(), Fail> {
-    let mut world = started(rt.alloc(), 1)?;
     invoke_read(rt.alloc(), &mut world)?;
-    deliver(&mut world, 1, 22)?;
-    assert!(rt; points_of(rt.alloc(), &world)?.is_empty());
-    deliver(&mut world, 23, 100)?;
-    let points = points_of(rt.alloc(), &world)?;
-    assert_eq!(rt; points.as_slice(), [(14, 1, 1)].as_slice());
-    Ok(())
-}
-
-// The requests of the second round reach the replicas as injected bytes, and the fourth accepts as before.
-#[test]
-fn injected_requests_count_as_delivered_ones(rt: HostRuntime) -> Result<(), Fail> {
-    let mut world = started(rt.alloc(), 1)?;
-    invoke_add(rt.alloc(), &mut world, 1, 5)?;
-    deliver(&mut world, 1, 12)?;
-    for number in 13..=18 {
-        inject(rt.alloc(), &mut world, number)?;
+    deliver(&mut world, 49, 100)?;
+    let digested = of_run(rt.alloc(), world.trace())?;
+    assert_eq!(rt; digested.len(), 60);
+    for first in &digested {
+        for second in &digested {
+            assert!(rt; !collide(first, second));
+        }
     }
-    let points = points_of(rt.alloc(), &world)?;
-    assert_eq!(rt; points.as_slice(), [(17, 1, 1)].as_slice());
-    Ok(())
-}
-
-// The second round's answers reach the client as injected bytes; the first of them is sent at event 14.
-#[test]
-fn injected_answers_complete_a_query(rt: HostRuntime) -> Result<(), Fail> {
-    let mut world = started(rt.alloc(), 1)?;
-    invoke_read(rt.alloc(), &mut world)?;
-    deliver(&mut world, 1, 18)?;
-    for number in 19..=24 {
-        inject(rt.alloc(), &mut world, number)?;
-    }
-    let points = points_of(rt.alloc(), &world)?;
-    assert_eq!(rt; points.as_slice(), [(14, 1, 1)].as_slice());
-    Ok(())
-}
-
-// Bytes that are no frame change no point.
-#[test]
-fn bytes_that_are_no_frame_change_no_point(rt: HostRuntime) -> Result<(), Fail> {
-    let mut world = started(rt.alloc(), 1)?;
-    invoke_add(rt.alloc(), &mut world, 1, 5)?;
-    world.apply(Event::Inject(Party::Replica(ReplicaId(0)), List::new(rt.alloc())))?;
-    deliver(&mut world, 1, 100)?;
-    let points = points_of(rt.alloc(), &world)?;
-    assert_eq!(rt; points.as_slice(), [(18, 1, 1)].as_slice());
     Ok(())
 }

@@ -11,27 +11,33 @@ use Rattle.qu_script.proofs.TextFacts.{lines_of-nil}
 
 -- ---- setup lines
 
-expect_none : (line : SetupLine) (number : ℕ) → expect line number [] ≡ Err (record { line = number; kind = UnknownLine })
+expect_none : (line : SetupLine) (number : ℕ) → expect line number [] ≡ Err
+    (record { line = number; kind = UnknownLine })
 unfolding expect
 expect_none line number = refl
 
 -- no line is left
-pub expects_none : (line : SetupLine) (number : ℕ) (text : List ℕ) → length text ≡ 0 → expect line number (lines_of text) ≡ Err (record { line = number; kind = UnknownLine })
+pub expects_none : (line : SetupLine) (number : ℕ) (text : List ℕ) → length text ≡ 0
+    → expect line number (lines_of text) ≡ Err (record { line = number; kind = UnknownLine })
 expects_none line number text empty = ap (expect line number) (lines_of-nil text empty) ∙ expect_none line number
 
 -- the first line is this setup line
-pub expects_found : (line : SetupLine) (number found : ℕ) (text first rest : List ℕ) → lines_of text ≡ first ∷ lines_of rest
+pub expects_found : (line : SetupLine) (number found : ℕ) (text first rest : List ℕ)
+    → lines_of text ≡ first ∷ lines_of rest
     → Some found ≡ setup_number line (words_of first) → expect line number (lines_of text) ≡ Ok (found, lines_of rest)
 unfolding expect
 expects_found line number found text first rest cut read =
-    ap (expect line number) cut ∙ ap (λ number_of. then_good (or_unknown number number_of) (λ found. Ok (found, lines_of rest))) (sym read)
+    ap (expect line number) cut
+    ∙ ap (λ number_of. then_good (or_unknown number number_of) (λ found. Ok (found, lines_of rest))) (sym read)
 
 -- the first line is not this setup line
 pub expects_other : (line : SetupLine) (number : ℕ) (text first rest : List ℕ) → lines_of text ≡ first ∷ lines_of rest
-    → None ≡ setup_number line (words_of first) → expect line number (lines_of text) ≡ Err (record { line = number; kind = UnknownLine })
+    → None ≡ setup_number line (words_of first) → expect line number (lines_of text) ≡ Err
+    (record { line = number; kind = UnknownLine })
 unfolding expect
 expects_other line number text first rest cut read =
-    ap (expect line number) cut ∙ ap (λ number_of. then_good (or_unknown number number_of) (λ found. Ok (found, lines_of rest))) (sym read)
+    ap (expect line number) cut
+    ∙ ap (λ number_of. then_good (or_unknown number number_of) (λ found. Ok (found, lines_of rest))) (sym read)
 
 pub ruleset expect_facts = (expects_none, expects_found, expects_other)
 
@@ -41,8 +47,10 @@ pub ruleset expect_facts = (expects_none, expects_found, expects_other)
 abbrev pub lines_with : ℕ → List (ℕ × Line) → ℕ → List (List ℕ) → Result (List (ℕ × Line)) Bad
 lines_with clients lines number texts = then_good (lines_from clients number texts) (λ more. Ok (lines ++ more))
 
-lines_from-cons : (clients number : ℕ) (text : List ℕ) (texts : List (List ℕ)) → lines_from clients number (text ∷ texts)
-    ≡ then_good (or_unknown number (line_of_words clients (words_of text))) (λ line. then_good (lines_from clients (number + 1) texts) (λ lines. Ok ((number, line) ∷ lines)))
+lines_from-cons : (clients number : ℕ) (text : List ℕ) (texts : List (List ℕ)) → lines_from clients number
+    (text ∷ texts)
+    ≡ then_good (or_unknown number (line_of_words clients (words_of text)))
+    (λ line. then_good (lines_from clients (number + 1) texts) (λ lines. Ok ((number, line) ∷ lines)))
 unfolding lines_from
 lines_from-cons clients number text texts = refl
 
@@ -51,27 +59,34 @@ unfolding lines_from
 lines_from-nil clients number = refl
 
 onto_back : (lines : List (ℕ × Line)) (line : ℕ × Line) (rest : Result (List (ℕ × Line)) Bad)
-    → then_good (then_good rest (λ more. Ok (line ∷ more))) (λ more. Ok (lines ++ more)) ≡ then_good rest (λ more. Ok ((lines ++ line ∷ []) ++ more))
+    → then_good (then_good rest (λ more. Ok (line ∷ more))) (λ more. Ok (lines ++ more)) ≡ then_good rest
+    (λ more. Ok ((lines ++ line ∷ []) ++ more))
 onto_back lines line (Ok more) = ap Ok (sym (append_assoc lines (line ∷ []) more))
 onto_back lines line (Err bad) = refl
 
-pub lines_more : (clients : ℕ) (lines : List (ℕ × Line)) (line : Line) (number : ℕ) (text : List ℕ) (rest after : List (List ℕ)) → rest ≡ text ∷ after → line_of_words clients (words_of text) ≡ Some line
+pub lines_more : (clients : ℕ) (lines : List (ℕ × Line)) (line : Line) (number : ℕ) (text : List ℕ)
+    (rest after : List (List ℕ)) → rest ≡ text ∷ after → line_of_words clients (words_of text) ≡ Some line
     → lines_with clients (lines ++ (number, line) ∷ []) (number + 1) after ≡ lines_with clients lines number rest
 lines_more clients lines line number text rest after cut read =
     sym (ap (lines_with clients lines number) cut
     ∙ ap (λ found. then_good found (λ more. Ok (lines ++ more)))
     (lines_from-cons clients number text after
-    ∙ ap (λ o. then_good (or_unknown number o) (λ line. then_good (lines_from clients (number + 1) after) (λ lines. Ok ((number, line) ∷ lines)))) read)
+    ∙ ap (λ o. then_good (or_unknown number o)
+    (λ line. then_good (lines_from clients (number + 1) after) (λ lines. Ok ((number, line) ∷ lines)))) read)
     ∙ onto_back lines (number, line) (lines_from clients (number + 1) after))
 
-pub lines_stop : (clients : ℕ) (lines : List (ℕ × Line)) (number : ℕ) (text : List ℕ) (rest after : List (List ℕ)) → rest ≡ text ∷ after → line_of_words clients (words_of text) ≡ None
+pub lines_stop : (clients : ℕ) (lines : List (ℕ × Line)) (number : ℕ) (text : List ℕ) (rest after : List (List ℕ))
+    → rest ≡ text ∷ after → line_of_words clients (words_of text) ≡ None
     → lines_with clients lines number rest ≡ Err (record { line = number; kind = UnknownLine })
 lines_stop clients lines number text rest after cut read =
     ap (lines_with clients lines number) cut
     ∙ ap (λ found. then_good found (λ more. Ok (lines ++ more)))
     (lines_from-cons clients number text after
-    ∙ ap (λ o. then_good (or_unknown number o) (λ line. then_good (lines_from clients (number + 1) after) (λ lines. Ok ((number, line) ∷ lines)))) read)
+    ∙ ap (λ o. then_good (or_unknown number o)
+    (λ line. then_good (lines_from clients (number + 1) after) (λ lines. Ok ((number, line) ∷ lines)))) read)
 
-pub lines_end : (clients : ℕ) (lines : List (ℕ × Line)) (number : ℕ) (rest : List (List ℕ)) → rest ≡ [] → lines_with clients lines number rest ≡ Ok lines
+pub lines_end : (clients : ℕ) (lines : List (ℕ × Line)) (number : ℕ) (rest : List (List ℕ)) → rest ≡ []
+    → lines_with clients lines number rest ≡ Ok lines
 lines_end clients lines number rest none =
-    ap (lines_with clients lines number) none ∙ ap (λ found. then_good found (λ more. Ok (lines ++ more))) (lines_from-nil clients number) ∙ ap Ok (append-nil lines)
+    ap (lines_with clients lines number) none ∙ ap (λ found. then_good found (λ more. Ok (lines ++ more)))
+    (lines_from-nil clients number) ∙ ap Ok (append-nil lines)

@@ -31,41 +31,51 @@ Keeps (Err bad) = Unit {0}
 
 -- ---- one event
 
-no_injection-more : (entries : List Entry) (entry : Entry) → IsScripted entries → injects entry.event ≡ false → IsScripted (entries ++ entry ∷ [])
+no_injection-more : (entries : List Entry) (entry : Entry) → IsScripted entries → injects entry.event ≡ false
+    → IsScripted (entries ++ entry ∷ [])
 unfolding no_injection IsScripted
 no_injection-more entries entry before is =
     let last : not (injects entry.event) ≡ true = ap not is in
     list_all-append (λ (it : Entry). not (injects it.event)) entries (entry ∷ [])
     ∙ and_from _ _ before (and_from _ _ last refl)
 
-recorded_scripted : (old new : WorldState) (event : Event) → Records old new event → injects event ≡ false → IsScripted old.entries → IsScripted new.entries
+recorded_scripted : (old new : WorldState) (event : Event) → Records old new event → injects event ≡ false
+    → IsScripted old.entries → IsScripted new.entries
 recorded_scripted old new event records is before =
-    subst IsScripted (sym records.entries) (no_injection-more old.entries records.entry before (ap injects records.of_event ∙ is))
+    subst IsScripted (sym records.entries)
+    (no_injection-more old.entries records.entry before (ap injects records.of_event ∙ is))
 
-unless_keeps : (number : ℕ) (refusal : Option WorldFail) (world : WorldState) → IsScripted world.entries → Keeps (unless_refused number refusal world)
+unless_keeps : (number : ℕ) (refusal : Option WorldFail) (world : WorldState) → IsScripted world.entries
+    → Keeps (unless_refused number refusal world)
 unfolding Keeps
 unless_keeps number None world is = is
 unless_keeps number (Some fail) world is = tt
 
-event_keeps : (number : ℕ) (world : WorldState) (event : Event) → injects event ≡ false → IsScripted world.entries → Keeps (event_made number world event)
+event_keeps : (number : ℕ) (world : WorldState) (event : Event) → injects event ≡ false → IsScripted world.entries
+    → Keeps (event_made number world event)
 event_keeps number world event is before =
-    unless_keeps number (refusal_of world event) (world_step world event) (recorded_scripted world (world_step world event) event (step_records world event) is before)
+    unless_keeps number (refusal_of world event) (world_step world event)
+    (recorded_scripted world (world_step world event) event (step_records world event) is before)
 
 -- ---- lines
 
-then_keeps : (first : Result WorldState Bad) (next : WorldState → Result WorldState Bad) → Keeps first → ((world : WorldState) → IsScripted world.entries → Keeps (next world)) → Keeps (then_good first next)
+then_keeps : (first : Result WorldState Bad) (next : WorldState → Result WorldState Bad) → Keeps first
+    → ((world : WorldState) → IsScripted world.entries → Keeps (next world)) → Keeps (then_good first next)
 unfolding Keeps
 then_keeps (Ok world) next here after = after world here
 then_keeps (Err bad) next here after = tt
 
-deliveries_keep : (number : ℕ) (letters : List ℕ) (world : WorldState) → IsScripted world.entries → Keeps (deliveries_made number world letters)
+deliveries_keep : (number : ℕ) (letters : List ℕ) (world : WorldState) → IsScripted world.entries
+    → Keeps (deliveries_made number world letters)
 unfolding deliveries_made Keeps
 deliveries_keep number [] world before = before
 deliveries_keep number (letter ∷ letters) world before =
-    then_keeps (event_made number world (event.Deliver letter)) (λ after. deliveries_made number after letters) (event_keeps number world (event.Deliver letter) refl before)
+    then_keeps (event_made number world (event.Deliver letter)) (λ after. deliveries_made number after letters)
+    (event_keeps number world (event.Deliver letter) refl before)
     (λ after is. deliveries_keep number letters after is)
 
-waiting_keeps : (world : WorldState) (found : Option ℕ) (deliver : ℕ → Result WorldState Bad) → IsScripted world.entries → ((letter : ℕ) → Keeps (deliver letter)) → Keeps (if_waiting world found deliver)
+waiting_keeps : (world : WorldState) (found : Option ℕ) (deliver : ℕ → Result WorldState Bad)
+    → IsScripted world.entries → ((letter : ℕ) → Keeps (deliver letter)) → Keeps (if_waiting world found deliver)
 unfolding Keeps
 waiting_keeps world None deliver before kept = before
 waiting_keeps world (Some letter) deliver before kept = kept letter
@@ -75,10 +85,12 @@ unfolding flow_made Keeps
 flow_keeps number zero world before = before
 flow_keeps number (suc count) world before =
     waiting_keeps world (lowest_waiting world.entries) _ before (λ letter.
-    then_keeps (event_made number world (event.Deliver letter)) (λ after. flow_made number count after) (event_keeps number world (event.Deliver letter) refl before)
+    then_keeps (event_made number world (event.Deliver letter)) (λ after. flow_made number count after)
+    (event_keeps number world (event.Deliver letter) refl before)
     (λ after is. flow_keeps number count after is))
 
-line_keeps : (number : ℕ) (line : Line) (world : WorldState) → IsScripted world.entries → Keeps (line_made number world line)
+line_keeps : (number : ℕ) (line : Line) (world : WorldState) → IsScripted world.entries
+    → Keeps (line_made number world line)
 line_keeps number (Call client op) world before = event_keeps number world (event.Invoke client op) refl before
 line_keeps number (Deliver letters) world before = deliveries_keep number letters world before
 line_keeps number (Flow count) world before = flow_keeps number (flow_count count) world before
@@ -92,24 +104,31 @@ lines_keep (line ∷ lines) world before =
 
 -- ---- a script
 
-made_scripted : (start made : WorldState) (lines : List (ℕ × Line)) → IsScripted start.entries → lines_made start lines ≡ Ok made → IsScripted made.entries
+made_scripted : (start made : WorldState) (lines : List (ℕ × Line)) → IsScripted start.entries
+    → lines_made start lines ≡ Ok made → IsScripted made.entries
 unfolding Keeps
 made_scripted start made lines before is = subst Keeps is (lines_keep lines start before)
 
 -- the trace of a world that the lines of a script made
-pub run_made : (script : Script) (start made : WorldState) (lines : List (ℕ × Line)) (trace : Trace) → start ≡ opening_world script.setup → lines ≡ script.lines → lines_made start lines ≡ Ok made → trace ≡ trace_of made → IsTrue (no_injection trace.entries)
+pub run_made : (script : Script) (start made : WorldState) (lines : List (ℕ × Line)) (trace : Trace)
+    → start ≡ opening_world script.setup → lines ≡ script.lines → lines_made start lines ≡ Ok made
+    → trace ≡ trace_of made → IsTrue (no_injection trace.entries)
 unfolding IsScripted no_injection
 run_made script start made lines trace opens are is traced =
     let begins : IsScripted start.entries = ap (λ (world : WorldState). no_injection world.entries) opens in
     ap (λ (it : Trace). no_injection it.entries) traced ∙ made_scripted start made lines begins is
 
-run_traced : (result : Result WorldState Bad) (script : Script) (trace : Trace) → lines_made (opening_world script.setup) script.lines ≡ result → then_good result (λ world. Ok (trace_of world)) ≡ Ok trace → IsTrue (no_injection trace.entries)
+run_traced : (result : Result WorldState Bad) (script : Script) (trace : Trace)
+    → lines_made (opening_world script.setup) script.lines ≡ result
+    → then_good result (λ world. Ok (trace_of world)) ≡ Ok trace → IsTrue (no_injection trace.entries)
 run_traced (Ok made) script trace made_is is =
     let same : trace_of made ≡ trace = cc in
     run_made script (opening_world script.setup) made script.lines trace refl refl made_is (sym same)
 run_traced (Err bad) script trace made_is is = absurd cc
 
 -- the trace of a script's run
-pub run_injects_nothing : (script : Script) (trace : Trace) → run_of script ≡ Ok trace → IsTrue (no_injection trace.entries)
+pub run_injects_nothing : (script : Script) (trace : Trace) → run_of script ≡ Ok trace
+    → IsTrue (no_injection trace.entries)
 unfolding run_of
-run_injects_nothing script trace is = run_traced (lines_made (opening_world script.setup) script.lines) script trace refl is
+run_injects_nothing script trace is = run_traced (lines_made (opening_world script.setup) script.lines) script
+    trace refl is

@@ -12,7 +12,8 @@ use Rattle.qu_script.specs.Reading.{with_digit}
 
 -- the number that digits write when they follow those of n
 unfoldable pub number_rest : ℕ → List ℕ → Option ℕ
-number_rest n ds = cond (all_ascii_digits ds && nat_lt (digits_value_after 10 n ds) (2 ^ 64)) (Some (digits_value_after 10 n ds)) None
+number_rest n ds = cond (all_ascii_digits ds && nat_lt (digits_value_after 10 n ds) (2 ^ 64))
+    (Some (digits_value_after 10 n ds)) None
 
 digit_is : (c : ℕ) → is_ascii_digit c ≡ true → digit_value c ≡ c - 48
 digit_is c h = grind (arith, nat_tests)
@@ -25,7 +26,8 @@ pub number_rest-nil : (n : ℕ) → n < 2 ^ 64 → number_rest n [] ≡ Some n
 unfolding number_rest
 number_rest-nil n small = grind (arith, nat_tests)
 
-pub number_rest-cons : (n c : ℕ) (cs : List ℕ) → number_rest n (c ∷ cs) ≡ option_and_then (λ m. number_rest m cs) (with_digit n c)
+pub number_rest-cons : (n c : ℕ) (cs : List ℕ) → number_rest n (c ∷ cs) ≡ option_and_then (λ m. number_rest m cs)
+    (with_digit n c)
 unfolding number_rest
 number_rest-cons n c cs = grind (arith, nat_tests, digit_is c, digits_grow (n * 10 + (c - 48)) cs)
 
@@ -40,11 +42,16 @@ number_of-nil [] h = refl
 number_of-nil (d ∷ ds) h = absurd (omega arith)
 
 -- a loop's step, its early end and its end
-pub number_more : (n m i : ℕ) (word : List ℕ) → i < length word → with_digit n (get_or word i 0) ≡ Some m → number_rest m (drop (i + 1) word) ≡ number_rest n (drop i word)
-number_more n m i word lt e = sym (at_drop_more (number_rest n) word i 0 lt ∙ number_rest-cons n (get_or word i 0) (drop (i + 1) word) ∙ ap (option_and_then (λ k. number_rest k (drop (i + 1) word))) e)
+pub number_more : (n m i : ℕ) (word : List ℕ) → i < length word → with_digit n (get_or word i 0) ≡ Some m
+    → number_rest m (drop (i + 1) word) ≡ number_rest n (drop i word)
+number_more n m i word lt e =
+    sym (at_drop_more (number_rest n) word i 0 lt ∙ number_rest-cons n (get_or word i 0) (drop (i + 1) word)
+    ∙ ap (option_and_then (λ k. number_rest k (drop (i + 1) word))) e)
 
-pub number_stop : (n i : ℕ) (word : List ℕ) → i < length word → with_digit n (get_or word i 0) ≡ None → number_rest n (drop i word) ≡ None
-number_stop n i word lt e = at_drop_more (number_rest n) word i 0 lt ∙ number_rest-cons n (get_or word i 0) (drop (i + 1) word) ∙ ap (option_and_then (λ k. number_rest k (drop (i + 1) word))) e
+pub number_stop : (n i : ℕ) (word : List ℕ) → i < length word → with_digit n (get_or word i 0) ≡ None
+    → number_rest n (drop i word) ≡ None
+number_stop n i word lt e = at_drop_more (number_rest n) word i 0 lt ∙ number_rest-cons n (get_or word i 0)
+    (drop (i + 1) word) ∙ ap (option_and_then (λ k. number_rest k (drop (i + 1) word))) e
 
 pub number_end : (n i : ℕ) (word : List ℕ) → n < 2 ^ 64 → length word ≤ i → number_rest n (drop i word) ≡ Some n
 number_end n i word small e = at_drop_all (number_rest n) word i e ∙ number_rest-nil n small
@@ -62,11 +69,13 @@ other b = not (feed b)
 -- one byte more before the first line feed
 line_more : (t : Bool) (b k : ℕ) (bs : List ℕ) → (k < length bs → lines_of bs ≡ take k bs ∷ lines_of (drop (k + 1) bs))
     → cond (not t) (1 + k) 0 < suc (length bs)
-    → cond t ([] ∷ lines_of bs) (onto_first b (lines_of bs)) ≡ take (cond (not t) (1 + k) 0) (b ∷ bs) ∷ lines_of (drop (cond (not t) (1 + k) 0 + 1) (b ∷ bs))
+    → cond t ([] ∷ lines_of bs) (onto_first b (lines_of bs)) ≡ take (cond (not t) (1 + k) 0) (b ∷ bs) ∷ lines_of
+    (drop (cond (not t) (1 + k) 0 + 1) (b ∷ bs))
 line_more true b k bs rest lt = refl
 line_more false b k bs rest lt = simp (rest (omega arith), one-add, add-one)
 
-line_first : (bs : List ℕ) → prefix_len other bs < length bs → lines_of bs ≡ take (prefix_len other bs) bs ∷ lines_of (drop (prefix_len other bs + 1) bs)
+line_first : (bs : List ℕ) → prefix_len other bs < length bs → lines_of bs ≡ take (prefix_len other bs)
+    bs ∷ lines_of (drop (prefix_len other bs + 1) bs)
 unfolding lines_of
 line_first [] lt = absurd (omega arith)
 line_first (b ∷ bs) lt = line_more (feed b) b (prefix_len other bs) bs (line_first bs) lt
@@ -76,7 +85,8 @@ unfolding lines_of
 lines_of-nil [] h = refl
 lines_of-nil (b ∷ bs) h = absurd (omega arith)
 
-line_same : (t : Bool) (b k : ℕ) (bs : List ℕ) → (0 < length bs → length bs ≤ k → lines_of bs ≡ bs ∷ []) → (length bs ≡ 0 → lines_of bs ≡ [])
+line_same : (t : Bool) (b k : ℕ) (bs : List ℕ) → (0 < length bs → length bs ≤ k → lines_of bs ≡ bs ∷ [])
+    → (length bs ≡ 0 → lines_of bs ≡ [])
     → suc (length bs) ≤ cond (not t) (1 + k) 0 → cond t ([] ∷ lines_of bs) (onto_first b (lines_of bs)) ≡ (b ∷ bs) ∷ []
 line_same true b k bs rest none le = absurd (omega arith)
 line_same false b k [] rest none le = rw (none refl) refl
@@ -88,8 +98,10 @@ line_last [] some le = absurd (omega arith)
 line_last (b ∷ bs) some le = line_same (feed b) b (prefix_len other bs) bs (line_last bs) (lines_of-nil bs) le
 
 -- the first line feed stands at i, and bytes that follow it are whole lines again
-pub line_at : (bs : List ℕ) (i n : ℕ) → position feed bs ≡ Some i → n ≡ length bs - (i + 1) → lines_of bs ≡ take i bs ∷ lines_of (take n (drop (i + 1) bs))
-line_at bs i n e same = rw (take_all n (drop (i + 1) bs) (simp length-drop (omega arith))) (grind (arith, nat_tests, line_first bs))
+pub line_at : (bs : List ℕ) (i n : ℕ) → position feed bs ≡ Some i → n ≡ length bs - (i + 1)
+    → lines_of bs ≡ take i bs ∷ lines_of (take n (drop (i + 1) bs))
+line_at bs i n e same = rw (take_all n (drop (i + 1) bs) (simp length-drop (omega arith)))
+    (grind (arith, nat_tests, line_first bs))
 
 pub line_alone : (bs : List ℕ) → 0 < length bs → position feed bs ≡ None → lines_of bs ≡ bs ∷ []
 line_alone bs some e = grind (arith, nat_tests, line_last bs)

@@ -2,6 +2,7 @@
 use Rattle.std.specs.Prelude.{ℕ, ◌&&◌, ◌≤◌, nat_le, List, [], ◌∷◌, Option, None, Some, if◌then◌else◌, codes}
 use Rattle.std.specs.Option.{option_map, option_and_then}
 use Rattle.std.specs.Str.{bytes_eq}
+use Rattle.qu_base.specs.declared.limits.TheConstants.{LAST_CLIENT, MOST_FAULTS}
 use Rattle.qu_base.specs.declared.party.ObjectId.{ObjectId}
 use Rattle.qu_objects.specs.declared.act.Method.{Method}
 use Rattle.qu_objects.specs.declared.act.Method.TheVariants.{Add, Take}
@@ -23,7 +24,8 @@ greatest_number = 0xffff_ffff_ffff_ffff
 -- a number from a least to a greatest one
 abbrev pub number_in : ℕ → ℕ → List ℕ → Option ℕ
 number_in least greatest word =
-    option_and_then (λ number. if nat_le least number && nat_le number greatest then Some number else None) (number_of word)
+    option_and_then (λ number. if nat_le least number && nat_le number greatest then Some number else None)
+    (number_of word)
 
 -- one such number, and no word behind it
 unfoldable pub only_number : ℕ → ℕ → List (List ℕ) → Option ℕ
@@ -34,7 +36,8 @@ only_number least greatest (word ∷ second ∷ later) = None
 -- numbers, one for each word
 unfoldable pub numbers_of : List (List ℕ) → Option (List ℕ)
 numbers_of [] = Some []
-numbers_of (word ∷ words) = option_and_then (λ number. option_map (λ numbers. number ∷ numbers) (numbers_of words)) (number_of word)
+numbers_of (word ∷ words) =
+    option_and_then (λ number. option_map (λ numbers. number ∷ numbers) (numbers_of words)) (number_of word)
 
 -- ---- setup lines
 
@@ -60,18 +63,18 @@ unfoldable pub object_line : List (List ℕ) → Option ℕ
 object_line [] = None
 object_line (word ∷ words) = if bytes_eq word (codes "object") then counter_of words else None
 
--- `bounds B` from 1 to 3, `seed S`, `clients K` from 1 to 64, `object 0 counter`
+-- `bounds B` and `clients K` from 1 to their limits, `seed S`, `object 0 counter`
 abbrev pub setup_number : SetupLine → List (List ℕ) → Option ℕ
-setup_number Bounds words = number_line (codes "bounds") 1 3 words
+setup_number Bounds words = number_line (codes "bounds") 1 MOST_FAULTS words
 setup_number Seed words = number_line (codes "seed") 0 greatest_number words
-setup_number Clients words = number_line (codes "clients") 1 64 words
+setup_number Clients words = number_line (codes "clients") 1 LAST_CLIENT words
 setup_number Object words = object_line words
 
 -- the numbers that a setup line may have
 abbrev pub IsInRange : SetupLine → ℕ → Type 0
-IsInRange Bounds number = (1 ≤ number) × (number ≤ 3)
+IsInRange Bounds number = (1 ≤ number) × (number ≤ MOST_FAULTS)
 IsInRange Seed number = Unit {0}
-IsInRange Clients number = (1 ≤ number) × (number ≤ 64)
+IsInRange Clients number = (1 ≤ number) × (number ≤ LAST_CLIENT)
 IsInRange Object number = Unit {0}
 
 -- ---- event lines

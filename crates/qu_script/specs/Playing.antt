@@ -9,7 +9,8 @@ use Rattle.qu_script.specs.Events.{kind_of, AreDelivered}
 
 -- how a fail of the world is told of the line with this number
 abbrev pub told_of : ℕ → WorldFail → ScriptFail
-told_of number (fail.NoSuchLetter letter) = fails.Bad (record { line = number; kind = kind_of (fail.NoSuchLetter letter) })
+told_of number (fail.NoSuchLetter letter) =
+    fails.Bad (record { line = number; kind = kind_of (fail.NoSuchLetter letter) })
 told_of number (fail.NoSuchActor party) = fails.Bad (record { line = number; kind = kind_of (fail.NoSuchActor party) })
 told_of number fail.Busy = fails.Bad (record { line = number; kind = kind_of fail.Busy })
 told_of number fail.TooManyEvents = fails.Bad (record { line = number; kind = kind_of fail.TooManyEvents })

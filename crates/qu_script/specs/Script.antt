@@ -4,7 +4,7 @@ use Rattle.qu_objects.specs.declared.kind.KindName.TheVariants.{Counter}
 use Rattle.qu_trace.specs.declared.trace.Setup.{Setup}
 use Rattle.qu_script.specs.declared.bad.Bad.{Bad}
 use Rattle.qu_script.specs.declared.bad.BadKind.TheVariants.{TooLong, UnknownLine}
-use Rattle.qu_script.specs.declared.limits.TheConstants.{LIMIT}
+use Rattle.qu_script.specs.declared.limits.TheConstants.{SCRIPT_LIMIT}
 use Rattle.qu_script.specs.declared.line.Line.{Line}
 use Rattle.qu_script.specs.declared.line.Script.{Script}
 use Rattle.qu_script.specs.Text.{lines_of, words_of}
@@ -28,7 +28,8 @@ or_unknown number (Some x) = Ok x
 -- the first of these texts has this number and has to be of this form; the others are left
 unfoldable pub expect : SetupLine → ℕ → List (List ℕ) → Result (ℕ × List (List ℕ)) Bad
 expect line number [] = unknown_line number
-expect line number (text ∷ texts) = then_good (or_unknown number (setup_number line (words_of text))) (λ found. Ok (found, texts))
+expect line number (text ∷ texts) = then_good (or_unknown number (setup_number line (words_of text)))
+    (λ found. Ok (found, texts))
 
 -- the lines of these texts, of which the first has this number, where there are so many clients
 unfoldable pub lines_from : ℕ → ℕ → List (List ℕ) → Result (List (ℕ × Line)) Bad
@@ -53,7 +54,8 @@ script_from texts =
 -- a script of too many bytes is refused at once
 unfoldable pub script_of : List ℕ → Result Script Bad
 script_of bytes =
-    if nat_lt LIMIT (length bytes) then Err (record { line = 1; kind = TooLong }) else script_from (lines_of bytes)
+    if nat_lt SCRIPT_LIMIT (length bytes) then Err (record { line = 1; kind = TooLong }) else script_from
+    (lines_of bytes)
 
 -- what a call answered, seen by `view`, is what was meant, unless memory ran out
 abbrev pub Fails : {Y : Type 0} → ScriptFail → Result Y Bad → Type 0

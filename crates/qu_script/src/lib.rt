@@ -15,7 +15,7 @@ mod setup;
 mod waiting;
 
 pub use bad::{Bad, BadKind, ScriptFail};
-pub use limits::LIMIT;
+pub use limits::{SCRIPT_LIMIT, limits_are_these};
 pub use line::{Line, Script};
 pub use read::read_script;
 pub use run::run_script;

@@ -1,2 +1,9 @@
+ghost use Rattle.std.specs.Prelude.{◌≡◌, ◌^◌};
+
 /// The most bytes of a script, 16 MiB.
-pub const LIMIT: usize = 1 << 24;
+pub const SCRIPT_LIMIT: usize = 1 << 24;
+
+/// The limits of this crate, by their numbers.
+pub fn limits_are_these()
+    ensures script_limit { SCRIPT_LIMIT ≡ 2 ^ 24 }
+{}

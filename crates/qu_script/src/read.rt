@@ -1,4 +1,5 @@
 ghost use Rattle.std.specs.Prelude.{◌≡◌, ◌<◌, ◌≤◌, ◌+◌, ◌^◌, length, IfOk, IfErr};
+ghost use Rattle.qu_base.specs.declared.limits.TheConstants.{LAST_CLIENT, MOST_FAULTS};
 ghost use Rattle.qu_script.specs.Grammar.{IsInRange};
 ghost use Rattle.qu_script.specs.Text.{lines_of};
 ghost use Rattle.qu_script.specs.Script.{Gives, expect, lines_from, script_from, script_of, setup_of};
@@ -7,7 +8,7 @@ ghost use Rattle.qu_world.specs.Run.{IsSetup};
 use super::call::read_event;
 use super::cut::{cut_line, cut_words};
 use super::setup::read_setup;
-use super::{Bad, BadKind, LIMIT, Line, Script, ScriptFail, SetupLine};
+use super::{Bad, BadKind, Line, SCRIPT_LIMIT, Script, ScriptFail, SetupLine};
 use qu_base::{Bounds, List};
 use qu_objects::KindName;
 use qu_trace::Setup;
@@ -81,7 +82,7 @@ pub fn read_script(alloc: Global, text: &[u8]) -> Result<Script, ScriptFail>
     ensures value { Gives (λ script. script) result (script_of text.now) }
     ensures limits { IfOk result (λ script. IsSetup script.setup) }
 {
-    if text.len() > LIMIT {
+    if text.len() > SCRIPT_LIMIT {
         return Err(ScriptFail::Bad(Bad {
             line: 1,
             kind: BadKind::TooLong,
@@ -99,8 +100,8 @@ pub fn read_script(alloc: Global, text: &[u8]) -> Result<Script, ScriptFail>
 
 /// The setup of one counter.
 fn make_setup(alloc: Global, faults: u8, seed: u64, clients: u16) -> Result<Setup, ScriptFail>
-    requires faults { (1 ≤ faults) × (faults ≤ 3) }
-    requires clients { clients ≤ 64 }
+    requires faults { (1 ≤ faults) × (faults ≤ MOST_FAULTS) }
+    requires clients { clients ≤ LAST_CLIENT }
     ensures value { IfOk result (λ setup. setup ≡ setup_of faults seed clients) }
     ensures limits { IfOk result IsSetup }
     ensures no_memory { IfErr result (λ fail. fail ≡ ScriptFail.NoMemory) }

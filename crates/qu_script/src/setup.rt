@@ -3,15 +3,16 @@ ghost use Rattle.qu_script.specs.Grammar.{number_line, counter_word, counter_of,
 
 use super::cut::next_word;
 use super::numbers::{read_number_in, read_only_number};
+use qu_base::{LAST_CLIENT, MOST_FAULTS};
 
 /// The lines with which a script begins, in this order.
 #[derive(Clone, Copy, Debug, PartialEq, Eq)]
 pub enum SetupLine {
-    /// `bounds B`, from 1 to 3.
+    /// `bounds B`, from 1 to `MOST_FAULTS`.
     Bounds,
     /// `seed S`.
     Seed,
-    /// `clients K`, from 1 to 64.
+    /// `clients K`, from 1 to `LAST_CLIENT`.
     Clients,
     /// `object 0 counter`.
     Object,
@@ -22,9 +23,9 @@ pub fn read_setup(line: SetupLine, words: &[&[u8]]) -> Option<u64>
     ensures value { result ≡ setup_number line (map (λ word. word.now) words.now) }
 {
     match line {
-        SetupLine::Bounds => number_behind(b"bounds", 1, 3, words),
+        SetupLine::Bounds => number_behind(b"bounds", 1, u64::from(MOST_FAULTS), words),
         SetupLine::Seed => number_behind(b"seed", 0, u64::MAX, words),
-        SetupLine::Clients => number_behind(b"clients", 1, 64, words),
+        SetupLine::Clients => number_behind(b"clients", 1, u64::from(LAST_CLIENT), words),
         SetupLine::Object => object_behind(words),
     }
 }

@@ -1,3 +1,3 @@
 pub mod Lengths
-pub mod Marking
 pub mod Numbers
+pub mod Padding

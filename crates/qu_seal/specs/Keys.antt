@@ -64,4 +64,5 @@ verifies ring me other text mac = have_key ring me other && pointwise nat_eq mac
 
 -- an HMAC for each replica
 unfoldable pub authenticator_of : Ring → ReplicaId → Digest → List (List ℕ)
-authenticator_of ring me text = map (λ number. seal_of ring (Replica me) (Replica (record { 0 = number })) text) (range_with_len 0 (replicas ring.bounds))
+authenticator_of ring me text = map (λ number. seal_of ring (Replica me) (Replica (record { 0 = number })) text)
+    (range_with_len 0 (replicas ring.bounds))

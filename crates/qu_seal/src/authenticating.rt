@@ -1,7 +1,8 @@
 ghost use Rattle.std.specs.Prelude.{◌≡◌, ◌++◌, ◌≤◌, length};
 ghost use Rattle.sha2.specs.Sha256.{sha256};
-ghost use Rattle.qu_seal.specs.Hmac.{short_key, filled, marked, hmac_of};
+ghost use Rattle.qu_seal.specs.Hmac.{short_key, filled, padded, hmac_of};
 
+use super::{BLOCK, IPAD, OPAD};
 use sha2::{Digest as Hasher, Sha256};
 
 /// The HMAC of a text under a key, by SHA-256, as RFC 2104 defines it. It takes no memory.
@@ -10,23 +11,23 @@ pub fn hmac(key: &[u8], text: &[u8]) -> [u8; 32]
     ensures { result ≡ hmac_of key.now text.now }
 {
     let block = block_of(key);
-    let inner = digest_behind(marked(block, 0x36), text);
-    digest_behind(marked(block, 0x5c), &inner)
+    let inner = digest_behind(padded(block, IPAD), text);
+    digest_behind(padded(block, OPAD), &inner)
 }
 
-/// The block with a mark in each byte.
-fn marked(block: [u8; 64], mark: u8) -> [u8; 64]
-    ensures { result ≡ marked mark block }
+/// The block with a pad in each byte.
+fn padded(block: [u8; BLOCK], pad: u8) -> [u8; BLOCK]
+    ensures { result ≡ padded pad block }
 {
-    let mut marked = block;
-    for byte in &mut marked {
-        *byte ^= mark;
+    let mut padded = block;
+    for byte in &mut padded {
+        *byte ^= pad;
     }
-    marked
+    padded
 }
 
 /// The digest of a block with a text behind it.
-fn digest_behind(block: [u8; 64], text: &[u8]) -> [u8; 32]
+fn digest_behind(block: [u8; BLOCK], text: &[u8]) -> [u8; 32]
     ensures { result ≡ sha256 (block ++ text.now) }
 {
     let mut hasher = Sha256::new();
@@ -36,10 +37,10 @@ fn digest_behind(block: [u8; 64], text: &[u8]) -> [u8; 32]
 }
 
 /// The key as one block.
-fn block_of(key: &[u8]) -> [u8; 64]
+fn block_of(key: &[u8]) -> [u8; BLOCK]
     ensures { result ≡ filled (short_key key.now) }
 {
-    if key.len() > 64 {
+    if key.len() > BLOCK {
         fill(&Sha256::digest(key))
     } else {
         fill(key)
@@ -47,11 +48,11 @@ fn block_of(key: &[u8]) -> [u8; 64]
 }
 
 /// A key of at most one block, filled with zero bytes.
-fn fill(key: &[u8]) -> [u8; 64]
-    requires { length key.now ≤ 64 }
+fn fill(key: &[u8]) -> [u8; BLOCK]
+    requires { length key.now ≤ BLOCK }
     ensures { result ≡ filled key.now }
 {
-    let mut block = [0; 64];
+    let mut block = [0; BLOCK];
     block[..key.len()].copy_from_slice(key);
     block
 }

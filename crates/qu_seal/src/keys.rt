@@ -2,14 +2,15 @@ ghost use Rattle.std.specs.Prelude.{◌≡◌, ◌≤◌, ◌↔◌, ◌++◌, I
 ghost use Rattle.qu_seal.specs.Keys.{has_party, may_share, have_key, party_code, is_first, pair_code, key_label, key_of, seal_of, verifies, authenticator_of};
 
 use super::hmac;
-use qu_base::{Bounds, Digest, List, NoMemory, Party, ReplicaId};
+use qu_base::{Bounds, Digest, LAST_CLIENT, List, NoMemory, Party, ReplicaId};
 use std::alloc::Global;
+use std::fmt;
 use std::marker::Model;
 
 /// The keys of pairs of parties, of which each pair but two clients has one.
 ///
 /// A party of the ring is a replica of its bounds, or a client from 1 to its number of clients.
-#[derive(Clone, Copy, Debug)]
+#[derive(Clone, Copy)]
 pub struct KeyRing {
     seed: u64,
     bounds: Bounds,
@@ -18,13 +19,14 @@ pub struct KeyRing {
 
 impl Model for KeyRing {
     ghost use Rattle.std.specs.Prelude.{◌≤◌};
+    ghost use Rattle.qu_base.specs.declared.limits.TheConstants.{LAST_CLIENT};
     ghost use Rattle.qu_seal.specs.Keys.{Ring};
 
     ghost Value = { Ring };
 
     ghost view = { λ keys. record { seed = keys.seed; bounds = keys.bounds; clients = keys.clients } };
 
-    ghost invariant = { λ keys. keys.clients ≤ 64 };
+    ghost invariant = { λ keys. keys.clients ≤ LAST_CLIENT };
 
     ghost inverse = { λ ring. record { seed = ring.seed; bounds = ring.bounds; clients = ring.clients } };
 }
@@ -32,7 +34,7 @@ impl Model for KeyRing {
 impl KeyRing {
     /// The keys that this seed gives to the replicas of these bounds and so many clients. It takes no memory.
     pub fn derive(seed: u64, bounds: &Bounds, clients: u16) -> KeyRing
-        requires { clients ≤ 64 }
+        requires { clients ≤ LAST_CLIENT }
         ensures { result ≡ record { seed = seed; bounds = bounds.now; clients = clients } }
     {
         KeyRing {
@@ -52,7 +54,7 @@ impl KeyRing {
     /// The number of clients for which it was derived.
     pub fn clients(&self) -> u16
         ensures value { result ≡ self.now.clients }
-        ensures most { result ≤ 64 }
+        ensures most { result ≤ LAST_CLIENT }
     {
         self.clients
     }
@@ -86,7 +88,8 @@ impl KeyRing {
     #[tactic(auto, unfolding(crate::specs::Keys::verifies))]
     pub fn verifies(&self, me: Party, other: Party, text: &Digest, mac: &[u8; 32]) -> bool
         ensures value { result ≡ verifies self.now me other text.now mac.now }
-        ensures right { IsTrue result ↔ (IsTrue (have_key self.now me other) × (mac.now ≡ seal_of self.now me other text.now)) }
+        ensures right { IsTrue result ↔ (IsTrue (have_key self.now me other)
+            × (mac.now ≡ seal_of self.now me other text.now)) }
     {
         self.have_key(me, other) && *mac == self.seal_for(me, other, text)
     }
@@ -115,6 +118,16 @@ impl KeyRing {
         ensures { result ≡ key_of self.now me other }
     {
         hmac(&self.seed.to_be_bytes(), &pair_text(me, other))
+    }
+}
+
+/// Shows for whom there are keys, and not the seed.
+impl fmt::Debug for KeyRing {
+    fn fmt<W: fmt::Write>(&self, f: &mut fmt::Formatter<W>) -> fmt::Result {
+        f.debug_struct("KeyRing")
+            .field("bounds", &self.bounds)
+            .field("clients", &self.clients)
+            .finish_non_exhaustive()
     }
 }
 

@@ -3,10 +3,14 @@
 #![tactic(auto)]
 
 mod authenticating;
+mod constants;
 mod digesting;
 mod keys;
 
 pub use authenticating::hmac;
+pub use constants::{
+    ACT_TAG, BLOCK, FRAME_TAG, HISTORY_TAG, IPAD, OPAD, SETS_TAG, constants_are_these,
+};
 pub use digesting::digest;
 pub use keys::KeyRing;
 

@@ -1,44 +1,47 @@
-use super::*;
-use qu_base::Digest;
-use sha2::{Digest as Hasher, Sha256};
+use super::KeyRing;
+use qu_base::{Bounds, ClientId, Digest, Party, ReplicaId};
+use std::alloc::Global;
+use std::test::Fail;
 
-#[test]
-fn the_digest_of_abc(rt: HostRuntime) {
-    let expected = Digest([
-        0xba, 0x78, 0x16, 0xbf, 0x8f, 0x01, 0xcf, 0xea, 0x41, 0x41, 0x40, 0xde, 0x5d, 0xae, 0x22,
-        0x23, 0xb0, 0x03, 0x61, 0xa3, 0x96, 0x17, 0x7a, 0x9c, 0xb4, 0x10, 0xff, 0x61, 0xf2, 0x00,
-        0x15, 0xad,
-    ]);
-    assert_eq!(rt; digest(97, b"bc"), expected);
+const TEXT: Digest = Digest([9; 32]);
+
+fn ring(seed: u64) -> Result<KeyRing, Fail> {
+    Ok(KeyRing::derive(seed, &Bounds::new(1)?, 2))
+}
+
+fn replica(number: u8) -> Party {
+    Party::Replica(ReplicaId(number))
+}
+
+fn client(number: u16) -> Party {
+    Party::Client(ClientId(number))
 }
 
 #[test]
-fn a_tag_counts_before_the_empty_text(rt: HostRuntime) {
-    assert!(rt; digest(0, b"") != digest(1, b""));
-}
-
-mod keys;
-
-#[test]
-fn the_hmacs_of_known_keys_and_texts(rt: HostRuntime) {
-    let hi_there = [
-        0xb0, 0x34, 0x4c, 0x61, 0xd8, 0xdb, 0x38, 0x53, 0x5c, 0xa8, 0xaf, 0xce, 0xaf, 0x0b, 0xf1,
-        0x2b, 0x88, 0x1d, 0xc2, 0x00, 0xc9, 0x83, 0x3d, 0xa7, 0x26, 0xe9, 0x37, 0x6c, 0x2e, 0x32,
-        0xcf, 0xf7,
-    ];
-    assert_eq!(rt; hmac(&[0x0b; 20], b"Hi There"), hi_there);
-    let nothing = [
-        0x5b, 0xdc, 0xc1, 0x46, 0xbf, 0x60, 0x75, 0x4e, 0x6a, 0x04, 0x24, 0x26, 0x08, 0x95, 0x75,
-        0xc7, 0x5a, 0x00, 0x3f, 0x08, 0x9d, 0x27, 0x39, 0x83, 0x9d, 0xec, 0x58, 0xb9, 0x64, 0xec,
-        0x38, 0x43,
-    ];
-    assert_eq!(rt; hmac(b"Jefe", b"what do ya want for nothing?"), nothing);
+fn a_ring_has_its_parties(rt: HostRuntime) -> Result<(), Fail> {
+    let keys = ring(7)?;
+    assert_eq!(rt; (keys.bounds().n(), keys.clients()), (6, 2));
+    for (party, there) in [
+        (replica(0), true),
+        (replica(5), true),
+        (replica(6), false),
+        (client(0), false),
+        (client(1), true),
+        (client(2), true),
+        (client(3), false),
+    ] {
+        assert_eq!(rt; keys.has(party), there);
+    }
+    Ok(())
 }
 
 #[test]
-fn a_key_of_more_than_a_block_is_replaced_by_its_digest(rt: HostRuntime) {
-    let long = [7; 65];
-    let short = Sha256::digest(&long);
-    assert_eq!(rt; hmac(&long, b"text"), hmac(&short, b"text"));
-    assert!(rt; hmac(&[7; 64], b"text") != hmac(&Sha256::digest(&[7; 64]), b"text"));
+fn an_authenticator_has_an_hmac_for_each_replica(rt: HostRuntime) -> Result<(), Fail> {
+    let keys = ring(7)?;
+    let macs = keys.authenticator(rt.alloc(), ReplicaId(3), &TEXT)?;
+    assert_eq!(rt; macs.len(), 6);
+    for (number, mac) in macs.iter().enumerate() {
+        assert!(rt; keys.verifies(replica(3), replica(number as u8), &TEXT, mac));
+    }
+    Ok(())
 }

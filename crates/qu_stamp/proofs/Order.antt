@@ -24,7 +24,8 @@ use Rattle.qu_stamp.specs.Candidate.{is_before, same}
 -- ---- the total order
 
 digests_total : IsTotalOrder digest_cmp
-digests_total = then_total (on_total (λ digest. not (is_sized digest)) bool_cmp_total) (on_total (λ (digest : Digest). digest.0) (lists_total nat_cmp_total))
+digests_total = then_total (on_total (λ digest. not (is_sized digest)) bool_cmp_total)
+    (on_total (λ (digest : Digest). digest.0) (lists_total nat_cmp_total))
 
 stamps_total : IsTotalOrder stamp_cmp
 unfolding stamp_cmp
@@ -47,7 +48,8 @@ digest_of_bytes bytes = record { 0 = bytes }
 
 exact_digests : CmpEqualImpliesEq digest_cmp
 exact_digests a b level =
-    let parts : (bool_cmp (not (is_sized a)) (not (is_sized b)) ≡ Equal) × (slice_cmp nat_cmp a.0 b.0 ≡ Equal) = both_equal _ _ level in
+    let parts : (bool_cmp (not (is_sized a)) (not (is_sized b)) ≡ Equal) × (slice_cmp nat_cmp a.0 b.0 ≡ Equal) =
+    both_equal _ _ level in
     ap digest_of_bytes (exact_bytes a.0 b.0 parts.1)
 
 exact_tests : CmpEqualImpliesEq bool_cmp
@@ -63,8 +65,10 @@ exact_acts (Some a) None level = absurd (false≢true (ap is_eq level))
 exact_acts (Some a) (Some b) level = ap Some (exact_digests a b level)
 
 -- stamps with equal fields are equal
-by_fields : (a b : Stamp) → a.time ≡ b.time → a.barrier ≡ b.barrier → (a.client).0 ≡ (b.client).0 → a.act ≡ b.act → a.set ≡ b.set → a ≡ b
-by_fields a b time barrier client act set = λ i. record { time = time i; barrier = barrier i; client = record { 0 = client i }; act = act i; set = set i }
+by_fields : (a b : Stamp) → a.time ≡ b.time → a.barrier ≡ b.barrier → (a.client).0 ≡ (b.client).0 → a.act ≡ b.act
+    → a.set ≡ b.set → a ≡ b
+by_fields a b time barrier client act set =
+    λ i. record { time = time i; barrier = barrier i; client = record { 0 = client i }; act = act i; set = set i }
 
 exact_stamps : CmpEqualImpliesEq stamp_cmp
 unfolding stamp_cmp
@@ -83,18 +87,28 @@ sized_cmp a b size other_size =
     ap (λ size. ordering_then (bool_cmp (not (size == 32)) (not (length b.0 == 32))) (slice_cmp nat_cmp a.0 b.0)) size
     ∙ ap (λ size. ordering_then (bool_cmp (not (32 == 32)) (not (size == 32))) (slice_cmp nat_cmp a.0 b.0)) other_size
 
-sized_acts : (a b : Option Digest) → MatchOption a ⊤ (λ digest. length digest.0 ≡ 32) → MatchOption b ⊤ (λ digest. length digest.0 ≡ 32) → option_cmp digest_cmp a b ≡ option_cmp (λ (digest other : Digest). slice_cmp nat_cmp digest.0 other.0) a b
+sized_acts : (a b : Option Digest) → MatchOption a ⊤ (λ digest. length digest.0 ≡ 32)
+    → MatchOption b ⊤ (λ digest. length digest.0 ≡ 32) → option_cmp digest_cmp a b ≡ option_cmp
+    (λ (digest other : Digest). slice_cmp nat_cmp digest.0 other.0) a b
 sized_acts None None size other_size = refl
 sized_acts None (Some b) size other_size = refl
 sized_acts (Some a) None size other_size = refl
 sized_acts (Some a) (Some b) size other_size = sized_cmp a b size other_size
 
 -- what the derived order answers is the order of the definitions
-pub derived_cmp : (a b : Stamp) → length (a.set).0 ≡ 32 → length (b.set).0 ≡ 32 → MatchOption a.act ⊤ (λ digest. length digest.0 ≡ 32) → MatchOption b.act ⊤ (λ digest. length digest.0 ≡ 32) → ordering_then (nat_cmp a.time b.time) (ordering_then (bool_cmp a.barrier b.barrier) (ordering_then (nat_cmp (a.client).0 (b.client).0) (ordering_then (option_cmp (λ (digest other : Digest). slice_cmp nat_cmp digest.0 other.0) a.act b.act) (slice_cmp nat_cmp (a.set).0 (b.set).0)))) ≡ stamp_cmp a b
+pub derived_cmp : (a b : Stamp) → length (a.set).0 ≡ 32 → length (b.set).0 ≡ 32
+    → MatchOption a.act ⊤ (λ digest. length digest.0 ≡ 32) → MatchOption b.act ⊤ (λ digest. length digest.0 ≡ 32)
+    → ordering_then (nat_cmp a.time b.time)
+    (ordering_then (bool_cmp a.barrier b.barrier)
+    (ordering_then (nat_cmp (a.client).0 (b.client).0)
+    (ordering_then (option_cmp (λ (digest other : Digest). slice_cmp nat_cmp digest.0 other.0) a.act b.act)
+    (slice_cmp nat_cmp (a.set).0 (b.set).0)))) ≡ stamp_cmp a b
 unfolding stamp_cmp
 derived_cmp a b set other_set act other_act =
-    ap (λ order. ordering_then (nat_cmp a.time b.time) (ordering_then (bool_cmp a.barrier b.barrier) (ordering_then (nat_cmp (a.client).0 (b.client).0) order)))
-    (ap (λ order. ordering_then order (slice_cmp nat_cmp (a.set).0 (b.set).0)) (sym (sized_acts a.act b.act act other_act))
+    ap (λ order. ordering_then (nat_cmp a.time b.time)
+    (ordering_then (bool_cmp a.barrier b.barrier) (ordering_then (nat_cmp (a.client).0 (b.client).0) order)))
+    (ap (λ order. ordering_then order (slice_cmp nat_cmp (a.set).0 (b.set).0))
+    (sym (sized_acts a.act b.act act other_act))
     ∙ ap (ordering_then (option_cmp digest_cmp a.act b.act)) (sym (sized_cmp a.set b.set set other_set)))
 
 -- ---- the order below
@@ -131,7 +145,8 @@ is_below-self a = ap is_lt (tied_itself stamps_total a)
 
 pub is_below-chain : (a b c : Stamp) → is_below a b ≡ true → is_below b c ≡ true → is_below a c ≡ true
 unfolding is_below
-is_below-chain a b c ab bc = ap is_lt (stamps_total.trans a b c (is_Less (stamp_cmp a b) ab) (is_Less (stamp_cmp b c) bc))
+is_below-chain a b c ab bc =
+    ap is_lt (stamps_total.trans a b c (is_Less (stamp_cmp a b) ab) (is_Less (stamp_cmp b c) bc))
 
 -- the second is below the first where the order answers `Greater`
 above : (a b : Stamp) → is_below b a ≡ is_gt (stamp_cmp a b)
@@ -175,14 +190,17 @@ equal_by_same_stamp a b alike =
     let client : _ = and_parts ((a.client).0 == (b.client).0) _ barrier.1 in
     let act : _ = and_parts (option_eq same_digest a.act b.act) (same_digest a.set b.set) client.1 in
     by_fields a b (eqb-true a.time b.time time.0) ((booleans_Decides a.barrier b.barrier).0 barrier.0)
-    (eqb-true (a.client).0 (b.client).0 client.0) (equal_by_same_act a.act b.act act.0) ((decides_digest a.set b.set).0 act.1)
+    (eqb-true (a.client).0 (b.client).0 client.0) (equal_by_same_act a.act b.act act.0)
+    ((decides_digest a.set b.set).0 act.1)
 
 -- of two stamps that are not the same, one is below the other
 pub is_below-other : (a b : Stamp) → is_below a b ≡ false → same_stamp a b ≡ false → is_below b a ≡ true
 unfolding is_below
 is_below-other a b not_below unlike =
     above a b ∙ one_of (stamp_cmp a b) not_below (elim (cases_Bool (is_eq (stamp_cmp a b))) [
-      | inl level ↦ absurd (false≢true (sym unlike ∙ ap (same_stamp a) (sym (exact_stamps a b (is_Equal (stamp_cmp a b) level))) ∙ same_stamp-self a))
+      | inl level ↦ absurd
+          (false≢true (sym unlike ∙ ap (same_stamp a) (sym (exact_stamps a b (is_Equal (stamp_cmp a b) level)))
+          ∙ same_stamp-self a))
       | inr not_level ↦ not_level
     ])
 
@@ -191,7 +209,8 @@ pub is_below-not_chain : (a b c : Stamp) → is_below a b ≡ false → is_below
 is_below-not_chain a b c ab bc =
     above c a ∙ upto stamps_total c b a (sym (above c b) ∙ bc) (sym (above b a) ∙ ab)
 
-not_lt_then : (first later : Ordering) → is_lt first ≡ false → is_lt later ≡ false → is_lt (ordering_then first later) ≡ false
+not_lt_then : (first later : Ordering) → is_lt first ≡ false → is_lt later ≡ false
+    → is_lt (ordering_then first later) ≡ false
 not_lt_then Less later not_first not_later = not_first
 not_lt_then Equal later not_first not_later = not_later
 not_lt_then Greater later not_first not_later = refl
@@ -217,8 +236,11 @@ not_lt_blank digest =
     elim (cases_Bool (is_sized digest)) [
       | inl sized ↦
           not_lt_then (bool_cmp (not (is_sized digest)) false) _ (not_lt_false (not (is_sized digest)))
-          (ap (λ size. is_lt (slice_cmp nat_cmp digest.0 (repeat size (0 ∷ [])))) (sym (eqb-true (length digest.0) 32 sized)) ∙ not_lt_zeros digest.0)
-      | inr unsized ↦ ap (λ test. is_lt (ordering_then (bool_cmp (not test) false) (slice_cmp nat_cmp digest.0 (repeat 32 (0 ∷ []))))) unsized
+          (ap (λ size. is_lt (slice_cmp nat_cmp digest.0 (repeat size (0 ∷ []))))
+          (sym (eqb-true (length digest.0) 32 sized)) ∙ not_lt_zeros digest.0)
+      | inr unsized ↦ ap
+          (λ test. is_lt
+          (ordering_then (bool_cmp (not test) false) (slice_cmp nat_cmp digest.0 (repeat 32 (0 ∷ []))))) unsized
     ]
 
 -- the opening stamp is the least
@@ -233,7 +255,8 @@ is_below-opening a =
 pub same_stamp-below : (a b : Stamp) → is_below a b ≡ true → same_stamp a b ≡ false
 same_stamp-below a b below =
     elim (cases_Bool (same_stamp a b)) [
-      | inl alike ↦ absurd (false≢true (sym (is_below-self a) ∙ ap (is_below a) (equal_by_same_stamp a b alike) ∙ below))
+      | inl alike ↦ absurd
+          (false≢true (sym (is_below-self a) ∙ ap (is_below a) (equal_by_same_stamp a b alike) ∙ below))
       | inr unlike ↦ unlike
     ]
 
@@ -265,7 +288,8 @@ is_before_by_stamp a b below = grind (arith, nat_tests)
 pub is_before_by_prior : (a b : Candidate) → a.stamp ≡ b.stamp → is_below a.prior b.prior ≡ true → is_before a b ≡ true
 is_before_by_prior a b equal below = grind (arith, nat_tests, same_stamp-self a.stamp, ap (same_stamp a.stamp) equal)
 
-pub is_before-cases : (a b : Candidate) → is_before a b ≡ true → (is_below a.stamp b.stamp ≡ true) ⊎ ((a.stamp ≡ b.stamp) × (is_below a.prior b.prior ≡ true))
+pub is_before-cases : (a b : Candidate) → is_before a b ≡ true → (is_below a.stamp b.stamp ≡ true)
+    ⊎ ((a.stamp ≡ b.stamp) × (is_below a.prior b.prior ≡ true))
 is_before-cases a b before =
     elim (or_cases (is_below a.stamp b.stamp) (same_stamp a.stamp b.stamp && is_below a.prior b.prior) before) [
       | inl below ↦ inl below
@@ -283,7 +307,8 @@ is_before-chain a b c ab bc =
       ]
       | inr ab_level ↦ elim (is_before-cases b c bc) [
         | inl bc_stamp ↦ is_before_by_stamp a c (ap (λ stamp. is_below stamp c.stamp) ab_level.0 ∙ bc_stamp)
-        | inr bc_level ↦ is_before_by_prior a c (ab_level.0 ∙ bc_level.0) (is_below-chain a.prior b.prior c.prior ab_level.1 bc_level.1)
+        | inr bc_level ↦ is_before_by_prior a c (ab_level.0 ∙ bc_level.0)
+            (is_below-chain a.prior b.prior c.prior ab_level.1 bc_level.1)
       ]
     ]
 
@@ -310,7 +335,10 @@ same-self a = grind (arith, nat_tests, same_stamp-self a.stamp, same_stamp-self 
 pub equal_by_same : (a b : Candidate) → same a b ≡ true → a ≡ b
 equal_by_same a b alike =
     let parts : (same_stamp a.stamp b.stamp ≡ true) × (same_stamp a.prior b.prior ≡ true) = and_parts _ _ alike in
-    λ i. record { stamp = equal_by_same_stamp a.stamp b.stamp parts.0 i; prior = equal_by_same_stamp a.prior b.prior parts.1 i }
+    λ i. record {
+      stamp = equal_by_same_stamp a.stamp b.stamp parts.0 i;
+      prior = equal_by_same_stamp a.prior b.prior parts.1 i;
+    }
 
 -- what is not above one candidate is not above a later one
 pub is_before-not_chain : (a b c : Candidate) → is_before a b ≡ false → is_before b c ≡ false → is_before a c ≡ false

@@ -2,11 +2,12 @@
 use Rattle.std.specs.Prelude.{ℕ, Bool, true, not, ◌==◌, ◌&&◌, ◌||◌, if◌then◌else◌, Some}
 use Rattle.std.specs.Int.{w8, w16, w64}
 use Rattle.qu_base.specs.declared.bad_text.Why.TheVariants.{Range}
+use Rattle.qu_base.specs.declared.limits.TheConstants.{LAST_CLIENT}
 use Rattle.qu_base.specs.declared.party.ClientId.{ClientId}
 use Rattle.qu_base.specs.declared.party.Digest.{Digest}
 use Rattle.qu_base.specs.Format.{Format, number, both, tested, made, flag, optional, digest_form}
 use Rattle.qu_stamp.specs.declared.stamp.Stamp.{Stamp}
-use Rattle.qu_stamp.specs.declared.stamp.TheConstants.{LAST_TIME}
+use Rattle.qu_stamp.specs.declared.limits.TheConstants.{LAST_TIME}
 use Rattle.qu_stamp.specs.declared.candidate.Candidate.{Candidate}
 use Rattle.qu_stamp.specs.Stamp.{opening_stamp, is_below, same_stamp, same_digest}
 
@@ -21,10 +22,10 @@ abbrev pub least_client : ℕ → ℕ
 least_client time = if is_opening_time time then 0 else 1
 
 abbrev pub most_client : ℕ → ℕ
-most_client time = if is_opening_time time then 0 else 64
+most_client time = if is_opening_time time then 0 else LAST_CLIENT
 
-abbrev pub client_form : ℕ → Format ClientId
-client_form time =
+abbrev pub stamp_client_form : ℕ → Format ClientId
+stamp_client_form time =
     made (λ client. record { 0 = client }) (λ client. Some client.0)
     (number w16 (least_client time) (most_client time))
 
@@ -35,19 +36,25 @@ may_have_act time barrier = not (is_opening_time time) && not barrier
 abbrev pub may_be_set : ℕ → Digest → Bool
 may_be_set time digest = not (is_opening_time time) || same_digest digest (opening_stamp.set)
 
-abbrev pub set_form : ℕ → Format Digest
-set_form time = tested (may_be_set time) Range digest_form
+abbrev pub stamp_set_form : ℕ → Format Digest
+stamp_set_form time = tested (may_be_set time) Range digest_form
 
 -- a stamp, which may be a barrier's only where the flag is set
 unfoldable pub stamp_with : Bool → Format Stamp
 stamp_with barrier_may_be =
-    made (λ fields. record { time = fields.0; barrier = (fields.1).0; client = ((fields.1).1).0; act = (((fields.1).1).1).0; set = (((fields.1).1).1).1 })
+    made (λ fields. record {
+      time = fields.0;
+      barrier = (fields.1).0;
+      client = ((fields.1).1).0;
+      act = (((fields.1).1).1).0;
+      set = (((fields.1).1).1).1;
+    })
     (λ (stamp : Stamp). Some (stamp.time, (stamp.barrier, (stamp.client, (stamp.act, stamp.set)))))
     (both (number w64 0 LAST_TIME) (λ time.
     both (flag (barrier_may_be && not (is_opening_time time))) (λ barrier.
-    both (client_form time) (λ client.
+    both (stamp_client_form time) (λ client.
     both (optional (may_have_act time barrier) digest_form) (λ act.
-    set_form time)))))
+    stamp_set_form time)))))
 
 abbrev pub stamp_form : Format Stamp
 stamp_form = stamp_with true
@@ -72,7 +79,8 @@ prior_form stamp =
 -- a candidate whose stamp has this format
 abbrev pub candidate_with : Format Stamp → Format Candidate
 candidate_with own_form =
-    made (λ fields. record { stamp = fields.0; prior = fields.1 }) (λ (candidate : Candidate). Some (candidate.stamp, candidate.prior))
+    made (λ fields. record { stamp = fields.0; prior = fields.1 })
+    (λ (candidate : Candidate). Some (candidate.stamp, candidate.prior))
     (both own_form prior_form)
 
 unfoldable pub candidate_form : Format Candidate

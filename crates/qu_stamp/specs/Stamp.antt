@@ -11,7 +11,8 @@ use Rattle.qu_stamp.specs.declared.stamp.Stamp.{Stamp}
 
 -- the stamp with which each object begins
 abbrev pub opening_stamp : Stamp
-opening_stamp = record { time = 0; barrier = false; client = record { 0 = 0 }; act = None; set = record { 0 = repeat 32 (0 ∷ []) } }
+opening_stamp =
+    record { time = 0; barrier = false; client = record { 0 = 0 }; act = None; set = record { 0 = repeat 32 (0 ∷ []) } }
 
 -- a digest has 32 bytes
 abbrev pub is_sized : Digest → Bool

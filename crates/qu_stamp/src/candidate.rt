@@ -3,8 +3,8 @@ ghost use Rattle.std.specs.Prelude.{◌≡◌};
 use super::Stamp;
 
 /// A version of an object that a replica may accept: its own stamp, and the stamp of the version
-/// upon which it rests. Candidates compare by stamp, then prior.
-#[derive(Clone, Copy, Debug, PartialEq, Eq, PartialOrd, Ord, Hash)]
+/// upon which it rests.
+#[derive(Clone, Copy, Debug, PartialEq, Eq, Hash)]
 pub struct Candidate {
     pub stamp: Stamp,
     pub prior: Stamp,

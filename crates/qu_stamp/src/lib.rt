@@ -3,14 +3,16 @@
 
 mod candidate;
 mod formats;
+mod limits;
 mod reading;
 mod stamp;
 mod writing;
 
 pub use candidate::Candidate;
 pub use formats::formats_are_codes;
-pub use reading::{prior_at, read_candidate, read_stamp, stamp_at};
-pub use stamp::{LAST_TIME, Stamp};
+pub use limits::{LAST_TIME, limits_are_these};
+pub use reading::{read_candidate, read_prior, read_stamp};
+pub use stamp::Stamp;
 pub use writing::{write_candidate, write_stamp};
 
 #[cfg(test)]

@@ -1,10 +1,10 @@
 ghost use Rattle.std.specs.Prelude.{◌≡◌, OnErr};
 ghost use Rattle.qu_base.specs.Format.{optional, digest_form};
 ghost use Rattle.qu_base.specs.Reading.{Reads, IsRead};
-ghost use Rattle.qu_stamp.specs.Forms.{least_client, most_client, client_form, set_form, stamp_with, stamp_form, is_below_or_opening, may_be_prior, prior_form, candidate_form};
+ghost use Rattle.qu_stamp.specs.Forms.{least_client, most_client, stamp_client_form, stamp_set_form, stamp_with, stamp_form, is_below_or_opening, may_be_prior, prior_form, candidate_form};
 
 use super::{Candidate, LAST_TIME, Stamp};
-use qu_base::{BadText, ClientId, Cursor, Digest, Why};
+use qu_base::{BadText, ClientId, Cursor, Digest, LAST_CLIENT, Why};
 
 /// The stamp at the front of a text: time, barrier mark, client, act mark, the act's digest where
 /// the mark is 1, and the digest of the sets. After a refusal the text is as before.
@@ -22,7 +22,7 @@ pub fn read_stamp(text: &mut Cursor) -> Result<Stamp, BadText>
 
 /// The stamp at the front of a text, a barrier's only where it may be.
 #[tactic(auto, unfolding(crate::specs::Forms::stamp_with))]
-pub fn stamp_at(text: &mut Cursor, barrier_may_be: bool) -> Result<Stamp, BadText>
+fn stamp_at(text: &mut Cursor, barrier_may_be: bool) -> Result<Stamp, BadText>
     ensures { Reads (stamp_with barrier_may_be) result text.old text.new }
 {
     let time = text.u64_within(0, LAST_TIME)?;
@@ -42,7 +42,7 @@ pub fn stamp_at(text: &mut Cursor, barrier_may_be: bool) -> Result<Stamp, BadTex
 
 /// The client of a stamp with this time.
 fn client_at(text: &mut Cursor, time: u64) -> Result<ClientId, BadText>
-    ensures { Reads (client_form time) result text.old text.new }
+    ensures { Reads (stamp_client_form time) result text.old text.new }
 {
     let client = text.u16_within(least_client(time), most_client(time))?;
     Ok(ClientId(client))
@@ -58,7 +58,7 @@ fn least_client(time: u64) -> u16
 fn most_client(time: u64) -> u16
     ensures { result ≡ most_client time }
 {
-    if time == 0 { 0 } else { 64 }
+    if time == 0 { 0 } else { LAST_CLIENT }
 }
 
 /// The digest of the act, where there may be one and its mark says that there is.
@@ -74,7 +74,7 @@ fn act_at(text: &mut Cursor, may: bool) -> Result<Option<Digest>, BadText>
 
 /// The digest of the sets of a stamp with this time.
 fn set_at(text: &mut Cursor, time: u64) -> Result<Digest, BadText>
-    ensures { Reads (set_form time) result text.old text.new }
+    ensures { Reads (stamp_set_form time) result text.old text.new }
 {
     let start = text.ahead();
     let set = text.digest()?;
@@ -107,9 +107,20 @@ fn candidate_at(text: &mut Cursor) -> Result<Candidate, BadText>
     Ok(Candidate { stamp, prior })
 }
 
-/// The prior of a candidate with this stamp, and the count of its groups.
+/// The prior of a candidate with this stamp, and the count of its groups. After a refusal the text is
+/// as before.
+pub fn read_prior(text: &mut Cursor, stamp: &Stamp) -> Result<Stamp, BadText>
+    ensures read { Reads (prior_form stamp.now) result text.old text.new }
+    ensures kept { OnErr result (text.new ≡ text.old) }
+{
+    let mut ahead = text.ahead();
+    let prior = prior_at(&mut ahead, stamp)?;
+    *text = ahead;
+    Ok(prior)
+}
+
 #[tactic(auto, unfolding(crate::specs::Forms::prior_form))]
-pub fn prior_at(text: &mut Cursor, stamp: &Stamp) -> Result<Stamp, BadText>
+fn prior_at(text: &mut Cursor, stamp: &Stamp) -> Result<Stamp, BadText>
     ensures { Reads (prior_form stamp.now) result text.old text.new }
 {
     let start = text.ahead();

@@ -4,9 +4,6 @@ ghost use Rattle.qu_stamp.specs.Stamp.{stamp_cmp};
 use qu_base::{ClientId, Digest};
 use std::cmp::Ordering;
 
-/// The greatest time of a stamp, 2^62.
-pub const LAST_TIME: u64 = 1 << 62;
-
 /// The logical time of a candidate. Stamps compare field by field: `false` before `true`, `None`
 /// before `Some`, digests by their bytes.
 #[derive(Clone, Copy, Debug, PartialEq, Eq, PartialOrd, Ord, Hash)]

@@ -9,3 +9,6 @@ mod trace;
 pub use event::Event;
 pub use operation::{begun, operations};
 pub use trace::{Entry, Setup, Trace};
+
+#[cfg(test)]
+mod tests;

@@ -32,7 +32,8 @@ fn operation_at(
     op: &Op,
 ) -> Result<OpRecord, NoMemory>
     requires { index < length entries.now }
-    ensures { IfOk result (λ operation. operation ≡ record_of client op.now (index + 1) (take index entries.now) (drop index entries.now)) }
+    ensures { IfOk result (λ operation. operation ≡ record_of client op.now (index + 1) (take index entries.now)
+        (drop index entries.now)) }
 {
     let (earlier, later) = entries.split_at(index);
     let number = begun(earlier, client) + 1;

@@ -5,39 +5,48 @@ use Rattle.std.specs.List.{AllByRecursion, AllZip}
 use Rattle.std.proofs.lemmas.Option.{none-some, same_Some}
 use Rattle.qu_world.specs.State.{numbered, with_numbered}
 
-pub each_weaker : {X : Type 0} (P Q : X → Type 0) (items : List X) → ((item : X) → P item → Q item) → AllByRecursion P items → AllByRecursion Q items
+pub each_weaker : {X : Type 0} (P Q : X → Type 0) (items : List X) → ((item : X) → P item → Q item)
+    → AllByRecursion P items → AllByRecursion Q items
 each_weaker P Q [] weaker each = tt
 each_weaker P Q (item ∷ later) weaker each = (weaker item each.0, each_weaker P Q later weaker each.1)
 
-pub each_append : {X : Type 0} (P : X → Type 0) (items more : List X) → AllByRecursion P items → AllByRecursion P more → AllByRecursion P (items ++ more)
+pub each_append : {X : Type 0} (P : X → Type 0) (items more : List X) → AllByRecursion P items
+    → AllByRecursion P more → AllByRecursion P (items ++ more)
 each_append P [] more each others = others
 each_append P (item ∷ later) more each others = (each.0, each_append P later more each.1 others)
 
-pub each_set : {X : Type 0} (P : X → Type 0) (items : List X) (place : ℕ) (new : X) → AllByRecursion P items → P new → AllByRecursion P (slice_set items place new)
+pub each_set : {X : Type 0} (P : X → Type 0) (items : List X) (place : ℕ) (new : X) → AllByRecursion P items
+    → P new → AllByRecursion P (slice_set items place new)
 each_set P [] place new each here = each
 each_set P (item ∷ later) zero new each here = (here, each.1)
 each_set P (item ∷ later) (suc place) new each here = (each.0, each_set P later place new each.1 here)
 
-pub each_found : {X : Type 0} (P : X → Type 0) (items : List X) (place : ℕ) (item : X) → AllByRecursion P items → slice_get items place ≡ Some item → P item
+pub each_found : {X : Type 0} (P : X → Type 0) (items : List X) (place : ℕ) (item : X) → AllByRecursion P items
+    → slice_get items place ≡ Some item → P item
 each_found P [] place item each found = absurd (none-some item found)
 each_found P (first ∷ later) zero item each found = subst P (same_Some first item found) each.0
 each_found P (first ∷ later) (suc place) item each found = each_found P later place item each.1 found
 
-pub each_at : {X : Type 0} (P : X → Type 0) (items : List X) (place : ℕ) (default : X) → AllByRecursion P items → place < length items → P (get_or items place default)
+pub each_at : {X : Type 0} (P : X → Type 0) (items : List X) (place : ℕ) (default : X) → AllByRecursion P items
+    → place < length items → P (get_or items place default)
 each_at P [] place default each below = absurd (omega arith)
 each_at P (first ∷ later) zero default each below = each.0
 each_at P (first ∷ later) (suc place) default each below = each_at P later place default each.1 (omega arith)
 
-pub each_with_numbered : {X : Type 0} (P : X → Type 0) (items : List X) (number : ℕ) (new : X) → AllByRecursion P items → P new → AllByRecursion P (with_numbered items number new)
+pub each_with_numbered : {X : Type 0} (P : X → Type 0) (items : List X) (number : ℕ) (new : X)
+    → AllByRecursion P items → P new → AllByRecursion P (with_numbered items number new)
 each_with_numbered P items zero new each here = each
 each_with_numbered P items (suc place) new each here = each_set P items place new each here
 
-pub each_numbered : {X : Type 0} (P : X → Type 0) (items : List X) (number : ℕ) (item : X) → AllByRecursion P items → numbered items number ≡ Some item → P item
+pub each_numbered : {X : Type 0} (P : X → Type 0) (items : List X) (number : ℕ) (item : X)
+    → AllByRecursion P items → numbered items number ≡ Some item → P item
 each_numbered P items zero item each found = absurd (none-some item found)
 each_numbered P items (suc place) item each found = each_found P items place item each found
 
 -- what stands in a list with one item replaced
-pub set_cases : {X : Type 0} (items : List X) (place index : ℕ) (new found : X) → slice_get (slice_set items place new) index ≡ Some found → ((index ≡ place) × (found ≡ new)) ⊎ ((index ≢ place) × (slice_get items index ≡ Some found))
+pub set_cases : {X : Type 0} (items : List X) (place index : ℕ) (new found : X)
+    → slice_get (slice_set items place new) index ≡ Some found → ((index ≡ place) × (found ≡ new))
+    ⊎ ((index ≢ place) × (slice_get items index ≡ Some found))
 set_cases [] place index new found is = absurd (none-some found is)
 set_cases (first ∷ later) zero zero new found is = inl (refl, sym (same_Some new found is))
 set_cases (first ∷ later) zero (suc index) new found is = inr ((λ same. omega arith), is)
@@ -48,7 +57,9 @@ set_cases (first ∷ later) (suc place) (suc index) new found is =
       | inr other ↦ inr ((λ same. other.0 (omega arith)), other.1)
     ]
 
-pub with_cases : {X : Type 0} (items : List X) (place number : ℕ) (new found : X) → numbered (with_numbered items place new) number ≡ Some found → ((number ≡ place) × (found ≡ new)) ⊎ ((number ≢ place) × (numbered items number ≡ Some found))
+pub with_cases : {X : Type 0} (items : List X) (place number : ℕ) (new found : X)
+    → numbered (with_numbered items place new) number ≡ Some found → ((number ≡ place) × (found ≡ new))
+    ⊎ ((number ≢ place) × (numbered items number ≡ Some found))
 with_cases items place zero new found is = absurd (none-some found is)
 with_cases items zero (suc index) new found is = inr ((λ same. omega arith), is)
 with_cases items (suc place) (suc index) new found is =
@@ -57,21 +68,27 @@ with_cases items (suc place) (suc index) new found is =
       | inr other ↦ inr ((λ same. other.0 (omega arith)), other.1)
     ]
 
-pub set_here : {X : Type 0} (items : List X) (place : ℕ) (old new : X) → slice_get items place ≡ Some old → slice_get (slice_set items place new) place ≡ Some new
+pub set_here : {X : Type 0} (items : List X) (place : ℕ) (old new : X) → slice_get items place ≡ Some old
+    → slice_get (slice_set items place new) place ≡ Some new
 set_here [] place old new found = absurd (none-some old found)
 set_here (item ∷ later) zero old new found = refl
 set_here (item ∷ later) (suc place) old new found = set_here later place old new found
 
-pub set_other : {X : Type 0} (items : List X) (place other : ℕ) (new : X) → (other ≡ place → ⊥) → slice_get (slice_set items place new) other ≡ slice_get items other
+pub set_other : {X : Type 0} (items : List X) (place other : ℕ) (new : X) → (other ≡ place → ⊥)
+    → slice_get (slice_set items place new) other ≡ slice_get items other
 set_other [] place other new apart = refl
 set_other (item ∷ later) zero zero new apart = absurd (apart refl)
 set_other (item ∷ later) zero (suc other) new apart = refl
 set_other (item ∷ later) (suc place) zero new apart = refl
-set_other (item ∷ later) (suc place) (suc other) new apart = set_other later place other new (λ same. apart (ap suc same))
+set_other (item ∷ later) (suc place) (suc other) new apart =
+    set_other later place other new (λ same. apart (ap suc same))
 
-pub zip_found : {X Y : Type 0} (R : X → Y → Type 0) (firsts : List X) (seconds : List Y) (place : ℕ) (first : X) (second : Y) → AllZip R firsts seconds → slice_get firsts place ≡ Some first → slice_get seconds place ≡ Some second → R first second
+pub zip_found : {X Y : Type 0} (R : X → Y → Type 0) (firsts : List X) (seconds : List Y) (place : ℕ) (first : X)
+    (second : Y) → AllZip R firsts seconds → slice_get firsts place ≡ Some first
+    → slice_get seconds place ≡ Some second → R first second
 zip_found R [] seconds place first second each one two = absurd (none-some first one)
 zip_found R (x ∷ xs) [] place first second each one two = absurd (none-some second two)
 zip_found R (x ∷ xs) (y ∷ ys) zero first second each one two =
     subst (R first) (same_Some y second two) (subst (λ it. R it y) (same_Some x first one) each.0)
-zip_found R (x ∷ xs) (y ∷ ys) (suc place) first second each one two = zip_found R xs ys place first second each.1 one two
+zip_found R (x ∷ xs) (y ∷ ys) (suc place) first second each one two =
+    zip_found R xs ys place first second each.1 one two

@@ -9,18 +9,21 @@ use Rattle.qu_frames.specs.declared.frame.Letter.{Letter}
 use Rattle.qu_trace.specs.Letters.{letters_of, bytes_of, bytes_sent}
 
 -- an item of the first list
-pub slice_get-append_left : {X : Type 0} (xs ys : List X) (k : ℕ) → k < length xs → slice_get (xs ++ ys) k ≡ slice_get xs k
+pub slice_get-append_left : {X : Type 0} (xs ys : List X) (k : ℕ) → k < length xs
+    → slice_get (xs ++ ys) k ≡ slice_get xs k
 slice_get-append_left [] ys k within = absurd (omega arith)
 slice_get-append_left (x ∷ xs) ys zero within = refl
 slice_get-append_left (x ∷ xs) ys (suc k) within = slice_get-append_left xs ys k (omega arith)
 
 -- an item of the second list
-pub slice_get-append_right : {X : Type 0} (xs ys : List X) (k rest : ℕ) → k ≡ length xs + rest → slice_get (xs ++ ys) k ≡ slice_get ys rest
+pub slice_get-append_right : {X : Type 0} (xs ys : List X) (k rest : ℕ) → k ≡ length xs + rest
+    → slice_get (xs ++ ys) k ≡ slice_get ys rest
 slice_get-append_right [] ys k rest at = let e : k ≡ rest = omega arith in rw e refl
 slice_get-append_right (x ∷ xs) ys zero rest at = absurd (omega arith)
 slice_get-append_right (x ∷ xs) ys (suc k) rest at = slice_get-append_right xs ys k rest (omega arith)
 
-letters_step : (entries : List Entry) (index : ℕ) (entry : Entry) → index < length entries → entry ≡ get_or entries index entry
+letters_step : (entries : List Entry) (index : ℕ) (entry : Entry) → index < length entries
+    → entry ≡ get_or entries index entry
     → letters_of (drop index entries) ≡ entry.letters ++ letters_of (drop (suc index) entries)
 unfolding letters_of
 letters_step [] index entry within is = absurd (omega arith)
@@ -28,7 +31,8 @@ letters_step (first ∷ later) zero entry within is = rw is refl
 letters_step (first ∷ later) (suc index) entry within is = letters_step later index entry (omega arith) is
 
 -- the letters of the entry with this index stand before those of the later entries
-pub letters-at : (entries : List Entry) (index : ℕ) (entry : Entry) → index < length entries → entry ≡ get_or entries index entry
+pub letters-at : (entries : List Entry) (index : ℕ) (entry : Entry) → index < length entries
+    → entry ≡ get_or entries index entry
     → letters_of (drop index entries) ≡ entry.letters ++ letters_of (drop (index + 1) entries)
 letters-at entries index entry within is = rw add-one (letters_step entries index entry within is)
 
@@ -39,14 +43,18 @@ letters-past [] (suc index) past = refl
 letters-past (first ∷ later) zero past = absurd (omega arith)
 letters-past (first ∷ later) (suc index) past = letters-past later index (omega arith)
 
-pub letters-push : (entries : List Entry) (entry : Entry) → letters_of (entries ++ entry ∷ []) ≡ letters_of entries ++ entry.letters
+pub letters-push : (entries : List Entry) (entry : Entry) → letters_of (entries ++ entry ∷ []) ≡ letters_of
+    entries ++ entry.letters
 unfolding letters_of
 letters-push entries entry =
-    flat_map-append (λ (it : Entry). it.letters) entries (entry ∷ []) ∙ ap (λ more. flat_map (λ (it : Entry). it.letters) entries ++ more) (append-nil entry.letters)
+    flat_map-append (λ (it : Entry). it.letters) entries (entry ∷ [])
+    ∙ ap (λ more. flat_map (λ (it : Entry). it.letters) entries ++ more) (append-nil entry.letters)
 
 -- an entry adds the bytes of its letters
-pub bytes_sent_more : (entries : List Entry) (entry : Entry) → bytes_sent (entries ++ entry ∷ []) ≡ bytes_sent entries + bytes_of entry.letters
+pub bytes_sent_more : (entries : List Entry) (entry : Entry) → bytes_sent (entries ++ entry ∷ []) ≡ bytes_sent
+    entries + bytes_of entry.letters
 bytes_sent_more entries entry =
-    ap bytes_of (letters-push entries entry) ∙ sum_by-append (λ (letter : Letter). length letter.text) (letters_of entries) entry.letters
+    ap bytes_of (letters-push entries entry) ∙ sum_by-append (λ (letter : Letter). length letter.text)
+    (letters_of entries) entry.letters
 
 pub ruleset letter_laws = (slice_get-append_left, slice_get-append_right, letters-at, letters-past)

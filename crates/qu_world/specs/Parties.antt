@@ -22,7 +22,8 @@ pub record MakesNothing {X : Type 0} (old new : List X) (made : Made) : Type 0 w
   pub ended : made.ended ≡ None
 
 -- a replica took a text
-pub record TakesText (old new : List ReplicaState) (me : ReplicaId) (text : List ℕ) (made : Made) (state : ReplicaState) : Type 0 where
+pub record TakesText (old new : List ReplicaState) (me : ReplicaId) (text : List ℕ) (made : Made)
+    (state : ReplicaState) : Type 0 where
   pub parties : new ≡ slice_set old me.0 (replica_step state text).0
   pub letters : made.letters ≡ (replica_step state text).1
   pub ended : made.ended ≡ None
@@ -32,13 +33,15 @@ ReplicaMoves old new me text made =
     MatchOption (slice_get old me.0) (MakesNothing old new made) (TakesText old new me text made)
 
 -- a client moved so
-pub record Moves (old new : List ClientState) (me : ClientId) (move : ClientState → Stepped) (made : Made) (state : ClientState) : Type 0 where
+pub record Moves (old new : List ClientState) (me : ClientId) (move : ClientState → Stepped) (made : Made)
+    (state : ClientState) : Type 0 where
   pub parties : new ≡ with_numbered old me.0 (move state).state
   pub letters : made.letters ≡ (move state).letters
   pub ended : made.ended ≡ ended_by me state.work (move state).ended
 
 abbrev pub ClientMoves : List ClientState → List ClientState → ClientId → (ClientState → Stepped) → Made → Type 0
-ClientMoves old new me move made = MatchOption (numbered old me.0) (MakesNothing old new made) (Moves old new me move made)
+ClientMoves old new me move made = MatchOption (numbered old me.0) (MakesNothing old new made)
+    (Moves old new me move made)
 
 -- a client that is there, has no operation under way, and has a number left for the next one
 pub record CanBegin (state : ClientState) : Type 0 where
@@ -58,19 +61,25 @@ MayBegin clients (Inject party text) = Unit {0}
 -- the world with the record of what an event made of these parties
 abbrev pub made_world : Setup → List ReplicaState → List ClientState → List Entry → Event → Made → WorldState
 made_world setup replicas clients entries event made =
-    world_of setup replicas clients (entries ++ (record { event = event; letters = made.letters; ended = made.ended }) ∷ [])
+    world_of setup replicas clients
+    (entries ++ (record { event = event; letters = made.letters; ended = made.ended }) ∷ [])
 
 -- a text that reached a party made this of the parties
-abbrev pub Receives : List ReplicaState → List ReplicaState → List ClientState → List ClientState → Party → List ℕ → Made → Type 0
+abbrev pub Receives : List ReplicaState → List ReplicaState → List ClientState → List ClientState → Party → List ℕ
+    → Made → Type 0
 Receives replicas moved clients stepped to text made =
-    (setup : Setup) (entries : List Entry) (event : Event) → made_world setup moved stepped entries event made ≡ received (world_of setup replicas clients entries) event to text
+    (setup : Setup) (entries : List Entry) (event : Event) → made_world setup moved stepped entries event
+    made ≡ received (world_of setup replicas clients entries) event to text
 
 -- an event made this of the parties
-abbrev pub Makes : List ReplicaState → List ReplicaState → List ClientState → List ClientState → List Entry → Event → Made → Type 0
+abbrev pub Makes : List ReplicaState → List ReplicaState → List ClientState → List ClientState → List Entry
+    → Event → Made → Type 0
 Makes replicas moved clients stepped entries event made =
-    (setup : Setup) → made_world setup moved stepped entries event made ≡ world_step (world_of setup replicas clients entries) event
+    (setup : Setup) → made_world setup moved stepped entries event made ≡ world_step
+    (world_of setup replicas clients entries) event
 
 -- an event made this of the parties and of the record
-abbrev pub MakesEntry : List ReplicaState → List ReplicaState → List ClientState → List ClientState → List Entry → List Entry → Event → Type 0
+abbrev pub MakesEntry : List ReplicaState → List ReplicaState → List ClientState → List ClientState → List Entry
+    → List Entry → Event → Type 0
 MakesEntry replicas moved clients stepped before after event =
     (setup : Setup) → world_of setup moved stepped after ≡ world_step (world_of setup replicas clients before) event

@@ -1,5 +1,7 @@
--- A run: the fold of the steps over a list of events, each of which may happen where it comes.
-use Rattle.std.specs.Prelude.{ℕ, ◌≡◌, ◌≤◌, List, [], ◌∷◌, map, length, None}
+-- A run: the fold of the steps over a list of events, each of which may happen where it comes. It may have any
+-- number of events and letters; the limits are those of the call that makes a run.
+use Rattle.std.specs.Prelude.{ℕ, ◌≡◌, ◌≤◌, ◌-◌, ◌^◌, min, List, [], ◌∷◌, map, length, None}
+use Rattle.qu_base.specs.declared.limits.TheConstants.{LAST_CLIENT, MOST_FAULTS, OBJECT_IDS}
 use Rattle.qu_trace.specs.declared.event.Event.{Event}
 use Rattle.qu_trace.specs.declared.trace.Entry.{Entry}
 use Rattle.qu_trace.specs.declared.trace.Setup.{Setup}
@@ -7,7 +9,7 @@ use Rattle.qu_trace.specs.declared.trace.Trace.{Trace}
 use Rattle.qu_trace.specs.Letters.{bytes_sent}
 use Rattle.qu_world.specs.State.{WorldState, opening_world}
 use Rattle.qu_world.specs.Step.{world_step}
-use Rattle.qu_world.specs.Refusals.{refusal_of}
+use Rattle.qu_world.specs.Refusals.{cause_of}
 
 -- the world after these events
 unfoldable pub run_from : WorldState → List Event → WorldState
@@ -17,10 +19,10 @@ run_from world (event ∷ later) = run_from (world_step world event) later
 abbrev pub run : Setup → List Event → WorldState
 run setup events = run_from (opening_world setup) events
 
--- each event may happen in the world in which it comes
+-- no event has a cause not to happen in the world in which it comes
 unfoldable pub MayHappen : WorldState → List Event → Type 0
 MayHappen world [] = Unit {0}
-MayHappen world (event ∷ later) = (refusal_of world event ≡ None) × MayHappen (world_step world event) later
+MayHappen world (event ∷ later) = (cause_of world event ≡ None) × MayHappen (world_step world event) later
 
 abbrev pub events_of : List Entry → List Event
 events_of entries = map (λ entry. entry.event) entries
@@ -28,9 +30,9 @@ events_of entries = map (λ entry. entry.event) entries
 -- the setup is within the limits
 pub record IsSetup (setup : Setup) : Type 0 where
   pub some_faults : 1 ≤ setup.bounds
-  pub few_faults : setup.bounds ≤ 3
-  pub clients : setup.clients ≤ 64
-  pub kinds : length setup.kinds ≤ 64
+  pub few_faults : setup.bounds ≤ MOST_FAULTS
+  pub clients : setup.clients ≤ LAST_CLIENT
+  pub kinds : length setup.kinds ≤ OBJECT_IDS
 
 -- a trace is that of the run of its events
 pub record IsRun (trace : Trace) : Type 0 where
@@ -44,10 +46,10 @@ pub record IsWorld (world : WorldState) : Type 0 where
   pub is_run : run world.setup (events_of world.entries) ≡ world
   pub happened : MayHappen (opening_world world.setup) (events_of world.entries)
 
--- a world, and how many bytes were sent in it
+-- a world, and how many bytes were sent in it, as far as they can be counted in 128 bits
 pub record IsCounted (world : WorldState) (sent : ℕ) : Type 0 where
   pub is_world : IsWorld world
-  pub all : sent ≡ bytes_sent world.entries
+  pub all : sent ≡ min (bytes_sent world.entries) (2 ^ 128 - 1)
 
 abbrev pub trace_of : WorldState → Trace
 trace_of world = record { setup = world.setup; entries = world.entries }

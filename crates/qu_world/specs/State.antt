@@ -31,7 +31,8 @@ world_of setup replicas clients entries =
 unfoldable pub opening_replicas : ℕ → ℕ → Ring → ℕ → List KindName → List replica.ReplicaState
 opening_replicas number zero keys bounds kinds = []
 opening_replicas number (suc count) keys bounds kinds =
-    replica.opening_state (record { 0 = number }) keys bounds kinds ∷ opening_replicas (number + 1) count keys bounds kinds
+    replica.opening_state (record { 0 = number }) keys bounds kinds ∷ opening_replicas (number + 1) count keys
+    bounds kinds
 
 -- so many clients from this number on, as they begin
 unfoldable pub opening_clients : ℕ → ℕ → Ring → ℕ → List ClientState
@@ -68,4 +69,5 @@ letter_of world number = numbered (letters_of world.entries) number
 
 -- the history of an object at a replica
 abbrev pub history_at : WorldState → ReplicaId → ObjectId → Option ObjectHistory
-history_at world me object = option_and_then (λ replica. slice_get replica.histories object.0) (slice_get world.replicas me.0)
+history_at world me object = option_and_then (λ replica. slice_get replica.histories object.0)
+    (slice_get world.replicas me.0)

@@ -46,12 +46,14 @@ abbrev pub at_client : WorldState → Event → ClientId → (ClientState → St
 at_client world event me move None = unchanged world event
 at_client world event me move (Some state) =
     let stepped = move state in
-    recorded (record world { clients = with_numbered world.clients me.0 stepped.state }) event stepped.letters (ended_by me state.work stepped.ended)
+    recorded (record world { clients = with_numbered world.clients me.0 stepped.state }) event stepped.letters
+    (ended_by me state.work stepped.ended)
 
 -- a text reaches a party
 abbrev pub received : WorldState → Event → Party → List ℕ → WorldState
 received world event (party.Replica me) text = at_replica world event me text (slice_get world.replicas me.0)
-received world event (party.Client me) text = at_client world event me (λ state. client_step state text) (numbered world.clients me.0)
+received world event (party.Client me) text =
+    at_client world event me (λ state. client_step state text) (numbered world.clients me.0)
 
 -- a letter's text reaches its receiver
 abbrev pub delivered : WorldState → Event → Option Letter → WorldState

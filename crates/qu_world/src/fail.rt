@@ -1,13 +1,19 @@
-ghost use Rattle.std.specs.Prelude.{◌≡◌};
+ghost use Rattle.std.specs.Prelude.{◌≡◌, ◌^◌};
 ghost use Rattle.qu_world.specs.declared.fail.WorldFail.TheVariants as fails;
 
 use qu_base::{NoMemory, Party};
 
-/// The most events of a run.
+/// The most events of a run that is made by `World::apply`.
 pub const EVENT_LIMIT: usize = 20_000;
 
-/// The most bytes of the letters of a run, 2^31: at so many no event happens any more.
+/// The most bytes of the letters of a run that is made by `World::apply`, 2^31: at so many no event happens any more.
 pub const BYTE_LIMIT: u128 = 1 << 31;
+
+/// The limits of this crate, by their numbers.
+pub fn limits_are_these()
+    ensures event_limit { EVENT_LIMIT ≡ 20000 }
+    ensures byte_limit { BYTE_LIMIT ≡ 2 ^ 31 }
+{}
 
 /// Why an event does not happen. The world is as before.
 #[derive(Clone, Copy, Debug, PartialEq, Eq)]

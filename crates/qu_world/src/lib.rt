@@ -10,7 +10,7 @@ mod recording;
 mod refusals;
 mod world;
 
-pub use fail::{BYTE_LIMIT, EVENT_LIMIT, WorldFail};
+pub use fail::{BYTE_LIMIT, EVENT_LIMIT, WorldFail, limits_are_these};
 pub use letters::letter_at;
 pub use parties::Made;
 pub use world::World;

@@ -1,4 +1,5 @@
 ghost use Rattle.std.specs.Prelude.{◌≡◌, ◌≤◌, length, IfOk};
+ghost use Rattle.qu_base.specs.declared.limits.TheConstants.{LAST_CLIENT, OBJECT_IDS};
 ghost use Rattle.qu_base.specs.Thresholds.{replicas};
 ghost use Rattle.qu_world.specs.State.{opening_replicas, opening_clients};
 
@@ -16,7 +17,7 @@ pub fn start_replicas(
     bounds: Bounds,
     kinds: &[KindName],
 ) -> Result<Vec<Replica>, NoMemory>
-    requires { length kinds.now ≤ 64 }
+    requires { length kinds.now ≤ OBJECT_IDS }
     ensures { IfOk result (λ started. started.items ≡ opening_replicas 0 (replicas bounds) keys bounds kinds.now) }
 {
     let mut started = Vec::new(alloc);
@@ -34,7 +35,7 @@ pub fn start_clients(
     bounds: Bounds,
     count: u16,
 ) -> Result<Vec<Client>, NoMemory>
-    requires { count ≤ 64 }
+    requires { count ≤ LAST_CLIENT }
     ensures { IfOk result (λ started. started.items ≡ opening_clients 1 count keys bounds) }
 {
     let mut started = Vec::new(alloc);

@@ -77,7 +77,8 @@ pub fn step_client(
     me: ClientId,
     text: &[u8],
 ) -> Result<Made, NoMemory>
-    ensures moves { IfOk result (ClientMoves clients.old.items clients.new.items me (λ state. client_step state text.now)) }
+    ensures moves { IfOk result
+        (ClientMoves clients.old.items clients.new.items me (λ state. client_step state text.now)) }
     ensures err { OnErr result (clients.new.items ≡ clients.old.items) }
 {
     let Some(index) = index_of(me, clients.len()) else {

@@ -12,14 +12,15 @@ use std::alloc::Global;
 use std::mem;
 
 /// What a text that reaches a party makes of the parties. Without memory they are as before.
-fn receive(
+fn take_text(
     alloc: Global,
     replicas: &mut Vec<Replica>,
     clients: &mut Vec<Client>,
     to: Party,
     text: &[u8],
 ) -> Result<Made, NoMemory>
-    ensures made { IfOk result (Receives replicas.old.items replicas.new.items clients.old.items clients.new.items to text.now) }
+    ensures made { IfOk result (Receives replicas.old.items replicas.new.items clients.old.items clients.new.items
+        to text.now) }
     ensures replicas_stay { OnErr result (replicas.new.items ≡ replicas.old.items) }
     ensures clients_stay { OnErr result (clients.new.items ≡ clients.old.items) }
 {
@@ -38,7 +39,8 @@ fn make(
     event: &Event,
 ) -> Result<Made, NoMemory>
     requires { MayBegin clients.old.items event.now }
-    ensures made { IfOk result (Makes replicas.old.items replicas.new.items clients.old.items clients.new.items entries.now event.now) }
+    ensures made { IfOk result (Makes replicas.old.items replicas.new.items clients.old.items clients.new.items
+        entries.now event.now) }
     ensures replicas_stay { OnErr result (replicas.new.items ≡ replicas.old.items) }
     ensures clients_stay { OnErr result (clients.new.items ≡ clients.old.items) }
 {
@@ -49,10 +51,10 @@ fn make(
         }
         Event::Deliver(number) => match letter_at(entries, *number) {
             None => Ok(Made::nothing(alloc)),
-            Some(letter) => receive(alloc, replicas, clients, letter.to, letter.text.as_slice()),
+            Some(letter) => take_text(alloc, replicas, clients, letter.to, letter.text.as_slice()),
         },
         Event::Tick(me) => tick_client(alloc, clients, *me),
-        Event::Inject(to, text) => receive(alloc, replicas, clients, *to, text.as_slice()),
+        Event::Inject(to, text) => take_text(alloc, replicas, clients, *to, text.as_slice()),
     }
 }
 
@@ -67,7 +69,8 @@ fn push_event(
     event: Event,
 ) -> Result<u128, NoMemory>
     requires { MayBegin clients.old.items event }
-    ensures ok { OnOk result (MakesEntry replicas.old.items replicas.new.items clients.old.items clients.new.items entries.old.items entries.new.items event) }
+    ensures ok { OnOk result (MakesEntry replicas.old.items replicas.new.items clients.old.items clients.new.items
+        entries.old.items entries.new.items event) }
     ensures sent { IfOk result (λ bytes. bytes_sent entries.new.items ≡ bytes_sent entries.old.items + bytes) }
     ensures most { IfOk result (λ bytes. bytes ≤ 2 ^ 128 - 2 ^ 64) }
     ensures replicas_stay { OnErr result (replicas.new.items ≡ replicas.old.items) }
@@ -94,7 +97,8 @@ pub fn record_event(
     event: Event,
 ) -> Result<u128, NoMemory>
     requires { MayBegin clients.old.items event }
-    ensures ok { OnOk result (MakesEntry replicas.old.items replicas.new.items clients.old.items clients.new.items trace.old.entries trace.new.entries event) }
+    ensures ok { OnOk result (MakesEntry replicas.old.items replicas.new.items clients.old.items clients.new.items
+        trace.old.entries trace.new.entries event) }
     ensures sent { IfOk result (λ bytes. bytes_sent trace.new.entries ≡ bytes_sent trace.old.entries + bytes) }
     ensures most { IfOk result (λ bytes. bytes ≤ 2 ^ 128 - 2 ^ 64) }
     ensures setup { trace.new.setup ≡ trace.old.setup }

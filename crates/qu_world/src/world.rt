@@ -1,10 +1,10 @@
-ghost use Rattle.std.specs.Prelude.{◌≡◌, ◌≢◌, Err, Some, None, slice_get, IfSome, IfOk, OnOk, OnErr, IfErr};
+ghost use Rattle.std.specs.Prelude.{◌≡◌, ◌≢◌, ◌<◌, ◌^◌, length, Err, Some, None, slice_get, IfSome, IfOk, OnOk, OnErr, IfErr};
 ghost use Rattle.std.specs.Option.{option_copied};
 ghost use Rattle.qu_trace.specs.declared.trace.Setup.{Setup as SetupOf};
 ghost use Rattle.qu_world.specs.declared.fail.WorldFail.{WorldFail as Fail};
 ghost use Rattle.qu_world.specs.State.{opening_world, numbered, history_at};
 ghost use Rattle.qu_world.specs.Step.{world_step};
-ghost use Rattle.qu_world.specs.Refusals.{refusal_of};
+ghost use Rattle.qu_world.specs.Refusals.{cause_of, limit_of, refusal_of};
 ghost use Rattle.qu_replica.specs.Growth.{AreHistories};
 ghost use Rattle.qu_world.specs.Growth.{GrowsTo};
 ghost use Rattle.qu_world.specs.Run.{IsSetup, IsRun, IsWorld, trace_of};
@@ -13,13 +13,15 @@ use super::WorldFail;
 use super::opening::{start_clients, start_replicas};
 use super::parties::client_at;
 use super::recording::record_event;
-use super::refusals::{refuse_delivery, refuse_injection, refuse_invocation, refuse_tick};
+use super::refusals::{
+    limit_at, refuse_delivery, refuse_injection, refuse_invocation, refuse_tick,
+};
 use qu_base::{ClientId, List, NoMemory, ObjectId, ReplicaId};
 use qu_client::Client;
 use qu_history::History;
 use qu_replica::Replica;
 use qu_seal::KeyRing;
-use qu_trace::{Event, Setup, Trace};
+use qu_trace::{Entry, Event, Setup, Trace};
 use std::alloc::Global;
 use std::marker::Model;
 
@@ -30,7 +32,7 @@ pub struct World {
     trace: Trace,
     replicas: Vec<Replica>,
     clients: Vec<Client>,
-    /// How many bytes the letters that were sent have together.
+    /// How many bytes the letters that were sent have together, at most 2^128 - 1.
     sent: u128,
 }
 
@@ -44,7 +46,8 @@ impl Model for World {
 
     ghost view = { λ world. world_of world.trace.setup world.replicas.items world.clients.items world.trace.entries };
 
-    ghost invariant = { λ world. IsCounted (world_of world.trace.setup world.replicas.items world.clients.items world.trace.entries) world.sent };
+    ghost invariant = { λ world. IsCounted
+        (world_of world.trace.setup world.replicas.items world.clients.items world.trace.entries) world.sent };
 }
 
 impl World {
@@ -79,9 +82,39 @@ impl World {
         ensures err { OnErr result (self.new ≡ self.old) }
         ensures grows { GrowsTo self.old self.new }
     {
-        if let Some(fail) = self.refusal(&event) {
-            return Err(fail);
+        match self.refusal(&event) {
+            Some(fail) => Err(fail),
+            None => Ok(self.record(event)?),
         }
+    }
+
+    /// Lets an event happen as `apply` does, with no limit on the events and letters of the run.
+    ///
+    /// Its refusals are `NoSuchLetter`, `NoSuchActor` and `Busy`, before any change.
+    #[tactic(auto, using(crate::proofs::WorldGrowth::growth_laws))]
+    pub fn follow(&mut self, event: Event) -> Result<(), WorldFail>
+        ensures ok { OnOk result (self.new ≡ world_step self.old event) }
+        ensures accepted { OnOk result (cause_of self.old event ≡ None) }
+        ensures refused { IfErr result (λ fail. fail ≢ WorldFail.NoMemory → cause_of self.old event ≡ Some fail) }
+        ensures told { (fail : Fail) → cause_of self.old event ≡ Some fail → result ≡ Err fail }
+        ensures err { OnErr result (self.new ≡ self.old) }
+        ensures grows { GrowsTo self.old self.new }
+    {
+        match self.cause(&event) {
+            Some(fail) => Err(fail),
+            None => Ok(self.record(event)?),
+        }
+    }
+
+    /// Lets an event happen that may happen. Without memory the world is as before.
+    #[tactic(auto, using(crate::proofs::WorldGrowth::growth_laws))]
+    fn record(&mut self, event: Event) -> Result<(), NoMemory>
+        requires { cause_of self.old event ≡ None }
+        ensures ok { OnOk result (self.new ≡ world_step self.old event) }
+        ensures err { OnErr result (self.new ≡ self.old) }
+        ensures grows { GrowsTo self.old self.new }
+    {
+        are_few(self.trace.entries.as_slice());
         let bytes = record_event(
             self.alloc,
             &mut self.replicas,
@@ -89,25 +122,36 @@ impl World {
             &mut self.trace,
             event,
         )?;
-        self.sent += bytes;
+        self.sent = self.sent.saturating_add(bytes);
         Ok(())
     }
 
-    /// Why an event does not happen.
+    /// Why an event does not happen: its cause, and else a limit of the run.
     fn refusal(&self, event: &Event) -> Option<WorldFail>
         ensures { result ≡ refusal_of self.now event.now }
     {
-        let entries = self.trace.entries.as_slice();
+        self.cause(event).or(self.limit())
+    }
+
+    /// Why an event cannot happen here.
+    fn cause(&self, event: &Event) -> Option<WorldFail>
+        ensures { result ≡ cause_of self.now event.now }
+    {
         let clients = self.clients.as_slice();
         match event {
-            Event::Invoke(me, _) => refuse_invocation(entries, self.sent, clients, *me),
-            Event::Deliver(number) => refuse_delivery(entries, self.sent, *number),
-            Event::Tick(me) => refuse_tick(entries, self.sent, clients, *me),
-            Event::Inject(who, _) => {
-                let replicas = self.replicas.as_slice();
-                refuse_injection(entries, self.sent, replicas, clients, *who)
-            }
+            Event::Invoke(me, _) => refuse_invocation(clients, *me),
+            Event::Deliver(number) => refuse_delivery(self.trace.entries.as_slice(), *number),
+            Event::Tick(me) => refuse_tick(clients, *me),
+            Event::Inject(who, _) => refuse_injection(self.replicas.as_slice(), clients, *who),
         }
+    }
+
+    /// Why no event happens any more.
+    #[tactic(auto, using(crate::proofs::RunLaws::limit_counted))]
+    fn limit(&self) -> Option<WorldFail>
+        ensures { result ≡ limit_of self.now.entries }
+    {
+        limit_at(self.trace.entries.len(), self.sent)
     }
 
     /// The record of the events so far.
@@ -157,6 +201,11 @@ impl World {
         client_at(self.clients.as_slice(), me)
     }
 }
+
+/// A list that is in memory has fewer than 2^63 entries.
+fn are_few(entries: &[Entry])
+    ensures { length entries.now < 2 ^ 63 }
+{}
 
 #[cfg(test)]
 mod tests;

@@ -1,4 +1,5 @@
 ghost use Rattle.std.specs.Prelude.{◌≡◌, ◌≤◌, length, IfOk};
+ghost use Rattle.qu_base.specs.declared.limits.TheConstants.{OBJECT_IDS};
 ghost use Rattle.qu_replica.specs.State.{opening_histories, opening_versions};
 
 use super::Stored;
@@ -15,7 +16,7 @@ pub(super) fn histories(
     me: ReplicaId,
     kinds: &[KindName],
 ) -> Result<Vec<History>, NoMemory>
-    requires { length kinds.now ≤ 64 }
+    requires { length kinds.now ≤ OBJECT_IDS }
     ensures { IfOk result (λ histories. histories.items ≡ opening_histories me 0 kinds.now) }
 {
     let mut histories = Vec::new(alloc);
@@ -28,7 +29,7 @@ pub(super) fn histories(
 /// The versions with which the objects of these kinds begin, in their order.
 #[tactic(auto, using(crate::proofs::Opening::versions_step, crate::proofs::Opening::no_versions))]
 pub(super) fn versions(alloc: Global, kinds: &[KindName]) -> Result<Vec<Stored>, NoMemory>
-    requires { length kinds.now ≤ 64 }
+    requires { length kinds.now ≤ OBJECT_IDS }
     ensures { IfOk result (λ versions. versions.items ≡ opening_versions 0 kinds.now) }
 {
     let mut versions = Vec::new(alloc);

@@ -21,8 +21,11 @@ impl Replica {
         decision: Decision,
     ) -> Result<List<Letter>, NoMemory>
         requires { MayDecide self.old decision }
-        ensures state { OnOk result (self.new ≡ (carried_out self.old asked.now.client asked.now.number round asked.now.sets decision).0) }
-        ensures letters { IfOk result (λ letters. letters ≡ (carried_out self.old asked.now.client asked.now.number round asked.now.sets decision).1) }
+        ensures state { OnOk result
+            (self.new ≡ (carried_out self.old asked.now.client asked.now.number round asked.now.sets decision).0) }
+        ensures letters { IfOk result
+            (λ letters. letters ≡ (carried_out self.old asked.now.client asked.now.number round asked.now.sets
+            decision).1) }
         ensures err { OnErr result (self.new ≡ self.old) }
     {
         match decision {
@@ -59,7 +62,8 @@ impl Replica {
         accepted: &[Accepted],
     ) -> Result<List<Letter>, NoMemory>
         requires { MayAcceptAll self.now accepted.now }
-        ensures { IfOk result (λ letters. letters ≡ reply (accept_all self.now accepted.now) asked.now.client asked.now.number round asked.now.sets verdict ∷ []) }
+        ensures { IfOk result (λ letters. letters ≡ reply (accept_all self.now accepted.now) asked.now.client
+            asked.now.number round asked.now.sets verdict ∷ []) }
     {
         let frame = Frame::Reply {
             replica: self.me,
@@ -86,7 +90,9 @@ impl Replica {
     #[tactic(auto, using(crate::proofs::Showing::sealed_some, crate::proofs::Showing::sealed_none, crate::proofs::Showing::sealed_first))]
     fn shown(&self, asked: &Asked, accepted: &[Accepted]) -> Result<List<Sealed>, NoMemory>
         requires { MayAcceptAll self.now accepted.now }
-        ensures { IfOk result (λ histories. histories ≡ map (sealed self.now.bounds) (shown (accept_all self.now accepted.now) asked.now.sets)) }
+        ensures { IfOk result
+            (λ histories. histories ≡ map (sealed self.now.bounds)
+            (shown (accept_all self.now accepted.now) asked.now.sets)) }
     {
         let mut histories = List::new(self.alloc);
         for set in asked.sets.objects().as_slice() {
@@ -145,7 +151,8 @@ impl Replica {
     #[tactic(auto, using(crate::proofs::Accepting::read_history_after))]
     fn grown(&self, accepted: &Accepted) -> Result<History, NoMemory>
         requires { MayAccept self.now accepted.now }
-        ensures { IfOk result (λ history. slice_get (accept self.now accepted.now).histories accepted.now.object.0 ≡ Some history) }
+        ensures { IfOk result
+            (λ history. slice_get (accept self.now accepted.now).histories accepted.now.object.0 ≡ Some history) }
     {
         let mut history = self.histories[usize::from(accepted.object.0)].copy(self.alloc)?;
         match history.add(accepted.candidate) {

@@ -1,30 +1,290 @@
-ghost use Rattle.std.specs.Prelude.{◌≡◌, ◌<◌, [], ◌∷◌, IfOk, IsSome, IfNone};
-ghost use Rattle.std.specs.Option.{option_copied};
-ghost use Rattle.qu_stamp.specs.declared.stamp.TheConstants.{LAST_TIME};
+ghost use Rattle.std.specs.Prelude.{◌≡◌, ◌<◌, [], ◌∷◌, length, IfOk, IsSome, IfSome, IfNone, IsTrue, ◌↔◌};
+ghost use Rattle.std.specs.Option.{option_copied, option_or};
+ghost use Rattle.qu_stamp.specs.declared.limits.TheConstants.{LAST_TIME};
 ghost use Rattle.qu_history.specs.Sets.{latest_of};
+ghost use Rattle.qu_objects.specs.Parts.{are_parts};
 ghost use Rattle.qu_replica.specs.State.{own_latest};
-ghost use Rattle.qu_replica.specs.Rows.{shown_of, base_of, base_version, fresh_on, row_unknown, row_thin, row_current, row_method, row_version, row_time, row_full};
+ghost use Rattle.qu_replica.specs.Growth.{MayDecide};
+ghost use Rattle.qu_replica.specs.Rows.{shown_of, base_of, base_version, fresh_on, is_held, row_unknown, row_thin, row_retry, row_current, row_method, row_version, row_time, row_full, row_done, row_told, decide_act, decide_ask, decision_on, objects_of};
 
 use super::Replica;
 use crate::asked::Asked;
-use crate::decision::{Decision, refuse};
+use crate::decision::{Accepted, Decision, refuse};
 use qu_base::{List, NoMemory, ObjectId};
-use qu_frames::{ClassCode, Refusal, Verdict};
+use qu_frames::{Body, ClassCode, Refusal, Verdict};
 use qu_history::HISTORY_LIMIT;
-use qu_objects::ObjState;
+use qu_objects::{Act, ObjState, Performed, Query, perform, tell_all};
 use qu_stamp::{Candidate, LAST_TIME, Stamp};
 use std::alloc::Global;
 
+// The replica's table: its rows in the order in which they are tried, and above them the two orders, that of an
+// act and that of a query. The first row that fits gives the decision.
 impl Replica {
+    /// What the replica makes of a request.
+    pub(super) fn decide(&self, asked: &Asked, body: &Body) -> Result<Decision, NoMemory>
+        ensures value { IfOk result (λ decision. decision ≡ decision_on self.now asked.now body.now) }
+        ensures may { IfOk result (λ decision. MayDecide self.now decision) }
+    {
+        match body {
+            Body::Act(act) => self.decide_act(asked, act),
+            Body::Ask(query) => self.decide_ask(asked, query),
+        }
+    }
+
+    /// What it makes of an act.
+    fn decide_act(&self, asked: &Asked, act: &Act) -> Result<Decision, NoMemory>
+        ensures value { IfOk result (λ decision. decision
+            ≡ decide_act self.now asked.now act.now (objects_of act.now)) }
+        ensures parts { IsTrue (are_parts act.now) }
+    {
+        match act.parts().as_slice() {
+            [(object, _)] => self.decide_act_on(asked, act, *object),
+            _ => unreachable!(),
+        }
+    }
+
+    /// What it makes of an act on one object.
+    #[tactic(auto, unfolding(crate::specs::Rows::decide_act, crate::specs::Rows::first_given))]
+    fn decide_act_on(
+        &self,
+        asked: &Asked,
+        act: &Act,
+        object: ObjectId,
+    ) -> Result<Decision, NoMemory>
+        requires { length act.now ≡ 1 }
+        ensures { IfOk result (λ decision. decision ≡ decide_act self.now asked.now act.now (object ∷ [])) }
+    {
+        if let Some(refusal) = self.rows_of_sets(asked) {
+            return Ok(refusal);
+        }
+        if let Some(kept) = self.row_retry(asked, object)? {
+            return Ok(kept);
+        }
+        if let Some(decision) = self.rows_of_base(asked, object) {
+            return Ok(decision);
+        }
+        if let Some(refusal) = self.row_time(asked, object) {
+            return Ok(refusal);
+        }
+        if let Some(refusal) = self.row_full(asked, object) {
+            return Ok(refusal);
+        }
+        self.row_done(asked, act, object)
+    }
+
+    /// What it makes of a query.
+    fn decide_ask(&self, asked: &Asked, query: &Query) -> Result<Decision, NoMemory>
+        ensures value { IfOk result (λ decision. decision
+            ≡ decide_ask self.now asked.now query.now (objects_of query.now)) }
+        ensures parts { IsTrue (are_parts query.now) }
+    {
+        match query.parts().as_slice() {
+            [(object, _)] => self.decide_ask_on(asked, query, *object),
+            _ => unreachable!(),
+        }
+    }
+
+    /// What it makes of a query of one object.
+    #[tactic(auto, unfolding(crate::specs::Rows::decide_ask, crate::specs::Rows::first_given))]
+    fn decide_ask_on(
+        &self,
+        asked: &Asked,
+        query: &Query,
+        object: ObjectId,
+    ) -> Result<Decision, NoMemory>
+        requires { length query.now ≡ 1 }
+        ensures { IfOk result (λ decision. decision ≡ decide_ask self.now asked.now query.now (object ∷ [])) }
+    {
+        if let Some(refusal) = self.rows_of_sets(asked) {
+            return Ok(refusal);
+        }
+        if let Some(decision) = self.rows_of_base(asked, object) {
+            return Ok(decision);
+        }
+        self.row_told(asked, query, object)
+    }
+
+    /// The rows that look at the sets alone.
+    fn rows_of_sets(&self, asked: &Asked) -> Option<Decision>
+        ensures { result ≡ option_or (row_unknown self.now asked.now) (row_thin self.now asked.now) }
+    {
+        self.row_unknown(asked).or(self.row_thin(asked))
+    }
+
+    /// The rows that look for a version upon which an operation on the object may rest.
+    fn rows_of_base(&self, asked: &Asked, object: ObjectId) -> Option<Decision>
+        ensures version { IfNone result (IsSome (base_version self.now asked.now object)) }
+        ensures value { result ≡ option_or (row_current self.now asked.now (object ∷ []))
+            (option_or (row_method self.now asked.now (object ∷ [])) (row_version self.now asked.now (object ∷ []))) }
+    {
+        let current = self.row_current(asked, object);
+        current
+            .or(self.row_method(asked, object))
+            .or(self.row_version(asked, object))
+    }
+
+    /// Refuses sets with an object that the replica does not have.
+    #[tactic(auto, unfolding(crate::specs::Rows::row_unknown))]
+    fn row_unknown(&self, asked: &Asked) -> Option<Decision>
+        ensures { result ≡ row_unknown self.now asked.now }
+    {
+        let known = self.histories.len();
+        let set = asked
+            .sets
+            .objects()
+            .iter()
+            .find(|set| known <= usize::from(set.object.0))?;
+        Some(refuse(self.alloc, Refusal::UnknownObject(set.object)))
+    }
+
+    /// Refuses sets with fewer entries of an object than a quorum.
+    #[tactic(auto, unfolding(crate::specs::Rows::row_thin))]
+    fn row_thin(&self, asked: &Asked) -> Option<Decision>
+        ensures { result ≡ row_thin self.now asked.now }
+    {
+        let quorum = usize::from(self.bounds.q());
+        let set = asked
+            .sets
+            .objects()
+            .iter()
+            .find(|set| set.entries.len() < quorum)?;
+        Some(refuse(self.alloc, Refusal::Thin(set.object)))
+    }
+
+    /// Tells the kept answer where the replica holds the act's candidate already.
+    #[tactic(auto, unfolding(crate::specs::Rows::row_retry, crate::specs::Rows::kept_answer))]
+    fn row_retry(&self, asked: &Asked, object: ObjectId) -> Result<Option<Decision>, NoMemory>
+        ensures { IfOk result (λ row. row ≡ row_retry self.now asked.now (object ∷ [])) }
+    {
+        let Some(fresh) = self.held_fresh(asked, object) else {
+            return Ok(None);
+        };
+        let Some(version) = self.version(object, &fresh.stamp) else {
+            return Ok(None);
+        };
+        let verdict = Verdict::Done {
+            stamps: List::one(self.alloc, (object, fresh.stamp))?,
+            answer: version.answer.copy(self.alloc)?,
+        };
+        Ok(Some(Decision::Answers {
+            verdict,
+            accepted: List::new(self.alloc),
+        }))
+    }
+
+    /// Refuses sets that do not show the replica's own latest candidate of the object.
+    #[tactic(auto, unfolding(crate::specs::Rows::row_current))]
+    fn row_current(&self, asked: &Asked, object: ObjectId) -> Option<Decision>
+        ensures { result ≡ row_current self.now asked.now (object ∷ []) }
+    {
+        let own = self.own_latest(object);
+        if asked.latest(object).is_below(&own) {
+            Some(refuse(self.alloc, Refusal::NotCurrent(object, own)))
+        } else {
+            None
+        }
+    }
+
+    /// Refuses an object upon which no operation may rest.
+    #[tactic(auto, unfolding(crate::specs::Rows::row_method))]
+    fn row_method(&self, asked: &Asked, object: ObjectId) -> Option<Decision>
+        ensures { result ≡ row_method self.now asked.now (object ∷ []) }
+    {
+        match self.base(asked, object) {
+            Some(_) => None,
+            None => Some(refuse(self.alloc, Refusal::NotMethod(object, ClassCode::Barrier))),
+        }
+    }
+
+    /// Waits where the version is missing upon which the operation rests.
+    #[tactic(auto, unfolding(crate::specs::Rows::row_version))]
+    fn row_version(&self, asked: &Asked, object: ObjectId) -> Option<Decision>
+        ensures version { IfNone result (IsSome (base_version self.now asked.now object)) }
+        ensures value { result ≡ row_version self.now asked.now (object ∷ []) }
+    {
+        match self.base_version(asked, object) {
+            Some(_) => None,
+            None => Some(Decision::Waits),
+        }
+    }
+
+    /// Refuses an object whose time is spent.
+    #[tactic(auto, unfolding(crate::specs::Rows::row_time))]
+    fn row_time(&self, asked: &Asked, object: ObjectId) -> Option<Decision>
+        ensures in_time { IfNone result ((latest_of (shown_of asked.now object)).time < LAST_TIME) }
+        ensures value { result ≡ row_time self.now asked.now (object ∷ []) }
+    {
+        if LAST_TIME <= asked.latest(object).time {
+            Some(refuse(self.alloc, Refusal::TimeSpent(object)))
+        } else {
+            None
+        }
+    }
+
+    /// Refuses an object whose history is full.
+    #[tactic(auto, unfolding(crate::specs::Rows::row_full))]
+    fn row_full(&self, asked: &Asked, object: ObjectId) -> Option<Decision>
+        ensures { result ≡ row_full self.now asked.now (object ∷ []) }
+    {
+        let length = match self.history(object) {
+            Some(history) => history.len(),
+            None => 0,
+        };
+        if HISTORY_LIMIT <= length {
+            Some(refuse(self.alloc, Refusal::HistoryFull(object)))
+        } else {
+            None
+        }
+    }
+
+    /// Performs the act upon the version on which it rests.
+    #[tactic(auto, using(crate::proofs::Carried::done_one, crate::proofs::Carried::performed_one))]
+    fn row_done(&self, asked: &Asked, act: &Act, object: ObjectId) -> Result<Decision, NoMemory>
+        requires one_part { length act.now ≡ 1 }
+        requires version { IsSome (base_version self.now asked.now object) }
+        requires in_time { (latest_of (shown_of asked.now object)).time < LAST_TIME }
+        ensures { IfOk result (λ decision. row_done self.now asked.now act.now (object ∷ []) ≡ Some decision) }
+    {
+        let candidate = self.fresh(asked, object).unwrap();
+        let version = self.base_version(asked, object).unwrap();
+        let Performed { values, answer } = perform(self.alloc, &[version.value], act)?;
+        let value = only(values.as_slice());
+        let accepted = Accepted {
+            object,
+            candidate,
+            state: ObjState { value, answer },
+        };
+        done(self.alloc, accepted)
+    }
+
+    /// Answers the query from the version on which it rests.
+    #[tactic(auto, using(crate::proofs::Carried::told_one))]
+    fn row_told(&self, asked: &Asked, query: &Query, object: ObjectId) -> Result<Decision, NoMemory>
+        requires one_part { length query.now ≡ 1 }
+        requires version { IsSome (base_version self.now asked.now object) }
+        ensures { IfOk result (λ decision. row_told self.now asked.now query.now (object ∷ []) ≡ Some decision) }
+    {
+        let base = self.base(asked, object).unwrap();
+        let version = self.base_version(asked, object).unwrap();
+        let verdict = Verdict::Told {
+            stamps: List::one(self.alloc, (object, base.stamp))?,
+            answer: tell_all(self.alloc, &[version.value], query)?,
+        };
+        Ok(Decision::Answers {
+            verdict,
+            accepted: List::new(self.alloc),
+        })
+    }
+
     /// The candidate upon which an operation on the object may rest.
-    pub(super) fn base(&self, asked: &Asked, object: ObjectId) -> Option<Candidate>
+    fn base(&self, asked: &Asked, object: ObjectId) -> Option<Candidate>
         ensures { result ≡ base_of self.now asked.now object }
     {
         asked.sets.method_at(object, &self.bounds)
     }
 
     /// The version of that candidate, where the replica has it.
-    pub(super) fn base_version(&self, asked: &Asked, object: ObjectId) -> Option<&ObjState>
+    fn base_version(&self, asked: &Asked, object: ObjectId) -> Option<&ObjState>
         ensures { option_copied result ≡ base_version self.now asked.now object }
     {
         match self.base(asked, object) {
@@ -34,7 +294,7 @@ impl Replica {
     }
 
     /// The candidate that an act makes on the object, where it may rest upon one.
-    pub(super) fn fresh(&self, asked: &Asked, object: ObjectId) -> Option<Candidate>
+    fn fresh(&self, asked: &Asked, object: ObjectId) -> Option<Candidate>
         requires { (latest_of (shown_of asked.now object)).time < LAST_TIME }
         ensures { result ≡ fresh_on self.now asked.now object }
     {
@@ -65,96 +325,45 @@ impl Replica {
         }
     }
 
-    /// Refuses sets with an object that the replica does not have.
-    #[tactic(auto, unfolding(crate::specs::Rows::row_unknown))]
-    pub(super) fn row_unknown(&self, asked: &Asked) -> Option<Decision>
-        ensures { result ≡ row_unknown self.now asked.now }
+    /// The candidate that the act makes, where the replica holds it.
+    #[tactic(auto, using(crate::proofs::Held::spent_not_held), unfolding(crate::specs::Rows::is_held))]
+    fn held_fresh(&self, asked: &Asked, object: ObjectId) -> Option<Candidate>
+        ensures held { IsSome result ↔ IsTrue (is_held self.now asked.now object) }
+        ensures value { IfSome result (λ fresh. fresh_on self.now asked.now object ≡ Some fresh) }
     {
-        let known = self.histories.len();
-        let set = asked
-            .sets
-            .objects()
-            .iter()
-            .find(|set| known <= usize::from(set.object.0))?;
-        Some(refuse(self.alloc, Refusal::UnknownObject(set.object)))
-    }
-
-    /// Refuses sets with fewer entries of an object than a quorum.
-    #[tactic(auto, unfolding(crate::specs::Rows::row_thin))]
-    pub(super) fn row_thin(&self, asked: &Asked) -> Option<Decision>
-        ensures { result ≡ row_thin self.now asked.now }
-    {
-        let quorum = usize::from(self.bounds.q());
-        let set = asked
-            .sets
-            .objects()
-            .iter()
-            .find(|set| set.entries.len() < quorum)?;
-        Some(refuse(self.alloc, Refusal::Thin(set.object)))
-    }
-
-    /// Refuses sets that do not show the replica's own latest candidate of the object.
-    #[tactic(auto, unfolding(crate::specs::Rows::row_current))]
-    pub(super) fn row_current(&self, asked: &Asked, object: ObjectId) -> Option<Decision>
-        ensures { result ≡ row_current self.now asked.now (object ∷ []) }
-    {
-        let own = self.own_latest(object);
-        if asked.latest(object).is_below(&own) {
-            Some(refuse(self.alloc, Refusal::NotCurrent(object, own)))
-        } else {
-            None
-        }
-    }
-
-    /// Refuses an object upon which no operation may rest.
-    #[tactic(auto, unfolding(crate::specs::Rows::row_method))]
-    pub(super) fn row_method(&self, asked: &Asked, object: ObjectId) -> Option<Decision>
-        ensures { result ≡ row_method self.now asked.now (object ∷ []) }
-    {
-        match self.base(asked, object) {
-            Some(_) => None,
-            None => Some(refuse(self.alloc, Refusal::NotMethod(object, ClassCode::Barrier))),
-        }
-    }
-
-    /// Waits where the version is missing upon which the operation rests.
-    #[tactic(auto, unfolding(crate::specs::Rows::row_version))]
-    pub(super) fn row_version(&self, asked: &Asked, object: ObjectId) -> Option<Decision>
-        ensures version { IfNone result (IsSome (base_version self.now asked.now object)) }
-        ensures value { result ≡ row_version self.now asked.now (object ∷ []) }
-    {
-        match self.base_version(asked, object) {
-            Some(_) => None,
-            None => Some(Decision::Waits),
-        }
-    }
-
-    /// Refuses an object whose time is spent.
-    #[tactic(auto, unfolding(crate::specs::Rows::row_time))]
-    pub(super) fn row_time(&self, asked: &Asked, object: ObjectId) -> Option<Decision>
-        ensures in_time { IfNone result ((latest_of (shown_of asked.now object)).time < LAST_TIME) }
-        ensures value { result ≡ row_time self.now asked.now (object ∷ []) }
-    {
+        let history = self.history(object)?;
         if LAST_TIME <= asked.latest(object).time {
-            Some(refuse(self.alloc, Refusal::TimeSpent(object)))
+            return None;
+        }
+        let fresh = self.fresh(asked, object)?;
+        if history.holds(&fresh) {
+            Some(fresh)
         } else {
             None
         }
     }
+}
 
-    /// Refuses an object whose history is full.
-    #[tactic(auto, unfolding(crate::specs::Rows::row_full))]
-    pub(super) fn row_full(&self, asked: &Asked, object: ObjectId) -> Option<Decision>
-        ensures { result ≡ row_full self.now asked.now (object ∷ []) }
-    {
-        let length = match self.history(object) {
-            Some(history) => history.len(),
-            None => 0,
-        };
-        if HISTORY_LIMIT <= length {
-            Some(refuse(self.alloc, Refusal::HistoryFull(object)))
-        } else {
-            None
-        }
-    }
+/// The decision to accept one candidate.
+fn done(alloc: Global, accepted: Accepted) -> Result<Decision, NoMemory>
+    ensures { IfOk result
+        (λ decision. decision ≡ Decision.Answers
+        (Verdict.Done ((accepted.object, accepted.candidate.stamp) ∷ []) accepted.state.answer) (accepted ∷ [])) }
+{
+    let verdict = Verdict::Done {
+        stamps: List::one(alloc, (accepted.object, accepted.candidate.stamp))?,
+        answer: accepted.state.answer.copy(alloc)?,
+    };
+    Ok(Decision::Answers {
+        verdict,
+        accepted: List::one(alloc, accepted)?,
+    })
+}
+
+/// The one item of a list.
+fn only<T: Copy>(items: &[T]) -> T
+    requires { length items.now ≡ 1 }
+    ensures { items.now ≡ result ∷ [] }
+{
+    items[0]
 }

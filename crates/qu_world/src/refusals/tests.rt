@@ -15,7 +15,7 @@ fn a_run_has_limits(rt: HostRuntime) -> Result<(), Fail> {
         ),
         (EVENT_LIMIT, BYTE_LIMIT, Some(WorldFail::TooManyEvents)),
     ] {
-        assert_eq!(rt; refused_at(events, bytes), wanted, "at {events} events");
+        assert_eq!(rt; limit_at(events, bytes), wanted, "at {events} events");
     }
     Ok(())
 }

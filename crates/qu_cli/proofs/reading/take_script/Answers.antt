@@ -9,7 +9,9 @@ returns-in_err-extend_from_slice-clause-few g c =
     let piece = take c.in_ok-count.count c.read.new.into in
     record {
       bytes = c.pieces.script.items ++ piece;
-      taken = Consumes-trans (known c.args.input.now).bytes (known c.pieces.input).bytes (known c.read.new.self).bytes c.pieces.script.items piece c.pieces.invariant.taken c.in_ok-count.ensures.reads.takes;
+      taken = Consumes-trans (known c.args.input.now).bytes (known c.pieces.input).bytes
+          (known c.read.new.self).bytes c.pieces.script.items piece c.pieces.invariant.taken
+          c.in_ok-count.ensures.reads.takes;
       few =
           let fits = c.in_ok-count.ensures.reads.fits in
           let kept = simp length-take at c.read.auto.into in

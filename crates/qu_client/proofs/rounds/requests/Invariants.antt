@@ -4,4 +4,5 @@ use Rattle.qu_client.proofs.rounds.requests.Given as goal
 
 abbrev pub invariant-loop-replica : goal.invariant-loop-replica
 invariant-loop-replica l =
-    l.letters ++ requests_from l.keys l.replica (l.replicas - l.replica) l.fn.me l.work l.sets ≡ requests_from l.keys 0 l.replicas l.fn.me l.work l.sets
+    l.letters ++ requests_from l.keys l.replica (l.replicas - l.replica) l.fn.me l.work l.sets ≡ requests_from
+    l.keys 0 l.replicas l.fn.me l.work l.sets

@@ -5,4 +5,7 @@ use Rattle.qu_client.proofs.sets.sets_of.Goals as goal
 
 pub unreachable-requires : goal.unreachable-requires
 unreachable-requires c =
-    both_ways _ (c.in-None.ensures.refused.0 refl) (are_sets_made c.args.bounds c.args.kept.now _ _ _ c.loop-object.object-index c.loop-object.invariant c.loop-object-test.false c.as_slice-object-items.ensures c.in_ok-objects.ensures.in_order (rw c.n-replicas.ensures.value at c.n-replicas.ensures.most))
+    both_ways _ (c.in-None.ensures.refused.0 refl)
+    (are_sets_made c.args.bounds c.args.kept.now _ _ _ c.loop-object.object-index c.loop-object.invariant
+    c.loop-object-test.false c.as_slice-object-items.ensures c.in_ok-objects.ensures.in_order
+    (rw c.n-replicas.ensures.value at c.n-replicas.ensures.most))

@@ -5,4 +5,5 @@ use Rattle.qu_frames.proofs.decoding.decode.Goals as goal
 
 pub returns-clause-found : goal.returns-clause-found
 returns-clause-found c =
-    decoded_is_spelled c.args.text.now c.in_ok-frame.frame (subst AreBytes c.new.ensures.rest c.are_bytes.ensures) c.in_ok-frame.ensures
+    decoded_is_spelled c.args.text.now c.in_ok-frame.frame (subst AreBytes c.new.ensures.rest c.are_bytes.ensures)
+    c.in_ok-frame.ensures

@@ -6,4 +6,5 @@ use Rattle.qu_frames.proofs.reading_verdict.next_stamps.Given as goal
 -- what is read of all is what was read so far, before what is read of the rest
 abbrev pub invariant-loop-at : goal.invariant-loop-at
 invariant-loop-at l =
-    items_at stamp_from after_told 0 l.count l.fn.text ≡ put_before l.stamps (items_at stamp_from after_told l.least (l.count - l.at) l.text)
+    items_at stamp_from after_told 0 l.count l.fn.text ≡ put_before l.stamps
+    (items_at stamp_from after_told l.least (l.count - l.at) l.text)

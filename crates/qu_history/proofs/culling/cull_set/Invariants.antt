@@ -7,4 +7,5 @@ use Rattle.qu_history.proofs.culling.cull_set.Given as goal
 abbrev pub invariant-loop-entry : goal.invariant-loop-entry
 invariant-loop-entry l =
     (l.entries ≡ filter (is_right l.keys l.me) (take l.entry-index l.entry-items))
-    × (l.left ≡ l.fn.left ++ map (λ (sealed : Sealed). (l.set.object, (sealed.history).replica)) (filter (λ sealed. not (is_right l.keys l.me sealed)) (take l.entry-index l.entry-items)))
+    × (l.left ≡ l.fn.left ++ map (λ (sealed : Sealed). (l.set.object, (sealed.history).replica))
+    (filter (λ sealed. not (is_right l.keys l.me sealed)) (take l.entry-index l.entry-items)))

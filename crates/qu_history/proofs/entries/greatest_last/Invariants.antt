@@ -8,4 +8,6 @@ use Rattle.qu_history.proofs.entries.greatest_last.Given as goal
 
 abbrev pub invariant-loop-entry : goal.invariant-loop-entry
 invariant-loop-entry l =
-    l.greatest ≡ greatest (filter (is_last_of (histories l.entries) l.stamp l.least) (map (λ entry. last entry.candidates) (take l.entry-index (histories l.entries))))
+    l.greatest ≡ greatest
+    (filter (is_last_of (histories l.entries) l.stamp l.least)
+    (map (λ entry. last entry.candidates) (take l.entry-index (histories l.entries))))

@@ -7,4 +7,5 @@ use Rattle.qu_history.proofs.reading.next_candidates.Given as goal
 abbrev pub invariant-loop : goal.invariant-loop
 invariant-loop l =
     items_at next_candidate (λ candidate. Some candidate.stamp) None l.fn.count l.fn.text
-    ≡ put_before l.candidates (items_at next_candidate (λ candidate. Some candidate.stamp) l.before (l.count - l.counter) l.text)
+    ≡ put_before l.candidates (items_at next_candidate (λ candidate. Some candidate.stamp) l.before
+    (l.count - l.counter) l.text)

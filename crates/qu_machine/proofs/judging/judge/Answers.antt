@@ -8,12 +8,14 @@ use Rattle.qu_machine.proofs.judging.judge.Goals as goal
 
 pub returns-in-Some-clause-accepted : goal.returns-in-Some-clause-accepted
 returns-in-Some-clause-accepted c = λ serial.
-    no_fault c.args.kinds.now c.args.ops.now c.args.order.now (fault.Differs c.in-Some.at) serial (rw c.in-Some.is at c.in_ok-at.ensures)
+    no_fault c.args.kinds.now c.args.ops.now c.args.order.now (fault.Differs c.in-Some.at) serial
+    (rw c.in-Some.is at c.in_ok-at.ensures)
 
 pub returns-in-Some-first_outside-clause-verdict : goal.returns-in-Some-first_outside-clause-verdict
 returns-in-Some-first_outside-clause-verdict c = (
   rw c.in_default.is at c.in_ok-at.ensures,
-  first_at (is_outside c.args.ops.now) (OutsideAt c.args.ops.now c.args.order.now) c.args.order.now c.in-Some-first_outside.at
+  first_at (is_outside c.args.ops.now) (OutsideAt c.args.ops.now c.args.order.now) c.args.order.now
+      c.in-Some-first_outside.at
       (outside_at c.args.ops.now c.args.order.now) (sym c.in-Some-first_outside.ensures),
 )
 
@@ -41,7 +43,8 @@ returns-in-Some-first_absent-clause-verdict c = (
   nowhere_at (is_outside c.args.ops.now) (OutsideAt c.args.ops.now c.args.order.now) c.args.order.now
       (outside_at c.args.ops.now c.args.order.now) (sym c.in_default-first_outside.ensures),
   c.in_default-first_twice.ensures,
-  first_at (is_absent c.args.order.now) (AbsentAt c.args.ops.now c.args.order.now) c.args.ops.now c.in-Some-first_absent.op
+  first_at (is_absent c.args.order.now) (AbsentAt c.args.ops.now c.args.order.now) c.args.ops.now
+      c.in-Some-first_absent.op
       (absent_at c.args.ops.now c.args.order.now) (sym c.in-Some-first_absent.ensures),
 )
 

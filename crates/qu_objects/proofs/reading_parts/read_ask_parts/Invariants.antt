@@ -6,4 +6,5 @@ use Rattle.qu_objects.proofs.reading_parts.read_ask_parts.Given as goal
 abbrev pub invariant-loop-at : goal.invariant-loop-at
 invariant-loop-at l =
     items_at (part_form ask_form (is_one_of l.known)) (λ part. Some part.0) None l.count l.fn.text ≡
-    put_before l.parts (items_at (part_form ask_form (is_one_of l.known)) (λ part. Some part.0) l.before (l.count - l.at) l.text)
+    put_before l.parts (items_at (part_form ask_form (is_one_of l.known)) (λ part. Some part.0) l.before
+    (l.count - l.at) l.text)

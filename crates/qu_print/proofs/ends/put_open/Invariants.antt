@@ -8,5 +8,6 @@ use Rattle.qu_print.proofs.ends.put_open.Given as goal
 
 abbrev pub invariant-loop-earlier : goal.invariant-loop-earlier
 invariant-loop-earlier l =
-    string_bytes l.text ++ lines_text (flat_map (open_lines_of l.operations) (range_with_len (l.earlier + 1) (l.clients - l.earlier)))
+    string_bytes l.text ++ lines_text
+    (flat_map (open_lines_of l.operations) (range_with_len (l.earlier + 1) (l.clients - l.earlier)))
     ≡ string_bytes l.initial.text ++ lines_text (open_lines l.clients l.operations)

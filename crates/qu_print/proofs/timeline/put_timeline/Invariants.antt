@@ -9,5 +9,6 @@ use Rattle.qu_print.proofs.timeline.put_timeline.Given as goal
 abbrev pub invariant-loop-index : goal.invariant-loop-index
 invariant-loop-index l =
     string_bytes l.text
-    ++ lines_text (flat_map (λ place. event_lines l.order (take place.0 l.entries) place.1) (enumerate_from l.index (drop l.index l.entries)))
+    ++ lines_text (flat_map (λ place. event_lines l.order (take place.0 l.entries) place.1)
+    (enumerate_from l.index (drop l.index l.entries)))
     ≡ string_bytes l.initial.text ++ lines_text (timeline l.entries l.order)

@@ -1,48 +1,102 @@
--- The points of all operations are the printed order, and this is a serial order.
-use Rattle.std.proofs.Common.{List, sym, subst, ◌∙◌}
-use Rattle.std.specs.List.{AllPairs}
-use Rattle.qu_machine.specs.declared.record.OpRecord.{OpRecord}
-use Rattle.qu_safety.specs.Order.{IsPrintedOrder}
-use Rattle.qu_safety.specs.Points.{AreApart}
-use Rattle.qu_safety.specs.Views.{HaveParts, ArePlain}
+-- The printed order is a serial order, and what is behind it.
+use Rattle.std.proofs.Common.{◌<◌, ◌^◌, List, length, Result, Ok, Err, subst}
+use Rattle.std.specs.Result.{OnOk}
+use Rattle.std.proofs.lemmas.Result.{IfOk-weaker}
+use Rattle.qu_machine.specs.declared.record.Point.{Point}
+use Rattle.qu_machine.specs.Serial.{IsSerial}
+use Rattle.qu_trace.specs.declared.trace.Entry.{Entry}
+use Rattle.qu_trace.specs.declared.trace.Trace.{Trace}
+use Rattle.qu_trace.specs.Operations.{operations_of}
+use Rattle.qu_chain.specs.Laws.{Laws}
+use Rattle.qu_chain.specs.Joint.{Joint}
+use Rattle.qu_runs.specs.Setting.{setting}
+use Rattle.qu_runs.specs.Plain.{HaveParts, ArePlain}
+use Rattle.qu_runs.specs.Premises.{IsUnforged, MeetsPremises}
+use Rattle.qu_runs.proofs.Plain.{plain_from}
+use Rattle.qu_points.specs.Order.{IsPrintedOrder}
+use Rattle.qu_grounds.proofs.Chained.{is_chained, decides_in_turn, decides_jointly}
+use Rattle.qu_grounds.proofs.Laws.{laws}
+use Rattle.qu_grounds.proofs.JointLaws.{joint_laws}
+use Rattle.qu_safety.proofs.DecidedOnce.{decides_once}
 use Rattle.qu_safety.proofs.ByQuorums.{completes_by_quorums}
-use Rattle.qu_safety.proofs.Chained.{is_chained}
-use Rattle.qu_safety.proofs.Distinct.{operations_apart}
-use Rattle.qu_safety.proofs.InTurn.{decides_in_turn}
-use Rattle.qu_safety.proofs.Named.{stamps_name}
-use Rattle.qu_safety.proofs.OneAct.{acts_are_one}
-use Rattle.qu_safety.proofs.Plain.{plain_from}
-use Rattle.qu_safety.proofs.Printed.{printed}
+use Rattle.qu_grounds.proofs.Named.{stamps_name}
+use Rattle.qu_safety.proofs.OneAct.{ActsAreOne, acts_are_one}
+use Rattle.qu_safety.proofs.UpdateFacts.{UpdateFacts}
+use Rattle.qu_safety.proofs.UpdatesOfRuns.{update_facts}
 use Rattle.qu_safety.proofs.SerialOrder.{serial}
 use Rattle.qu_safety.proofs.order.order_of.Goals as goal
 
-pub points-requires-clause-apart : goal.points-requires-clause-apart
-points-requires-clause-apart c =
-    subst (λ (operations : List OpRecord). AllPairs AreApart operations) (sym (c.as_slice-2.ensures ∙ c.in_ok-operations.ensures)) (operations_apart c.args.trace.now.entries)
+-- what holds whatever was returned
+always : {T E : Type 0} {P : Type 0} (result : Result T E) → P → OnOk result P
+always (Ok value) it = it
+always (Err failure) it = tt
 
-pub returns-clause-printed : goal.returns-clause-printed
-returns-clause-printed c =
-    subst (IsPrintedOrder c.args.trace.now) (sym c.from.ensures)
-    (printed c.args.trace.now c.as_slice-2.result.now c.in_ok-points.points.items (c.as_slice-2.ensures ∙ c.in_ok-operations.ensures) c.in_ok-points.ensures)
+plain_run : (c : goal.After-printed_order) → IsUnforged c.args.trace.now → ArePlain c.args.trace.now
+plain_run c unforged =
+    plain_from c.args.trace.now (subst HaveParts c.as_slice.ensures c.have_parts.ensures.parts)
+    (subst (λ (entries : List Entry). length entries < 2 ^ 63) c.as_slice.ensures c.have_parts.ensures.few) unforged
+
+-- what the serial order rests on
+record Grounded (trace : Trace) : Type 0 where
+  plain : ArePlain trace
+  one_act : ActsAreOne trace
+  laws : Laws (setting trace)
+  joint : Joint (setting trace)
+  facts : UpdateFacts trace
+
+grounded : (c : goal.After-printed_order) → MeetsPremises c.args.trace.now → Grounded c.args.trace.now
+grounded c premises =
+    let trace : Trace = c.args.trace.now in
+    let plain : ArePlain trace = plain_run c premises.unforged in
+    let one_act : ActsAreOne trace = acts_are_one trace c.requires plain premises.no_collision in
+    let law : Laws (setting trace) = laws trace c.requires plain in
+    let joint : Joint (setting trace) = joint_laws trace c.requires plain premises.no_collision in
+    record {
+      plain = plain;
+      one_act = one_act;
+      laws = law;
+      joint = joint;
+      facts = update_facts trace c.requires plain one_act law joint;
+    }
 
 pub returns-clause-serial : goal.returns-clause-serial
 returns-clause-serial c =
-    λ premises.
-    let plain : ArePlain c.args.trace.now = plain_from c.args.trace.now (subst HaveParts c.as_slice.ensures c.have_parts.ensures) premises.unforged in
-    serial c.args.trace.now c.requires plain (acts_are_one c.args.trace.now c.requires plain premises.no_collision) c.from.result (returns-clause-printed c)
+    IfOk-weaker c.printed_order.result (IsPrintedOrder c.args.trace.now)
+    (λ (order : List Point). MeetsPremises c.args.trace.now → IsSerial c.args.trace.now.setup.kinds
+    (operations_of c.args.trace.now.entries) order)
+    (λ order printed premises.
+    let it : Grounded c.args.trace.now = grounded c premises in
+    serial c.args.trace.now c.requires it.plain it.one_act it.laws it.joint it.facts order printed)
+    c.printed_order.ensures
 
 pub returns-clause-chained : goal.returns-clause-chained
 returns-clause-chained c =
-    λ none. is_chained c.args.trace.now c.requires (plain_from c.args.trace.now (subst HaveParts c.as_slice.ensures c.have_parts.ensures) none)
+    always c.printed_order.result (λ premises.
+    is_chained c.args.trace.now c.requires (plain_run c premises.unforged) premises.no_collision)
 
 pub returns-clause-named : goal.returns-clause-named
 returns-clause-named c =
-    λ premises. stamps_name c.args.trace.now c.requires (plain_from c.args.trace.now (subst HaveParts c.as_slice.ensures c.have_parts.ensures) premises.unforged) premises.no_collision
+    always c.printed_order.result (λ premises.
+    stamps_name c.args.trace.now c.requires (plain_run c premises.unforged) premises.no_collision)
+
+pub returns-clause-jointly : goal.returns-clause-jointly
+returns-clause-jointly c =
+    always c.printed_order.result (λ premises.
+    decides_jointly c.args.trace.now c.requires (plain_run c premises.unforged) premises.no_collision)
 
 pub returns-clause-in_turn : goal.returns-clause-in_turn
 returns-clause-in_turn c =
-    λ none. decides_in_turn c.args.trace.now c.requires (plain_from c.args.trace.now (subst HaveParts c.as_slice.ensures c.have_parts.ensures) none)
+    always c.printed_order.result (λ premises.
+    decides_in_turn c.args.trace.now c.requires (plain_run c premises.unforged) premises.no_collision)
+
+pub returns-clause-once : goal.returns-clause-once
+returns-clause-once c =
+    always c.printed_order.result (λ premises.
+    let it : Grounded c.args.trace.now = grounded c premises in
+    decides_once c.args.trace.now it.laws it.joint it.one_act it.facts)
 
 pub returns-clause-by_quorums : goal.returns-clause-by_quorums
 returns-clause-by_quorums c =
-    λ none. completes_by_quorums c.args.trace.now c.requires (plain_from c.args.trace.now (subst HaveParts c.as_slice.ensures c.have_parts.ensures) none)
+    always c.printed_order.result (λ premises.
+    let it : Grounded c.args.trace.now = grounded c premises in
+    completes_by_quorums c.args.trace.now c.requires it.plain it.laws it.joint it.facts)

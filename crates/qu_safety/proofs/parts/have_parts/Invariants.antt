@@ -1,6 +1,6 @@
 -- the entries so far have parts
 use Rattle.std.proofs.Common.{take}
-use Rattle.qu_safety.specs.Views.{HaveParts}
+use Rattle.qu_runs.specs.Plain.{HaveParts}
 use Rattle.qu_safety.proofs.parts.have_parts.Given as goal
 
 abbrev pub invariant-loop-entry : goal.invariant-loop-entry

@@ -7,16 +7,19 @@ use Rattle.qu_script.proofs.waiting.find_waiting.Goals as goal
 pub returns-then-not-was_delivered-clause-found : goal.returns-then-not-was_delivered-clause-found
 returns-then-not-was_delivered-clause-found c =
     waiting_found c.args.entries.now c.search.next c.search.invariant
-    (found_within (letters_of c.args.entries.now) c.search.next c.letter_at.result c.letter_at.ensures (sym c.is_some.ensures ∙ c.search-test.true))
+    (found_within (letters_of c.args.entries.now) c.search.next c.letter_at.result c.letter_at.ensures
+    (sym c.is_some.ensures ∙ c.search-test.true))
     (sym c.was_delivered.ensures ∙ c.if-not-was_delivered.true)
 
 pub search-smaller : goal.search-smaller
 search-smaller c =
     let within : c.search.next ≤ length (letters_of c.args.entries.now) =
-    found_within (letters_of c.args.entries.now) c.search.next c.letter_at.result c.letter_at.ensures (sym c.is_some.ensures ∙ c.search-test.true) in
+    found_within (letters_of c.args.entries.now) c.search.next c.letter_at.result c.letter_at.ensures
+    (sym c.is_some.ensures ∙ c.search-test.true) in
     grind (arith, within)
 
 pub returns-clause-found : goal.returns-clause-found
 returns-clause-found c =
     waiting_none c.args.entries.now c.search.next c.search.invariant
-    (found_past (letters_of c.args.entries.now) c.search.next c.letter_at.result c.letter_at.ensures (sym c.is_some.ensures ∙ c.search-test.false) c.search.invariant.is_letter)
+    (found_past (letters_of c.args.entries.now) c.search.next c.letter_at.result c.letter_at.ensures
+    (sym c.is_some.ensures ∙ c.search-test.false) c.search.invariant.is_letter)

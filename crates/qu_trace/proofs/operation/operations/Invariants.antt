@@ -5,4 +5,5 @@ use Rattle.qu_trace.proofs.operation.operations.Given as goal
 
 abbrev pub invariant-loop-index : goal.invariant-loop-index
 invariant-loop-index l =
-    l.operations ++ operations_from (take l.index l.entries) (l.index + 1) (drop l.index l.entries) ≡ operations_of l.entries
+    l.operations ++ operations_from (take l.index l.entries) (l.index + 1)
+    (drop l.index l.entries) ≡ operations_of l.entries

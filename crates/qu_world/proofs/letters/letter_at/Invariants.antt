@@ -6,4 +6,5 @@ use Rattle.qu_world.specs.State.{numbered}
 use Rattle.qu_world.proofs.letters.letter_at.Given as goal
 
 abbrev pub invariant-loop-entry : goal.invariant-loop-entry
-invariant-loop-entry l = slice_get (letters_of (drop l.entry-index l.entries)) l.before ≡ numbered (letters_of l.entries) l.number
+invariant-loop-entry l = slice_get (letters_of (drop l.entry-index l.entries)) l.before ≡ numbered
+    (letters_of l.entries) l.number

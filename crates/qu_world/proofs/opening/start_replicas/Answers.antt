@@ -6,10 +6,13 @@ use Rattle.qu_world.proofs.opening.start_replicas.Goals as goal
 
 pub loop-number-preserved : goal.loop-number-preserved
 loop-number-preserved c =
-    replica_started c.loop-number.started.items c.push.new.self.items _ c.in_ok-start.field-0 c.loop-number.number c.n-count.result c.args.keys c.args.bounds c.args.kinds.now
-    (omega arith) c.loop-number.invariant c.in_ok-start.ensures c.in_ok-push.ensures.items
+    replica_started c.loop-number.started.items c.push.new.self.items _ c.in_ok-start.field-0 c.loop-number.number
+    c.n-count.result c.args.keys c.args.bounds c.args.kinds.now
+    (omega arith) c.loop-number.invariant c.in_ok-start.ensures.value c.in_ok-push.ensures.items
 
 pub returns : goal.returns
 returns c =
-    let here = replicas_started c.loop-number.started.items (opening_replicas 0 c.n-count.result c.args.keys c.args.bounds c.args.kinds.now) c.loop-number.number c.n-count.result c.args.keys c.args.bounds c.args.kinds.now (omega arith) c.loop-number.invariant in
+    let here = replicas_started c.loop-number.started.items
+    (opening_replicas 0 c.n-count.result c.args.keys c.args.bounds c.args.kinds.now) c.loop-number.number
+    c.n-count.result c.args.keys c.args.bounds c.args.kinds.now (omega arith) c.loop-number.invariant in
     rw c.n-count.ensures.value at here

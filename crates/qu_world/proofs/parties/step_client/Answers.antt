@@ -9,8 +9,12 @@ use Rattle.qu_world.proofs.parties.step_client.Goals as goal
 
 pub returns-clause-moves : goal.returns-clause-moves
 returns-clause-moves c =
-    client_moved _ c.args.me c.in-Some.index c.index_mut-client.result.now c.step.new.self (λ state. client_step state c.args.text.now) _
-    c.in-Some.ensures.0 (omega arith) c.index_mut-client.ensures.value c.in_ok-moved.ensures.state c.in_ok-moved.ensures.letters
+    client_moved _ c.args.me c.in-Some.index c.index_mut-client.result.now c.step.new.self
+    (λ state. client_step state c.args.text.now) _
+    c.in-Some.ensures.0 (omega arith) c.index_mut-client.ensures.value c.in_ok-moved.ensures.state
+    c.in_ok-moved.ensures.letters
     (c.named.ensures
     ∙ ap (λ number. ended_as c.args.me number c.in_ok-moved.moved.ended) c.working_on-number.ensures
-    ∙ ap (λ ended. ended_as c.args.me (option_map (λ (under_way : Work). under_way.number) c.index_mut-client.result.now.work) ended) c.in_ok-moved.ensures.ended)
+    ∙ ap (λ ended. ended_as c.args.me
+    (option_map (λ (under_way : Work). under_way.number) c.index_mut-client.result.now.work) ended)
+    c.in_ok-moved.ensures.ended)

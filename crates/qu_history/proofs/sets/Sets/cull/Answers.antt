@@ -6,4 +6,5 @@ use Rattle.qu_history.proofs.sets.Sets.cull.Goals as goal
 
 pub invariant_of-result : goal.invariant_of-result
 invariant_of-result c =
-    ap are_sets (c.in_ok-objects.ensures.stays ∙ ap (culled c.args.keys.now c.args.me) c.as_slice.ensures) ∙ culled_are_sets c.args.keys.now c.args.me c.objects.result.now c.objects.ensures.rising
+    ap are_sets (c.in_ok-objects.ensures.stays ∙ ap (culled c.args.keys.now c.args.me) c.as_slice.ensures)
+    ∙ culled_are_sets c.args.keys.now c.args.me c.objects.result.now c.objects.ensures.rising

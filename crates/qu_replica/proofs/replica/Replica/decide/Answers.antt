@@ -10,12 +10,18 @@ use Rattle.qu_replica.proofs.replica.Replica.decide.Goals as goal
 
 pub returns-in-Act-clause-may : goal.returns-in-Act-clause-may
 returns-in-Act-clause-may c =
-    IfOk-weaker c.decide_act.result (λ (decision : Decision). decision ≡ decision_on c.args.self.now c.args.asked.now (body.Act c.in-Act.act)) (λ (decision : Decision). MayDecide c.args.self.now decision)
-    (λ decision is. subst (MayDecide c.args.self.now) (sym is) (decision_on-may c.args.self.now c.args.asked.now (body.Act c.in-Act.act) c.decide_act.ensures.parts))
+    IfOk-weaker c.decide_act.result
+    (λ (decision : Decision). decision ≡ decision_on c.args.self.now c.args.asked.now (body.Act c.in-Act.act))
+    (λ (decision : Decision). MayDecide c.args.self.now decision)
+    (λ decision is. subst (MayDecide c.args.self.now) (sym is)
+    (decision_on-may c.args.self.now c.args.asked.now (body.Act c.in-Act.act) c.decide_act.ensures.parts))
     c.decide_act.ensures.value
 
 pub returns-in-Ask-clause-may : goal.returns-in-Ask-clause-may
 returns-in-Ask-clause-may c =
-    IfOk-weaker c.decide_ask.result (λ (decision : Decision). decision ≡ decision_on c.args.self.now c.args.asked.now (body.Ask c.in-Ask.query)) (λ (decision : Decision). MayDecide c.args.self.now decision)
-    (λ decision is. subst (MayDecide c.args.self.now) (sym is) (decision_on-may c.args.self.now c.args.asked.now (body.Ask c.in-Ask.query) c.decide_ask.ensures.parts))
+    IfOk-weaker c.decide_ask.result
+    (λ (decision : Decision). decision ≡ decision_on c.args.self.now c.args.asked.now
+    (body.Ask c.in-Ask.query)) (λ (decision : Decision). MayDecide c.args.self.now decision)
+    (λ decision is. subst (MayDecide c.args.self.now) (sym is)
+    (decision_on-may c.args.self.now c.args.asked.now (body.Ask c.in-Ask.query) c.decide_ask.ensures.parts))
     c.decide_ask.ensures.value

@@ -8,8 +8,10 @@ pub returns-in_ok-decision-in-Request-clause-histories : goal.returns-in_ok-deci
 returns-in_ok-decision-in-Request-clause-histories c =
     let own : AreHistories c.args.self.now = search rules in
     let may : MayDecide c.args.self.now c.in_ok-decision-in-Request.decision = search rules in
-    histories_stepped c.carry_out.result c.args.self.now c.carry_out.new.self _ _ _ _ _ c.carry_out.ensures.state c.carry_out.ensures.err may own
+    histories_stepped c.carry_out.result c.args.self.now c.carry_out.new.self _ _ _ _ _ c.carry_out.ensures.state
+    c.carry_out.ensures.err may own
 
 pub returns-in_ok-decision-in-Request-clause-grows : goal.returns-in_ok-decision-in-Request-clause-grows
 returns-in_ok-decision-in-Request-clause-grows c =
-    grows_stepped c.carry_out.result c.args.self.now c.carry_out.new.self _ _ _ _ _ c.carry_out.ensures.state c.carry_out.ensures.err
+    grows_stepped c.carry_out.result c.args.self.now c.carry_out.new.self _ _ _ _ _ c.carry_out.ensures.state
+    c.carry_out.ensures.err

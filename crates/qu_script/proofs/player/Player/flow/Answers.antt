@@ -8,7 +8,8 @@ use Rattle.qu_script.proofs.player.Player.flow.Goals as goal
 pub returns-in_default : goal.returns-in_default
 returns-in_default c =
     sym c.loop-index.invariant
-    ∙ flow_rests c.args.number (c.args.count - c.loop-index.index) c.loop-index.self (sym c.in_ok-letter.ensures.found ∙ c.in_default.is)
+    ∙ flow_rests c.args.number (c.args.count - c.loop-index.index) c.loop-index.self
+    (sym c.in_ok-letter.ensures.found ∙ c.in_default.is)
     ∙ ap (λ (world : WorldState). Ok world) (sym c.waiting.ensures.same)
 
 pub returns-in_err-make_event : goal.returns-in_err-make_event
@@ -16,21 +17,28 @@ returns-in_err-make_event c =
     let is : c.from_residual-in_err-make_event.result ≡ Err c.in_err-make_event.field-0.0 = search rules in
     let left : c.args.count - c.loop-index.index ≡ suc (c.args.count - (c.loop-index.index + 1)) = omega arith in
     let waits : lowest_waiting c.waiting.new.self.entries ≡ Some c.in-Some.letter =
-    ap (λ (world : WorldState). lowest_waiting world.entries) c.waiting.ensures.same ∙ sym c.in_ok-letter.ensures.found ∙ c.in-Some.is in
+    ap (λ (world : WorldState). lowest_waiting world.entries) c.waiting.ensures.same
+    ∙ sym c.in_ok-letter.ensures.found ∙ c.in-Some.is in
     fails_with c.from_residual-in_err-make_event.result c.in_err-make_event.field-0.0 c.make_event.new.self _ is
-    (flow_stop c.args.number (c.args.count - (c.loop-index.index + 1)) (c.args.count - c.loop-index.index) c.in-Some.letter c.waiting.new.self c.in_err-make_event.field-0.0 _ left waits
-    (ap (λ (world : WorldState). flow_made c.args.number (c.args.count - c.loop-index.index) world) c.waiting.ensures.same ∙ c.loop-index.invariant)
+    (flow_stop c.args.number (c.args.count - (c.loop-index.index + 1)) (c.args.count - c.loop-index.index)
+    c.in-Some.letter c.waiting.new.self c.in_err-make_event.field-0.0 _ left waits
+    (ap (λ (world : WorldState). flow_made c.args.number (c.args.count - c.loop-index.index) world)
+    c.waiting.ensures.same ∙ c.loop-index.invariant)
     c.in_err-make_event.ensures)
 
 pub loop-index-preserved : goal.loop-index-preserved
 loop-index-preserved c =
     let left : c.args.count - c.loop-index.index ≡ suc (c.args.count - (c.loop-index.index + 1)) = omega arith in
     let waits : lowest_waiting c.waiting.new.self.entries ≡ Some c.in-Some.letter =
-    ap (λ (world : WorldState). lowest_waiting world.entries) c.waiting.ensures.same ∙ sym c.in_ok-letter.ensures.found ∙ c.in-Some.is in
-    flow_more c.args.number (c.args.count - (c.loop-index.index + 1)) (c.args.count - c.loop-index.index) c.in-Some.letter c.waiting.new.self c.make_event.new.self left waits c.in_ok-make_event.ensures
-    ∙ ap (λ (world : WorldState). flow_made c.args.number (c.args.count - c.loop-index.index) world) c.waiting.ensures.same
+    ap (λ (world : WorldState). lowest_waiting world.entries) c.waiting.ensures.same
+    ∙ sym c.in_ok-letter.ensures.found ∙ c.in-Some.is in
+    flow_more c.args.number (c.args.count - (c.loop-index.index + 1)) (c.args.count - c.loop-index.index)
+    c.in-Some.letter c.waiting.new.self c.make_event.new.self left waits c.in_ok-make_event.ensures
+    ∙ ap (λ (world : WorldState). flow_made c.args.number (c.args.count - c.loop-index.index) world)
+    c.waiting.ensures.same
     ∙ c.loop-index.invariant
 
 pub returns : goal.returns
 returns c =
-    sym c.loop-index.invariant ∙ flow_end c.args.number (c.args.count - c.loop-index.index) c.loop-index.self (omega arith)
+    sym c.loop-index.invariant ∙ flow_end c.args.number (c.args.count - c.loop-index.index) c.loop-index.self
+    (omega arith)

@@ -4,4 +4,5 @@ use Rattle.qu_script.proofs.player.Player.make_event.Goals as goal
 
 pub invariant_of-self : goal.invariant_of-self
 invariant_of-self c =
-    begins_applied c.self.inside.world c.apply.new.self c.args.event c.self.inside.next c.apply.result c.apply.ensures.ok c.apply.ensures.err c.self.invariant
+    begins_applied c.self.inside.world c.apply.new.self c.args.event c.self.inside.next c.apply.result
+    c.apply.ensures.ok c.apply.ensures.err c.self.invariant

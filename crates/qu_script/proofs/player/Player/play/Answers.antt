@@ -7,11 +7,14 @@ pub returns-in_err-make_line : goal.returns-in_err-make_line
 returns-in_err-make_line c =
     let is : c.from_residual.result ≡ Err c.in_err-make_line.field-0.0 = search rules in
     fails_with c.from_residual.result c.in_err-make_line.field-0.0 c.make_line.new.self _ is
-    (lines_stop c.loop-number.self c.args.lines.now c.loop-number.number-index c.loop-number-item.result c.in_err-make_line.field-0.0 _ (omega arith) c.loop-number-item.is c.loop-number.invariant c.in_err-make_line.ensures)
+    (lines_stop c.loop-number.self c.args.lines.now c.loop-number.number-index c.loop-number-item.result
+    c.in_err-make_line.field-0.0 _ (omega arith) c.loop-number-item.is c.loop-number.invariant
+    c.in_err-make_line.ensures)
 
 pub loop-number-preserved : goal.loop-number-preserved
 loop-number-preserved c =
-    lines_more c.loop-number.self c.make_line.new.self c.args.lines.now c.loop-number.number-index c.loop-number-item.result (omega arith) c.loop-number-item.is c.in_ok-make_line.ensures
+    lines_more c.loop-number.self c.make_line.new.self c.args.lines.now c.loop-number.number-index
+    c.loop-number-item.result (omega arith) c.loop-number-item.is c.in_ok-make_line.ensures
     ∙ c.loop-number.invariant
 
 pub returns : goal.returns

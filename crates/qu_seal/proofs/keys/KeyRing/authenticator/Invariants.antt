@@ -6,4 +6,6 @@ use Rattle.qu_seal.proofs.keys.KeyRing.authenticator.Given as goal
 
 -- the HMACs for the replicas so far
 abbrev pub invariant-loop-number : goal.invariant-loop-number
-invariant-loop-number l = l.macs ≡ map (λ (number : ℕ). seal_of l.self (Replica l.me) (Replica (record { 0 = number })) l.text) (range_with_len 0 l.number)
+invariant-loop-number l =
+    l.macs ≡ map (λ (number : ℕ). seal_of l.self (Replica l.me) (Replica (record { 0 = number })) l.text)
+    (range_with_len 0 l.number)

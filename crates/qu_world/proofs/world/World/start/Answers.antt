@@ -4,4 +4,10 @@ use Rattle.qu_world.proofs.world.World.start.Goals as goal
 
 pub invariant_of-result : goal.invariant_of-result
 invariant_of-result c =
-    rw (c.in_ok-replicas.ensures, c.in_ok-clients.ensures, c.derive-keys.ensures, c.new-entries.ensures, c.as_slice.ensures) (counted-opening c.args.setup c.requires)
+    rw (
+      c.in_ok-replicas.ensures,
+      c.in_ok-clients.ensures,
+      c.derive-keys.ensures,
+      c.new-entries.ensures,
+      c.as_slice.ensures,
+    ) (counted-opening c.args.setup c.requires)

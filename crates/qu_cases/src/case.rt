@@ -1,0 +1,51 @@
+use anyhow::anyhow;
+use qu_base::{ClientId, Party, ReplicaId};
+
+/// A case: what it is called, what is done, the further words of its line, and the lines below.
+#[derive(Clone, Copy)]
+pub struct Case<'a> {
+    pub name: &'a str,
+    pub command: &'a str,
+    pub words: &'a str,
+    pub lines: &'a str,
+}
+
+impl<'a> Case<'a> {
+    pub fn of(text: &'a str) -> Case<'a> {
+        let (line, lines) = text.split_once('\n').unwrap_or((text, ""));
+        let (name, rest) = line.split_once(' ').unwrap_or((line, ""));
+        let (command, words) = rest.split_once(' ').unwrap_or((rest, ""));
+        Case {
+            name,
+            command,
+            words,
+            lines,
+        }
+    }
+
+    /// The word at a place behind the command, empty where there is none.
+    pub fn word(&self, place: usize) -> &'a str {
+        self.words.split_whitespace().nth(place).unwrap_or("")
+    }
+
+    pub fn number(&self, place: usize) -> anyhow::Result<u64> {
+        Ok(self.word(place).parse::<u64>()?)
+    }
+
+    /// The lines before the first line `at ..`.
+    pub fn base(&self) -> &'a str {
+        let (base, _) = self.lines.split_once("\nat ").unwrap_or((self.lines, ""));
+        base
+    }
+}
+
+/// The party of a word, as `r0` or `c1`.
+pub fn party(word: &str) -> anyhow::Result<Party> {
+    if let Some(number) = word.strip_prefix('r') {
+        return Ok(Party::Replica(ReplicaId(number.parse::<u8>()?)));
+    }
+    match word.strip_prefix('c') {
+        Some(number) => Ok(Party::Client(ClientId(number.parse::<u16>()?))),
+        None => Err(anyhow!("no party")),
+    }
+}

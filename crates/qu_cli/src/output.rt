@@ -1,0 +1,71 @@
+ghost use Rattle.std.specs.Prelude.{◌≡◌, ◌≢◌, IfOk, Err};
+ghost use Rattle.qu_io.specs.Known.{Rose, IsCalm};
+ghost use Rattle.qu_cli.specs.Transfer.{TakesFew};
+ghost use Rattle.qu_cli.specs.Output.{Outputs};
+
+use super::Command;
+use super::reading::{NoScript, take_script};
+use super::simulation::simulate;
+use qu_base::{List, NoMemory};
+use qu_io::Source;
+use qu_trace::Trace;
+use std::alloc::Global;
+
+/// What a command has to write, of its input.
+#[derive(Drop)]
+pub enum Output {
+    /// The run of a good script, and the whole report of it.
+    Report(Trace, List<u8>),
+    /// The line that tells why the script is refused.
+    Refusal(String),
+}
+
+/// Why a command has nothing to write.
+#[derive(Clone, Copy, Debug, PartialEq, Eq)]
+pub enum NoOutput {
+    /// A fault of the source ended a read.
+    ReadFault,
+    NoMemory,
+}
+
+impl From<NoScript> for NoOutput {
+    ghost use Rattle.qu_cli.specs.Output.{output_error};
+
+    ghost from_gives = { λ error outcome. outcome ≡ output_error error };
+
+    fn from(error: NoScript) -> NoOutput {
+        match error {
+            NoScript::Fault => NoOutput::ReadFault,
+            NoScript::NoMemory => NoOutput::NoMemory,
+        }
+    }
+}
+
+impl From<NoMemory> for NoOutput {
+    ghost use Rattle.qu_cli.specs.declared.output.NoOutput.TheVariants as no_output;
+
+    ghost from_gives = { λ _ outcome. outcome ≡ no_output.NoMemory };
+
+    fn from(_error: NoMemory) -> NoOutput {
+        NoOutput::NoMemory
+    }
+}
+
+/// Reads what a command wants to read, and computes what it has to write.
+pub fn output_for<S: Source>(
+    alloc: Global,
+    command: Command,
+    input: &mut S,
+) -> Result<Output, NoOutput>
+    ensures outputs { IfOk result (Outputs command (S.known input.old) (S.known input.new)) }
+    ensures few { TakesFew (S.known input.old) (S.known input.new) }
+    ensures fault { result ≡ Err NoOutput.ReadFault → Rose (S.known input.old) (S.known input.new) }
+    ensures calm { result ≢ Err NoOutput.ReadFault → IsCalm (S.known input.old) (S.known input.new) }
+{
+    match command {
+        Command::Sim => {
+            let script = take_script(alloc, input)?;
+            Ok(simulate(alloc, script.as_slice())?)
+        }
+    }
+}

@@ -1,0 +1,321 @@
+-- What a replica accepts upon a frame, and why: nothing, or one candidate on the object of an act.
+use Rattle.std.proofs.Common.{◌≡◌, ◌⊎◌, ℕ, zero, suc, ◌<◌, Bool, true, false, ◌||◌, cond, List, [], ◌∷◌, ◌++◌, length, Option, None, Some, inl, inr, refl, sym, subst, ap, ◌∙◌, arith}
+use Rattle.std.specs.Prelude.{slice_get, option_map, option_and_then}
+use Rattle.std.proofs.lemmas.Bool.{false≢true, cases_eq}
+use Rattle.std.proofs.lemmas.Option.{none-some, same_Some}
+use Rattle.qu_base.specs.declared.party.ClientId.{ClientId}
+use Rattle.qu_base.specs.declared.party.ObjectId.{ObjectId}
+use Rattle.qu_stamp.specs.declared.stamp.Stamp.{Stamp}
+use Rattle.qu_stamp.specs.declared.candidate.Candidate.{Candidate}
+use Rattle.qu_stamp.specs.Stamp.{is_below}
+use Rattle.qu_history.specs.declared.sets.SetOf.{SetOf}
+use Rattle.qu_history.specs.History.{ObjectHistory}
+use Rattle.qu_history.specs.Sets.{latest_of}
+use Rattle.qu_objects.specs.declared.act.Method.{Method}
+use Rattle.qu_objects.specs.declared.query.Ask.{Ask}
+use Rattle.qu_objects.specs.declared.answer.Answer.{Answer}
+use Rattle.qu_objects.specs.declared.kind.Value.{Value}
+use Rattle.qu_objects.specs.declared.state.ObjState.{ObjState}
+use Rattle.qu_objects.specs.Perform.{performed_answer, performed_values}
+use Rattle.qu_frames.specs.declared.frame.Body.TheVariants as body
+use Rattle.qu_frames.specs.declared.frame.Frame.{Frame}
+use Rattle.qu_frames.specs.declared.frame.Frame.TheVariants as frame
+use Rattle.qu_frames.specs.declared.verdict.ClassCode.TheVariants.{Barrier}
+use Rattle.qu_frames.specs.declared.verdict.Refusal.{Refusal}
+use Rattle.qu_frames.specs.declared.verdict.Refusal.TheVariants.{NotCurrent, NotMethod}
+use Rattle.qu_frames.specs.declared.verdict.Verdict.TheVariants.{Done}
+use Rattle.qu_replica.specs.declared.decision.Accepted.{Accepted}
+use Rattle.qu_replica.specs.declared.decision.Decision.{Decision}
+use Rattle.qu_replica.specs.declared.decision.Decision.TheVariants.{Answers, Waits}
+use Rattle.qu_replica.specs.State.{ReplicaState, candidates_in, own_candidates, own_latest, with_candidate, accept, accept_all}
+use Rattle.qu_replica.specs.Rows.{Asked, asked_of, refuse, shown_of, base_of, base_version, fresh_stamp, fresh_on, row_unknown, row_thin, row_retry, row_current, row_method, row_version, row_time, row_full, row_done, row_told, first_given, decide_act, decide_ask, decision_on}
+use Rattle.qu_replica.specs.Step.{carried_out, on_frame}
+use Rattle.qu_replica.specs.Versions.{version_at}
+use Rattle.qu_replica.specs.Growth.{MayAccept, MayAcceptAll, MayDecide, HasParts}
+use Rattle.qu_replica.proofs.Accepting.{other_history}
+use Rattle.qu_replica.proofs.Allowed.{decision_on-may, no_first}
+use Rattle.qu_replica.proofs.Carried.{performed_one, done_one}
+use Rattle.qu_grounds.specs.Grounds.{IsGround, IsPerformed, AcceptsOne, AcceptsAlone}
+use Rattle.qu_runs.proofs.Small.{some_of, single}
+
+-- ---- the rows that accept nothing
+
+abbrev pub accepted_in : Decision → List Accepted
+accepted_in (Answers verdict accepted) = accepted
+accepted_in Waits = []
+
+abbrev pub AcceptsNothing : Option Decision → Type 0
+AcceptsNothing row = (decision : Decision) → row ≡ Some decision → accepted_in decision ≡ []
+
+refusing : {A : Type 0} (why : A → Refusal) (refused : Option A)
+    → AcceptsNothing (option_map (λ it. refuse (why it)) refused)
+refusing why None decision given = absurd (none-some decision given)
+refusing why (Some it) decision given = ap accepted_in (sym (same_Some (refuse (why it)) decision given))
+
+answering : (test : Bool) (stamps : List (ObjectId × Stamp)) (kept : Option Answer)
+    → AcceptsNothing (cond test (option_map (λ (answer : Answer). Answers (Done stamps answer) []) kept) None)
+answering false stamps kept decision given = absurd (none-some decision given)
+answering true stamps None decision given = absurd (none-some decision given)
+answering true stamps (Some answer) decision given =
+    ap accepted_in (sym (same_Some (Answers (Done stamps answer) []) decision given))
+
+waiting : (test : Bool) → AcceptsNothing (cond test (Some Waits) None)
+waiting false decision given = absurd (none-some decision given)
+waiting true decision given = ap accepted_in (sym (same_Some Waits decision given))
+
+pub unknown : (state : ReplicaState) (asked : Asked) → AcceptsNothing (row_unknown state asked)
+unfolding row_unknown
+unknown state asked = refusing _ _
+
+pub thin : (state : ReplicaState) (asked : Asked) → AcceptsNothing (row_thin state asked)
+unfolding row_thin
+thin state asked = refusing _ _
+
+retry : (state : ReplicaState) (asked : Asked) (objects : List ObjectId)
+    → AcceptsNothing (row_retry state asked objects)
+unfolding row_retry
+retry state asked objects = answering _ _ _
+
+current : (state : ReplicaState) (asked : Asked) (objects : List ObjectId)
+    → AcceptsNothing (row_current state asked objects)
+unfolding row_current
+current state asked objects = refusing _ _
+
+method : (state : ReplicaState) (asked : Asked) (objects : List ObjectId)
+    → AcceptsNothing (row_method state asked objects)
+unfolding row_method
+method state asked objects = refusing _ _
+
+version : (state : ReplicaState) (asked : Asked) (objects : List ObjectId)
+    → AcceptsNothing (row_version state asked objects)
+unfolding row_version
+version state asked objects = waiting _
+
+time : (state : ReplicaState) (asked : Asked) (objects : List ObjectId) → AcceptsNothing (row_time state asked objects)
+unfolding row_time
+time state asked objects = refusing _ _
+
+full : (state : ReplicaState) (asked : Asked) (objects : List ObjectId) → AcceptsNothing (row_full state asked objects)
+unfolding row_full
+full state asked objects = refusing _ _
+
+told-accepts : (state : ReplicaState) (asked : Asked) (parts : List (ObjectId × Ask)) (objects : List ObjectId)
+    → AcceptsNothing (row_told state asked parts objects)
+unfolding row_told
+told-accepts state asked parts objects decision given = ap accepted_in (sym (same_Some _ decision given))
+
+-- past a row that accepts nothing, the later ones decide
+past : (P : List Accepted → Type 0) (row : Option Decision) (later : List (Option Decision)) → P []
+    → AcceptsNothing row → (row ≡ None → P (accepted_in (first_given later)))
+    → P (accepted_in (first_given (row ∷ later)))
+unfolding first_given
+past P None later none nothing next = next refl
+past P (Some decision) later none nothing next = subst P (sym (nothing decision refl)) none
+
+no_more : accepted_in (first_given []) ≡ []
+unfolding first_given
+no_more = refl
+
+ask_accepts : (state : ReplicaState) (asked : Asked) (parts : List (ObjectId × Ask)) (objects : List ObjectId)
+    → accepted_in (decide_ask state asked parts objects) ≡ []
+unfolding decide_ask
+ask_accepts state asked parts objects =
+    let none : List Accepted → Type 0 = λ accepted. accepted ≡ [] in
+    past none _ _ refl (unknown state asked) (λ _.
+    past none _ _ refl (thin state asked) (λ _.
+    past none _ _ refl (current state asked objects) (λ _.
+    past none _ _ refl (method state asked objects) (λ _.
+    past none _ _ refl (version state asked objects) (λ _.
+    past none _ _ refl (told-accepts state asked parts objects) (λ _. no_more))))))
+
+-- ---- the row that accepts
+
+-- an act accepts one candidate, for which there are grounds
+record MakesOne (state : ReplicaState) (asked : Asked) (part : ObjectId × Method)
+    (accepted : List Accepted) : Type 0 where
+  candidate : Candidate
+  grounds : IsGround state asked part.0 candidate
+  version : ObjState
+  performed : IsPerformed state part.0 grounds.base part.1 version
+  alone : accepted ≡ record { object = part.0; candidate = candidate; state = version } ∷ []
+
+pub no_wait : (missing : Bool) → cond (missing || false) (Some Waits) None ≡ None → missing ≡ false
+no_wait true none = absurd (none-some Waits (sym none))
+no_wait false none = refl
+
+makes_one : (state : ReplicaState) (asked : Asked) (part : ObjectId × Method) (base : Candidate)
+    (before : ObjState) (value : Value)
+    → base_of state asked part.0 ≡ Some base → base_version state asked part.0 ≡ Some before
+    → performed_values (part ∷ []) (before.value ∷ []) ≡ value ∷ []
+    → is_below (latest_of (shown_of asked part.0)) (own_latest state part.0) ≡ false
+    → MakesOne state asked part (accepted_in (first_given (row_done state asked (part ∷ []) (part.0 ∷ []) ∷ [])))
+unfolding first_given
+makes_one state asked part base before value is_base is_before is_value is_current =
+    let make : Candidate → Candidate = λ it. record { stamp = fresh_stamp asked part.0; prior = it.stamp } in
+    let stored : Candidate → Option ObjState = λ it. version_at part.0 it.stamp state.versions in
+    let answer : Answer = performed_answer (part ∷ []) (before.value ∷ []) in
+    let is_fresh : fresh_on state asked part.0 ≡ Some (make base) = ap (option_map make) is_base in
+    record {
+      candidate = make base;
+      grounds = record { base = base; method = is_base; prior = refl; stamp = refl; current = is_current };
+      version = record { value = value; answer = answer };
+      performed = record {
+        before = before;
+        of_base = sym (ap (option_and_then stored) is_base) ∙ is_before;
+        value = is_value;
+        answer = refl;
+      };
+      alone = ap (λ (row : Option Decision). accepted_in (first_given (row ∷ [])))
+          (done_one state asked (part ∷ []) part.0 (make base) before value answer is_fresh is_before is_value refl);
+    }
+
+done : (state : ReplicaState) (asked : Asked) (part : ObjectId × Method)
+    → row_current state asked (part.0 ∷ []) ≡ None → row_method state asked (part.0 ∷ []) ≡ None
+    → row_version state asked (part.0 ∷ []) ≡ None
+    → MakesOne state asked part (accepted_in (first_given (row_done state asked (part ∷ []) (part.0 ∷ []) ∷ [])))
+unfolding row_current row_method row_version
+done state asked part is_current is_method is_version =
+    let base : (it : Candidate) × (base_of state asked part.0 ≡ Some it) =
+    some_of (base_of state asked part.0) (no_first (λ it. NotMethod it Barrier) _ part.0 is_method) in
+    let before : (it : ObjState) × (base_version state asked part.0 ≡ Some it) =
+    some_of (base_version state asked part.0) (no_wait _ is_version) in
+    let value : (it : Value) × (performed_values (part ∷ []) ((before.0).value ∷ []) ≡ it ∷ []) =
+    single (performed_values (part ∷ []) ((before.0).value ∷ [])) (performed_one (part ∷ []) (before.0).value refl) in
+    makes_one state asked part base.0 before.0 value.0 base.1 before.1 value.1
+    (no_first (λ it. NotCurrent it (own_latest state it)) _ part.0 is_current)
+
+abbrev MakesAtMostOne : ReplicaState → Asked → ObjectId × Method → List Accepted → Type 0
+MakesAtMostOne state asked part accepted = (accepted ≡ []) ⊎ MakesOne state asked part accepted
+
+act_accepts : (state : ReplicaState) (asked : Asked) (part : ObjectId × Method) → MakesAtMostOne state asked part
+    (accepted_in (decide_act state asked (part ∷ []) (part.0 ∷ [])))
+unfolding decide_act
+act_accepts state asked part =
+    let objects : List ObjectId = part.0 ∷ [] in
+    let most : List Accepted → Type 0 = λ accepted. MakesAtMostOne state asked part accepted in
+    past most _ _ (inl refl) (unknown state asked) (λ _.
+    past most _ _ (inl refl) (thin state asked) (λ _.
+    past most _ _ (inl refl) (retry state asked objects) (λ _.
+    past most _ _ (inl refl) (current state asked objects) (λ is_current.
+    past most _ _ (inl refl) (method state asked objects) (λ is_method.
+    past most _ _ (inl refl) (version state asked objects) (λ is_version.
+    past most _ _ (inl refl) (time state asked objects) (λ _.
+    past most _ _ (inl refl) (full state asked objects)
+    (λ _. inr (done state asked part is_current is_method is_version)))))))))
+
+-- ---- the step
+
+pub carried : (state : ReplicaState) (client : ClientId) (number round : ℕ) (sets : List SetOf)
+    (decision : Decision) → (carried_out state client number round sets decision).0 ≡ accept_all state
+    (accepted_in decision)
+unfolding accept_all
+carried state client number round sets (Answers verdict accepted) = refl
+carried state client number round sets Waits = refl
+
+may_accept : (state : ReplicaState) (decision : Decision) → MayDecide state decision
+    → MayAcceptAll state (accepted_in decision)
+may_accept state (Answers verdict accepted) may = may
+may_accept state Waits may = tt
+
+-- the candidate stands behind those that its object had
+pub candidates_after : (number : ℕ) (candidate : Candidate) (histories : List ObjectHistory)
+    → number < length histories → candidates_in (slice_get (with_candidate number candidate histories) number)
+    ≡ candidates_in (slice_get histories number) ++ candidate ∷ []
+unfolding with_candidate
+candidates_after number candidate [] within = absurd (omega arith)
+candidates_after zero candidate (history ∷ later) within = refl
+candidates_after (suc number) candidate (history ∷ later) within =
+    let inner : number < length later = omega arith in
+    candidates_after number candidate later inner
+
+-- a replica that accepts nothing stays as it is
+pub stays : (state new : ReplicaState) (accepted : List Accepted) → new ≡ accept_all state accepted
+    → accepted ≡ [] → new ≡ state
+unfolding accept_all
+stays state new accepted is_new none = is_new ∙ ap (accept_all state) none
+
+moves : (state new : ReplicaState) (client : ClientId) (number round : ℕ) (sets : List SetOf) (mac : List ℕ)
+    (part : ObjectId × Method) (accepted : List Accepted)
+    → MayAcceptAll state accepted → MakesOne state (asked_of client number sets (body.Act (part ∷ []))) part
+    accepted → new ≡ accept_all state accepted
+    → AcceptsAlone state new (frame.Request client number round sets (body.Act (part ∷ [])) mac)
+unfolding accept_all
+moves state new client number round sets mac part accepted may made is_new =
+    let one : Accepted = record { object = part.0; candidate = made.candidate; state = made.version } in
+    let is_one : new ≡ accept state one = is_new ∙ ap (accept_all state) made.alone in
+    let may_one : MayAccept state one = subst (MayAcceptAll state) made.alone may in
+    record {
+      object = part.0;
+      one = record {
+        client = client;
+        number = number;
+        round = round;
+        sets = sets;
+        method = part.1;
+        mac = mac;
+        is_request = refl;
+        candidate = made.candidate;
+        added = ap (λ (it : ReplicaState). own_candidates it part.0) is_one
+            ∙ candidates_after (part.0).0 made.candidate state.histories may_one.known;
+        grounds = made.grounds;
+        version = made.version;
+        performed = made.performed;
+        stored = ap (λ (it : ReplicaState). it.versions) is_one;
+      };
+      others = λ other apart.
+          ap (λ (it : ReplicaState). own_candidates it other) is_one ∙
+          ap candidates_in (other_history (part.0).0 other.0 made.candidate state.histories apart);
+    }
+
+act_moves : (state : ReplicaState) (client : ClientId) (number round : ℕ) (sets : List SetOf) (mac : List ℕ)
+    (part : ObjectId × Method) → HasParts (frame.Request client number round sets (body.Act (part ∷ [])) mac)
+    → ((on_frame state (frame.Request client number round sets (body.Act (part ∷ [])) mac)).0 ≡ state)
+    ⊎ AcceptsAlone state (on_frame state (frame.Request client number round sets (body.Act (part ∷ [])) mac)).0
+    (frame.Request client number round sets (body.Act (part ∷ [])) mac)
+act_moves state client number round sets mac part parts =
+    let asked : Asked = asked_of client number sets (body.Act (part ∷ [])) in
+    let decision : Decision = decide_act state asked (part ∷ []) (part.0 ∷ []) in
+    let new : ReplicaState = (carried_out state client number round sets decision).0 in
+    let is_new : new ≡ accept_all state (accepted_in decision) = carried state client number round sets decision in
+    elim (act_accepts state asked part) [
+      | inl none ↦ inl (stays state new (accepted_in decision) is_new none)
+      | inr made ↦
+          inr (moves state new client number round sets mac part (accepted_in decision)
+          (may_accept state decision (decision_on-may state asked (body.Act (part ∷ [])) parts)) made is_new)
+    ]
+
+-- a step leaves a replica as it is, or adds one candidate for which there are grounds
+pub step_moves : (state : ReplicaState) (received : Frame) → HasParts received
+    → ((on_frame state received).0 ≡ state) ⊎ AcceptsAlone state (on_frame state received).0 received
+step_moves state (frame.Request client number round sets (body.Act []) mac) parts = absurd (false≢true parts)
+step_moves state (frame.Request client number round sets (body.Act (part ∷ [])) mac) parts =
+    act_moves state client number round sets mac part parts
+step_moves state (frame.Request client number round sets (body.Act (first ∷ second ∷ later)) mac) parts =
+    absurd (false≢true parts)
+step_moves state (frame.Request client number round sets (body.Ask asks) mac) parts =
+    let asked : Asked = asked_of client number sets (body.Ask asks) in
+    let decision : Decision = decision_on state asked (body.Ask asks) in
+    inl (stays state (carried_out state client number round sets decision).0 (accepted_in decision)
+    (carried state client number round sets decision) (ask_accepts state asked asks _))
+step_moves state (frame.Reply replica client number round verdict culled shown mac) parts = inl refl
+
+-- the same of one object
+pub accepts_on : (old new : ReplicaState) (received : Frame) → AcceptsAlone old new received → (object : ObjectId)
+    → (own_candidates new object ≡ own_candidates old object) ⊎ AcceptsOne old new received object
+accepts_on old new received alone object =
+    let numbered : ℕ → ObjectId = λ it. record { 0 = it } in
+    elim (cases_eq object.0 (alone.object).0) [
+      | inl here ↦
+          let same : alone.object ≡ object = ap numbered (sym here) in
+          inr (subst (AcceptsOne old new received) same alone.one)
+      | inr apart ↦ inl (alone.others object apart)
+    ]
+
+pub step_accepts : (state : ReplicaState) (received : Frame) → HasParts received → (object : ObjectId)
+    → (own_candidates (on_frame state received).0 object ≡ own_candidates state object)
+    ⊎ AcceptsOne state (on_frame state received).0 received object
+step_accepts state received parts object =
+    elim (step_moves state received parts) [
+      | inl same ↦ inl (ap (λ (it : ReplicaState). own_candidates it object) same)
+      | inr alone ↦ accepts_on state (on_frame state received).0 received alone object
+    ]

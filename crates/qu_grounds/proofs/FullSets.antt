@@ -1,0 +1,158 @@
+-- A replica accepts only upon full sets of objects that it has: it refuses a request with an object that it does not
+-- have, or with fewer entries of an object than a quorum.
+use Rattle.std.proofs.Common.{◌≡◌, ◌⊎◌, ℕ, ◌+◌, Bool, true, false, not, ◌&&◌, cond, List, [], ◌∷◌, ◌++◌, length, Option, None, Some, refl, sym, ap, ◌∙◌, arith, inl, inr, length-append}
+use Rattle.std.specs.Prelude.{slice_get, nat_le, nat_lt, find, option_map}
+use Rattle.std.specs.List.{list_all}
+use Rattle.std.proofs.lemmas.Option.{none-some, same_Some}
+use Rattle.qu_base.specs.declared.party.ClientId.{ClientId}
+use Rattle.qu_base.specs.declared.party.ObjectId.{ObjectId}
+use Rattle.qu_base.specs.declared.party.Party.{Party}
+use Rattle.qu_base.specs.Thresholds.{quorum}
+use Rattle.qu_stamp.specs.declared.candidate.Candidate.{Candidate}
+use Rattle.qu_history.specs.declared.sets.SetOf.{SetOf}
+use Rattle.qu_objects.specs.declared.act.Method.{Method}
+use Rattle.qu_frames.specs.declared.frame.Body.TheVariants as body
+use Rattle.qu_frames.specs.declared.frame.Frame.{Frame}
+use Rattle.qu_frames.specs.declared.frame.Frame.TheVariants as frame
+use Rattle.qu_frames.specs.declared.frame.Letter.{Letter}
+use Rattle.qu_frames.specs.declared.verdict.Refusal.{Refusal}
+use Rattle.qu_frames.specs.declared.verdict.Refusal.TheVariants as refusal
+use Rattle.qu_replica.specs.declared.decision.Decision.{Decision}
+use Rattle.qu_replica.specs.State.{ReplicaState, own_candidates}
+use Rattle.qu_replica.specs.Rows.{Asked, asked_of, refuse, row_unknown, row_thin, first_given, objects_of, decide_act}
+use Rattle.qu_replica.specs.Step.{carried_out, on_frame, on_received, replica_step}
+use Rattle.qu_client.specs.Rounds.{are_full}
+use Rattle.qu_trace.specs.declared.event.Event.{Event}
+use Rattle.qu_trace.specs.declared.trace.Trace.{Trace}
+use Rattle.qu_world.specs.State.{WorldState}
+use Rattle.qu_world.specs.Step.{world_step, at_replica, received}
+use Rattle.qu_grounds.specs.Grounds.{AcceptsOne, IsDelivered}
+use Rattle.qu_runs.specs.Times.{world_after}
+use Rattle.qu_grounds.specs.Origins.{Origin}
+use Rattle.qu_runs.proofs.OpeningReplicas.{bounds_are}
+use Rattle.qu_grounds.proofs.Acceptance.{accepted_in, AcceptsNothing, unknown, thin, carried, stays}
+use Rattle.qu_world.proofs.Each.{set_here}
+use Rattle.qu_runs.proofs.Handing.{handed_step}
+
+-- ---- the rows
+
+two_rows : (First : Type 0) (one two : Option Decision) (later : List (Option Decision)) → AcceptsNothing one
+    → AcceptsNothing two → (one ≡ None → two ≡ None → First)
+    → (accepted_in (first_given (one ∷ two ∷ later)) ≡ []) ⊎ First
+unfolding first_given
+two_rows First (Some decision) two later none nothing past = inl (none decision refl)
+two_rows First None (Some decision) later none nothing past = inl (nothing decision refl)
+two_rows First None None later none nothing past = inr (past refl refl)
+
+pass_first : {X : Type 0} (why : X → Refusal) (bad : Bool) (item : X) (found : Option X) (rest : Bool)
+    → option_map (λ (it : X). refuse (why it)) (cond bad (Some item) found) ≡ None
+    → (option_map (λ (it : X). refuse (why it)) found ≡ None → rest ≡ true) → (not bad && rest) ≡ true
+pass_first why true item found rest none later = absurd (none-some (refuse (why item)) (sym none))
+pass_first why false item found rest none later = later none
+
+-- where no item is found, each passes
+all_pass : {X : Type 0} (why : X → Refusal) (bad : X → Bool) (items : List X)
+    → option_map (λ (it : X). refuse (why it)) (find bad items) ≡ None → list_all (λ item. not (bad item)) items ≡ true
+all_pass why bad [] none = refl
+all_pass why bad (item ∷ later) none =
+    pass_first why (bad item) item (find bad later) (list_all (λ it. not (bad it)) later) none (all_pass why bad later)
+
+not_thin : (state : ReplicaState) (asked : Asked) → row_thin state asked ≡ None
+    → are_full state.bounds asked.sets ≡ true
+unfolding row_thin
+not_thin state asked none =
+    all_pass (λ (set : SetOf). refusal.Thin set.object)
+    (λ (set : SetOf). nat_lt (length set.entries) (quorum state.bounds)) asked.sets none
+
+-- the objects of the sets are the replica's
+abbrev pub are_had : ReplicaState → List SetOf → Bool
+are_had state sets = list_all (λ (set : SetOf). not (nat_le (length state.histories) (set.object).0)) sets
+
+pub not_unknown : (state : ReplicaState) (asked : Asked) → row_unknown state asked ≡ None
+    → are_had state asked.sets ≡ true
+unfolding row_unknown
+not_unknown state asked none =
+    all_pass (λ (set : SetOf). refusal.UnknownObject set.object)
+    (λ (set : SetOf). nat_le (length state.histories) (set.object).0) asked.sets none
+
+-- what the sets are of a request upon which something is accepted
+pub record IsUpon (state : ReplicaState) (sets : List SetOf) : Type 0 where
+  pub had : are_had state sets ≡ true
+  pub full : are_full state.bounds sets ≡ true
+
+-- an act accepts nothing, or has such sets
+act_upon : (state : ReplicaState) (asked : Asked) (parts : List (ObjectId × Method)) (objects : List ObjectId)
+    → (accepted_in (decide_act state asked parts objects) ≡ []) ⊎ IsUpon state asked.sets
+unfolding decide_act
+act_upon state asked parts objects =
+    two_rows (IsUpon state asked.sets) (row_unknown state asked) (row_thin state asked) _ (unknown state asked)
+    (thin state asked)
+    (λ is_known not_thin_is. record { had = not_unknown state asked is_known; full = not_thin state asked not_thin_is })
+
+-- ---- the step
+
+not_added : (candidates : List Candidate) (candidate : Candidate) → candidates ≡ candidates ++ candidate ∷ [] → ⊥
+not_added candidates candidate same =
+    let sum : length (candidates ++ candidate ∷ []) ≡ length candidates + 1 =
+    length-append candidates (candidate ∷ []) in
+    let equal : length candidates ≡ length (candidates ++ candidate ∷ []) = ap length same in
+    omega arith
+
+act_step_upon : (state : ReplicaState) (client : ClientId) (number round : ℕ) (sets : List SetOf)
+    (parts : List (ObjectId × Method)) (mac : List ℕ) (object : ObjectId) (candidate : Candidate)
+    → own_candidates (on_frame state (frame.Request client number round sets (body.Act parts) mac)).0
+    object ≡ own_candidates state object ++ candidate ∷ [] → IsUpon state sets
+act_step_upon state client number round sets parts mac object candidate added =
+    let asked : Asked = asked_of client number sets (body.Act parts) in
+    let decision : Decision = decide_act state asked parts (objects_of parts) in
+    elim (act_upon state asked parts (objects_of parts)) [
+      | inl none ↦
+          let same : (carried_out state client number round sets decision).0 ≡ state =
+          stays state _ (accepted_in decision) (carried state client number round sets decision) none in
+          absurd (not_added (own_candidates state object) candidate
+          (sym (ap (λ (it : ReplicaState). own_candidates it object) same) ∙ added))
+      | inr upon ↦ upon
+    ]
+
+upon_by : (old new : ReplicaState) (taken : Frame) (object : ObjectId) (accepts : AcceptsOne old new taken object)
+    → (on_frame old taken).0 ≡ new → IsUpon old accepts.sets
+upon_by old new taken object accepts is =
+    act_step_upon old accepts.client accepts.number accepts.round accepts.sets ((object, accepts.method) ∷ [])
+    accepts.mac object accepts.candidate
+    (ap (λ (it : Frame). own_candidates (on_frame old it).0 object) (sym accepts.is_request)
+    ∙ ap (λ (it : ReplicaState). own_candidates it object) is ∙ accepts.added)
+
+-- ---- the same in a run
+
+-- the replica that took the letter stepped
+delivered_to : (world : WorldState) (event : Event) (place : ℕ) (old new : ReplicaState) (object : ObjectId)
+    (happened : IsDelivered world event place old new object) → slice_get world.replicas place ≡ Some old
+    → slice_get (world_step world event).replicas place ≡ Some new → (on_frame old happened.carried).0 ≡ new
+delivered_to world event place old new object happened is_old is_new =
+    let letter : Letter = happened.letter in
+    let stepped : ReplicaState = (replica_step old letter.text).0 in
+    let is : world_step world event ≡ at_replica world event (record { 0 = place }) letter.text (Some old) =
+    handed_step world event letter.to letter.text happened.is_handed ∙
+    ap (λ (to : Party). received world event to letter.text) happened.to ∙
+    ap (at_replica world event (record { 0 = place }) letter.text) is_old in
+    ap (λ it. (on_received old it).0) (sym happened.brings) ∙
+    same_Some stepped new (sym (set_here world.replicas place old stepped is_old)
+    ∙ ap (λ (it : WorldState). slice_get it.replicas place) (sym is) ∙ is_new)
+
+-- a letter that made a replica accept a candidate shows such sets
+pub delivered_upon : (world : WorldState) (event : Event) (place : ℕ) (old new : ReplicaState) (object : ObjectId)
+    (happened : IsDelivered world event place old new object) → slice_get world.replicas place ≡ Some old
+    → slice_get (world_step world event).replicas place ≡ Some new → IsUpon old (happened.accepts).sets
+delivered_upon world event place old new object happened is_old is_new =
+    upon_by old new happened.carried object happened.accepts
+    (delivered_to world event place old new object happened is_old is_new)
+
+pub accepted_upon_full : (trace : Trace) (count : ℕ) (object : ObjectId) (candidate : Candidate)
+    (origin : Origin trace count object candidate) → are_full trace.setup.bounds
+    ((origin.delivered).accepts).sets ≡ true
+accepted_upon_full trace count object candidate origin =
+    let sets : List SetOf = ((origin.delivered).accepts).sets in
+    ap (λ (size : ℕ). are_full size sets) (sym (bounds_are trace origin.past origin.place origin.old origin.is_old)) ∙
+    (delivered_upon (world_after trace origin.past) origin.event origin.place origin.old origin.new object
+    origin.delivered origin.is_old
+    (ap (λ (it : WorldState). slice_get it.replicas origin.place) (sym origin.is_step) ∙ origin.is_new)).full

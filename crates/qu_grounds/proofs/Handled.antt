@@ -1,0 +1,199 @@
+-- What a replica accepts it handled, and it was made for that act; and a request that was handled was sent.
+use Rattle.std.proofs.Common.{◌≡◌, ℕ, suc, ◌<◌, ◌≤◌, Bool, true, not, cond, List, [], ◌∷◌, length, Option, get_or, None, Some, refl, sym, ap, ◌∙◌, arith, add-one}
+use Rattle.std.specs.Prelude.{slice_get, nat_le, nat_lt, Contains, option_map}
+use Rattle.std.specs.List.{list_all}
+use Rattle.std.proofs.lemmas.Bool.{and_parts, and_from, lt-ltb}
+use Rattle.std.proofs.lemmas.Bool.Decides.{nat_tests}
+use Rattle.std.proofs.lemmas.List.Elements.{Contains-get_or}
+use Rattle.std.proofs.lemmas.Option.{none-some, slice_get_within, same_Some}
+use Rattle.qu_base.specs.declared.party.ClientId.{ClientId}
+use Rattle.qu_base.specs.declared.party.ObjectId.{ObjectId}
+use Rattle.qu_base.specs.declared.party.Party.{Party}
+use Rattle.qu_base.specs.declared.party.Party.TheVariants as party
+use Rattle.qu_base.specs.Thresholds.{replicas}
+use Rattle.qu_stamp.specs.declared.candidate.Candidate.{Candidate}
+use Rattle.qu_stamp.specs.declared.stamp.Stamp.{Stamp}
+use Rattle.qu_history.specs.declared.sets.SetOf.{SetOf}
+use Rattle.qu_objects.specs.declared.act.Method.{Method}
+use Rattle.qu_frames.specs.declared.frame.Body.TheVariants as body
+use Rattle.qu_frames.specs.declared.frame.Frame.{Frame}
+use Rattle.qu_frames.specs.declared.frame.Frame.TheVariants as frame
+use Rattle.qu_frames.specs.declared.frame.Letter.{Letter}
+use Rattle.qu_replica.specs.Rows.{asked_of, fresh_stamp}
+use Rattle.qu_replica.specs.State.{ReplicaState}
+use Rattle.qu_trace.specs.declared.event.Event.{Event}
+use Rattle.qu_trace.specs.declared.event.Event.TheVariants.{Invoke, Deliver, Tick, Inject}
+use Rattle.qu_trace.specs.declared.trace.Entry.{Entry}
+use Rattle.qu_trace.specs.declared.trace.Setup.{Setup}
+use Rattle.qu_trace.specs.declared.trace.Trace.{Trace}
+use Rattle.qu_world.specs.State.{WorldState, letter_of, ring_of}
+use Rattle.qu_world.specs.Step.{world_step}
+use Rattle.qu_world.specs.Run.{IsRun}
+use Rattle.qu_runs.specs.Digested.{Request, is_known, request_to, request_by, handled_by, IsHandled, IsMadeFor, request_brought}
+use Rattle.qu_grounds.specs.Grounds.{AcceptsOne, IsDelivered}
+use Rattle.qu_runs.specs.Times.{world_after}
+use Rattle.qu_grounds.proofs.Accepting.{some_entry, Acceptance}
+use Rattle.qu_runs.proofs.OpeningReplicas.{all_replicas, keys_are, me_is}
+use Rattle.qu_grounds.proofs.FullSets.{IsUpon, are_had, delivered_upon}
+use Rattle.qu_runs.proofs.Objects.{run_has, found_within}
+use Rattle.qu_runs.proofs.Recording.{letter_stays}
+use Rattle.qu_runs.proofs.WorldGrowth.{world_after-next}
+use Rattle.qu_runs.specs.Carried.{Brings, handed}
+use Rattle.qu_frames.specs.Signed.{brought}
+use Rattle.qu_seal.specs.Keys.{Ring}
+use Rattle.qu_base.specs.declared.party.ReplicaId.{ReplicaId}
+use Rattle.qu_runs.proofs.Handing.{hand}
+
+-- ---- what is accepted was handled
+
+one_known : (size number count : ℕ) → size ≤ count → not (nat_le size number) ≡ true → nat_lt number count ≡ true
+one_known size number count few had = grind (arith, nat_tests)
+
+all_known : (setup : Setup) (size : ℕ) → size ≤ length setup.kinds → (sets : List SetOf)
+    → list_all (λ (set : SetOf). not (nat_le size (set.object).0)) sets ≡ true → list_all (is_known setup) sets ≡ true
+all_known setup size few [] had = refl
+all_known setup size few (set ∷ sets) had =
+    let parts : (not (nat_le size (set.object).0) ≡ true)
+    × (list_all (λ (it : SetOf). not (nat_le size (it.object).0)) sets ≡ true) = and_parts _ _ had in
+    and_from _ _ (one_known size (set.object).0 (length setup.kinds) few parts.0)
+    (all_known setup size few sets parts.1)
+
+-- the request that an event hands to a replica
+request_of_letter : (trace : Trace) → IsRun trace → (time : ℕ) → time ≤ length trace.entries
+    → (number : ℕ) (to : Party) (text : List ℕ) (found : Option Letter)
+    → letter_of (world_after trace time) number ≡ found → option_map hand found ≡ Some (to, text)
+    → handled_by trace (Deliver number) ≡ request_to trace.setup text to
+request_of_letter trace is_run time within number to text None sent given = absurd (none-some (to, text) given)
+request_of_letter trace is_run time within number to text (Some letter) sent given =
+    ap (request_by trace.setup) (letter_stays trace is_run time within number letter sent) ∙
+    ap (λ (it : Party × List ℕ). request_to trace.setup it.1 it.0) (same_Some (letter.to, letter.text) (to, text) given)
+
+request_handed : (trace : Trace) → IsRun trace → (time : ℕ) → time ≤ length trace.entries
+    → (event : Event) (to : Party) (text : List ℕ) → handed (world_after trace time) event ≡ Some (to, text)
+    → handled_by trace event ≡ request_to trace.setup text to
+request_handed trace is_run time within (Invoke client op) to text none = absurd (none-some (to, text) none)
+request_handed trace is_run time within (Deliver number) to text hands =
+    request_of_letter trace is_run time within number to text (letter_of (world_after trace time) number) refl hands
+request_handed trace is_run time within (Tick client) to text none = absurd (none-some (to, text) none)
+request_handed trace is_run time within (Inject who other) to text hands =
+    ap (λ (it : Party × List ℕ). request_to trace.setup it.1 it.0) (same_Some (who, other) (to, text) hands)
+
+-- a replica handles a request that shows it objects that it has
+pub request_handled : (trace : Trace) → IsRun trace → (time : ℕ) → time < length trace.entries → (event : Event)
+    → (place : ℕ) (old : ReplicaState) → slice_get (world_after trace time).replicas place ≡ Some old
+    → (letter : Letter) → handed (world_after trace time) event ≡ Some (letter.to, letter.text)
+    → letter.to ≡ party.Replica (record { 0 = place })
+    → (request : Request) (round : ℕ) (mac : List ℕ)
+    → Brings old letter (frame.Request request.client request.number round request.sets request.body mac)
+    → are_had old request.sets ≡ true
+    → handled_by trace event ≡ Some request
+request_handled trace is_run time within event place old is_old letter hands to request round mac brings had =
+    let few : length old.histories ≤ length trace.setup.kinds =
+    found_within (length trace.setup.kinds) (world_after trace time).replicas place old (run_has trace time)
+    is_old in
+    let known : list_all (is_known trace.setup) request.sets ≡ true =
+    all_known trace.setup (length old.histories) few request.sets had in
+    let there : place < length (world_after trace time).replicas =
+    slice_get_within (world_after trace time).replicas place old is_old in
+    let all : length (world_after trace time).replicas ≡ replicas trace.setup.bounds = all_replicas trace time in
+    let among : nat_lt place (replicas trace.setup.bounds) ≡ true = lt-ltb _ _ (omega (arith, there, all)) in
+    request_handed trace is_run time (omega arith) event letter.to letter.text hands ∙
+    ap (request_to trace.setup letter.text) to ∙
+    ap (λ (test : Bool). cond test
+    (request_brought trace.setup
+    (brought (ring_of trace.setup) (party.Replica (record { 0 = place })) letter.text)) None) among ∙
+    ap (λ (keys : Ring). request_brought trace.setup
+    (brought keys (party.Replica (record { 0 = place })) letter.text))
+    (sym (keys_are trace time place old is_old)) ∙
+    ap (λ (me : ReplicaId). request_brought trace.setup (brought old.keys (party.Replica me) letter.text))
+    (sym (me_is trace time place old is_old)) ∙
+    ap (request_brought trace.setup) brings ∙
+    ap (λ (test : Bool). cond test (Some request) None) known
+
+pub handled_upon : (trace : Trace) → IsRun trace → (time : ℕ) → time < length trace.entries → (entry : Entry)
+    → Contains trace.entries entry
+    → (place : ℕ) (old : ReplicaState) → slice_get (world_after trace time).replicas place ≡ Some old
+    → (letter : Letter) → handed (world_after trace time) entry.event ≡ Some (letter.to, letter.text)
+    → letter.to ≡ party.Replica (record { 0 = place })
+    → (client : ClientId) (number round : ℕ) (sets : List SetOf) (parts : List (ObjectId × Method)) (mac : List ℕ)
+    → Brings old letter (frame.Request client number round sets (body.Act parts) mac) → are_had old sets ≡ true
+    → IsHandled trace client number parts
+handled_upon trace is_run time within entry of_trace place old is_old letter hands to client number round sets
+    parts mac brings had = record {
+      entry = entry;
+      of_trace = of_trace;
+      sets = sets;
+      handled =
+          request_handled trace is_run time within entry.event place old is_old letter hands to
+          (record { client = client; number = number; sets = sets; body = body.Act parts }) round mac brings had;
+    }
+
+-- the request upon which a replica accepts a candidate
+abbrev pub request_upon : (old new : ReplicaState) (received : Frame) (object : ObjectId)
+    → AcceptsOne old new received object → Request
+request_upon old new received object one =
+    record { client = one.client; number = one.number; sets = one.sets; body = body.Act ((object, one.method) ∷ []) }
+
+-- a replica handled it
+pub upon_handled : (trace : Trace) → IsRun trace → (time : ℕ) → time < length trace.entries → (event : Event)
+    → (place : ℕ) (old new : ReplicaState)
+    → slice_get (world_after trace time).replicas place ≡ Some old
+    → slice_get (world_step (world_after trace time) event).replicas place ≡ Some new
+    → (object : ObjectId) (delivered : IsDelivered (world_after trace time) event place old new object)
+    → handled_by trace event ≡ Some (request_upon old new delivered.carried object delivered.accepts)
+upon_handled trace is_run time within event place old new is_old is_new object delivered =
+    let one : AcceptsOne old new delivered.carried object = delivered.accepts in
+    let upon : IsUpon old one.sets = delivered_upon (world_after trace time) event place old new object delivered
+    is_old is_new in
+    request_handled trace is_run time within event place old is_old delivered.letter delivered.is_handed delivered.to
+    (request_upon old new delivered.carried object one) one.round one.mac
+    (delivered.brings ∙ ap (λ (it : Frame). Some it) one.is_request) upon.had
+
+pub handled : (trace : Trace) → IsRun trace → (time : ℕ) → time < length trace.entries → (entry : Entry)
+    → Contains trace.entries entry → (event : Event) → event ≡ entry.event → (place : ℕ) (old new : ReplicaState)
+    → slice_get (world_after trace time).replicas place ≡ Some old
+    → slice_get (world_step (world_after trace time) event).replicas place ≡ Some new
+    → (object : ObjectId) (delivered : IsDelivered (world_after trace time) event place old new object)
+    → IsHandled trace (delivered.accepts).client (delivered.accepts).number ((object, (delivered.accepts).method) ∷ [])
+handled trace is_run time within entry of_trace event event_is place old new is_old is_new object delivered = record {
+  entry = entry;
+  of_trace = of_trace;
+  sets = (delivered.accepts).sets;
+  handled = ap (handled_by trace) (sym event_is) ∙ upon_handled trace is_run time within event place old new
+      is_old is_new object delivered;
+}
+
+-- ---- for which act a candidate was made
+
+-- the stamp is that of the act
+pub made_for : (trace : Trace) (old new : ReplicaState) (taken : Frame) (object : ObjectId)
+    (one : AcceptsOne old new taken object) (candidate : Candidate) → one.candidate ≡ candidate
+    → IsHandled trace one.client one.number ((object, one.method) ∷ [])
+    → IsMadeFor trace candidate one.client one.number ((object, one.method) ∷ [])
+made_for trace old new taken object one candidate is was =
+    let stamp : candidate.stamp ≡ fresh_stamp
+    (asked_of one.client one.number one.sets (body.Act ((object, one.method) ∷ []))) object =
+    ap (λ (it : Candidate). it.stamp) (sym is) ∙ (one.grounds).stamp in
+    record {
+      handled = was;
+      of_client = ap (λ (it : Stamp). it.client) stamp;
+      of_act = ap (λ (it : Stamp). it.act)
+          stamp;
+    }
+
+-- what a replica accepts at an event was made for the act that the event asks of it
+pub accepted_made : (trace : Trace) → IsRun trace → (time : ℕ) → time < length trace.entries
+    → (object : ObjectId) (place : ℕ) (candidate : Candidate) (accepted : Acceptance trace time object place candidate)
+    → IsMadeFor trace candidate ((accepted.delivered).accepts).client ((accepted.delivered).accepts).number
+    ((object, ((accepted.delivered).accepts).method) ∷ [])
+accepted_made trace is_run time within object place candidate accepted =
+    let entry : Entry = get_or trace.entries time some_entry in
+    let next : world_step (world_after trace time) accepted.event ≡ world_after trace (suc time) =
+    ap (world_step (world_after trace time)) accepted.event_is
+    ∙ sym (world_after-next trace time some_entry within) ∙ ap (world_after trace) (add-one time) in
+    let is_new : slice_get (world_step (world_after trace time) accepted.event).replicas place ≡ Some accepted.new =
+    ap (λ (it : WorldState). slice_get it.replicas place) next ∙ accepted.is_new in
+    made_for trace accepted.old accepted.new (accepted.delivered).carried object (accepted.delivered).accepts
+    candidate accepted.candidate_is
+    (handled trace is_run time within entry (Contains-get_or trace.entries time some_entry within) accepted.event
+    accepted.event_is place accepted.old accepted.new accepted.is_old is_new object accepted.delivered)

@@ -1,0 +1,199 @@
+-- What an event of a world adds to a replica, and why: nothing, or what a letter to it makes it accept.
+use Rattle.std.proofs.Common.{◌≡◌, ◌⊎◌, ℕ, List, Option, None, Some, inl, inr, refl, sym, subst, ap, ◌∙◌, Ok}
+use Rattle.std.specs.Prelude.{slice_get, slice_set}
+use Rattle.std.proofs.lemmas.Bool.{cases_eq}
+use Rattle.std.proofs.lemmas.Option.{same_Some}
+use Rattle.qu_base.specs.declared.party.ClientId.{ClientId}
+use Rattle.qu_base.specs.declared.party.ObjectId.{ObjectId}
+use Rattle.qu_base.specs.declared.party.Party.{Party}
+use Rattle.qu_base.specs.declared.party.Party.TheVariants as party
+use Rattle.qu_base.specs.declared.party.ReplicaId.{ReplicaId}
+use Rattle.qu_frames.specs.declared.frame.Frame.{Frame}
+use Rattle.qu_frames.specs.declared.frame.Letter.{Letter}
+use Rattle.qu_replica.specs.State.{ReplicaState, own_candidates}
+use Rattle.qu_replica.specs.Growth.{HasParts}
+use Rattle.qu_replica.specs.Step.{on_received, replica_step}
+use Rattle.qu_client.specs.declared.state.ClientState.{ClientState}
+use Rattle.qu_client.specs.declared.state.Stepped.{Stepped}
+use Rattle.qu_client.specs.Step.{client_invoke, client_step, client_tick}
+use Rattle.qu_trace.specs.declared.event.Event.{Event}
+use Rattle.qu_trace.specs.declared.event.Event.TheVariants.{Invoke, Deliver, Tick, Inject}
+use Rattle.qu_world.specs.State.{WorldState, numbered, letter_of}
+use Rattle.qu_world.specs.Step.{world_step, at_replica, at_client, received, delivered}
+use Rattle.qu_grounds.specs.Grounds.{AcceptsAlone, IsMoved, IsDelivered}
+use Rattle.qu_grounds.proofs.Acceptance.{step_moves, accepts_on}
+use Rattle.qu_world.proofs.Each.{set_here, set_other}
+use Rattle.qu_runs.specs.Carried.{Carries, handed}
+use Rattle.qu_frames.specs.Decoding.{decoded}
+use Rattle.qu_runs.specs.Plain.{IsPlain}
+use Rattle.qu_frames.specs.Signed.{brought}
+use Rattle.qu_frames.proofs.Signed.{brought_is_decoded}
+use Rattle.qu_runs.proofs.Handing.{letter_handed, injected_cases}
+
+-- ---- a replica before an event
+
+-- ---- a replica whose place nothing was put at
+
+stays : (olds news : List ReplicaState) (place : ℕ) (old new : ReplicaState)
+    → slice_get news place ≡ slice_get olds place → slice_get olds place ≡ Some old
+    → slice_get news place ≡ Some new → new ≡ old
+stays olds news place old new same is_old is_new = same_Some new old (sym is_new ∙ same ∙ is_old)
+
+-- no move of a client changes a replica
+client_leaves : (world : WorldState) (event : Event) (me : ClientId) (move : ClientState → Stepped)
+    (found : Option ClientState) → (at_client world event me move found).replicas ≡ world.replicas
+client_leaves world event me move None = refl
+client_leaves world event me move (Some state) = refl
+
+client_stays : (world : WorldState) (event : Event) (me : ClientId) (move : ClientState → Stepped)
+    (found : Option ClientState) (place : ℕ) (old new : ReplicaState)
+    → slice_get world.replicas place ≡ Some old → slice_get (at_client world event me move found).replicas
+    place ≡ Some new → new ≡ old
+client_stays world event me move found place old new is_old is_new =
+    stays world.replicas (at_client world event me move found).replicas place old new
+    (ap (λ (replicas : List ReplicaState). slice_get replicas place) (client_leaves world event me move found))
+    is_old is_new
+
+-- ---- a letter to a replica
+
+-- the replica at this place is the one that takes the frame, and accepts one candidate
+record IsTaken (me : ReplicaId) (text : List ℕ) (place : ℕ) (old new : ReplicaState) : Type 0 where
+  here : me.0 ≡ place
+  frame : Frame
+  is_frame : brought old.keys (party.Replica old.me) text ≡ Some frame
+  accepts : AcceptsAlone old new frame
+
+-- what a text makes of a replica that brings it a frame
+record IsAccepted (read : Option Frame) (old new : ReplicaState) : Type 0 where
+  frame : Frame
+  is_frame : read ≡ Some frame
+  accepts : AcceptsAlone old new frame
+
+text_moves : (old : ReplicaState) (read : Option Frame) → ((frame : Frame) → read ≡ Some frame → HasParts frame)
+    → ((on_received old read).0 ≡ old) ⊎ IsAccepted read old (on_received old read).0
+text_moves old (Some frame) parts =
+    elim (step_moves old frame (parts frame refl)) [
+      | inl same ↦ inl same
+      | inr alone ↦ inr (record { frame = frame; is_frame = refl; accepts = alone })
+    ]
+text_moves old None parts = inl refl
+
+replica_takes : (world : WorldState) (event : Event) (me : ReplicaId) (text : List ℕ)
+    (found : Option ReplicaState) (place : ℕ) (old new : ReplicaState)
+    → slice_get world.replicas me.0 ≡ found → ((frame : Frame) → decoded text ≡ Ok frame → HasParts frame)
+    → slice_get world.replicas place ≡ Some old → slice_get (at_replica world event me text found).replicas
+    place ≡ Some new
+    → (new ≡ old) ⊎ IsTaken me text place old new
+replica_takes world event me text None place old new is_found parts is_old is_new =
+    inl (stays world.replicas world.replicas place old new refl is_old is_new)
+replica_takes world event me text (Some state) place old new is_found parts is_old is_new =
+    let moved : ReplicaState = (replica_step state text).0 in
+    elim (cases_eq place me.0) [
+      | inl here ↦
+          let is_state : state ≡ old =
+          same_Some state old (sym is_found ∙ ap (slice_get world.replicas) (sym here) ∙ is_old) in
+          let is_moved : moved ≡ new =
+          same_Some moved new (sym (set_here world.replicas me.0 state moved is_found)
+          ∙ ap (slice_get (slice_set world.replicas me.0 moved)) (sym here) ∙ is_new) in
+          let is_step : (replica_step old text).0 ≡ new =
+          ap (λ (it : ReplicaState). (replica_step it text).0) (sym is_state) ∙ is_moved in
+          elim (text_moves old (brought old.keys (party.Replica old.me) text)
+          (λ frame brings. parts frame (brought_is_decoded old.keys (party.Replica old.me) text frame brings))) [
+            | inl same ↦ inl (sym is_step ∙ same)
+            | inr alone ↦ inr
+                (record {
+                  here = sym here;
+                  frame = alone.frame;
+                  is_frame = alone.is_frame;
+                  accepts = subst (λ (it : ReplicaState). AcceptsAlone old it alone.frame) is_step alone.accepts;
+                })
+          ]
+      | inr apart ↦ inl (stays world.replicas (slice_set world.replicas me.0 moved) place old new
+          (set_other world.replicas me.0 place moved apart) is_old is_new)
+    ]
+
+letter_taken : (world : WorldState) (event : Event) (number : ℕ) (letter : Letter) (to : Party) (place : ℕ)
+    (old new : ReplicaState)
+    → letter_of world number ≡ Some letter → handed world event ≡ Some (letter.to, letter.text) → letter.to ≡ to
+    → ((carried : Frame) → Carries letter carried → HasParts carried)
+    → slice_get world.replicas place ≡ Some old → slice_get (received world event to letter.text).replicas
+    place ≡ Some new
+    → (new ≡ old) ⊎ IsMoved world event place old new
+letter_taken world event number letter (party.Client me) place old new is_letter hands is_to parts is_old is_new =
+    inl (client_stays world event me (λ (state : ClientState). client_step state letter.text)
+    (numbered world.clients me.0) place old new is_old is_new)
+letter_taken world event number letter (party.Replica me) place old new is_letter hands is_to parts is_old is_new =
+    let replica : ℕ → Party = λ it. party.Replica (record { 0 = it }) in
+    elim (replica_takes world event me letter.text (slice_get world.replicas me.0) place old new refl parts is_old
+    is_new) [
+      | inl same ↦ inl same
+      | inr taken ↦ inr (record {
+        number = number;
+        letter = letter;
+        is_letter = is_letter;
+        is_handed = hands;
+        to = is_to ∙ ap replica taken.here;
+        carried = taken.frame;
+        brings = taken.is_frame;
+        accepts = taken.accepts;
+      })
+    ]
+
+letter_delivered : (world : WorldState) (number : ℕ) (found : Option Letter) (place : ℕ) (old new : ReplicaState)
+    → letter_of world number ≡ found
+    → ((letter : Letter) → found ≡ Some letter → (carried : Frame) → Carries letter carried → HasParts carried)
+    → slice_get world.replicas place ≡ Some old → slice_get (delivered world (Deliver number) found).replicas
+    place ≡ Some new
+    → (new ≡ old) ⊎ IsMoved world (Deliver number) place old new
+letter_delivered world number None place old new is_found parts is_old is_new =
+    inl (stays world.replicas world.replicas place old new refl is_old is_new)
+letter_delivered world number (Some letter) place old new is_found parts is_old is_new =
+    letter_taken world (Deliver number) number letter letter.to place old new is_found
+    (letter_handed world number letter is_found) refl (parts letter refl) is_old is_new
+
+-- an event leaves a replica as it is, or delivers to it what adds one candidate
+pub event_moves : (world : WorldState) (event : Event) (place : ℕ) (old new : ReplicaState)
+    → slice_get world.replicas place ≡ Some old → slice_get (world_step world event).replicas place ≡ Some new
+    → ((number : ℕ) (letter : Letter) → letter_of world number ≡ Some letter → (carried : Frame)
+    → Carries letter carried → HasParts carried)
+    → IsPlain world event → (new ≡ old) ⊎ IsMoved world event place old new
+event_moves world (Invoke client op) place old new is_old is_new parts plain =
+    inl (client_stays world (Invoke client op) client (λ (state : ClientState). client_invoke state op)
+    (numbered world.clients client.0) place old new is_old is_new)
+event_moves world (Deliver number) place old new is_old is_new parts plain =
+    letter_delivered world number (letter_of world number) place old new refl (parts number) is_old is_new
+event_moves world (Inject to text) place old new is_old is_new parts plain =
+    injected_cases world to text (λ (event : Event) (made : WorldState). slice_get made.replicas place ≡ Some new
+    → (new ≡ old) ⊎ IsMoved world event place old new)
+    (λ is. inl (stays world.replicas world.replicas place old new refl is_old is))
+    (λ number letter is_letter is. letter_taken world (Inject letter.to letter.text) number letter letter.to place
+    old new is_letter refl refl (parts number letter is_letter) is_old is)
+    plain is_new
+event_moves world (Tick client) place old new is_old is_new parts plain =
+    inl (client_stays world (Tick client) client client_tick (numbered world.clients client.0) place old new
+    is_old is_new)
+
+-- the same of one object
+pub event_accepts : (world : WorldState) (event : Event) (place : ℕ) (old new : ReplicaState)
+    → slice_get world.replicas place ≡ Some old → slice_get (world_step world event).replicas place ≡ Some new
+    → ((number : ℕ) (letter : Letter) → letter_of world number ≡ Some letter → (carried : Frame)
+    → Carries letter carried → HasParts carried)
+    → IsPlain world event → (object : ObjectId) → (own_candidates new object ≡ own_candidates old object)
+    ⊎ IsDelivered world event place old new object
+event_accepts world event place old new is_old is_new parts plain object =
+    elim (event_moves world event place old new is_old is_new parts plain) [
+      | inl same ↦ inl (ap (λ (it : ReplicaState). own_candidates it object) same)
+      | inr moved ↦ elim (accepts_on old new moved.carried moved.accepts object) [
+        | inl same ↦ inl same
+        | inr one ↦ inr (record {
+          number = moved.number;
+          letter = moved.letter;
+          is_letter = moved.is_letter;
+          is_handed = moved.is_handed;
+          to = moved.to;
+          carried = moved.carried;
+          brings = moved.brings;
+          accepts = one;
+        })
+      ]
+    ]

@@ -1,0 +1,74 @@
+-- A run meets what is asked of all objects together, where no two digested texts have one digest.
+use Rattle.std.proofs.Common.{◌≡◌, ap, inl, inr, length, sym, true, ◌∙◌}
+use Rattle.qu_grounds.specs.Grounds.{AcceptsOne}
+use Rattle.qu_runs.specs.Plain.{ArePlain}
+use Rattle.qu_stamp.specs.declared.candidate.Candidate.{Candidate}
+use Rattle.qu_world.specs.Run.{IsRun}
+use Rattle.qu_chain.specs.Joint.{Joint}
+use Rattle.qu_runs.specs.Digested.{NoCollision}
+use Rattle.qu_base.specs.declared.party.ObjectId.{ObjectId}
+use Rattle.qu_grounds.specs.Origins.{Origin}
+use Rattle.qu_stamp.specs.declared.stamp.Stamp.{Stamp}
+use Rattle.qu_trace.specs.declared.trace.Trace.{Trace}
+use Rattle.qu_grounds.proofs.Origins.{accepted_from}
+use Rattle.std.proofs.lemmas.Bool.{false≢true}
+use Rattle.qu_runs.specs.Accepted.{is_accepted}
+use Rattle.std.specs.Prelude.{is_some}
+use Rattle.qu_grounds.specs.Chained.{last_world}
+use Rattle.qu_grounds.proofs.Laws.{new_is_fresh, one_accepted}
+use Rattle.std.proofs.lemmas.Option.{none-some}
+use Rattle.qu_stamp.specs.Candidate.{opening}
+use Rattle.qu_runs.proofs.Small.{same_candidate}
+use Rattle.qu_runs.specs.Setting.{setting}
+use Rattle.qu_runs.proofs.Settings.{somewhere_accepted}
+use Rattle.qu_grounds.proofs.Named.{stamps_name}
+
+module _ (trace : Trace) (is_run : IsRun trace) (have : ArePlain trace) where
+  -- what was accepted upon a request is made by an act
+  came_by_act : (object : ObjectId) (candidate : Candidate) → Origin trace (length trace.entries) object candidate
+      → is_some candidate.stamp.act ≡ true
+  came_by_act object candidate came =
+      let one : AcceptsOne came.old came.new (came.delivered).carried object = (came.delivered).accepts in
+      ap (λ (it : Candidate). is_some it.stamp.act) (sym came.is_candidate)
+      ∙ ap (λ (it : Stamp). is_some it.act) (one.grounds).stamp
+
+  not_opening : (object : ObjectId) (candidate other : Candidate) → candidate ≡ opening
+      → Origin trace (length trace.entries) object other → candidate.stamp ≡ other.stamp → ⊥
+  not_opening object candidate other is came same =
+      false≢true (ap (λ (it : Candidate). is_some it.stamp.act) (sym is)
+      ∙ ap (λ (it : Stamp). is_some it.act) same ∙ came_by_act object other came)
+
+  module _ (no_collision : NoCollision trace) where
+    -- a stamp that a replica accepted is that of one candidate
+    pub one_of_stamp : (object : ObjectId) (candidate other : Candidate)
+        → is_accepted (last_world trace) object candidate ≡ true → is_accepted (last_world trace) object other ≡ true
+        → candidate.stamp ≡ other.stamp → candidate ≡ other
+    one_of_stamp object candidate other accepted again same =
+        elim (accepted_from trace is_run have object candidate accepted) [
+          | inl is ↦ elim (accepted_from trace is_run have object other again) [
+            | inl other_is ↦ is ∙ sym other_is
+            | inr other_came ↦ absurd (not_opening object candidate other is other_came same)
+          ]
+          | inr came ↦ elim (accepted_from trace is_run have object other again) [
+            | inl other_is ↦ absurd (not_opening object other candidate other_is came (sym same))
+            | inr other_came ↦
+                same_candidate candidate other same
+                ((stamps_name trace is_run have no_collision).prior object candidate other came other_came same)
+          ]
+        ]
+
+    pub joint_laws : Joint (setting trace)
+    unfolding setting
+    joint_laws = record {
+      one = λ object place elsewhere candidate other good other_good within other_within accepted again same.
+          one_of_stamp object candidate other
+          (somewhere_accepted object candidate (last_world trace).replicas place accepted)
+          (somewhere_accepted object other (last_world trace).replicas elsewhere again) same;
+      joint = λ time object place candidate other stamp good within accepted apart is.
+          absurd (none-some stamp is);
+      together = λ time object other place elsewhere candidate companion apart new again.
+          absurd (apart (ap (λ (it : ObjectId). it.0)
+          (one_accepted trace is_run have time object other place elsewhere candidate companion new again).objects));
+      copies = λ time object place candidate plain no_act new.
+          absurd (false≢true (sym no_act ∙ (new_is_fresh trace is_run have time object place candidate new).is_act));
+    }

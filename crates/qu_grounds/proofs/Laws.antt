@@ -1,0 +1,390 @@
+-- A run of the world meets the laws of the theory of what is decided.
+use Rattle.std.proofs.Common.{◌≡◌, Bool, List, Some, ap, arith, false, inl, inr, length, not, refl, subst, suc, sym, true, zero, ℕ, ◌⊎◌, ◌<◌, ◌≤◌, ◌∷◌, ◌∙◌, []}
+use Rattle.qu_grounds.proofs.Accepting.{opening_alone, StepAt, step_at, Acceptance, acceptance, added_is}
+use Rattle.qu_chain.proofs.Ancestry.{Acceptor, acceptor}
+use Rattle.qu_runs.proofs.WorldGrowth.{AcceptsMore, has_more, world_after-grows}
+use Rattle.qu_grounds.specs.Grounds.{AcceptsOne, IsDelivered}
+use Rattle.std.specs.List.{AllZip}
+use Rattle.qu_runs.specs.Plain.{ArePlain}
+use Rattle.qu_base.specs.Thresholds.{AreThresholds, quorum, replicas}
+use Rattle.qu_frames.specs.declared.frame.Body.{Body}
+use Rattle.qu_stamp.specs.declared.candidate.Candidate.{Candidate}
+use Rattle.qu_chain.proofs.Counting.{Found, found_at, test_at-here}
+use Rattle.qu_frames.specs.declared.frame.Frame.{Frame}
+use Rattle.qu_chain.specs.Laws.{Given, IsLinked, Laws, Sizes}
+use Rattle.qu_chain.specs.Setting.{IsNew, acceptors}
+use Rattle.qu_grounds.specs.Views.{IsOfKept}
+use Rattle.qu_world.specs.Run.{IsRun}
+use Rattle.qu_base.specs.declared.party.ObjectId.{ObjectId}
+use Rattle.qu_base.specs.declared.party.Party.{Party}
+use Rattle.qu_replica.specs.State.{ReplicaState, own_candidates}
+use Rattle.qu_stamp.specs.declared.stamp.Stamp.{Stamp}
+use Rattle.qu_trace.specs.declared.trace.Trace.{Trace}
+use Rattle.qu_chain.proofs.Arrival.{Turn, turn_between}
+use Rattle.qu_grounds.proofs.Grounds.{above_base, above_held, base_not_below}
+use Rattle.qu_runs.proofs.Objects.{accepted_known}
+use Rattle.qu_runs.proofs.Settings.{acceptors_are}
+use Rattle.qu_runs.specs.Accepted.{accepts}
+use Rattle.qu_runs.proofs.OpeningReplicas.{all_begin, all_replicas, bounds_are}
+use Rattle.qu_base.proofs.ThresholdFacts.{are_thresholds}
+use Rattle.qu_replica.specs.Rows.{asked_of, fresh_stamp}
+use Rattle.qu_runs.proofs.Carrying.{asks_so, brings_carries, one_carried}
+use Rattle.std.proofs.lemmas.Bool.{cases_Bool, cases_lt, false≢true, lt-ltb, ltb-true, or_left, or_right}
+use Rattle.qu_chain.specs.Count.{count, test_at}
+use Rattle.std.specs.Prelude.{count_by, is_some, slice_get}
+use Rattle.qu_frames.specs.Decoding.{decoded}
+use Rattle.qu_history.specs.Sets.{entries_of, method_at}
+use Rattle.qu_history.proofs.Rising.{holds_push}
+use Rattle.qu_stamp.specs.Stamp.{is_below}
+use Rattle.qu_stamp.proofs.Order.{is_below-self, same-self}
+use Rattle.qu_grounds.proofs.Acceptors.{method_is_shown}
+use Rattle.qu_runs.proofs.Handing.{one_hand}
+use Rattle.qu_stamp.specs.Candidate.{opening, same}
+use Rattle.qu_history.specs.History.{holds}
+use Rattle.qu_runs.specs.Carried.{handed}
+use Rattle.qu_runs.specs.Setting.{setting}
+use Rattle.std.proofs.lemmas.Option.{slice_get_cases}
+use Rattle.qu_grounds.proofs.Views.{view_of_request}
+use Rattle.qu_runs.specs.Times.{world_after}
+use Rattle.qu_base.specs.declared.party.Party.TheVariants as party
+use Rattle.qu_frames.specs.declared.frame.Frame.TheVariants as frame
+use Rattle.qu_frames.specs.declared.frame.Body.TheVariants as body
+
+-- ---- the numbers
+
+none_counted : (n : ℕ) → count n (λ replica. not true) ≡ 0
+unfolding count
+none_counted zero = refl
+none_counted (suc n) =
+    let before : count n (λ replica. not true) ≡ 0 = none_counted n in
+    omega (arith, before)
+
+more_at : (object : ObjectId) (candidate : Candidate) (olds news : List ReplicaState) (place : ℕ)
+    → AllZip AcceptsMore olds news
+    → test_at (accepts object candidate) olds place ≡ true → test_at (accepts object candidate) news place ≡ true
+more_at object candidate [] news place more accepted = absurd (false≢true accepted)
+more_at object candidate (old ∷ olds) [] place more accepted = absurd more
+more_at object candidate (old ∷ olds) (new ∷ news) zero more accepted = more.0 object candidate accepted
+more_at object candidate (old ∷ olds) (new ∷ news) (suc place) more accepted =
+    more_at object candidate olds news place more.1 accepted
+
+-- ---- letters
+
+abbrev place_of : Party → ℕ
+place_of (party.Replica me) = me.0
+place_of (party.Client me) = 0
+
+same_place : (first second : ℕ)
+    → party.Replica (record { 0 = first }) ≡ party.Replica (record { 0 = second }) → first ≡ second
+same_place first second same = ap place_of same
+
+abbrev act_object : Frame → ObjectId → ObjectId
+act_object (frame.Request client number round sets (body.Act []) mac) none = none
+act_object (frame.Request client number round sets (body.Act (part ∷ later)) mac) none = part.0
+act_object (frame.Request client number round sets (body.Ask parts) mac) none = none
+act_object (frame.Reply replica client number round verdict culled shown mac) none = none
+
+module _ (trace : Trace) (is_run : IsRun trace) (have : ArePlain trace) where
+  sizes : Sizes (setting trace)
+  unfolding setting
+  sizes =
+      let thresholds : AreThresholds trace.setup.bounds =
+      are_thresholds trace.setup.bounds (is_run.setup).some_faults in
+      record {
+        borne = omega arith;
+        counted = none_counted (replicas trace.setup.bounds);
+        meets = omega arith;
+        shares = omega arith;
+        within = omega arith;
+      }
+
+  -- ---- what a replica accepts
+
+  pub acceptance_of : (time : ℕ) (object : ObjectId) (place : ℕ) (candidate : Candidate)
+      → IsNew (setting trace) time object place candidate → Acceptance trace time object place candidate
+  unfolding setting
+  acceptance_of time object place candidate new =
+      acceptance trace is_run have time new.step object place candidate new.after new.before
+
+  -- the base of what is accepted was accepted by a quorum
+  base_shown : (time : ℕ) (object : ObjectId) (place : ℕ) (candidate : Candidate) → time < length trace.entries
+      → (accepted : Acceptance trace time object place candidate)
+      → quorum trace.setup.bounds
+      ≤ acceptors (setting trace) time object ((accepted.delivered).accepts).grounds.base
+  base_shown time object place candidate within accepted =
+      let delivered : IsDelivered (world_after trace time) accepted.event place accepted.old accepted.new object =
+      accepted.delivered in
+      let one : AcceptsOne accepted.old accepted.new delivered.carried object = delivered.accepts in
+      let act : Body = body.Act ((object, one.method) ∷ []) in
+      let below : time ≤ length trace.entries = omega arith in
+      let view : IsOfKept trace time one.sets act =
+      view_of_request trace is_run have time below delivered.number delivered.letter delivered.is_letter one.client
+      one.number one.round one.sets act
+      (asks_so delivered.letter delivered.carried one.client one.number one.round one.sets act one.mac
+      (brings_carries accepted.old delivered.letter delivered.carried delivered.brings) one.is_request) in
+      let shown : quorum trace.setup.bounds
+      ≤ count_by (accepts object (one.grounds).base) (world_after trace time).replicas =
+      method_is_shown trace is_run time below one.sets act view object (one.grounds).base
+      (ap (λ (bounds : ℕ). method_at bounds (entries_of object one.sets))
+      (sym (bounds_are trace time place accepted.old accepted.is_old)) ∙ (one.grounds).method) in
+      let counted : acceptors (setting trace) time object (one.grounds).base
+      ≡ count_by (accepts object (one.grounds).base) (world_after trace time).replicas =
+      acceptors_are trace time object (one.grounds).base in
+      omega (arith, shown, counted)
+
+  start : (object : ObjectId) (place : ℕ) (candidate : Candidate)
+      → (setting trace).accepted 0 object place candidate ≡ true → candidate ≡ opening
+  unfolding setting
+  start object place candidate accepted =
+      let found : Found (accepts object candidate) (world_after trace 0).replicas place =
+      found_at (accepts object candidate) (world_after trace 0).replicas place accepted in
+      opening_alone trace place found.item object candidate found.is_at found.passed
+
+  grows : (time : ℕ) (object : ObjectId) (place : ℕ) (candidate : Candidate)
+      → (setting trace).accepted time object place candidate ≡ true
+      → (setting trace).accepted (suc time) object place candidate ≡ true
+  unfolding setting
+  grows time object place candidate accepted =
+      more_at object candidate (world_after trace time).replicas (world_after trace (suc time)).replicas place
+      (has_more (world_after trace time) (world_after trace (suc time))
+      (world_after-grows trace time (suc time) (omega arith))).replicas accepted
+
+  -- what the replica had accepted, it held
+  held_before : (time : ℕ) (object : ObjectId) (place : ℕ) (candidate earlier : Candidate)
+      (accepted : Acceptance trace time object place candidate)
+      → (setting trace).accepted time object place earlier ≡ true → accepts object earlier accepted.old ≡ true
+  unfolding setting
+  held_before time object place candidate earlier accepted before =
+      sym (test_at-here (accepts object earlier) (world_after trace time).replicas place accepted.old accepted.is_old)
+      ∙ before
+
+  rising : (time : ℕ) (object : ObjectId) (place : ℕ) (candidate earlier : Candidate)
+      → IsNew (setting trace) time object place candidate
+      → (setting trace).accepted time object place earlier ≡ true
+      → is_below earlier.stamp candidate.stamp ≡ true
+  rising time object place candidate earlier new before =
+      let accepted : Acceptance trace time object place candidate = acceptance_of time object place candidate new in
+      subst (λ (it : Candidate). is_below earlier.stamp it.stamp ≡ true) accepted.candidate_is
+      (above_held ((accepted.delivered).accepts).grounds earlier
+      (held_before time object place candidate earlier accepted before))
+
+  alone : (time : ℕ) (object : ObjectId) (place : ℕ) (candidate other : Candidate)
+      → IsNew (setting trace) time object place candidate → IsNew (setting trace) time object place other
+      → candidate ≡ other
+  unfolding setting
+  alone time object place candidate other new second =
+      let accepted : Acceptance trace time object place candidate = acceptance_of time object place candidate new in
+      let one : AcceptsOne accepted.old accepted.new (accepted.delivered).carried object =
+      (accepted.delivered).accepts in
+      let after : accepts object other accepted.new ≡ true =
+      sym (test_at-here (accepts object other) (world_after trace (suc time)).replicas place accepted.new
+      accepted.is_new) ∙ second.after in
+      let before : accepts object other accepted.old ≡ false =
+      sym (test_at-here (accepts object other) (world_after trace time).replicas place accepted.old accepted.is_old)
+      ∙ second.before in
+      sym accepted.candidate_is
+      ∙ added_is accepted.old accepted.new object one.candidate other one.added after before
+
+  -- it is made by an act, and is no barrier
+  pub record IsFresh (candidate : Candidate) : Type 0 where
+    pub plain : (setting trace).plain candidate ≡ true
+    pub is_act : (setting trace).is_act candidate ≡ true
+
+  pub new_is_fresh : (time : ℕ) (object : ObjectId) (place : ℕ) (candidate : Candidate)
+      → IsNew (setting trace) time object place candidate → IsFresh candidate
+  unfolding setting
+  new_is_fresh time object place candidate new =
+      let accepted : Acceptance trace time object place candidate = acceptance_of time object place candidate new in
+      let one : AcceptsOne accepted.old accepted.new (accepted.delivered).carried object =
+      (accepted.delivered).accepts in
+      let stamp : candidate.stamp ≡ fresh_stamp
+      (asked_of one.client one.number one.sets (body.Act ((object, one.method) ∷ []))) object =
+      ap (λ (it : Candidate). it.stamp) (sym accepted.candidate_is) ∙ (one.grounds).stamp in
+      record {
+        plain = ap (λ (it : Stamp). not it.barrier) stamp;
+        is_act = ap (λ (it : Stamp). is_some it.act) stamp;
+      }
+
+  pub accepted_plain : (time : ℕ) → time ≤ length trace.entries → (object : ObjectId) (place : ℕ)
+      (candidate : Candidate)
+      → place < (setting trace).n → (setting trace).accepted time object place candidate ≡ true
+      → (setting trace).plain candidate ≡ true
+  unfolding setting
+  accepted_plain time within object place candidate among accepted =
+      let test : ℕ → Bool = λ at. (setting trace).accepted at object place candidate in
+      elim (cases_Bool (test 0)) [
+        | inl at_first ↦
+            ap (λ (it : Candidate). not it.stamp.barrier) (start object place candidate at_first)
+        | inr not_at_first ↦
+            let turn : Turn test 0 time = turn_between test 0 time (omega arith) not_at_first accepted in
+            let before : turn.time < time = turn.within in
+            (new_is_fresh turn.time object place candidate (record {
+              step = omega arith;
+              within = among;
+              good = refl;
+              after = turn.after;
+              before = turn.before;
+            })).plain
+      ]
+
+  linked : (time : ℕ) (object : ObjectId) (place : ℕ) (candidate : Candidate)
+      → IsNew (setting trace) time object place candidate → IsLinked (setting trace) time object place candidate
+  unfolding setting
+  linked time object place candidate new =
+      let accepted : Acceptance trace time object place candidate = acceptance_of time object place candidate new in
+      let one : AcceptsOne accepted.old accepted.new (accepted.delivered).carried object =
+      (accepted.delivered).accepts in
+      let base : Candidate = (one.grounds).base in
+      let within : time < length trace.entries = new.step in
+      let shown : quorum trace.setup.bounds ≤ acceptors (setting trace) time object base =
+      base_shown time object place candidate within accepted in
+      let thresholds : AreThresholds trace.setup.bounds =
+      are_thresholds trace.setup.bounds (is_run.setup).some_faults in
+      let who : Acceptor (setting trace) time object base = acceptor (setting trace) time object base (omega arith) in
+      let order : time ≤ length trace.entries = omega arith in
+      record {
+        base = base;
+        plain_base = accepted_plain time order object who.replica base who.within who.accepted;
+        prior = ap (λ (it : Candidate). it.prior) (sym accepted.candidate_is) ∙ (one.grounds).prior;
+        below = subst (λ (it : Candidate). is_below base.stamp it.stamp ≡ true) accepted.candidate_is
+            (above_base one.grounds);
+        attested = omega arith;
+        settled = λ is_act. omega arith;
+        not_below = λ other plain established before.
+            base_not_below one.grounds other (held_before time object place candidate other accepted before);
+      }
+
+  -- ---- who accepts at a step
+
+  moves_here : (time : ℕ) → time < length trace.entries → (object : ObjectId) (place : ℕ) → place < (setting trace).n
+      → Given (setting trace) time object
+      ⊎ ((candidate : Candidate) → IsNew (setting trace) time object place candidate → ⊥)
+  unfolding setting
+  moves_here time within object place among = elim ((slice_get_cases (world_after trace (suc time)).replicas place).1) [
+    | inr past ↦ absurd
+        (let all : length (world_after trace (suc time)).replicas ≡ replicas trace.setup.bounds = all_replicas
+        trace (suc time) in let beyond = past.0 in omega (arith, all, beyond))
+    | inl found ↦
+        let new : ReplicaState = found.0 in
+        let is_new : slice_get (world_after trace (suc time)).replicas place ≡ Some new = found.2 in
+        let step : StepAt trace time place new object = step_at trace is_run have time within place new is_new object in
+        let olds : List ReplicaState = (world_after trace time).replicas in
+        elim (step.adds) [
+          | inl same ↦
+              inr (λ candidate it.
+              false≢true (sym it.before
+              ∙ test_at-here (accepts object candidate) olds place step.old step.is_old
+              ∙ ap (holds candidate) (sym same)
+              ∙ sym (test_at-here (accepts object candidate) (world_after trace (suc time)).replicas place new is_new)
+              ∙ it.after))
+          | inr delivered ↦
+              let one : AcceptsOne step.old new delivered.carried object = delivered.accepts in
+              let candidate : Candidate = one.candidate in
+              inl (record {
+                replica = place;
+                candidate = candidate;
+                new = record {
+                  step = within;
+                  within = among;
+                  good = refl;
+                  after =
+                      test_at-here (accepts object candidate) (world_after trace (suc time)).replicas place new is_new
+                      ∙ ap (holds candidate) one.added
+                      ∙ holds_push candidate candidate (own_candidates step.old object)
+                      ∙ or_right (holds candidate (own_candidates step.old object)) (holds candidate (candidate ∷ []))
+                      (or_left (same candidate candidate) false (same-self candidate));
+                  before =
+                      test_at-here (accepts object candidate) olds place step.old step.is_old
+                      ∙ elim (cases_Bool (accepts object candidate step.old)) [
+                        | inr not_held ↦ not_held
+                        | inl held ↦
+                            absurd (false≢true (sym (is_below-self candidate.stamp)
+                            ∙ above_held one.grounds candidate held))
+                      ];
+                };
+              })
+        ]
+  ]
+
+  moves_among : (time : ℕ) → time < length trace.entries → (object : ObjectId) (many : ℕ) → many ≤ (setting trace).n
+      → Given (setting trace) time object
+      ⊎ ((place : ℕ) (candidate : Candidate) → place < many → IsNew (setting trace) time object place candidate → ⊥)
+  moves_among time within object zero few = inr (λ place candidate below new. absurd (omega arith))
+  moves_among time within object (suc many) few =
+      elim (moves_among time within object many (omega arith)) [
+        | inl given ↦ inl given
+        | inr none ↦ elim (moves_here time within object many (omega arith)) [
+          | inl given ↦ inl given
+          | inr not_here ↦
+              inr (λ place candidate below new. elim (cases_lt place many) [
+                | inl earlier ↦ none place candidate earlier new
+                | inr not_earlier ↦
+                    let here : place ≡ many = omega arith in
+                    not_here candidate (subst (λ (at : ℕ). IsNew (setting trace) time object at candidate) here new)
+              ])
+        ]
+      ]
+
+  moves : (time : ℕ) (object : ObjectId) → time < (setting trace).last
+      → Given (setting trace) time object
+      ⊎ ((place : ℕ) (candidate : Candidate) → IsNew (setting trace) time object place candidate → ⊥)
+  unfolding setting
+  moves time object within =
+      elim (moves_among time within object (replicas trace.setup.bounds) (omega arith)) [
+        | inl given ↦ inl given
+        | inr none ↦ inr (λ place candidate new. none place candidate new.within new)
+      ]
+
+  -- ---- one event
+
+  -- what is accepted at one event is one candidate, at one replica
+  pub record AreOne (object other : ObjectId) (place elsewhere : ℕ) (first second : Candidate) : Type 0 where
+    pub places : place ≡ elsewhere
+    pub objects : object ≡ other
+    pub candidates : first ≡ second
+
+  pub one_accepted : (time : ℕ) (object other : ObjectId) (place elsewhere : ℕ) (first second : Candidate)
+      → IsNew (setting trace) time object place first → IsNew (setting trace) time other elsewhere second
+      → AreOne object other place elsewhere first second
+  one_accepted time object other place elsewhere first second new again =
+      let one : Acceptance trace time object place first = acceptance_of time object place first new in
+      let two : Acceptance trace time other elsewhere second = acceptance_of time other elsewhere second again in
+      let here : IsDelivered (world_after trace time) one.event place one.old one.new object = one.delivered in
+      let there : IsDelivered (world_after trace time) two.event elsewhere two.old two.new other = two.delivered in
+      let hand = one_hand here.letter there.letter (handed (world_after trace time) one.event)
+      (handed (world_after trace time) two.event)
+      (ap (handed (world_after trace time)) (one.event_is ∙ sym two.event_is)) here.is_handed there.is_handed in
+      let places : place ≡ elsewhere = same_place place elsewhere (sym here.to ∙ hand.0 ∙ there.to) in
+      let carried : here.carried ≡ there.carried =
+      one_carried here.letter here.carried there.carried
+      (brings_carries one.old here.letter here.carried here.brings)
+      (ap decoded hand.1 ∙ brings_carries two.old there.letter there.carried there.brings) in
+      let objects : object ≡ other =
+      sym (ap (λ (it : Frame). act_object it object) (here.accepts).is_request)
+      ∙ ap (λ (it : Frame). act_object it object) carried
+      ∙ ap (λ (it : Frame). act_object it object) (there.accepts).is_request in
+      record {
+        places = places;
+        objects = objects;
+        candidates = alone time object place first second new
+            (subst (λ (it : ObjectId). IsNew (setting trace) time it place second) (sym objects)
+            (subst (λ (it : ℕ). IsNew (setting trace) time other it second) (sym places) again));
+      }
+
+  pub laws : Laws (setting trace)
+  unfolding setting
+  laws = record {
+    sizes = sizes;
+    opens = refl;
+    begins = λ object place known good within. all_begin trace object place (ltb-true _ _ known) within;
+    start = λ object place candidate good within accepted. start object place candidate accepted;
+    only_known = λ time object place candidate good within accepted.
+        lt-ltb _ _ (accepted_known trace time place object candidate accepted);
+    grows = grows;
+    rising = rising;
+    alone = alone;
+    moves = moves;
+    one_mover = λ time object other place elsewhere candidate second new again.
+        (one_accepted time object other place elsewhere candidate second new again).places;
+    linked = λ time object place candidate holds plain new. inr (linked time object place candidate new);
+  }

@@ -1,0 +1,138 @@
+-- Where no two texts have one digest, a stamp names the histories upon which its candidate was accepted.
+use Rattle.std.proofs.Common.{◌≡◌, ℕ, ◌<◌, List, [], ◌∷◌, length, Some, refl, sym, ap, subst, ◌∙◌, arith}
+use Rattle.std.specs.Prelude.{slice_get, Contains}
+use Rattle.std.proofs.lemmas.Option.{same_Some}
+use Rattle.qu_base.specs.declared.party.ObjectId.{ObjectId}
+use Rattle.qu_seal.specs.declared.constants.TheConstants.{SETS_TAG}
+use Rattle.qu_seal.specs.Digest.{digest_of}
+use Rattle.qu_stamp.specs.declared.stamp.Stamp.{Stamp}
+use Rattle.qu_stamp.specs.declared.candidate.Candidate.{Candidate}
+use Rattle.qu_history.specs.declared.sets.SetOf.{SetOf}
+use Rattle.qu_history.specs.Forms.{sets_form}
+use Rattle.qu_history.specs.Sets.{method_at}
+use Rattle.qu_history.specs.Text.{sets_text, sets_digest}
+use Rattle.qu_history.proofs.Unsealed.{entries_of-one}
+use Rattle.qu_frames.specs.declared.frame.Body.TheVariants as body
+use Rattle.qu_frames.specs.declared.frame.Frame.{Frame}
+use Rattle.qu_frames.specs.Forms.{frame_form}
+use Rattle.qu_replica.specs.Rows.{asked_of, fresh_stamp}
+use Rattle.qu_replica.proofs.FitSteps.{request-fits}
+use Rattle.qu_trace.specs.declared.trace.Entry.{Entry}
+use Rattle.qu_trace.specs.declared.trace.Trace.{Trace}
+use Rattle.qu_world.specs.State.{WorldState}
+use Rattle.qu_world.specs.Step.{world_step}
+use Rattle.qu_world.specs.Run.{IsRun}
+use Rattle.qu_runs.specs.Digested.{Request, handled_by, Text, texts_of, digested, NoCollision}
+use Rattle.qu_grounds.specs.Grounds.{AcceptsOne}
+use Rattle.qu_grounds.specs.Named.{shown_to, StampsNameHistories}
+use Rattle.qu_runs.specs.Times.{world_after}
+use Rattle.qu_grounds.specs.Origins.{Origin}
+use Rattle.qu_runs.specs.Plain.{ArePlain}
+use Rattle.qu_runs.proofs.Fitting.{carried_in_run}
+use Rattle.qu_grounds.proofs.Handled.{request_upon, upon_handled}
+use Rattle.qu_runs.proofs.Small.{contains_mapped}
+use Rattle.qu_grounds.proofs.Origins.{accepted_from}
+use Rattle.qu_runs.proofs.OpeningReplicas.{bounds_are}
+use Rattle.qu_runs.proofs.Carrying.{brings_carries}
+
+-- the text of sets
+abbrev text_of : List SetOf → Text
+text_of sets = record { tag = SETS_TAG; bytes = sets_text sets }
+
+module _ (trace : Trace) (is_run : IsRun trace) (plain : ArePlain trace) where
+  -- the sets upon which a candidate was accepted
+  abbrev sets_upon : (object : ObjectId) (candidate : Candidate) → Origin trace (length trace.entries) object
+      candidate → List SetOf
+  sets_upon object candidate it = ((it.delivered).accepts).sets
+
+  sets_fit : (object : ObjectId) (candidate : Candidate)
+      (it : Origin trace (length trace.entries) object candidate) → sets_form.Fits (sets_upon object candidate it)
+  sets_fit object candidate it =
+      let earlier : it.past < length trace.entries = it.earlier in
+      let one : AcceptsOne it.old it.new (it.delivered).carried object = (it.delivered).accepts in
+      let fits : frame_form.Fits (it.delivered).carried =
+      carried_in_run trace is_run plain it.past (omega arith) (it.delivered).number (it.delivered).letter
+      (it.delivered).is_letter (it.delivered).carried
+      (brings_carries it.old (it.delivered).letter (it.delivered).carried (it.delivered).brings) in
+      (request-fits one.client one.number one.round one.sets (body.Act ((object, one.method) ∷ [])) one.mac
+      (subst (λ (sent : Frame). frame_form.Fits sent) one.is_request fits)).shown
+
+  sets_digested : (object : ObjectId) (candidate : Candidate)
+      (it : Origin trace (length trace.entries) object candidate) → Contains (digested trace)
+      (text_of (sets_upon object candidate it))
+  unfolding digested
+  sets_digested object candidate it =
+      let texts : Entry → List Text = λ entry. texts_of (handled_by trace entry.event) in
+      let sets : List SetOf = sets_upon object candidate it in
+      let request : Request = request_upon it.old it.new (it.delivered).carried object (it.delivered).accepts in
+      let is_new : slice_get (world_step (world_after trace it.past) it.event).replicas it.place ≡ Some it.new =
+      ap (λ (world : WorldState). slice_get world.replicas it.place) (sym it.is_step) ∙ it.is_new in
+      let handled : handled_by trace (it.entry).event ≡ Some request =
+      ap (handled_by trace) (sym it.event_is) ∙ upon_handled trace is_run it.past it.earlier it.event it.place
+      it.old it.new it.is_old is_new object it.delivered in
+      let among : Contains (texts_of (Some request)) (text_of sets) = (0, omega arith, refl) in
+      contains_mapped texts trace.entries it.entry (text_of sets) it.of_trace
+      (subst (λ found. Contains (texts_of found) (text_of sets)) (sym handled) among)
+
+  -- the stamp holds the digest of the sets
+  digest_named : (object : ObjectId) (candidate : Candidate)
+      (it : Origin trace (length trace.entries) object candidate) → ((candidate.stamp).set).0 ≡ digest_of SETS_TAG
+      (sets_text (sets_upon object candidate it))
+  unfolding sets_digest
+  digest_named object candidate it =
+      let one : AcceptsOne it.old it.new (it.delivered).carried object = (it.delivered).accepts in
+      let stamp : candidate.stamp ≡ fresh_stamp
+      (asked_of one.client one.number one.sets (body.Act ((object, one.method) ∷ []))) object =
+      ap (λ (made : Candidate). made.stamp) (sym it.is_candidate) ∙ (one.grounds).stamp in
+      ap (λ (made : Stamp). (made.set).0) stamp
+
+  -- ---- what it names
+
+  same_histories : NoCollision trace → (object : ObjectId) (first second : Candidate)
+      (one : Origin trace (length trace.entries) object first)
+      (other : Origin trace (length trace.entries) object second)
+      → first.stamp ≡ second.stamp → shown_to trace (length trace.entries) object first one ≡ shown_to trace
+      (length trace.entries) object second other
+  same_histories no_collision object first second one other same =
+      let sets : List SetOf = sets_upon object first one in
+      let others : List SetOf = sets_upon object second other in
+      let digests : digest_of SETS_TAG (sets_text sets) ≡ digest_of SETS_TAG (sets_text others) =
+      sym (digest_named object first one) ∙ ap (λ (stamp : Stamp). (stamp.set).0) same
+      ∙ digest_named object second other in
+      let texts : text_of sets ≡ text_of others =
+      no_collision (text_of sets) (text_of others) (sets_digested object first one)
+      (sets_digested object second other) digests in
+      entries_of-one sets others (sets_fit object first one) (sets_fit object second other)
+      (ap (λ (it : Text). it.bytes) texts) object
+
+  -- the base that the sets show
+  base_named : (object : ObjectId) (candidate : Candidate) (it : Origin trace (length trace.entries) object candidate)
+      → method_at trace.setup.bounds (shown_to trace (length trace.entries) object candidate it) ≡ Some
+      ((((it.delivered).accepts).grounds).base)
+  base_named object candidate it =
+      ap (λ (bounds : ℕ). method_at bounds (shown_to trace (length trace.entries) object candidate it))
+      (sym (bounds_are trace it.past it.place it.old it.is_old)) ∙
+      (((it.delivered).accepts).grounds).method
+
+  prior_named : (object : ObjectId) (candidate : Candidate)
+      (it : Origin trace (length trace.entries) object candidate)
+      → candidate.prior ≡ ((((it.delivered).accepts).grounds).base).stamp
+  prior_named object candidate it = ap (λ (made : Candidate). made.prior) (sym it.is_candidate)
+      ∙ (((it.delivered).accepts).grounds).prior
+
+  same_prior : NoCollision trace → (object : ObjectId) (first second : Candidate)
+      → Origin trace (length trace.entries) object first → Origin trace (length trace.entries) object second
+      → first.stamp ≡ second.stamp → first.prior ≡ second.prior
+  same_prior no_collision object first second one other same =
+      let bases : Some ((((one.delivered).accepts).grounds).base) ≡ Some ((((other.delivered).accepts).grounds).base) =
+      sym (base_named object first one) ∙ ap (method_at trace.setup.bounds)
+      (same_histories no_collision object first second one other same) ∙ base_named object second other in
+      prior_named object first one ∙ ap (λ (base : Candidate). base.stamp) (same_Some _ _ bases)
+      ∙ sym (prior_named object second other)
+
+  pub stamps_name : NoCollision trace → StampsNameHistories trace
+  stamps_name no_collision = record {
+    origin = accepted_from trace is_run plain;
+    histories = same_histories no_collision;
+    prior = same_prior no_collision;
+  }

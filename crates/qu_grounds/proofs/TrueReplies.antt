@@ -1,0 +1,466 @@
+-- What a verdict says is true of the replica that gives it.
+use Rattle.std.proofs.Common.{◌≡◌, ℕ, ◌<◌, Bool, true, false, ◌&&◌, cond, List, [], ◌∷◌, length, Option, None, Some, inl, inr, refl, sym, subst, ap, ◌∙◌, arith}
+use Rattle.std.specs.Prelude.{option_map, option_and_then, find, nat_le, ◌==◌}
+use Rattle.std.proofs.lemmas.Bool.{false≢true, cases_Bool, leb-false, eqb-true}
+use Rattle.std.proofs.lemmas.Option.{none-some, same_Some}
+use Rattle.qu_base.specs.declared.party.ClientId.{ClientId}
+use Rattle.qu_base.specs.declared.party.Digest.{Digest}
+use Rattle.qu_base.specs.declared.party.ObjectId.{ObjectId}
+use Rattle.qu_stamp.specs.declared.stamp.Stamp.{Stamp}
+use Rattle.qu_stamp.specs.declared.candidate.Candidate.{Candidate}
+use Rattle.qu_stamp.specs.Stamp.{is_below}
+use Rattle.qu_stamp.proofs.Order.{is_below-self, is_below-not_chain}
+use Rattle.qu_history.specs.declared.sets.SetOf.{SetOf}
+use Rattle.qu_history.specs.History.{holds}
+use Rattle.qu_history.specs.Sets.{histories, entries_of, latest_of, method_at}
+use Rattle.qu_history.proofs.Rising.{holds_pushed}
+use Rattle.qu_history.proofs.Stamps.{not_below_latest}
+use Rattle.qu_objects.specs.declared.act.Method.{Method}
+use Rattle.qu_objects.specs.declared.query.Ask.{Ask}
+use Rattle.qu_objects.specs.declared.answer.Answer.{Answer}
+use Rattle.qu_objects.specs.declared.kind.Value.{Value}
+use Rattle.qu_objects.specs.declared.state.ObjState.{ObjState}
+use Rattle.qu_objects.specs.Text.{act_digest}
+use Rattle.qu_objects.specs.Perform.{performed_answer, performed_values}
+use Rattle.qu_frames.specs.declared.frame.Body.TheVariants as body
+use Rattle.qu_frames.specs.declared.verdict.ClassCode.TheVariants.{Barrier}
+use Rattle.qu_frames.specs.declared.verdict.Refusal.{Refusal}
+use Rattle.qu_frames.specs.declared.verdict.Refusal.TheVariants.{NotCurrent, NotMethod, UnknownObject}
+use Rattle.qu_frames.specs.declared.verdict.Verdict.TheVariants as verdict
+use Rattle.qu_replica.specs.declared.decision.Accepted.{Accepted}
+use Rattle.qu_replica.specs.declared.decision.Decision.{Decision}
+use Rattle.qu_replica.specs.declared.decision.Decision.TheVariants.{Answers, Waits}
+use Rattle.qu_replica.specs.State.{ReplicaState, own_candidates, own_latest, accept_all}
+use Rattle.qu_replica.specs.Rows.{asked_of, Asked, refuse, shown_of, base_of, base_version, fresh_stamp, fresh_on, fresh_stamps, is_held, kept_answer, row_unknown, row_thin, row_retry, row_current, row_method, row_version, row_time, row_full, row_done, row_told, first_given, decide_act, decide_ask, decision_on}
+use Rattle.qu_replica.specs.Versions.{is_stored, version_at}
+use Rattle.qu_replica.proofs.Carried.{performed_one, done_one, told_one}
+use Rattle.qu_grounds.specs.Grounds.{IsGround}
+use Rattle.qu_grounds.specs.Replies.{TellsDone, TellsQuery}
+use Rattle.qu_grounds.proofs.Grounds.{is_base, above_held}
+use Rattle.qu_grounds.proofs.HeldVersions.{AreOfHeld, HoldsUnder}
+use Rattle.qu_runs.proofs.Small.{some_of, single}
+use Rattle.qu_grounds.proofs.Acceptance.{no_wait, candidates_after}
+use Rattle.qu_grounds.proofs.Performed.{version_at-push}
+use Rattle.qu_replica.proofs.Allowed.{no_first, not_first, unmapped, method_at_none}
+
+-- ---- the rows
+
+-- whatever the row decides is such
+abbrev Gives : (Decision → Type 0) → Option Decision → Type 0
+Gives P row = (decision : Decision) → row ≡ Some decision → P decision
+
+-- past a row the later ones decide
+past : (P : Decision → Type 0) (row : Option Decision) (later : List (Option Decision)) → Gives P row
+    → (row ≡ None → P (first_given later)) → P (first_given (row ∷ later))
+unfolding first_given
+past P None later here next = next refl
+past P (Some decision) later here next = here decision refl
+
+-- where refusals and waiting are such, the rows that answer are left
+module _ (P : Decision → Type 0) (refused : (why : Refusal) → P (refuse why)) (waits : P Waits)
+    (state : ReplicaState) (asked : Asked) where
+  refusing : {A : Type 0} (why : A → Refusal) (found : Option A) → Gives P (option_map (λ it. refuse (why it)) found)
+  refusing why None decision given = absurd (none-some decision given)
+  refusing why (Some it) decision given = subst P (same_Some (refuse (why it)) decision given) (refused (why it))
+
+  waiting : (test : Bool) → Gives P (cond test (Some Waits) None)
+  waiting false decision given = absurd (none-some decision given)
+  waiting true decision given = subst P (same_Some Waits decision given) waits
+
+  unknown : Gives P (row_unknown state asked)
+  unfolding row_unknown
+  unknown = refusing _ _
+
+  thin : Gives P (row_thin state asked)
+  unfolding row_thin
+  thin = refusing _ _
+
+  current : (objects : List ObjectId) → Gives P (row_current state asked objects)
+  unfolding row_current
+  current objects = refusing _ _
+
+  method : (objects : List ObjectId) → Gives P (row_method state asked objects)
+  unfolding row_method
+  method objects = refusing _ _
+
+  version : (objects : List ObjectId) → Gives P (row_version state asked objects)
+  unfolding row_version
+  version objects = waiting _
+
+  time : (objects : List ObjectId) → Gives P (row_time state asked objects)
+  unfolding row_time
+  time objects = refusing _ _
+
+  full : (objects : List ObjectId) → Gives P (row_full state asked objects)
+  unfolding row_full
+  full objects = refusing _ _
+
+  no_row : P (first_given [])
+  unfolding first_given
+  no_row = waits
+
+  act_cases : (parts : List (ObjectId × Method)) (objects : List ObjectId) → Gives P (row_retry state asked objects)
+      → (row_unknown state asked ≡ None → row_current state asked objects ≡ None
+      → row_method state asked objects ≡ None → row_version state asked objects ≡ None
+      → Gives P (row_done state asked parts objects))
+      → P (decide_act state asked parts objects)
+  unfolding decide_act
+  act_cases parts objects retry done =
+      past P _ _ unknown (λ is_known.
+      past P _ _ thin (λ _.
+      past P _ _ retry (λ _.
+      past P _ _ (current objects) (λ is_current.
+      past P _ _ (method objects) (λ is_method.
+      past P _ _ (version objects) (λ is_version.
+      past P _ _ (time objects) (λ _.
+      past P _ _ (full objects) (λ _.
+      past P _ _ (done is_known is_current is_method is_version) (λ _. no_row)))))))))
+
+  ask_cases : (parts : List (ObjectId × Ask)) (objects : List ObjectId)
+      → (row_current state asked objects ≡ None → row_method state asked objects ≡ None
+      → row_version state asked objects ≡ None → Gives P (row_told state asked parts objects))
+      → P (decide_ask state asked parts objects)
+  unfolding decide_ask
+  ask_cases parts objects told =
+      past P _ _ unknown (λ _.
+      past P _ _ thin (λ _.
+      past P _ _ (current objects) (λ is_current.
+      past P _ _ (method objects) (λ is_method.
+      past P _ _ (version objects) (λ is_version.
+      past P _ _ (told is_current is_method is_version) (λ _. no_row))))))
+
+-- ---- what is so where a row decided nothing
+
+-- no object of the sets is unknown, so one that has a base is known
+known_by_base : (number bounds : ℕ) (sets : List SetOf) (object : ObjectId) (base : Candidate)
+    → find (λ (set : SetOf). nat_le number (set.object).0) sets ≡ None
+    → method_at bounds (entries_of object sets) ≡ Some base → object.0 < number
+unfolding entries_of
+known_by_base number bounds [] object base none is = absurd (none-some base (sym (method_at_none bounds) ∙ is))
+known_by_base number bounds (set ∷ sets) object base none is =
+    let good : (nat_le number (set.object).0 ≡ false)
+    × (find (λ (it : SetOf). nat_le number (it.object).0) sets ≡ None) = not_first _ set _ none in
+    let below : (set.object).0 < number = leb-false _ _ good.0 in
+    elim (cases_Bool ((set.object).0 == object.0)) [
+      | inl here ↦
+          let equal : (set.object).0 ≡ object.0 = eqb-true _ _ here in
+          omega arith
+      | inr there ↦
+          known_by_base number bounds sets object base good.1
+          (ap (λ (test : Bool). method_at bounds (cond test (histories set.entries) (entries_of object sets)))
+          (sym there) ∙ is)
+    ]
+
+module _ (state : ReplicaState) (asked : Asked) (object : ObjectId) where
+  passed_unknown : row_unknown state asked ≡ None
+      → find (λ (set : SetOf). nat_le (length state.histories) (set.object).0) asked.sets ≡ None
+  unfolding row_unknown
+  passed_unknown none = unmapped (λ (set : SetOf). refuse (UnknownObject set.object)) _ none
+
+  passed_current : row_current state asked (object ∷ []) ≡ None → is_below (latest_of (shown_of asked object))
+      (own_latest state object) ≡ false
+  unfolding row_current
+  passed_current none = no_first (λ it. NotCurrent it (own_latest state it)) _ object none
+
+  passed_method : row_method state asked (object ∷ []) ≡ None → (it : Candidate)
+      × (base_of state asked object ≡ Some it)
+  unfolding row_method
+  passed_method none = some_of (base_of state asked object) (no_first (λ it. NotMethod it Barrier) _ object none)
+
+  passed_version : row_version state asked (object ∷ []) ≡ None → (it : ObjState)
+      × (base_version state asked object ≡ Some it)
+  unfolding row_version
+  passed_version none = some_of (base_version state asked object) (no_wait _ none)
+
+  -- the version is that of the base
+  version_of_base : (base : Candidate) (version : ObjState) → base_of state asked object ≡ Some base
+      → base_version state asked object ≡ Some version → version_at object base.stamp state.versions ≡ Some version
+  version_of_base base version is_base is_version =
+      let stored : Candidate → Option ObjState = λ it. version_at object it.stamp state.versions in
+      sym (ap (option_and_then stored) is_base) ∙ is_version
+
+-- ---- a query
+
+-- a query is told from the version of its base, and nothing is accepted
+abbrev QueryTells : ReplicaState → List SetOf → ObjectId → Ask → Decision → Type 0
+QueryTells state sets object ask (Answers (verdict.Done stamps answer) accepted) = ⊥
+QueryTells state sets object ask (Answers (verdict.Told stamps answer) accepted) =
+    TellsQuery state sets object ask stamps answer × (accepted ≡ [])
+QueryTells state sets object ask (Answers (verdict.Already answer) accepted) = ⊥
+QueryTells state sets object ask (Answers (verdict.Mended other stamp) accepted) = ⊥
+QueryTells state sets object ask (Answers (verdict.Refused why) accepted) = accepted ≡ []
+QueryTells state sets object ask Waits = Unit {0}
+
+told_tells : (state : ReplicaState) (asked : Asked) (object : ObjectId) (ask : Ask)
+    → row_current state asked (object ∷ []) ≡ None → row_method state asked (object ∷ []) ≡ None
+    → row_version state asked (object ∷ []) ≡ None
+    → Gives (QueryTells state asked.sets object ask) (row_told state asked ((object, ask) ∷ []) (object ∷ []))
+told_tells state asked object ask is_current is_method is_version decision given =
+    let found : (it : Candidate) × (base_of state asked object ≡ Some it) =
+    passed_method state asked object is_method in
+    let base : Candidate = found.0 in
+    let stored : (it : ObjState) × (base_version state asked object ≡ Some it) =
+    passed_version state asked object is_version in
+    let version : ObjState = stored.0 in
+    let latest : Stamp = latest_of (shown_of asked object) in
+    let is_latest : base.stamp ≡ latest = (is_base state.bounds (shown_of asked object) base found.1).latest in
+    subst (QueryTells state asked.sets object ask)
+    (same_Some _ decision (sym (told_one state asked ((object, ask) ∷ []) object base version found.1 stored.1)
+    ∙ given)) (
+      record {
+        base = base;
+        method = found.1;
+        stamps_are = refl;
+        version = version;
+        of_base = version_of_base state asked object base version found.1 stored.1;
+        answer_is = refl;
+        nothing_above = λ held holding.
+            ap (λ (stamp : Stamp). is_below stamp held.stamp) is_latest ∙
+            is_below-not_chain latest (own_latest state object) held.stamp
+            (passed_current state asked object is_current)
+            (not_below_latest (own_candidates state object) held holding);
+      },
+      refl,
+    )
+
+query_tells : (state : ReplicaState) (asked : Asked) (object : ObjectId) (ask : Ask)
+    → QueryTells state asked.sets object ask (decision_on state asked (body.Ask ((object, ask) ∷ [])))
+query_tells state asked object ask =
+    ask_cases (QueryTells state asked.sets object ask) (λ why. refl) tt state asked ((object, ask) ∷ [])
+    (object ∷ []) (told_tells state asked object ask)
+
+module _ (state : ReplicaState) (client : ClientId) (number : ℕ) (sets : List SetOf) (object : ObjectId)
+    (ask : Ask) (accepted : List Accepted) (stamps : List (ObjectId × Stamp)) (answer : Answer) where
+  -- a told answer is that of the version of a base that the replica has nothing above
+  pub told_is_true : decision_on state (asked_of client number sets (body.Ask ((object, ask) ∷ [])))
+      (body.Ask ((object, ask) ∷ [])) ≡ Answers (verdict.Told stamps answer) accepted
+      → TellsQuery state sets object ask stamps answer
+  told_is_true decided =
+      (subst (QueryTells state sets object ask) decided
+      (query_tells state (asked_of client number sets (body.Ask ((object, ask) ∷ []))) object ask)).0
+
+  pub told_accepts_nothing : decision_on state (asked_of client number sets (body.Ask ((object, ask) ∷ [])))
+      (body.Ask ((object, ask) ∷ [])) ≡ Answers (verdict.Told stamps answer) accepted → accepted ≡ []
+  told_accepts_nothing decided =
+      (subst (QueryTells state sets object ask) decided
+      (query_tells state (asked_of client number sets (body.Ask ((object, ask) ∷ []))) object ask)).1
+
+  pub query_is_not_done : decision_on state (asked_of client number sets (body.Ask ((object, ask) ∷ [])))
+      (body.Ask ((object, ask) ∷ [])) ≡ Answers (verdict.Done stamps answer) accepted → ⊥
+  query_is_not_done decided =
+      subst (QueryTells state sets object ask) decided
+      (query_tells state (asked_of client number sets (body.Ask ((object, ask) ∷ []))) object ask)
+
+-- ---- an act
+
+-- what is done is held, with its version
+abbrev ActTells : ReplicaState → ClientId → Digest → ObjectId → Decision → Type 0
+ActTells state client act object (Answers (verdict.Done stamps answer) accepted) =
+    TellsDone (accept_all state accepted) client act object stamps answer
+ActTells state client act object (Answers (verdict.Told stamps answer) accepted) = ⊥
+ActTells state client act object (Answers (verdict.Already answer) accepted) = ⊥
+ActTells state client act object (Answers (verdict.Mended other stamp) accepted) = ⊥
+ActTells state client act object (Answers (verdict.Refused why) accepted) = accepted ≡ []
+ActTells state client act object Waits = Unit {0}
+
+abbrev fresh_of : Asked → ObjectId → Candidate → Candidate
+fresh_of asked object base = record { stamp = fresh_stamp asked object; prior = base.stamp }
+
+module _ (state : ReplicaState) (asked : Asked) (object : ObjectId) where
+  abbrev stamps_of : List (ObjectId × Stamp)
+  stamps_of = (object, fresh_stamp asked object) ∷ []
+
+  abbrev kept_by : Option ObjState → Option Decision
+  kept_by stored = option_map (λ (kept : Answer). Answers (verdict.Done stamps_of kept) [])
+      (option_map (λ (version : ObjState). version.answer) stored)
+
+  not_held : base_of state asked object ≡ None → is_held state asked object ≡ false
+  unfolding is_held
+  not_held is = rw (is_held, is) refl
+
+  held_where : (base : Candidate) → base_of state asked object ≡ Some base → is_held state asked object ≡ holds
+      (fresh_of asked object base) (own_candidates state object)
+  unfolding is_held
+  held_where base is = rw (is_held, is) refl
+
+  stamps_where : (base : Candidate) → base_of state asked object ≡ Some base
+      → fresh_stamps state asked (object ∷ []) ≡ stamps_of
+  stamps_where base is = rw is refl
+
+  retry_by : (test : Bool) → is_held state asked object ≡ test
+      → row_retry state asked (object ∷ []) ≡ cond (test && true)
+      (option_map (λ (kept : Answer). Answers (verdict.Done (fresh_stamps state asked (object ∷ [])) kept) [])
+      (kept_answer state asked (object ∷ []))) None
+  unfolding row_retry
+  retry_by test is =
+      ap (λ (it : Bool). cond (it && true)
+      (option_map (λ (kept : Answer). Answers (verdict.Done (fresh_stamps state asked (object ∷ [])) kept) [])
+      (kept_answer state asked (object ∷ []))) None) is
+
+  retry_none : base_of state asked object ≡ None → row_retry state asked (object ∷ []) ≡ None
+  retry_none is = retry_by false (not_held is)
+
+  retry_some : (base : Candidate) → base_of state asked object ≡ Some base
+      → row_retry state asked (object ∷ []) ≡ cond
+      (holds (fresh_of asked object base) (own_candidates state object) && true)
+      (kept_by (version_at object (fresh_stamp asked object) state.versions)) None
+  unfolding kept_answer
+  retry_some base is =
+      let test : Bool = holds (fresh_of asked object base) (own_candidates state object) in
+      retry_by test (held_where base is) ∙
+      ap (λ (stamps : List (ObjectId × Stamp)). cond (test && true)
+      (option_map (λ (kept : Answer). Answers (verdict.Done stamps kept) [])
+      (kept_answer state asked (object ∷ []))) None) (stamps_where base is)
+
+  kept_tells : (act : Digest) → asked.act ≡ Some act → (base : Candidate) (holding : Bool)
+      (stored : Option ObjState) → holds (fresh_of asked object base) (own_candidates state object) ≡ holding
+      → version_at object (fresh_stamp asked object) state.versions ≡ stored
+      → Gives (ActTells state asked.client act object) (cond (holding && true) (kept_by stored) None)
+  unfolding accept_all
+  kept_tells act is_act base false stored is_held is_stored decision given = absurd (none-some decision given)
+  kept_tells act is_act base true None is_held is_stored decision given = absurd (none-some decision given)
+  kept_tells act is_act base true (Some version) is_held is_stored decision given =
+      subst (ActTells state asked.client act object) (same_Some _ decision given)
+      (record {
+        candidate = fresh_of asked object base;
+        held = is_held;
+        of_client = refl;
+        of_act = is_act;
+        stamps_are = refl;
+        version = version;
+        of_candidate = is_stored;
+        answer_is = refl;
+      })
+
+  -- a retry is told what is stored with the candidate that is held
+  retry_tells : (act : Digest) → asked.act ≡ Some act → (found : Option Candidate)
+      → base_of state asked object ≡ found → Gives (ActTells state asked.client act object)
+      (row_retry state asked (object ∷ []))
+  retry_tells act is_act None is decision given = absurd (none-some decision (sym (retry_none is) ∙ given))
+  retry_tells act is_act (Some base) is decision given =
+      kept_tells act is_act base _ _ refl refl decision (sym (retry_some base is) ∙ given)
+
+-- a fresh candidate is above all that are held, so no version is stored under its stamp
+module _ {state : ReplicaState} {asked : Asked} {object : ObjectId} {candidate : Candidate}
+    (are : AreOfHeld state) (grounds : IsGround state asked object candidate) where
+  none_of : (found : Option ObjState) → version_at object candidate.stamp state.versions ≡ found → found ≡ None
+  none_of None is_found = refl
+  none_of (Some version) is_found =
+      let under : HoldsUnder state object candidate.stamp = are.of_held object candidate.stamp version is_found in
+      absurd (false≢true (sym (is_below-self candidate.stamp) ∙
+      ap (λ (stamp : Stamp). is_below stamp candidate.stamp) (sym under.under) ∙
+      above_held grounds under.held under.is_held))
+
+  none_under : version_at object candidate.stamp state.versions ≡ None
+  none_under = none_of (version_at object candidate.stamp state.versions) refl
+
+-- the replica holds what it accepted, and finds the version that it stored
+accepted_tells : (state : ReplicaState) (asked : Asked) (act : Digest) → asked.act ≡ Some act
+    → (object : ObjectId) (base : Candidate) (version : ObjState)
+    → object.0 < length state.histories → version_at object (fresh_stamp asked object) state.versions ≡ None
+    → TellsDone (accept_all state
+    (record { object = object; candidate = fresh_of asked object base; state = version } ∷ [])) asked.client act
+    object ((object, fresh_stamp asked object) ∷ []) version.answer
+unfolding accept_all
+accepted_tells state asked act is_act object base version known none =
+    let fresh : Candidate = fresh_of asked object base in
+    record {
+      candidate = fresh;
+      held = ap (holds fresh) (candidates_after object.0 fresh state.histories known)
+          ∙ holds_pushed fresh (own_candidates state object);
+      of_client = refl;
+      of_act = is_act;
+      stamps_are = refl;
+      version = version;
+      of_candidate = version_at-push object (fresh_stamp asked object) state.versions version none;
+      answer_is = refl;
+    }
+
+done_tells : (state : ReplicaState) (asked : Asked) (act : Digest) → asked.act ≡ Some act
+    → (object : ObjectId) (method : Method) → AreOfHeld state
+    → row_unknown state asked ≡ None → row_current state asked (object ∷ []) ≡ None
+    → row_method state asked (object ∷ []) ≡ None → row_version state asked (object ∷ []) ≡ None
+    → Gives (ActTells state asked.client act object) (row_done state asked ((object, method) ∷ []) (object ∷ []))
+done_tells state asked act is_act object method are is_known is_current is_method is_version decision given =
+    let parts : List (ObjectId × Method) = (object, method) ∷ [] in
+    let found : (it : Candidate) × (base_of state asked object ≡ Some it) =
+    passed_method state asked object is_method in
+    let base : Candidate = found.0 in
+    let before : (it : ObjState) × (base_version state asked object ≡ Some it) =
+    passed_version state asked object is_version in
+    let value : (it : Value) × (performed_values parts ((before.0).value ∷ []) ≡ it ∷ []) =
+    single (performed_values parts ((before.0).value ∷ [])) (performed_one parts (before.0).value refl) in
+    let answer : Answer = performed_answer parts ((before.0).value ∷ []) in
+    let fresh : Candidate = fresh_of asked object base in
+    let is_fresh : fresh_on state asked object ≡ Some fresh = ap (option_map (fresh_of asked object)) found.1 in
+    let grounds : IsGround state asked object fresh =
+    record {
+      base = base;
+      method = found.1;
+      prior = refl;
+      stamp = refl;
+      current = passed_current state asked
+          object is_current;
+    } in
+    let known : object.0 < length state.histories =
+    known_by_base (length state.histories) state.bounds asked.sets object base
+    (passed_unknown state asked object is_known) found.1 in
+    subst (ActTells state asked.client act object)
+    (same_Some _ decision
+    (sym (done_one state asked parts object fresh before.0 value.0 answer is_fresh before.1 value.1 refl) ∙ given))
+    (accepted_tells state asked act is_act object base (record { value = value.0; answer = answer }) known
+    (none_under are grounds))
+
+act_tells : (state : ReplicaState) (asked : Asked) (object : ObjectId) (method : Method) (act : Digest)
+    → asked.act ≡ Some act → AreOfHeld state → ActTells state asked.client act object
+    (decision_on state asked (body.Act ((object, method) ∷ [])))
+act_tells state asked object method act is_act are =
+    act_cases (ActTells state asked.client act object) (λ why. refl) tt state asked ((object, method) ∷ [])
+    (object ∷ [])
+    (retry_tells state asked object act is_act (base_of state asked object) refl)
+    (done_tells state asked act is_act object method are)
+
+-- what is done was not refused
+abbrev IsNotDone : Decision → Type 0
+IsNotDone (Answers (verdict.Done stamps answer) accepted) = ⊥
+IsNotDone (Answers (verdict.Told stamps answer) accepted) = Unit {0}
+IsNotDone (Answers (verdict.Already answer) accepted) = Unit {0}
+IsNotDone (Answers (verdict.Mended object stamp) accepted) = Unit {0}
+IsNotDone (Answers (verdict.Refused why) accepted) = Unit {0}
+IsNotDone Waits = Unit {0}
+
+passed_first : (one : Option Decision) (later : List (Option Decision)) (stamps : List (ObjectId × Stamp))
+    (answer : Answer) (accepted : List Accepted) → Gives IsNotDone one → first_given (one ∷ later) ≡ Answers
+    (verdict.Done stamps answer) accepted → one ≡ None
+unfolding first_given
+passed_first None later stamps answer accepted refuses done = refl
+passed_first (Some decision) later stamps answer accepted refuses done =
+    absurd (subst IsNotDone done (refuses decision refl))
+
+-- no object of an act that is done is unknown
+pub done_is_known : (state : ReplicaState) (asked : Asked) (parts : List (ObjectId × Method))
+    (objects : List ObjectId) (stamps : List (ObjectId × Stamp)) (answer : Answer) (accepted : List Accepted)
+    → decide_act state asked parts objects ≡ Answers (verdict.Done stamps answer) accepted
+    → row_unknown state asked ≡ None
+unfolding decide_act
+done_is_known state asked parts objects stamps answer accepted done =
+    passed_first (row_unknown state asked) _ stamps answer accepted (unknown IsNotDone (λ why. tt) tt state asked) done
+
+module _ (state : ReplicaState) (client : ClientId) (number : ℕ) (sets : List SetOf) (object : ObjectId)
+    (method : Method) (accepted : List Accepted) (stamps : List (ObjectId × Stamp)) (answer : Answer)
+    (are : AreOfHeld state) where
+  -- where Done is told, the replica has the candidate afterwards, and the answer is the stored one
+  pub done_is_true : decision_on state (asked_of client number sets (body.Act ((object, method) ∷ [])))
+      (body.Act ((object, method) ∷ [])) ≡ Answers (verdict.Done stamps answer) accepted
+      → TellsDone (accept_all state accepted) client (act_digest client number ((object, method) ∷ [])) object
+      stamps answer
+  done_is_true decided = subst (ActTells state client (act_digest client number ((object, method) ∷ [])) object) decided
+      (act_tells state (asked_of client number sets (body.Act ((object, method) ∷ []))) object method
+      (act_digest client number ((object, method) ∷ [])) refl are)
+
+  pub act_is_not_told : decision_on state (asked_of client number sets (body.Act ((object, method) ∷ [])))
+      (body.Act ((object, method) ∷ [])) ≡ Answers (verdict.Told stamps answer) accepted → ⊥
+  act_is_not_told decided =
+      subst (ActTells state client (act_digest client number ((object, method) ∷ [])) object) decided
+      (act_tells state (asked_of client number sets (body.Act ((object, method) ∷ []))) object method
+      (act_digest client number ((object, method) ∷ [])) refl are)

@@ -1,0 +1,281 @@
+-- In every run each history that stands in a letter or with a client was held by its replica before.
+use Rattle.std.proofs.Common.{◌≡◌, ℕ, zero, suc, ◌+◌, ◌<◌, ◌≤◌, IsTrue, List, [], ◌∷◌, ◌++◌, length, get_or, Option, None, Some, Ok, refl, sym, ap, subst, ◌∙◌, arith, add-one}
+use Rattle.std.specs.Prelude.{slice_get}
+use Rattle.std.specs.List.{AllByRecursion}
+use Rattle.std.proofs.lemmas.List.Concat.{flat_map-append}
+use Rattle.qu_base.specs.declared.party.ClientId.{ClientId}
+use Rattle.qu_base.specs.declared.party.Party.{Party}
+use Rattle.qu_base.specs.declared.party.Party.TheVariants as party
+use Rattle.qu_base.specs.declared.party.ReplicaId.{ReplicaId}
+use Rattle.qu_base.specs.Thresholds.{replicas}
+use Rattle.qu_history.specs.declared.sets.SetOf.{SetOf}
+use Rattle.qu_history.specs.declared.sealed.Sealed.{Sealed}
+use Rattle.qu_history.specs.History.{ObjectHistory}
+use Rattle.qu_history.specs.Sets.{histories}
+use Rattle.qu_objects.specs.declared.op.Op.{Op}
+use Rattle.qu_objects.specs.declared.op.Op.TheVariants as op
+use Rattle.qu_frames.specs.declared.frame.Body.{Body}
+use Rattle.qu_frames.specs.declared.frame.Frame.{Frame}
+use Rattle.qu_frames.specs.declared.frame.Frame.TheVariants as frame
+use Rattle.qu_frames.specs.declared.frame.Letter.{Letter}
+use Rattle.qu_frames.specs.declared.verdict.Verdict.{Verdict}
+use Rattle.qu_frames.specs.Body.{body_of}
+use Rattle.qu_frames.specs.Decoding.{decoded}
+use Rattle.qu_replica.specs.State.{ReplicaState}
+use Rattle.qu_replica.specs.Step.{replica_step}
+use Rattle.qu_replica.specs.Growth.{has_parts, HasParts}
+use Rattle.qu_client.specs.declared.state.ClientState.{ClientState}
+use Rattle.qu_client.specs.declared.state.Stepped.{Stepped}
+use Rattle.qu_client.specs.Step.{client_invoke, client_step, client_tick}
+use Rattle.qu_trace.specs.declared.event.Event.{Event}
+use Rattle.qu_trace.specs.declared.event.Event.TheVariants.{Invoke, Deliver, Tick, Inject}
+use Rattle.qu_trace.specs.declared.trace.Entry.{Entry}
+use Rattle.qu_trace.specs.declared.trace.Setup.{Setup}
+use Rattle.qu_trace.specs.declared.trace.Trace.{Trace}
+use Rattle.qu_trace.specs.Letters.{letters_of}
+use Rattle.qu_world.specs.State.{WorldState, opening_world, opening_clients, numbered, letter_of, history_at, ring_of}
+use Rattle.qu_world.specs.Step.{world_step, unchanged, at_replica, at_client, received, delivered}
+use Rattle.qu_world.specs.Run.{IsRun}
+use Rattle.qu_runs.specs.Carried.{Carries, Asks, Tells}
+use Rattle.qu_runs.specs.Times.{world_after}
+use Rattle.qu_grounds.specs.Views.{WasHeld, IsOfKept}
+use Rattle.qu_runs.specs.Plain.{HasOpParts, IsPlain, ArePlain}
+use Rattle.qu_runs.proofs.WorldGrowth.{world_after-none, world_after-next}
+use Rattle.qu_world.proofs.Each.{each_append, each_numbered, each_with_numbered, set_here}
+use Rattle.qu_grounds.proofs.OwnHistories.{IsInPlace, AreInPlace, step-in_place, opening-all_in_place, set-in_place, found_where_named}
+use Rattle.qu_grounds.proofs.TrueLetters.{IsMadeOf, IsTrueFrame, IsTrueLetter, IsTrueClient, IsTrueStep, letters-more, clients-more, client_step-true, client_invoke-true, opening-true, replica_step-true}
+use Rattle.qu_runs.proofs.Small.{some_entry}
+use Rattle.qu_runs.proofs.Carrying.{AsksFit, AnswersFit, IsFitStep, numbered_here}
+use Rattle.qu_runs.proofs.Fitting.{fit_step}
+use Rattle.qu_seal.specs.Keys.{Ring}
+use Rattle.qu_runs.proofs.Handing.{injected_cases}
+
+-- each history in a letter or with a client was held, and what the replicas have is in its place
+pub record IsTrueWorld (Held : ObjectHistory → Type 0) (bounds : ℕ) (world : WorldState) : Type 0 where
+  pub replicas : AreInPlace world.replicas
+  pub clients : AllByRecursion (IsTrueClient Held bounds) world.clients
+  pub letters : AllByRecursion (IsTrueLetter Held bounds) (letters_of world.entries)
+
+world-more : (Old New : ObjectHistory → Type 0) (bounds : ℕ) (world : WorldState)
+    → ((history : ObjectHistory) → Old history → New history) → IsTrueWorld Old bounds world
+    → IsTrueWorld New bounds world
+world-more Old New bounds world more before = record {
+  replicas = before.replicas;
+  clients = clients-more Old New bounds more world.clients before.clients;
+  letters = letters-more Old New bounds more (letters_of world.entries) before.letters;
+}
+
+-- ---- a step of the world
+
+-- the letters of one entry more
+letters_of-push : (P : Letter → Type 0) (entries : List Entry) (entry : Entry)
+    → AllByRecursion P (letters_of entries) → AllByRecursion P entry.letters
+    → AllByRecursion P (letters_of (entries ++ entry ∷ []))
+unfolding letters_of
+letters_of-push P entries entry each here =
+    subst (AllByRecursion P) (sym (flat_map-append (λ (it : Entry). it.letters) entries (entry ∷ [])))
+    (each_append P (letters_of entries) (entry.letters ++ []) each (each_append P entry.letters [] here tt))
+
+module _ (Held : ObjectHistory → Type 0) (bounds : ℕ) where
+  unchanged-true : (world : WorldState) (event : Event) → IsTrueWorld Held bounds world
+      → IsTrueWorld Held bounds (unchanged world event)
+  unchanged-true world event before = record {
+    replicas = before.replicas;
+    clients = before.clients;
+    letters = letters_of-push (IsTrueLetter Held bounds) world.entries
+        (record { event = event; letters = []; ended = None }) before.letters tt;
+  }
+
+  at_client-true : (world : WorldState) (event : Event) (me : ClientId) (move : ClientState → Stepped)
+      (found : Option ClientState) → numbered world.clients me.0 ≡ found
+      → ((state : ClientState) → IsTrueClient Held bounds state → AsksFit (move state).state
+      → IsTrueStep Held bounds (move state))
+      → IsFitStep world (at_client world event me move found) → IsTrueWorld Held bounds world
+      → IsTrueWorld Held bounds (at_client world event me move found)
+  at_client-true world event me move None is moves fits before = unchanged-true world event before
+  at_client-true world event me move (Some state) is moves fits before =
+      let step : IsTrueStep Held bounds (move state) =
+      moves state (each_numbered (IsTrueClient Held bounds) world.clients me.0 state before.clients is)
+      (fits.asks me.0 (move state).state (numbered_here world.clients me.0 state (move state).state is)) in
+      record {
+        replicas = before.replicas;
+        clients = each_with_numbered (IsTrueClient Held bounds) world.clients me.0 (move state).state
+            before.clients step.state;
+        letters = letters_of-push (IsTrueLetter Held bounds) world.entries _ before.letters step.letters;
+      }
+
+  at_replica-true : (world : WorldState) (event : Event) (me : ReplicaId) (text : List ℕ)
+      (found : Option ReplicaState) → slice_get world.replicas me.0 ≡ found
+      → ((state : ReplicaState) (sent : Frame) → found ≡ Some state → decoded text ≡ Ok sent
+      → AnswersFit state sent) → IsTrueWorld Held bounds world
+      → ((history : ObjectHistory) → history_at (at_replica world event me text found) history.replica
+      history.object ≡ Some history → Held history) → IsTrueWorld Held bounds (at_replica world event me text found)
+  at_replica-true world event me text None is fits before now = unchanged-true world event before
+  at_replica-true world event me text (Some state) is fits before now =
+      let new : ReplicaState = (replica_step state text).0 in
+      let in_place : IsInPlace me.0 new = step-in_place me.0 state text (before.replicas me.0 state is) in
+      let has : (place : ℕ) (history : ObjectHistory) → slice_get new.histories place ≡ Some history → Held history =
+      λ place history found. now history
+      (found_where_named (at_replica world event me text (Some state)) me.0 new place history
+      (set_here world.replicas me.0 state new is) in_place found) in
+      record {
+        replicas = set-in_place world.replicas me.0 new before.replicas in_place;
+        clients = before.clients;
+        letters = letters_of-push (IsTrueLetter Held bounds) world.entries _ before.letters
+            (replica_step-true Held bounds state text (λ sent is_sent. fits state sent refl is_sent) has);
+      }
+
+  received-true : (world : WorldState) (event : Event) (to : Party) (text : List ℕ)
+      → ((sent : Frame) → decoded text ≡ Ok sent → IsTrueFrame Held bounds sent)
+      → ((me : ReplicaId) (state : ReplicaState) (sent : Frame) → slice_get world.replicas me.0 ≡ Some state
+      → decoded text ≡ Ok sent → AnswersFit state sent)
+      → IsFitStep world (received world event to text) → IsTrueWorld Held bounds world
+      → ((history : ObjectHistory) → history_at (received world event to text) history.replica
+      history.object ≡ Some history → Held history) → IsTrueWorld Held bounds (received world event to text)
+  received-true world event (party.Replica me) text true_frame answers fits before now =
+      at_replica-true world event me text (slice_get world.replicas me.0) refl
+      (λ state sent found. answers me state sent found) before now
+  received-true world event (party.Client me) text true_frame answers fits before now =
+      at_client-true world event me (λ (state : ClientState). client_step state text) (numbered world.clients me.0) refl
+      (λ state client. client_step-true Held bounds state text true_frame client) fits before
+
+  delivered-true : (world : WorldState) (event : Event) (number : ℕ) (letter : Option Letter)
+      → letter_of world number ≡ letter → IsFitStep world (delivered world event letter)
+      → IsTrueWorld Held bounds world
+      → ((history : ObjectHistory) → history_at (delivered world event letter) history.replica
+      history.object ≡ Some history → Held history) → IsTrueWorld Held bounds (delivered world event letter)
+  delivered-true world event number None is fits before now = unchanged-true world event before
+  delivered-true world event number (Some letter) is fits before now =
+      received-true world event letter.to letter.text
+      (each_numbered (IsTrueLetter Held bounds) (letters_of world.entries) number letter before.letters is)
+      (λ me state sent found carries. fits.answers me state found number letter sent is carries) fits before now
+
+  -- `now` says that what the replicas have after the step counts as held
+  world_step-true : (world : WorldState) (event : Event) → IsPlain world event
+      → IsFitStep world (world_step world event) → IsTrueWorld Held bounds world
+      → ((history : ObjectHistory) → history_at (world_step world event) history.replica history.object ≡ Some
+      history → Held history) → IsTrueWorld Held bounds (world_step world event)
+  world_step-true world (Invoke client op) parts fits before now =
+      at_client-true world (Invoke client op) client (λ (state : ClientState). client_invoke state op)
+      (numbered world.clients client.0) refl
+      (λ state is. client_invoke-true Held bounds state op parts.1 is) fits before
+  world_step-true world (Deliver number) parts fits before now =
+      delivered-true world (Deliver number) number (letter_of world number) refl fits before now
+  world_step-true world (Tick client) parts fits before now =
+      at_client-true world (Tick client) client client_tick (numbered world.clients client.0) refl
+      (λ state is fit. record { state = is; letters = tt }) fits before
+  world_step-true world (Inject to text) plain fits before now =
+      injected_cases world to text
+      (λ (event : Event) (new : WorldState). IsFitStep world new
+      → ((history : ObjectHistory) → history_at new history.replica history.object ≡ Some history
+      → Held history) → IsTrueWorld Held bounds new)
+      (λ fit has. unchanged-true world (Inject to text) before)
+      (λ number letter sent fit has.
+      received-true world (Inject letter.to letter.text) letter.to letter.text
+      (each_numbered (IsTrueLetter Held bounds) (letters_of world.entries) number letter before.letters sent)
+      (λ me state taken found carries. fit.answers me state found number letter taken sent carries) fit before has)
+      plain fits now
+
+  opening_clients-true : (keys : Ring) (number count : ℕ) → AllByRecursion (IsTrueClient Held bounds)
+      (opening_clients number count keys bounds)
+  unfolding opening_clients
+  opening_clients-true keys number zero = tt
+  opening_clients-true keys number (suc count) =
+      (opening-true Held bounds (record { 0 = number }) keys, opening_clients-true keys (number + 1) count)
+
+opening_world-true : (Held : ObjectHistory → Type 0) (setup : Setup) → IsTrueWorld Held setup.bounds
+    (opening_world setup)
+unfolding letters_of
+opening_world-true Held setup = record {
+  replicas = opening-all_in_place (replicas setup.bounds) (ring_of setup) setup.bounds setup.kinds;
+  clients = opening_clients-true Held setup.bounds (ring_of setup) 1 setup.clients;
+  letters = tt;
+}
+
+-- ---- all worlds of a run
+
+pub held-later : (trace : Trace) (count later : ℕ) (history : ObjectHistory) → count ≤ later
+    → WasHeld trace count history → WasHeld trace later history
+held-later trace count later history order was =
+    let earlier : was.past ≤ count = was.earlier in
+    record { past = was.past; earlier = omega arith; held = was.held }
+
+true_next : (trace : Trace) (count : ℕ) → IsRun trace → ArePlain trace → count < length trace.entries
+    → IsTrueWorld (WasHeld trace count) trace.setup.bounds (world_after trace count)
+    → IsTrueWorld (WasHeld trace (count + 1)) trace.setup.bounds (world_after trace (count + 1))
+true_next trace count is_run parts below before =
+    let default : Entry = some_entry trace.entries (omega arith) in
+    let event : Event = (get_or trace.entries count default).event in
+    let next : world_after trace (count + 1) ≡ world_step (world_after trace count) event =
+    world_after-next trace count default below in
+    subst (IsTrueWorld (WasHeld trace (count + 1)) trace.setup.bounds) (sym next)
+    (world_step-true (WasHeld trace (count + 1)) trace.setup.bounds (world_after trace count) event
+    (parts.plain_at count default below)
+    (subst (IsFitStep (world_after trace count)) next (fit_step trace is_run parts count below))
+    (world-more (WasHeld trace count) (WasHeld trace (count + 1)) trace.setup.bounds (world_after trace count)
+    (λ history was. held-later trace count (count + 1) history (omega arith) was) before)
+    (λ history found. record {
+      past = count + 1;
+      earlier = omega arith;
+      held = ap (λ (world : WorldState). history_at world history.replica history.object) next ∙ found;
+    }))
+
+pub true_world : (trace : Trace) → IsRun trace → ArePlain trace → (count : ℕ) → count ≤ length trace.entries
+    → IsTrueWorld (WasHeld trace count) trace.setup.bounds (world_after trace count)
+true_world trace is_run parts zero within =
+    subst (IsTrueWorld (WasHeld trace 0) trace.setup.bounds) (sym (world_after-none trace))
+    (opening_world-true (WasHeld trace 0) trace.setup)
+true_world trace is_run parts (suc count) within =
+    subst (λ (at : ℕ). IsTrueWorld (WasHeld trace at) trace.setup.bounds (world_after trace at)) (add-one count)
+    (true_next trace count is_run parts (omega arith) (true_world trace is_run parts count (omega arith)))
+
+-- ---- what letters show
+
+body_parts : (what : Op) → HasOpParts what → IsTrue (has_parts (body_of what))
+body_parts (op.Act act) parts = parts.0
+body_parts (op.Query query) parts = parts
+
+made_parts : (Held : ObjectHistory → Type 0) (bounds : ℕ) (sent : Frame) → IsTrueFrame Held bounds sent → HasParts sent
+made_parts Held bounds (frame.Request client number round sets body mac) made =
+    subst (λ (it : Body). IsTrue (has_parts it)) (sym made.body_is) (body_parts made.op made.parts)
+made_parts Held bounds (frame.Reply replica client number round verdict culled shown mac) made = tt
+
+module _ (trace : Trace) (is_run : IsRun trace) (have : ArePlain trace) (count : ℕ)
+    (within : count ≤ length trace.entries) (number : ℕ) (letter : Letter)
+    (sent : letter_of (world_after trace count) number ≡ Some letter) where
+  true_frame : (carried : Frame) → Carries letter carried → IsTrueFrame (WasHeld trace count) trace.setup.bounds carried
+  true_frame =
+      each_numbered (IsTrueLetter (WasHeld trace count) trace.setup.bounds)
+      (letters_of (world_after trace count).entries) number letter
+      (true_world trace is_run have count within).letters sent
+
+  -- the parts of each frame that is sent are those of an act or a query
+  pub sent_has_parts : (carried : Frame) → Carries letter carried → HasParts carried
+  sent_has_parts carried carries = made_parts (WasHeld trace count) trace.setup.bounds carried
+      (true_frame carried carries)
+
+  module _ (client : ClientId) (asked round : ℕ) (sets : List SetOf) (body : Body)
+      (is : Asks letter client asked round sets body) where
+    -- the sets of a request show what its client kept, and all of that was held
+    pub view_of_request : IsOfKept trace count sets body
+    view_of_request =
+        let made : IsMadeOf (WasHeld trace count) trace.setup.bounds sets body =
+        true_frame (frame.Request client asked round sets body is.mac) is.carries in
+        record {
+          kept = made.kept;
+          op = made.op;
+          parts = made.parts;
+          held = made.held;
+          sets_are = made.sets_are;
+          body_is = made.body_is;
+        }
+
+    pub request_has_parts : IsTrue (has_parts body)
+    request_has_parts = sent_has_parts (frame.Request client asked round sets body is.mac) is.carries
+
+  -- what a reply shows was held
+  pub view_of_reply : (replica : ReplicaId) (client : ClientId) (asked round : ℕ) (verdict : Verdict)
+      (shown : List Sealed) → Tells letter replica client asked round verdict shown
+      → AllByRecursion (WasHeld trace count) (histories shown)
+  view_of_reply replica client asked round verdict shown is =
+      true_frame (frame.Reply replica client asked round verdict is.culled shown is.mac) is.carries

@@ -1,0 +1,7 @@
+pub mod Views
+pub mod Grounds
+pub mod Chained
+pub mod Replies
+pub mod Origins
+pub mod Turns
+pub mod Named

@@ -1,0 +1,80 @@
+-- What a replica's reply says of the replica.
+use Rattle.std.specs.Prelude.{◌≡◌, ℕ, true, false, ◌+◌, List, [], ◌∷◌, slice_get, Some}
+use Rattle.qu_base.specs.declared.party.ClientId.{ClientId}
+use Rattle.qu_base.specs.declared.party.Digest.{Digest}
+use Rattle.qu_base.specs.declared.party.ObjectId.{ObjectId}
+use Rattle.qu_base.specs.declared.party.Party.TheVariants as party
+use Rattle.qu_stamp.specs.declared.stamp.Stamp.{Stamp}
+use Rattle.qu_stamp.specs.declared.candidate.Candidate.{Candidate}
+use Rattle.qu_stamp.specs.Stamp.{is_below}
+use Rattle.qu_history.specs.declared.sets.SetOf.{SetOf}
+use Rattle.qu_history.specs.History.{holds}
+use Rattle.qu_history.specs.Sets.{entries_of, method_at}
+use Rattle.qu_objects.specs.declared.answer.Answer.{Answer}
+use Rattle.qu_objects.specs.declared.query.Ask.{Ask}
+use Rattle.qu_objects.specs.declared.state.ObjState.{ObjState}
+use Rattle.qu_objects.specs.Perform.{told_answer}
+use Rattle.qu_frames.specs.declared.frame.Body.{Body}
+use Rattle.qu_frames.specs.declared.frame.Frame.TheVariants as frame
+use Rattle.qu_frames.specs.declared.frame.Letter.{Letter}
+use Rattle.qu_frames.specs.declared.verdict.Verdict.{Verdict}
+use Rattle.qu_replica.specs.declared.decision.Accepted.{Accepted}
+use Rattle.qu_replica.specs.declared.decision.Decision.TheVariants.{Answers}
+use Rattle.qu_replica.specs.State.{ReplicaState, own_candidates}
+use Rattle.qu_replica.specs.Rows.{asked_of, decision_on}
+use Rattle.qu_replica.specs.Step.{replica_step}
+use Rattle.qu_replica.specs.Versions.{version_at}
+use Rattle.qu_trace.specs.declared.trace.Entry.{Entry}
+use Rattle.qu_trace.specs.declared.trace.Trace.{Trace}
+use Rattle.qu_world.specs.State.{letter_of}
+use Rattle.qu_runs.specs.Carried.{handed, Brings}
+use Rattle.qu_runs.specs.Times.{world_after}
+
+-- a replica that tells Done has the candidate of the update, whose digest is `act`, and tells the answer that is
+-- stored with it
+pub record TellsDone (new : ReplicaState) (client : ClientId) (act : Digest) (object : ObjectId)
+    (stamps : List (ObjectId × Stamp)) (answer : Answer) : Type 0 where
+  pub candidate : Candidate
+  pub held : holds candidate (own_candidates new object) ≡ true
+  pub of_client : candidate.stamp.client ≡ client
+  pub of_act : candidate.stamp.act ≡ Some act
+  pub stamps_are : stamps ≡ (object, candidate.stamp) ∷ []
+  pub version : ObjState
+  pub of_candidate : version_at object candidate.stamp new.versions ≡ Some version
+  pub answer_is : answer ≡ version.answer
+
+-- a replica that tells a query's answer has it from the version of a base that a quorum holds in the
+-- sets, and has accepted nothing above that base
+pub record TellsQuery (state : ReplicaState) (sets : List SetOf) (object : ObjectId) (ask : Ask)
+    (stamps : List (ObjectId × Stamp)) (answer : Answer) : Type 0 where
+  pub base : Candidate
+  pub method : method_at state.bounds (entries_of object sets) ≡ Some base
+  pub stamps_are : stamps ≡ (object, base.stamp) ∷ []
+  pub version : ObjState
+  pub of_base : version_at object base.stamp state.versions ≡ Some version
+  pub answer_is : answer ≡ told_answer ((object, ask) ∷ []) (version.value ∷ [])
+  pub nothing_above : (held : Candidate) → holds held (own_candidates state object) ≡ true
+      → is_below base.stamp held.stamp ≡ false
+
+-- the verdict, sent at the event of the entry with this index, is that of a replica upon a request of this
+-- client, number and round, which the event hands to it
+pub record IsReplyTo (trace : Trace) (at : ℕ) (replica : ℕ) (client : ClientId) (number round : ℕ)
+    (verdict : Verdict) : Type 0 where
+  pub old : ReplicaState
+  pub is_old : slice_get (world_after trace at).replicas replica ≡ Some old
+  pub new : ReplicaState
+  pub is_new : slice_get (world_after trace (at + 1)).replicas replica ≡ Some new
+  pub asked : ℕ
+  pub entry : Entry
+  pub is_entry : slice_get trace.entries at ≡ Some entry
+  pub letter : Letter
+  pub is_letter : letter_of (world_after trace at) asked ≡ Some letter
+  pub is_handed : handed (world_after trace at) entry.event ≡ Some (letter.to, letter.text)
+  pub to : letter.to ≡ party.Replica (record { 0 = replica })
+  pub sets : List SetOf
+  pub body : Body
+  pub mac : List ℕ
+  pub brings : Brings old letter (frame.Request client number round sets body mac)
+  pub step : new ≡ (replica_step old letter.text).0
+  pub accepted : List Accepted
+  pub decided : decision_on old (asked_of client number sets body) body ≡ Answers verdict accepted

@@ -1,0 +1,6 @@
+-- The numbers by which answers name the refusal of a part.
+use Rattle.std.specs.Prelude.{ℕ, Bool, ◌==◌, ◌&&◌, ◌||◌, nat_le}
+use Rattle.qu_objects.specs.declared.refusal_number.TheConstants.{OVER, LAST_OF_KINDS, WRONG_KIND}
+
+abbrev pub is_refusal_number : ℕ → Bool
+is_refusal_number why = (nat_le OVER why && nat_le why LAST_OF_KINDS) || (why == WRONG_KIND)

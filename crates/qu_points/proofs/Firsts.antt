@@ -1,0 +1,130 @@
+-- The first mark of an update.
+use Rattle.std.proofs.Common.{◌≡◌, ◌⊎◌, ℕ, ◌+◌, ◌<◌, ◌≤◌, Bool, true, cond, List, [], ◌∷◌, length, get_or, drop, min, Option, None, Some, refl, sym, ap, ◌∙◌, arith, inl, inr, zero, suc}
+use Rattle.std.proofs.lemmas.Bool.{cases_Bool, cases_lt}
+use Rattle.std.proofs.lemmas.Option.{none-some, same_Some}
+use Rattle.std.proofs.lemmas.List.{drop_more, drop_all}
+use Rattle.qu_base.specs.declared.party.ClientId.{ClientId}
+use Rattle.qu_base.specs.declared.party.Digest.{Digest}
+use Rattle.qu_points.specs.declared.tracked.Tracked.{Tracked}
+use Rattle.qu_points.specs.Points.{is_of_update, mark_of, earlier_of, first_mark}
+
+earlier_assoc : (a b c : Option ℕ) → earlier_of (earlier_of a b) c ≡ earlier_of a (earlier_of b c)
+earlier_assoc None b c = refl
+earlier_assoc (Some a) None c = refl
+earlier_assoc (Some a) (Some b) None = refl
+earlier_assoc (Some a) (Some b) (Some c) =
+    let same : min (min a b) c ≡ min a (min b c) = omega arith in
+    ap (λ (it : ℕ). Some it) same
+
+earlier_none : (a : Option ℕ) → earlier_of a None ≡ a
+earlier_none None = refl
+earlier_none (Some a) = refl
+
+-- one candidate more
+pub first_mark_more : (client : ClientId) (act : Digest) (all : List Tracked) (index : ℕ) (default : Tracked)
+    (so_far : Option ℕ) → index < length all
+    → earlier_of (earlier_of so_far (mark_of client act (get_or all index default)))
+    (first_mark client act (drop (index + 1) all)) ≡ earlier_of so_far (first_mark client act (drop index all))
+unfolding first_mark
+first_mark_more client act all index default so_far below =
+    earlier_assoc so_far (mark_of client act (get_or all index default))
+    (first_mark client act (drop (index + 1) all)) ∙
+    ap (λ (it : List Tracked). earlier_of so_far (first_mark client act it)) (sym (drop_more all index default below))
+
+pub first_mark_end : (client : ClientId) (act : Digest) (all : List Tracked) (index : ℕ) (so_far : Option ℕ)
+    → length all ≤ index → earlier_of so_far (first_mark client act (drop index all)) ≡ so_far
+unfolding first_mark
+first_mark_end client act all index so_far past =
+    ap (λ (it : List Tracked). earlier_of so_far (first_mark client act it)) (drop_all index all past)
+    ∙ earlier_none so_far
+
+-- ---- what the first mark is
+
+-- a candidate of the update with this mark
+pub record HasMark (client : ClientId) (act : Digest) (all : List Tracked) (event : ℕ) : Type 0 where
+  pub place : ℕ
+  pub below : place < length all
+  pub found : Tracked
+  pub at : get_or all place found ≡ found
+  pub of_update : is_of_update client act found ≡ true
+  pub mark : found.decided ≡ Some event
+
+mark_of_some : (client : ClientId) (act : Digest) (tracked : Tracked) (event : ℕ)
+    → mark_of client act tracked ≡ Some event → (is_of_update client act tracked ≡ true)
+    × (tracked.decided ≡ Some event)
+mark_of_some client act tracked event mark =
+    elim (cases_Bool (is_of_update client act tracked)) [
+      | inl of_it ↦ (of_it, sym (ap (λ (test : Bool). cond test tracked.decided None) of_it) ∙ mark)
+      | inr other ↦ absurd (none-some event (sym (ap (λ (test : Bool). cond test tracked.decided None) other) ∙ mark))
+    ]
+
+earlier_cases : (first second : Option ℕ) (event : ℕ) → earlier_of first second ≡ Some event
+    → (first ≡ Some event) ⊎ (second ≡ Some event)
+earlier_cases None second event is = inr is
+earlier_cases (Some a) None event is = inl is
+earlier_cases (Some a) (Some b) event is =
+    elim (cases_lt b a) [
+      | inl later ↦
+          let least : min a b ≡ b = omega arith in
+          inr (ap (λ (it : ℕ). Some it) (sym least) ∙ is)
+      | inr order ↦
+          let least : min a b ≡ a = omega arith in
+          inl (ap (λ (it : ℕ). Some it) (sym least) ∙ is)
+    ]
+
+has_mark-later : (client : ClientId) (act : Digest) (first : Tracked) (later : List Tracked) (event : ℕ)
+    → HasMark client act later event → HasMark client act (first ∷ later) event
+has_mark-later client act first later event has = record {
+  place = suc has.place;
+  below = omega (arith, has.below);
+  found = has.found;
+  at = has.at;
+  of_update = has.of_update;
+  mark = has.mark;
+}
+
+pub first_mark_found : (client : ClientId) (act : Digest) (all : List Tracked) (event : ℕ)
+    → first_mark client act all ≡ Some event → HasMark client act all event
+unfolding first_mark
+first_mark_found client act [] event is = absurd (none-some event is)
+first_mark_found client act (tracked ∷ later) event is =
+    elim (earlier_cases (mark_of client act tracked) (first_mark client act later) event is) [
+      | inl here ↦
+          let parts : (is_of_update client act tracked ≡ true) × (tracked.decided ≡ Some event) =
+          mark_of_some client act tracked event here in
+          record { place = 0; below = omega arith; found = tracked; at = refl; of_update = parts.0; mark = parts.1 }
+      | inr there ↦ has_mark-later client act tracked later event (first_mark_found client act later event there)
+    ]
+
+-- there is a first mark, and it is not after this one
+abbrev pub IsUpTo : Option ℕ → ℕ → Type 0
+IsUpTo first event = (at : ℕ) × (first ≡ Some at) × (at ≤ event)
+
+earlier_left : (first second : Option ℕ) (event : ℕ) → IsUpTo first event → IsUpTo (earlier_of first second) event
+earlier_left None second event up_to = absurd (none-some up_to.0 up_to.1)
+earlier_left (Some a) None event up_to = up_to
+earlier_left (Some a) (Some b) event up_to =
+    let same : a ≡ up_to.0 = same_Some a up_to.0 up_to.1 in
+    let order : up_to.0 ≤ event = up_to.2 in
+    (min a b, refl, omega arith)
+
+earlier_right : (first second : Option ℕ) (event : ℕ) → IsUpTo second event → IsUpTo (earlier_of first second) event
+earlier_right None second event up_to = up_to
+earlier_right (Some a) None event up_to = absurd (none-some up_to.0 up_to.1)
+earlier_right (Some a) (Some b) event up_to =
+    let same : b ≡ up_to.0 = same_Some b up_to.0 up_to.1 in
+    let order : up_to.0 ≤ event = up_to.2 in
+    (min a b, refl, omega arith)
+
+pub first_mark_least : (client : ClientId) (act : Digest) (all : List Tracked) (place : ℕ) (found : Tracked)
+    (event : ℕ) → place < length all → get_or all place found ≡ found → is_of_update client act found ≡ true
+    → found.decided ≡ Some event → IsUpTo (first_mark client act all) event
+unfolding first_mark
+first_mark_least client act [] place found event below at of_it mark = absurd (omega arith)
+first_mark_least client act (tracked ∷ later) zero found event below at of_it mark =
+    let here : mark_of client act tracked ≡ Some event =
+    ap (λ (it : Tracked). mark_of client act it) at ∙ ap (λ (test : Bool). cond test found.decided None) of_it ∙ mark in
+    earlier_left (mark_of client act tracked) (first_mark client act later) event (event, here, omega arith)
+first_mark_least client act (tracked ∷ later) (suc place) found event below at of_it mark =
+    earlier_right (mark_of client act tracked) (first_mark client act later) event
+    (first_mark_least client act later place found event (omega arith) at of_it mark)

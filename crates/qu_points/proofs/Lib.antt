@@ -1,0 +1,17 @@
+pub mod DecidedWorlds
+pub mod Steps
+pub mod Places
+pub mod Settling
+pub mod Beyond
+pub mod Marking
+pub mod Firsts
+pub mod AnsweredRounds
+pub mod Taking
+pub mod Sorted
+pub mod Distinct
+pub mod Printed
+pub mod Recorded
+pub mod Rising
+pub mod HandledActs
+pub mod Filtered
+pub mod Folding

@@ -1,0 +1,8 @@
+use Rattle.std.proofs.Common.{◌≡◌, drop}
+use Rattle.qu_points.specs.Points.{earlier_of, first_mark}
+use Rattle.qu_points.proofs.effects.first_mark.Given as goal
+
+abbrev pub invariant-loop-candidate : goal.invariant-loop-candidate
+invariant-loop-candidate l =
+    earlier_of l.first (first_mark l.client l.act (drop l.candidate-index l.tracked)) ≡ first_mark l.client l.act
+    l.tracked

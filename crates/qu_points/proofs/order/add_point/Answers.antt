@@ -1,0 +1,25 @@
+use Rattle.std.proofs.Common.{false, refl, ap, subst}
+use Rattle.qu_objects.specs.declared.op.Op.{Op}
+use Rattle.qu_machine.specs.declared.record.Point.{Point}
+use Rattle.qu_points.proofs.Printed.{adds_some, adds_none}
+use Rattle.qu_points.proofs.Taking.{IsEffect}
+use Rattle.qu_points.proofs.order.add_point.Goals as goal
+
+pub returns-in_ok-insert : goal.returns-in_ok-insert
+returns-in_ok-insert c =
+    adds_some c.args.trace.now c.args.operation.now c.in-Some.event _ c.args.points.now.items c.insert.new.points.items
+    (subst (IsEffect c.args.trace.now c.args.operation.now c.args.operation.now.op) c.in-Some.is c.in_ok-found.ensures)
+    (ap (λ (op : Op).
+    (let point : Point = record {
+      event = c.in-Some.event;
+      client = c.args.operation.now.client;
+      number = c.args.operation.now.number;
+      op = op;
+      faulty = false;
+    } in point)) c.in_ok-copy.ensures)
+    c.in_ok-insert.ensures
+
+pub returns-in_default : goal.returns-in_default
+returns-in_default c = adds_none c.args.trace.now c.args.operation.now c.args.points.now.items c.args.points.now.items
+    (subst (IsEffect c.args.trace.now c.args.operation.now c.args.operation.now.op) c.in_default.is
+    c.in_ok-found.ensures) refl

@@ -1,0 +1,4 @@
+pub mod Order
+pub mod Points
+pub mod Facts
+pub mod Tracker

@@ -1,0 +1,84 @@
+-- The order of a run's points: where each update and each completed query took effect.
+use Rattle.std.specs.Prelude.{◌≡◌, ℕ, Bool, true, false, ◌==◌, ◌&&◌, ◌||◌, ◌<◌, ◌≤◌, nat_lt, List, [], ◌∷◌, length, Option, None, Some, IsTrue, Contains}
+use Rattle.qu_base.specs.declared.party.ClientId.{ClientId}
+use Rattle.qu_base.specs.declared.party.ObjectId.{ObjectId}
+use Rattle.qu_objects.specs.declared.act.Method.{Method}
+use Rattle.qu_objects.specs.declared.op.Op.{Op}
+use Rattle.qu_objects.specs.declared.op.Op.TheVariants as op
+use Rattle.qu_objects.specs.declared.op.Outcome.{Outcome}
+use Rattle.qu_objects.specs.declared.op.Outcome.TheVariants as outcome
+use Rattle.qu_objects.specs.Text.{act_digest}
+use Rattle.qu_machine.specs.declared.record.OpRecord.{OpRecord}
+use Rattle.qu_machine.specs.declared.record.Point.{Point}
+use Rattle.qu_trace.specs.declared.trace.Trace.{Trace}
+use Rattle.qu_trace.specs.Operations.{operations_of}
+use Rattle.qu_world.specs.State.{numbered}
+use Rattle.qu_runs.specs.Decided.{TookEffect}
+use Rattle.qu_runs.specs.Answers.{delivered_round, answers_at}
+use Rattle.qu_runs.specs.Digested.{IsHandled}
+
+-- ---- updates
+
+-- the update was handled, and this is the first event after which it had taken effect
+pub record DecidesAt (trace : Trace) (client : ClientId) (number : ℕ) (parts : List (ObjectId × Method))
+    (event : ℕ) : Type 0 where
+  pub handled : IsHandled trace client number parts
+  pub happened : event ≤ length trace.entries
+  pub by_then : TookEffect trace event client (act_digest client number parts)
+  pub not_before : (earlier : ℕ) → earlier < event
+      → ¬ (TookEffect trace earlier client (act_digest client number parts))
+
+-- ---- queries
+
+-- the first event at which a replica answers the round that completed the query
+pub record AnswersFirst (trace : Trace) (client : ClientId) (number reply event : ℕ) : Type 0 where
+  pub round : ℕ
+  pub completed : delivered_round trace (numbered trace.entries reply) ≡ Some round
+  pub by_then : IsTrue (answers_at trace client number round event)
+  pub not_before : (earlier : ℕ) → earlier < event → answers_at trace client number round earlier ≡ false
+
+-- ---- the order
+
+-- where a query took effect that ended so
+abbrev pub completed_effect : Trace → OpRecord → ℕ → ℕ → Outcome → Type 0
+completed_effect trace operation event reply (outcome.Done answer) =
+    AnswersFirst trace operation.client operation.number reply event
+completed_effect trace operation event reply outcome.GaveUp = ⊥
+
+-- a query that did not end has no point
+abbrev pub query_effect : Trace → OpRecord → ℕ → Option (ℕ × Outcome) → Type 0
+query_effect trace operation event None = ⊥
+query_effect trace operation event (Some reply) = completed_effect trace operation event reply.0 reply.1
+
+-- where an operation took effect
+abbrev pub effect_of : Trace → OpRecord → ℕ → Op → Type 0
+effect_of trace operation event (op.Act parts) = DecidesAt trace operation.client operation.number parts event
+effect_of trace operation event (op.Query query) = query_effect trace operation event operation.reply
+
+-- a point is that of an operation of the trace, at the event at which it took effect
+pub record IsPoint (trace : Trace) (point : Point) : Type 0 where
+  pub operation : OpRecord
+  pub of_trace : Contains (operations_of trace.entries) operation
+  pub client : operation.client ≡ point.client
+  pub number : operation.number ≡ point.number
+  pub op : operation.op ≡ point.op
+  pub correct : false ≡ point.faulty
+  pub effect : effect_of trace operation point.event operation.op
+
+-- by event; points of one event go by client, then number
+abbrev pub is_earlier : Point → Point → Bool
+is_earlier a b =
+    nat_lt a.event b.event
+    || (a.event == b.event
+    && (nat_lt (a.client).0 (b.client).0 || ((a.client).0 == (b.client).0 && nat_lt a.number b.number)))
+
+unfoldable pub are_in_order : List Point → Bool
+are_in_order [] = true
+are_in_order (point ∷ []) = true
+are_in_order (first ∷ second ∷ later) = is_earlier first second && are_in_order (second ∷ later)
+
+-- the printed order of a trace
+pub record IsPrintedOrder (trace : Trace) (order : List Point) : Type 0 where
+  pub in_order : IsTrue (are_in_order order)
+  pub sound : (point : Point) → Contains order point → IsPoint trace point
+  pub complete : (point : Point) → IsPoint trace point → Contains order point

@@ -1,0 +1,154 @@
+-- The points of some operations of a trace, in their order.
+use Rattle.std.specs.Prelude.{◌≡◌, ℕ, Bool, false, ◌==◌, ◌&&◌, ◌+◌, if◌then◌else◌, List, [], ◌∷◌, min, position, Option, None, Some, option_map, Result, Ok, Err, IsTrue, Contains, ◌⊎◌}
+use Rattle.std.specs.List.{list_any, filter_map}
+use Rattle.std.specs.Option.{option_eq}
+use Rattle.qu_base.specs.declared.bad_text.BadText.{BadText}
+use Rattle.qu_base.specs.declared.party.ClientId.{ClientId}
+use Rattle.qu_base.specs.declared.party.Digest.{Digest}
+use Rattle.qu_base.specs.declared.party.ObjectId.{ObjectId}
+use Rattle.qu_stamp.specs.Stamp.{same_digest}
+use Rattle.qu_objects.specs.declared.act.Method.{Method}
+use Rattle.qu_objects.specs.declared.op.Op.TheVariants as op
+use Rattle.qu_objects.specs.Text.{act_digest}
+use Rattle.qu_frames.specs.declared.frame.Body.{Body}
+use Rattle.qu_frames.specs.declared.frame.Body.TheVariants as body
+use Rattle.qu_frames.specs.declared.frame.Frame.{Frame}
+use Rattle.qu_frames.specs.declared.frame.Frame.TheVariants as frame
+use Rattle.qu_frames.specs.declared.frame.Letter.{Letter}
+use Rattle.qu_frames.specs.Decoding.{decoded}
+use Rattle.qu_machine.specs.declared.record.OpRecord.{OpRecord}
+use Rattle.qu_machine.specs.declared.record.Point.{Point}
+use Rattle.qu_machine.specs.PointTests.{same_op}
+use Rattle.qu_trace.specs.declared.trace.Entry.{Entry}
+use Rattle.qu_trace.specs.declared.trace.Trace.{Trace}
+use Rattle.qu_points.specs.declared.answers.Answered.{Answered}
+use Rattle.qu_points.specs.declared.tracked.Tracked.{Tracked}
+use Rattle.qu_runs.specs.Digested.{Request, handled_by}
+use Rattle.qu_runs.specs.Answers.{answers}
+use Rattle.qu_points.specs.Order.{effect_of, is_earlier, are_in_order}
+
+-- ---- updates
+
+-- an act, with its client and its number
+abbrev pub NamedAct : Type 0
+NamedAct = ClientId × ℕ × List (ObjectId × Method)
+
+-- the act that is asked for
+abbrev pub act_asked : ClientId → ℕ → Body → Option NamedAct
+act_asked client number (body.Act parts) = Some (client, number, parts)
+act_asked client number (body.Ask parts) = None
+
+-- the same of a request
+abbrev pub act_in : Option Request → Option NamedAct
+act_in None = None
+act_in (Some request) = act_asked request.client request.number request.body
+
+-- the same of the request that the event of an entry lets a replica handle
+abbrev pub act_at : Trace → Entry → Option NamedAct
+act_at trace entry = act_in (handled_by trace entry.event)
+
+-- each act that a replica handled
+unfoldable pub handled_acts : Trace → List NamedAct
+handled_acts trace = filter_map (act_at trace) trace.entries
+
+-- the act is of this client, and has this number and these parts
+abbrev pub is_act : ClientId → ℕ → List (ObjectId × Method) → NamedAct → Bool
+is_act client number parts act = (act.0).0 == client.0 && (act.1 == number && same_op (op.Act act.2) (op.Act parts))
+
+-- the candidate is one of the update of this client whose digest is `act`
+abbrev pub is_of_update : ClientId → Digest → Tracked → Bool
+is_of_update client act tracked =
+    (tracked.candidate.stamp.client).0 == client.0 && option_eq same_digest tracked.candidate.stamp.act (Some act)
+
+-- the mark of the candidate, where it is one of this update
+abbrev pub mark_of : ClientId → Digest → Tracked → Option ℕ
+mark_of client act tracked = if is_of_update client act tracked then tracked.decided else None
+
+-- the earlier of two events, where there are two
+abbrev pub earlier_of : Option ℕ → Option ℕ → Option ℕ
+earlier_of None second = second
+earlier_of (Some first) None = Some first
+earlier_of (Some first) (Some second) = Some (min first second)
+
+-- the first event after which a candidate of this update was decided
+unfoldable pub first_mark : ClientId → Digest → List Tracked → Option ℕ
+first_mark client act [] = None
+first_mark client act (tracked ∷ later) =
+    earlier_of (mark_of client act tracked) (first_mark client act later)
+
+-- the same of the update that this client asks for under this number, where it is among the handled acts
+abbrev pub act_mark : ClientId → ℕ → List (ObjectId × Method) → List NamedAct → List Tracked → Option ℕ
+act_mark client number parts acts tracked =
+    if list_any (is_act client number parts) acts then first_mark client (act_digest client number parts) tracked
+    else None
+
+-- ---- queries
+
+-- an answer to this round is among the letters of the entry
+abbrev pub answers_in : ClientId → ℕ → ℕ → Entry → Bool
+answers_in client number round entry = list_any (answers client number round) entry.letters
+
+-- the round that was answered, if what was decoded is an answer
+abbrev pub answered : Result Frame BadText → Option Answered
+answered (Ok (frame.Request client number round sets body mac)) = None
+answered (Ok (frame.Reply replica client number round verdict culled shown mac)) =
+    Some (record { client = client; number = number; round = round })
+answered (Err bad) = None
+
+-- the same of a letter
+abbrev pub letter_answered : Letter → Option Answered
+letter_answered letter = answered (decoded letter.text)
+
+-- the rounds that the letters of an entry answer
+unfoldable pub answered_at : Entry → List Answered
+answered_at entry = filter_map letter_answered entry.letters
+
+-- it is this round
+abbrev pub is_answered : Answered → Answered → Bool
+is_answered asked round =
+    (round.client).0 == (asked.client).0 && (round.number == asked.number && round.round == asked.round)
+
+abbrev pub has_answered : Answered → List Answered → Bool
+has_answered asked rounds = list_any (is_answered asked) rounds
+
+-- the first event with an answer to this round, of the rounds that are answered at each
+abbrev pub first_answer : Answered → List (List Answered) → Option ℕ
+first_answer asked answers = option_map (λ index. index + 1) (position (has_answered asked) answers)
+
+-- ---- the order
+
+-- the second is another operation
+abbrev pub AreApart : OpRecord → OpRecord → Type 0
+AreApart first second = (first.client).0 ≡ (second.client).0 → first.number ≡ second.number → ⊥
+
+-- the point of an operation at this event
+abbrev pub point_at : OpRecord → ℕ → Point
+point_at operation event =
+    record { event = event; client = operation.client; number = operation.number; op = operation.op; faulty = false }
+
+-- a point of one of these operations
+pub record IsPointOf (trace : Trace) (operations : List OpRecord) (point : Point) : Type 0 where
+  pub operation : OpRecord
+  pub of_list : Contains operations operation
+  pub client : operation.client ≡ point.client
+  pub number : operation.number ≡ point.number
+  pub op : operation.op ≡ point.op
+  pub correct : false ≡ point.faulty
+  pub effect : effect_of trace operation point.event operation.op
+
+pub record ArePointsOf (trace : Trace) (operations : List OpRecord) (points : List Point) : Type 0 where
+  pub in_order : IsTrue (are_in_order points)
+  pub sound : (point : Point) → Contains points point → IsPointOf trace operations point
+  pub complete : (point : Point) → IsPointOf trace operations point → Contains points point
+
+-- the points with another one in its place
+unfoldable pub with_point : Point → List Point → List Point
+with_point point [] = point ∷ []
+with_point point (first ∷ later) =
+    if is_earlier first point then first ∷ with_point point later else point ∷ first ∷ later
+
+-- the point of the operation is added, where it took effect
+abbrev pub AddsPoint : Trace → OpRecord → List Point → List Point → Type 0
+AddsPoint trace operation old new =
+    ((event : ℕ) × effect_of trace operation event operation.op × (new ≡ with_point (point_at operation event) old))
+    ⊎ (((event : ℕ) → ¬ (effect_of trace operation event operation.op)) × (new ≡ old))

@@ -1,0 +1,143 @@
+ghost use Rattle.std.specs.Prelude.{◌≡◌, [], ◌++◌, IfOk, OnOk};
+ghost use Rattle.std.specs.List.{list_all, list_any, cons_option};
+ghost use Rattle.qu_frames.specs.Signed.{brought};
+ghost use Rattle.qu_world.specs.State.{ring_of};
+ghost use Rattle.qu_world.specs.Run.{IsSetup};
+ghost use Rattle.qu_runs.specs.Digested.{is_known, request_in, request_brought, request_to, handled_by};
+ghost use Rattle.qu_objects.specs.declared.op.Op.TheVariants as op;
+ghost use Rattle.qu_machine.specs.PointTests.{same_op};
+ghost use Rattle.qu_points.specs.Points.{act_in, handled_acts, is_act};
+
+use qu_base::{ClientId, List, NoMemory, Party};
+use qu_frames::{Body, Frame, receive};
+use qu_history::Sets;
+use qu_objects::Act;
+use qu_seal::KeyRing;
+use qu_trace::{Event, Setup, Trace};
+use qu_world::letter_at;
+use std::alloc::Global;
+
+/// Each act that a replica handled, with its client and its number, in the order of the events.
+#[tactic(auto, unfolding(crate::specs::Points::handled_acts))]
+pub fn handled_acts(alloc: Global, trace: &Trace) -> Result<List<(ClientId, u64, Act)>, NoMemory>
+    requires { IsSetup trace.now.setup }
+    ensures { IfOk result (λ acts. acts ≡ handled_acts trace.now) }
+{
+    let mut acts = List::new(alloc);
+    for entry in trace.entries.as_slice() {
+        add_act(alloc, &mut acts, trace, &entry.event)?;
+    }
+    Ok(acts)
+}
+
+/// Adds the act that an event lets a replica handle, where it lets it handle one.
+fn add_act(
+    alloc: Global,
+    acts: &mut List<(ClientId, u64, Act)>,
+    trace: &Trace,
+    event: &Event,
+) -> Result<(), NoMemory>
+    requires { IsSetup trace.now.setup }
+    ensures { OnOk result (acts.new ≡ acts.old ++ cons_option (act_in (handled_by trace.now event.now)) []) }
+{
+    if let Some(act) = handled_act(alloc, trace, event)? {
+        acts.push(act)?;
+    }
+    Ok(())
+}
+
+/// The act that an event lets a replica handle.
+fn handled_act(
+    alloc: Global,
+    trace: &Trace,
+    event: &Event,
+) -> Result<Option<(ClientId, u64, Act)>, NoMemory>
+    requires { IsSetup trace.now.setup }
+    ensures { IfOk result (λ act. act ≡ act_in (handled_by trace.now event.now)) }
+{
+    match event {
+        Event::Deliver(number) => match letter_at(trace.entries.as_slice(), *number) {
+            Some(letter) => act_to(alloc, &trace.setup, letter.text.as_slice(), letter.to),
+            None => Ok(None),
+        },
+        Event::Inject(to, text) => act_to(alloc, &trace.setup, text.as_slice(), *to),
+        Event::Invoke(_, _) | Event::Tick(_) => Ok(None),
+    }
+}
+
+/// The same of a text that reaches a party.
+fn act_to(
+    alloc: Global,
+    setup: &Setup,
+    text: &[u8],
+    to: Party,
+) -> Result<Option<(ClientId, u64, Act)>, NoMemory>
+    requires { IsSetup setup.now }
+    ensures { IfOk result (λ act. act ≡ act_in (request_to setup.now text.now to)) }
+{
+    match to {
+        Party::Replica(me) if me.0 < setup.bounds.n() => act_brought(alloc, setup, text, to),
+        Party::Replica(_) | Party::Client(_) => Ok(None),
+    }
+}
+
+/// The same of a text that reaches a party which handles it.
+fn act_brought(
+    alloc: Global,
+    setup: &Setup,
+    text: &[u8],
+    to: Party,
+) -> Result<Option<(ClientId, u64, Act)>, NoMemory>
+    requires { IsSetup setup.now }
+    ensures { IfOk result (λ act. act ≡ act_in (request_brought setup.now (brought (ring_of setup.now) to text.now))) }
+{
+    let keys = KeyRing::derive(setup.seed, &setup.bounds, setup.clients);
+    match receive(alloc, &keys, to, text)? {
+        Some(frame) => act_in(alloc, setup, &frame),
+        None => Ok(None),
+    }
+}
+
+/// The same of its frame.
+fn act_in(
+    alloc: Global,
+    setup: &Setup,
+    frame: &Frame,
+) -> Result<Option<(ClientId, u64, Act)>, NoMemory>
+    ensures { IfOk result (λ act. act ≡ act_in (request_in setup.now frame.now)) }
+{
+    match frame {
+        Frame::Request {
+            client,
+            number,
+            sets,
+            body: Body::Act(act),
+            ..
+        } if are_known(setup, sets) => Ok(Some((*client, *number, act.copy(alloc)?))),
+        Frame::Request { .. } | Frame::Reply { .. } => Ok(None),
+    }
+}
+
+/// Whether the setup has all objects of the sets.
+fn are_known(setup: &Setup, sets: &Sets) -> bool
+    ensures { result ≡ list_all (is_known setup.now) sets.now }
+{
+    let known = setup.kinds.len();
+    sets.objects()
+        .iter()
+        .all(|set| usize::from(set.object.0) < known)
+}
+
+/// Whether an act is among these.
+pub fn is_handled(acts: &[(ClientId, u64, Act)], client: ClientId, number: u64, act: &Act) -> bool
+    ensures { result ≡ list_any (is_act client number act.now) acts.now }
+{
+    acts.iter().any(|other| other.0 == client && other.1 == number && same_acts(&other.2, act))
+}
+
+/// Whether two acts have the same parts.
+fn same_acts(first: &Act, second: &Act) -> bool
+    ensures { result ≡ same_op (op.Act first.now) (op.Act second.now) }
+{
+    first.parts() == second.parts()
+}

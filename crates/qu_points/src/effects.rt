@@ -1,0 +1,188 @@
+ghost use Rattle.std.specs.Prelude.{◌≡◌, ℕ, map, Some, IfOk, MatchOption};
+ghost use Rattle.std.specs.Option.{option_copied};
+ghost use Rattle.qu_frames.specs.Decoding.{decoded};
+ghost use Rattle.qu_world.specs.State.{numbered};
+ghost use Rattle.qu_runs.specs.Answers.{delivered_round, round_in};
+ghost use Rattle.qu_points.specs.Order.{query_effect, effect_of, AnswersFirst};
+ghost use Rattle.qu_points.specs.Facts.{AreFacts};
+ghost use Rattle.qu_points.specs.Points.{mark_of, earlier_of, first_mark, act_mark, answered_at};
+
+use super::acts::is_handled;
+use super::answers::{Answered, first_answer, round_answered};
+use super::facts::Facts;
+use super::tracked::Tracked;
+use qu_base::{ClientId, Digest, List, NoMemory};
+use qu_machine::OpRecord;
+use qu_objects::{Act, Op, Outcome, act_digest};
+use qu_trace::{Entry, Event, Trace};
+use qu_world::letter_at;
+use std::alloc::Global;
+
+/// The first event after which a candidate of the update with this digest was decided.
+#[tactic(auto, using(crate::proofs::Firsts::first_mark_more, crate::proofs::Firsts::first_mark_end))]
+fn first_mark(tracked: &[Tracked], client: ClientId, act: Digest) -> Option<u64>
+    ensures { result ≡ first_mark client act tracked.now }
+{
+    let mut first = None;
+    for candidate in tracked {
+        first = earlier(first, mark_of(candidate, client, act));
+    }
+    first
+}
+
+/// The mark of the candidate, where it is one of this update.
+fn mark_of(tracked: &Tracked, client: ClientId, act: Digest) -> Option<u64>
+    ensures { result ≡ mark_of client act tracked.now }
+{
+    let stamp = &tracked.candidate.stamp;
+    if stamp.client == client && stamp.act == Some(act) {
+        tracked.decided
+    } else {
+        None
+    }
+}
+
+/// The earlier of two events, where there are two.
+fn earlier(first: Option<u64>, second: Option<u64>) -> Option<u64>
+    ensures { result ≡ earlier_of first second }
+{
+    match (first, second) {
+        (Some(first), Some(second)) => Some(first.min(second)),
+        (Some(first), None) => Some(first),
+        (None, second) => second,
+    }
+}
+
+/// The event at which an operation of a run took effect, None where it took none.
+pub fn effect(
+    alloc: Global,
+    trace: &Trace,
+    facts: &Facts,
+    operation: &OpRecord,
+) -> Result<Option<u64>, NoMemory>
+    requires { AreFacts trace.now facts.now }
+    ensures { IfOk result
+        (λ found. MatchOption found ((event : ℕ) → ¬ (effect_of trace.now operation.now event operation.now.op))
+        (λ event. effect_of trace.now operation.now event operation.now.op)) }
+{
+    match &operation.op {
+        Op::Act(act) => {
+            let tracked = facts.tracker.as_slice();
+            act_mark(alloc, tracked, facts.acts.as_slice(), operation, act)
+        }
+        Op::Query(_) => query_effect(alloc, trace, facts.answers.as_slice(), operation),
+    }
+}
+
+/// The first event after which a candidate of a handled update was decided.
+fn act_mark(
+    alloc: Global,
+    tracked: &[Tracked],
+    acts: &[(ClientId, u64, Act)],
+    operation: &OpRecord,
+    act: &Act,
+) -> Result<Option<u64>, NoMemory>
+    ensures { IfOk result (λ mark. mark ≡ act_mark operation.now.client operation.now.number act.now acts.now
+        tracked.now) }
+{
+    if !is_handled(acts, operation.client, operation.number, act) {
+        return Ok(None);
+    }
+    let digest = act_digest(alloc, operation.client, operation.number, act)?;
+    Ok(first_mark(tracked, operation.client, digest))
+}
+
+/// The event at which a query took effect, None where it did not complete.
+fn query_effect(
+    alloc: Global,
+    trace: &Trace,
+    answers: &[List<Answered>],
+    operation: &OpRecord,
+) -> Result<Option<u64>, NoMemory>
+    requires answered { answers.now ≡ map answered_at trace.now.entries }
+    ensures { IfOk result
+        (λ found. MatchOption found
+        ((event : ℕ) → ¬ (query_effect trace.now operation.now event operation.now.reply))
+        (λ event. query_effect trace.now operation.now event operation.now.reply)) }
+{
+    match &operation.reply {
+        Some((reply, Outcome::Done(_))) => first_answer_of(
+            alloc,
+            trace,
+            answers,
+            operation.client,
+            operation.number,
+            *reply,
+        ),
+        Some((_, Outcome::GaveUp)) | None => Ok(None),
+    }
+}
+
+/// The first event at which a replica answers the round of the answer that this event delivers.
+fn first_answer_of(
+    alloc: Global,
+    trace: &Trace,
+    answers: &[List<Answered>],
+    client: ClientId,
+    number: u64,
+    reply: u64,
+) -> Result<Option<u64>, NoMemory>
+    requires answered { answers.now ≡ map answered_at trace.now.entries }
+    ensures { IfOk result
+        (λ found. MatchOption found ((event : ℕ) → ¬ (AnswersFirst trace.now client number reply event))
+        (λ event. AnswersFirst trace.now client number reply event)) }
+{
+    let found = delivered_round(alloc, trace, reply)?;
+    match found {
+        Some(round) => {
+            let asked = Answered {
+                client,
+                number,
+                round,
+            };
+            Ok(first_answer(answers, asked))
+        }
+        None => Ok(None),
+    }
+}
+
+/// The round of the answer that an event delivers, None where it delivers none.
+fn delivered_round(alloc: Global, trace: &Trace, event: u64) -> Result<Option<u8>, NoMemory>
+    ensures { IfOk result (λ round. round ≡ delivered_round trace.now (numbered trace.now.entries event)) }
+{
+    match entry_at(trace, event) {
+        Some(entry) => round_at(alloc, trace, entry),
+        None => Ok(None),
+    }
+}
+
+/// The same of the event of an entry.
+fn round_at(alloc: Global, trace: &Trace, entry: &Entry) -> Result<Option<u8>, NoMemory>
+    ensures { IfOk result (λ round. round ≡ delivered_round trace.now (Some entry.now)) }
+{
+    match &entry.event {
+        Event::Deliver(number) => match letter_at(trace.entries.as_slice(), *number) {
+            Some(letter) => round_in(alloc, letter.text.as_slice()),
+            None => Ok(None),
+        },
+        Event::Inject(_, text) => round_in(alloc, text.as_slice()),
+        Event::Invoke(_, _) | Event::Tick(_) => Ok(None),
+    }
+}
+
+/// The entry of an event.
+fn entry_at(trace: &Trace, event: u64) -> Option<&Entry>
+    ensures { option_copied result ≡ numbered trace.now.entries event }
+{
+    let index = event.checked_sub(1)?;
+    trace.entries.get(index as usize)
+}
+
+/// The round of the answer that a text carries.
+#[tactic(auto, using(crate::proofs::AnsweredRounds::round_of_answer))]
+fn round_in(alloc: Global, text: &[u8]) -> Result<Option<u8>, NoMemory>
+    ensures { IfOk result (λ round. round ≡ round_in (decoded text.now)) }
+{
+    let found = round_answered(alloc, text)?;
+    Ok(found.map(|answer| answer.round))
+}

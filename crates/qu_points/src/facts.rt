@@ -1,0 +1,37 @@
+ghost use Rattle.std.specs.Prelude.{IfOk};
+ghost use Rattle.qu_world.specs.Run.{IsRun};
+ghost use Rattle.qu_points.specs.Facts.{AreFacts};
+
+use super::acts::handled_acts;
+use super::answers::{Answered, answers};
+use super::replay::replay;
+use super::tracker::Tracker;
+use qu_base::{ClientId, List, NoMemory};
+use qu_objects::Act;
+use qu_trace::Trace;
+use std::alloc::Global;
+
+/// What has to be known of a run to find the points of its operations.
+#[derive(Debug, Drop)]
+pub struct Facts {
+    /// The candidates that replicas accepted, with the events after which they were decided.
+    pub tracker: Tracker,
+    /// The acts that replicas handled.
+    pub acts: List<(ClientId, u64, Act)>,
+    /// For each event the rounds that it answers.
+    pub answers: List<List<Answered>>,
+}
+
+impl Facts {
+    /// The facts of a run.
+    pub fn of(alloc: Global, trace: &Trace) -> Result<Facts, NoMemory>
+        requires { IsRun trace.now }
+        ensures { IfOk result (λ facts. AreFacts trace.now facts) }
+    {
+        Ok(Facts {
+            tracker: replay(alloc, trace)?,
+            acts: handled_acts(alloc, trace)?,
+            answers: answers(alloc, trace.entries.as_slice())?,
+        })
+    }
+}

@@ -1,0 +1,152 @@
+ghost use Rattle.std.specs.Prelude.{◌≡◌, ◌+◌, ◌&&◌, ℕ, not, nat_le, [], ◌∷◌, ◌++◌, count_by, find, position, is_some, All, IfOk, OnOk, OnErr};
+ghost use Rattle.std.specs.List.{AllZip, list_any};
+ghost use Rattle.qu_base.specs.Thresholds.{quorum};
+ghost use Rattle.qu_runs.specs.Accepted.{accepts, is_accepted};
+ghost use Rattle.qu_points.specs.Tracker.{is_established, is_of, is_tracked, with_tracked, with_all, is_child, is_next, IsSettled, IsSound, AreAccepted};
+
+use super::news::own_candidates;
+use super::tracked::Tracked;
+use qu_base::{Bounds, List, NoMemory, ObjectId};
+use qu_replica::Replica;
+use qu_stamp::Candidate;
+use qu_world::World;
+use std::alloc::Global;
+use std::marker::Model;
+
+/// The candidates that replicas accepted, with the events after which they were decided.
+#[derive(Debug, Drop)]
+pub struct Tracker {
+    tracked: Vec<Tracked>,
+}
+
+impl Model for Tracker {
+    ghost use Rattle.std.specs.Prelude.{List};
+    ghost use Rattle.qu_points.specs.declared.tracked.Tracked.{Tracked};
+
+    ghost Value = { List Tracked };
+
+    ghost view = { λ tracker. tracker.tracked.items };
+}
+
+impl Tracker {
+    pub fn new(alloc: Global) -> Tracker
+        ensures { result ≡ [] }
+    {
+        Tracker {
+            tracked: Vec::new(alloc),
+        }
+    }
+
+    pub fn as_slice(&self) -> &[Tracked]
+        ensures { result.now ≡ self.now }
+    {
+        self.tracked.as_slice()
+    }
+
+    /// Tracks each of these candidates, once.
+    #[tactic(auto, unfolding(crate::specs::Tracker::with_all))]
+    pub fn add_all(&mut self, news: &[Tracked]) -> Result<(), NoMemory>
+        ensures { OnOk result (self.new ≡ with_all news.now self.old) }
+    {
+        for new in news {
+            self.add(new)?;
+        }
+        Ok(())
+    }
+
+    #[tactic(auto, unfolding(crate::specs::Tracker::with_tracked))]
+    fn add(&mut self, new: &Tracked) -> Result<(), NoMemory>
+        ensures { OnOk result (self.new ≡ with_tracked new.now self.old) }
+    {
+        if !self.is_tracked(new.object, &new.candidate) {
+            self.tracked.push(Tracked {
+                object: new.object,
+                candidate: new.candidate,
+                decided: None,
+            })?;
+        }
+        Ok(())
+    }
+
+    #[tactic(auto, unfolding(crate::specs::Tracker::is_tracked, qu_stamp::specs::Stamp::same_stamp))]
+    fn is_tracked(&self, object: ObjectId, candidate: &Candidate) -> bool
+        ensures { result ≡ is_tracked object candidate.now self.now }
+    {
+        self.tracked.iter().any(|tracked| tracked.object == object
+            && tracked.candidate == *candidate)
+    }
+
+    /// Marks what is decided in this world, and was not before, with this event.
+    pub fn settle(&mut self, world: &World, bounds: &Bounds, event: u64)
+        requires bounds { world.now.setup.bounds ≡ bounds.now }
+        requires accepted { AreAccepted world.now self.old }
+        requires sound { All (IsSound world.now) self.old }
+        ensures { AllZip (IsSettled world.now event) self.old self.new }
+    {
+        while let Some(index) = self.next(world, bounds) {
+            self.tracked[index].decided = Some(event);
+        }
+    }
+
+    /// The first undecided candidate that is to be decided by a rule.
+    fn next(&self, world: &World, bounds: &Bounds) -> Option<usize>
+        requires { world.now.setup.bounds ≡ bounds.now }
+        ensures { result ≡ position (is_next world.now self.now) self.now }
+    {
+        self.tracked
+            .iter()
+            .position(|tracked| self.is_next(world, bounds, tracked))
+    }
+
+    #[tactic(auto, unfolding(crate::specs::Tracker::is_next))]
+    fn is_next(&self, world: &World, bounds: &Bounds, tracked: &Tracked) -> bool
+        requires { world.now.setup.bounds ≡ bounds.now }
+        ensures { result ≡ is_next world.now self.now tracked.now }
+    {
+        if tracked.decided.is_some() {
+            return false;
+        }
+        is_established(world.replicas(), bounds, tracked) || self.has_child(tracked)
+    }
+
+    /// Whether a decided candidate rests upon this one.
+    fn has_child(&self, tracked: &Tracked) -> bool
+        ensures { result ≡ list_any (is_child tracked.now) self.now }
+    {
+        self.tracked.iter().any(|other| is_child(tracked, other))
+    }
+}
+
+/// Whether the other one is decided and rests upon this one.
+#[tactic(auto, unfolding(qu_stamp::specs::Stamp::same_stamp))]
+fn is_child(tracked: &Tracked, other: &Tracked) -> bool
+    ensures { result ≡ is_child tracked.now other.now }
+{
+    other.decided.is_some()
+        && other.object == tracked.object
+        && other.candidate.prior == tracked.candidate.stamp
+}
+
+/// Whether the candidate has no barrier, and so many replicas accepted it that with as many liars as there
+/// may be they make a quorum.
+fn is_established(replicas: &[Replica], bounds: &Bounds, tracked: &Tracked) -> bool
+    ensures { result ≡ (not tracked.now.candidate.stamp.barrier && nat_le (quorum bounds.now)
+        (count_by (accepts tracked.now.object tracked.now.candidate) replicas.now + bounds.now)) }
+{
+    let accepting = replicas
+        .iter()
+        .filter(|replica| accepts(replica, tracked))
+        .count();
+    !tracked.candidate.stamp.barrier
+        && accepting + usize::from(bounds.b()) >= usize::from(bounds.q())
+}
+
+/// Whether a replica accepted the candidate.
+fn accepts(replica: &Replica, tracked: &Tracked) -> bool
+    ensures { result ≡ accepts tracked.now.object tracked.now.candidate replica.now }
+{
+    match replica.history(tracked.object) {
+        Some(history) => history.holds(&tracked.candidate),
+        None => false,
+    }
+}

@@ -1,0 +1,320 @@
+-- The verdicts that a client counts were sent by replicas, to the round that is under way.
+use Rattle.std.proofs.Common.{◌≡◌, ◌≢◌, ℕ, zero, suc, ◌+◌, ◌<◌, ◌≤◌, true, false, eqb, List, length, get_or, Option, None, Some, IfSome, refl, sym, ap, subst, ◌∙◌, arith, inl, inr, add-one, slice_get, All, AllPairs, Contains}
+use Rattle.std.specs.List.{list_any}
+use Rattle.std.proofs.lemmas.Bool.{not-true, and_parts, eqb-true, cond_both}
+use Rattle.std.proofs.lemmas.List.Elements.{All-nil, All-push, All-weaker, All-contains}
+use Rattle.std.proofs.lemmas.List.Quantifiers.{all_pairs_push}
+use Rattle.std.proofs.lemmas.Option.{none-some}
+use Rattle.qu_base.specs.declared.party.ClientId.{ClientId}
+use Rattle.qu_base.specs.declared.party.ReplicaId.{ReplicaId}
+use Rattle.qu_base.specs.Thresholds.{replicas}
+use Rattle.qu_objects.specs.declared.op.Op.{Op}
+use Rattle.qu_frames.specs.declared.frame.Frame.{Frame}
+use Rattle.qu_frames.specs.declared.frame.Frame.TheVariants as frame
+use Rattle.qu_frames.specs.declared.frame.Letter.{Letter}
+use Rattle.qu_frames.specs.declared.verdict.Verdict.{Verdict}
+use Rattle.qu_client.specs.declared.state.ClientState.{ClientState}
+use Rattle.qu_client.specs.declared.state.Stepped.{Stepped}
+use Rattle.qu_client.specs.declared.work.Counted.{Counted}
+use Rattle.qu_client.specs.declared.work.Work.{Work}
+use Rattle.qu_client.specs.State.{opening_state, keep_all}
+use Rattle.qu_client.specs.Step.{is_asking, counts, on_frame, on_received, client_step, client_invoke, client_tick}
+use Rattle.qu_client.specs.Sound.{IsSound}
+use Rattle.qu_client.proofs.Cases.{with_verdict, counted_cases, invoke_cases}
+use Rattle.qu_client.proofs.Laws.{client_step-me, client_step-bounds, client_invoke-me, client_invoke-bounds, IsSound-opening, IsSound-step, IsSound-invoke, other_replica}
+use Rattle.qu_trace.specs.declared.event.Event.{Event}
+use Rattle.qu_trace.specs.declared.trace.Entry.{Entry}
+use Rattle.qu_trace.specs.declared.trace.Trace.{Trace}
+use Rattle.qu_world.specs.State.{WorldState, opening_world, numbered, with_numbered, ring_of}
+use Rattle.qu_world.specs.Step.{world_step}
+use Rattle.qu_world.specs.Run.{IsRun}
+use Rattle.qu_runs.specs.Times.{world_after}
+use Rattle.qu_runs.proofs.WorldGrowth.{world_after-none, world_after-next}
+use Rattle.qu_runs.proofs.Recording.{world_cases}
+use Rattle.qu_rounds.proofs.Replies.{RepliesWithin, replies_within, SentBefore, sent_before}
+use Rattle.qu_runs.proofs.Keyed.{opening_client}
+use Rattle.qu_runs.proofs.Carrying.{tells_as}
+use Rattle.qu_runs.proofs.Small.{some_entry}
+use Rattle.qu_world.proofs.Each.{with_cases}
+use Rattle.qu_runs.specs.Carried.{Tells, Carries}
+use Rattle.qu_runs.specs.Plain.{IsPlain, ArePlain}
+use Rattle.qu_history.specs.declared.sealed.Sealed.{Sealed}
+use Rattle.qu_machine.proofs.Equalities.{client_is}
+use Rattle.qu_frames.specs.Signed.{brought}
+use Rattle.qu_frames.proofs.Signed.{brought_is_decoded}
+use Rattle.qu_base.specs.declared.party.Party.TheVariants as party
+
+-- the verdict was sent by its replica to this round, before the event of the entry with this index
+pub record WasAnswered (trace : Trace) (before : ℕ) (client : ClientId) (number round : ℕ)
+    (counted : Counted) : Type 0 where
+  pub at : ℕ
+  pub earlier : at < before
+  pub entry : Entry
+  pub is_entry : slice_get trace.entries at ≡ Some entry
+  pub letter : Letter
+  pub sent : Contains entry.letters letter
+  pub shown : List Sealed
+  pub is_reply : Tells letter counted.replica client number round counted.verdict shown
+  pub within : (counted.replica).0 < replicas trace.setup.bounds
+
+answered_more : (trace : Trace) (before : ℕ) (client : ClientId) (number round : ℕ) (counted : Counted)
+    → WasAnswered trace before client number round counted → WasAnswered trace (before + 1) client number round counted
+answered_more trace before client number round counted answered = record {
+  at = answered.at;
+  earlier = let earlier : answered.at < before = answered.earlier in omega arith;
+  entry = answered.entry;
+  is_entry = answered.is_entry;
+  letter = answered.letter;
+  sent = answered.sent;
+  shown = answered.shown;
+  is_reply = answered.is_reply;
+  within = answered.within;
+}
+
+-- a delivered reply was sent so
+pub answered_by : (trace : Trace) → IsRun trace → ArePlain trace → (before : ℕ) (letter : Letter)
+    (client : ClientId) (number round : ℕ) (counted : Counted) (shown : List Sealed)
+    → SentBefore trace before letter → Tells letter counted.replica client number round counted.verdict shown
+    → WasAnswered trace before client number round counted
+answered_by trace is have before letter client number round counted shown sent is_reply =
+    let entry : Entry = sent.there.entry in
+    let replies : All (RepliesWithin (replicas trace.setup.bounds)) entry.letters =
+    replies_within trace is have sent.at entry sent.there.is_entry in
+    let from : RepliesWithin (replicas trace.setup.bounds) letter =
+    All-contains (RepliesWithin (replicas trace.setup.bounds)) entry.letters letter replies sent.there.sent in
+    record {
+      at = sent.at;
+      earlier = sent.earlier;
+      entry = entry;
+      is_entry = sent.there.is_entry;
+      letter = letter;
+      sent = sent.there.sent;
+      shown = shown;
+      is_reply = is_reply;
+      within = from counted.replica client number round counted.verdict shown is_reply;
+    }
+
+-- ---- the verdicts of the operation under way
+
+abbrev pub AreAnswered : Trace → ℕ → ClientId → Work → Type 0
+AreAnswered trace before client work = All (WasAnswered trace before client work.number work.round) work.replies
+
+abbrev pub WorkAnswered : Trace → ℕ → ClientId → Option Work → Type 0
+WorkAnswered trace before client work = IfSome work (AreAnswered trace before client)
+
+are_more : (trace : Trace) (before : ℕ) (client : ClientId) (work : Work) → AreAnswered trace before client work
+    → AreAnswered trace (before + 1) client work
+are_more trace before client work are =
+    All-weaker (WasAnswered trace before client work.number work.round)
+    (WasAnswered trace (before + 1) client work.number work.round)
+    (answered_more trace before client work.number work.round) work.replies are
+
+work_more : (trace : Trace) (before : ℕ) (client : ClientId) (work : Option Work)
+    → WorkAnswered trace before client work → WorkAnswered trace (before + 1) client work
+work_more trace before client None are = tt
+work_more trace before client (Some work) are = are_more trace before client work are
+
+pub work_answered : (trace : Trace) (before : ℕ) (client : ClientId) (found : Option Work) (work : Work)
+    → found ≡ Some work → WorkAnswered trace before client found → AreAnswered trace before client work
+work_answered trace before client found work is are = subst (WorkAnswered trace before client) is are
+
+-- the verdicts with one more that counts
+pub with_answered : (trace : Trace) → IsRun trace → ArePlain trace → (before : ℕ) (letter : Letter)
+    (client : ClientId) (work : Work) (replica : ReplicaId) (number round : ℕ) (verdict : Verdict)
+    (shown : List Sealed) → SentBefore trace before letter → Tells letter replica client number round verdict
+    shown → counts work replica number round ≡ true → AreAnswered trace before client work
+    → AreAnswered trace before client (with_verdict work replica verdict)
+with_answered trace is have before letter client work replica number round verdict shown sent is_reply counting are =
+    let first = and_parts (is_asking work.phase) _ counting in
+    let second = and_parts (eqb number work.number) _ first.1 in
+    let third = and_parts (eqb round work.round) _ second.1 in
+    let numbers : number ≡ work.number = eqb-true number work.number second.0 in
+    let rounds : round ≡ work.round = eqb-true round work.round third.0 in
+    let this : Tells letter replica client work.number work.round verdict shown =
+    tells_as letter replica client client number work.number round work.round verdict verdict shown refl numbers
+    rounds refl is_reply in
+    All-push (WasAnswered trace before client work.number work.round) work.replies
+    (record { replica = replica; verdict = verdict }) are
+    (answered_by trace is have before letter client work.number work.round
+    (record { replica = replica; verdict = verdict }) shown sent this)
+
+-- what a delivered letter makes of them
+answered_frame : (trace : Trace) → IsRun trace → ArePlain trace → (before : ℕ) (letter : Letter)
+    (state : ClientState) → SentBefore trace before letter → WorkAnswered trace before state.me state.work
+    → (received : Frame) → Carries letter received → WorkAnswered trace (before + 1) state.me
+    (on_frame state received).state.work
+answered_frame trace is have before letter state sent are (frame.Request client number round sets body mac)
+    is_frame = work_more trace before state.me state.work are
+answered_frame trace is have before letter state sent are
+    (frame.Reply replica client number round verdict culled shown mac) is_frame =
+    let P : Stepped → Type 0 = λ stepped. WorkAnswered trace (before + 1) state.me stepped.state.work in
+    let same : WorkAnswered trace (before + 1) state.me state.work = work_more trace before state.me state.work are in
+    cond_both (eqb client.0 (state.me).0) _ _ P
+    (λ mine.
+    let is_reply : Tells letter replica state.me number round verdict shown =
+    tells_as letter replica client state.me number number round round verdict verdict shown
+    (client_is client state.me (eqb-true client.0 (state.me).0 mine)) refl refl refl
+    (record { culled = culled; mac = mac; carries = is_frame }) in
+    counted_cases (record state { kept = keep_all number round shown state.kept }) replica number round verdict P
+    same
+    (λ work under_way counting.
+    are_more trace before state.me (with_verdict work replica verdict)
+    (with_answered trace is have before letter state.me work replica number round verdict shown sent is_reply
+    counting (work_answered trace before state.me state.work work under_way are)))
+    (λ work answer under_way counting fits enough. tt)
+    (λ work under_way counting last. tt)
+    (λ work acted under_way counting below. All-nil
+    (WasAnswered trace (before + 1) state.me work.number (work.round + 1)))
+    (λ work under_way counting below. All-nil (WasAnswered trace (before + 1) state.me work.number (work.round + 1))))
+    (λ other. same)
+
+answered_brought : (trace : Trace) → IsRun trace → ArePlain trace → (before : ℕ) (letter : Letter)
+    (state : ClientState) → SentBefore trace before letter → WorkAnswered trace before state.me state.work
+    → (found : Option Frame) → brought state.keys (party.Client state.me) letter.text ≡ found
+    → WorkAnswered trace (before + 1) state.me (on_received state found).state.work
+answered_brought trace is have before letter state sent are (Some taken) brings =
+    answered_frame trace is have before letter state sent are taken
+    (brought_is_decoded state.keys (party.Client state.me) letter.text taken brings)
+answered_brought trace is have before letter state sent are None brings = work_more trace before state.me state.work are
+
+answered_step : (trace : Trace) → IsRun trace → ArePlain trace → (before : ℕ) (letter : Letter)
+    (state : ClientState) → SentBefore trace before letter → WorkAnswered trace before state.me state.work
+    → WorkAnswered trace (before + 1) state.me (client_step state letter.text).state.work
+answered_step trace is have before letter state sent are =
+    answered_brought trace is have before letter state sent are
+    (brought state.keys (party.Client state.me) letter.text) refl
+
+answered_invoke : (trace : Trace) (before : ℕ) (state : ClientState) (op : Op)
+    → WorkAnswered trace before state.me (client_invoke state op).state.work
+answered_invoke trace before state op =
+    invoke_cases state op (λ stepped. WorkAnswered trace before state.me stepped.state.work)
+    (λ acted. All-nil (WasAnswered trace before state.me _ _)) (All-nil (WasAnswered trace before state.me _ _))
+
+-- ---- every client of a run
+
+-- what holds of the client with this number
+pub record Counts (trace : Trace) (before number : ℕ) (state : ClientState) : Type 0 where
+  pub me : (state.me).0 ≡ number
+  pub bounds : state.bounds ≡ trace.setup.bounds
+  pub sound : IsSound state
+  pub answered : WorkAnswered trace before state.me state.work
+
+abbrev pub Each : (ℕ → ClientState → Type 0) → List ClientState → Type 0
+Each P clients = (number : ℕ) (state : ClientState) → numbered clients number ≡ Some state → P number state
+
+counts_more : (trace : Trace) (before number : ℕ) (state : ClientState) → Counts trace before number state
+    → Counts trace (before + 1) number state
+counts_more trace before number state holds =
+    record {
+      me = holds.me;
+      bounds = holds.bounds;
+      sound = holds.sound;
+      answered = work_more trace before state.me
+          state.work holds.answered;
+    }
+
+counts_moved : (trace : Trace) (before number : ℕ) (old new : ClientState) → new.me ≡ old.me
+    → new.bounds ≡ old.bounds → IsSound new → WorkAnswered trace (before + 1) old.me new.work
+    → Counts trace before number old → Counts trace (before + 1) number new
+counts_moved trace before number old new me bounds sound answered holds = record {
+  me = ap (λ (it : ClientId). it.0) me ∙ holds.me;
+  bounds = bounds ∙ holds.bounds;
+  sound = sound;
+  answered = subst (λ (it : ClientId). WorkAnswered trace (before + 1) it new.work) (sym me) answered;
+}
+
+each_with : (P : ℕ → ClientState → Type 0) (clients : List ClientState) (number : ℕ) (new : ClientState)
+    → Each P clients → P number new → Each P (with_numbered clients number new)
+each_with P clients number new each here other state found =
+    elim (with_cases clients number other new state found) [
+      | inl same ↦ subst (λ (it : ℕ). P it state) (sym same.0) (subst (P number) (sym same.1) here)
+      | inr there ↦ each other state there.1
+    ]
+
+-- the others stay as they are
+counts_with : (trace : Trace) (before number : ℕ) (clients : List ClientState) (new : ClientState)
+    → Each (Counts trace before) clients → Counts trace (before + 1) number new → Each (Counts trace (before + 1))
+    (with_numbered clients number new)
+counts_with trace before number clients new each here =
+    each_with (Counts trace (before + 1)) clients number new
+    (λ other state found. counts_more trace before other state (each other state found)) here
+
+counts_step : (trace : Trace) → IsRun trace → ArePlain trace → (before : ℕ) → before ≤ length trace.entries
+    → Each (Counts trace before) (world_after trace before).clients → (event : Event)
+    → IsPlain (world_after trace before) event → Each (Counts trace (before + 1))
+    (world_step (world_after trace before) event).clients
+counts_step trace is have before within each event plain =
+    let clients : List ClientState = (world_after trace before).clients in
+    let stay : Each (Counts trace (before + 1)) clients =
+    λ number state found. counts_more trace before number state (each number state found) in
+    world_cases (world_after trace before) (λ (new : WorldState). Each (Counts trace (before + 1)) new.clients)
+    (λ event. stay)
+    (λ event number letter me state sent hands found. stay)
+    (λ client op state found.
+    let holds : Counts trace before client.0 state = each client.0 state found in
+    counts_with trace before client.0 clients (client_invoke state op).state each
+    (counts_moved trace before client.0 state (client_invoke state op).state (client_invoke-me state op)
+    (client_invoke-bounds state op)
+    (IsSound-invoke state op) (answered_invoke trace (before + 1) state op) holds))
+    (λ event number letter client state sent hands found.
+    let holds : Counts trace before client.0 state = each client.0 state found in
+    counts_with trace before client.0 clients (client_step state letter.text).state each
+    (counts_moved trace before client.0 state (client_step state letter.text).state
+    (client_step-me state letter.text) (client_step-bounds state letter.text)
+    (IsSound-step state letter.text holds.sound)
+    (answered_step trace is have before letter state (sent_before trace is before within number letter sent)
+    holds.answered) holds))
+    (λ client state found.
+    counts_with trace before client.0 clients (client_tick state).state each
+    (counts_more trace before client.0 state (each client.0 state found)))
+    event plain
+
+counts_opening : (trace : Trace) → Each (Counts trace 0) (opening_world trace.setup).clients
+counts_opening trace zero state found = absurd (none-some state found)
+counts_opening trace (suc place) state found =
+    let opens : state ≡ opening_state (record { 0 = 1 + place }) (ring_of trace.setup) trace.setup.bounds =
+    opening_client 1 trace.setup.clients (ring_of trace.setup) trace.setup.bounds place state found in
+    let holds : Counts trace 0 (suc place)
+    (opening_state (record { 0 = 1 + place }) (ring_of trace.setup) trace.setup.bounds) =
+    record {
+      me = omega arith;
+      bounds = refl;
+      sound = IsSound-opening (record { 0 = 1 + place })
+          (ring_of trace.setup) trace.setup.bounds;
+      answered = tt;
+    } in
+    subst (Counts trace 0 (suc place)) (sym opens) holds
+
+-- in every world of a run each client counts only what was sent to it
+pub counts_world : (trace : Trace) → IsRun trace → ArePlain trace → (count : ℕ) → count ≤ length trace.entries
+    → Each (Counts trace count) (world_after trace count).clients
+counts_world trace is have zero within =
+    subst (λ (world : WorldState). Each (Counts trace 0) world.clients) (sym (world_after-none trace))
+    (counts_opening trace)
+counts_world trace is have (suc count) within =
+    let before : Each (Counts trace count) (world_after trace count).clients =
+    counts_world trace is have count (omega arith) in
+    let default : Entry = some_entry trace.entries (omega arith) in
+    let after : Each (Counts trace (count + 1)) (world_after trace (count + 1)).clients =
+    subst (λ (world : WorldState). Each (Counts trace (count + 1)) world.clients)
+    (sym (world_after-next trace count default (omega arith)))
+    (counts_step trace is have count (omega arith) before (get_or trace.entries count default).event
+    (have.plain_at count default (omega arith))) in
+    subst (λ (it : ℕ). Each (Counts trace it) (world_after trace it).clients) (add-one count) after
+
+-- ---- the verdicts that count are of different replicas
+
+abbrev pub AreDifferent : List Counted → Type 0
+AreDifferent replies = AllPairs (λ (a b : Counted). (a.replica).0 ≢ (b.replica).0) replies
+
+pub different_more : (work : Work) (replica : ReplicaId) (number round : ℕ) (verdict : Verdict)
+    → counts work replica number round ≡ true → AreDifferent work.replies
+    → AreDifferent (with_verdict work replica verdict).replies
+different_more work replica number round verdict counting different =
+    let numbered_so = (and_parts (is_asking work.phase) _ counting).1 in
+    let of_round = (and_parts (eqb number work.number) _ numbered_so).1 in
+    let first : list_any (λ counted. eqb (counted.replica).0 replica.0) work.replies ≡ false =
+    not-true _ (and_parts (eqb round work.round) _ of_round).1 in
+    all_pairs_push (λ (a b : Counted). (a.replica).0 ≢ (b.replica).0) work.replies
+    (record { replica = replica; verdict = verdict }) different
+    (λ k d within. other_replica work.replies replica k d first within)

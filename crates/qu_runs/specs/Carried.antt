@@ -1,0 +1,48 @@
+-- What the bytes of a letter carry, and which bytes an event hands to a party.
+use Rattle.std.specs.Prelude.{◌≡◌, ℕ, List, Option, None, Some, Ok, option_map}
+use Rattle.qu_base.specs.declared.party.ClientId.{ClientId}
+use Rattle.qu_base.specs.declared.party.ObjectId.{ObjectId}
+use Rattle.qu_base.specs.declared.party.Party.{Party}
+use Rattle.qu_base.specs.declared.party.Party.TheVariants as party
+use Rattle.qu_base.specs.declared.party.ReplicaId.{ReplicaId}
+use Rattle.qu_history.specs.declared.sealed.Sealed.{Sealed}
+use Rattle.qu_history.specs.declared.sets.SetOf.{SetOf}
+use Rattle.qu_frames.specs.declared.frame.Body.{Body}
+use Rattle.qu_frames.specs.declared.frame.Frame.{Frame}
+use Rattle.qu_frames.specs.declared.frame.Frame.TheVariants as frame
+use Rattle.qu_frames.specs.declared.frame.Letter.{Letter}
+use Rattle.qu_frames.specs.declared.verdict.Verdict.{Verdict}
+use Rattle.qu_frames.specs.Decoding.{decoded}
+use Rattle.qu_frames.specs.Signed.{brought}
+use Rattle.qu_replica.specs.State.{ReplicaState}
+use Rattle.qu_trace.specs.declared.event.Event.{Event}
+use Rattle.qu_trace.specs.declared.event.Event.TheVariants.{Invoke, Deliver, Tick, Inject}
+use Rattle.qu_world.specs.State.{WorldState, letter_of}
+
+-- the letter's text is decoded to this frame
+abbrev pub Carries : Letter → Frame → Type 0
+Carries letter sent = decoded letter.text ≡ Ok sent
+
+-- the bytes that an event hands to a party: those of a letter to its receiver, or injected ones
+abbrev pub handed : WorldState → Event → Option (Party × List ℕ)
+handed world (Invoke client op) = None
+handed world (Deliver number) = option_map (λ (letter : Letter). (letter.to, letter.text)) (letter_of world number)
+handed world (Tick client) = None
+handed world (Inject to text) = Some (to, text)
+
+-- the replica handles the letter as this frame, whose HMAC is right for it
+abbrev pub Brings : ReplicaState → Letter → Frame → Type 0
+Brings state letter sent = brought state.keys (party.Replica state.me) letter.text ≡ Some sent
+
+-- it carries this request, whatever its HMAC
+pub record Asks (letter : Letter) (client : ClientId) (number round : ℕ) (sets : List SetOf) (body : Body) : Type
+    0 where
+  pub mac : List ℕ
+  pub carries : Carries letter (frame.Request client number round sets body mac)
+
+-- it carries this reply, whatever was culled and whatever its HMAC
+pub record Tells (letter : Letter) (replica : ReplicaId) (client : ClientId) (number round : ℕ)
+    (verdict : Verdict) (shown : List Sealed) : Type 0 where
+  pub culled : List (ObjectId × ReplicaId)
+  pub mac : List ℕ
+  pub carries : Carries letter (frame.Reply replica client number round verdict culled shown mac)

@@ -1,0 +1,114 @@
+-- The requests that replicas handle in a run, the texts that are digested for them, and the premise that no two
+-- of these texts have one digest.
+use Rattle.std.specs.Prelude.{◌≡◌, ℕ, Bool, nat_lt, if◌then◌else◌, List, [], ◌∷◌, length, Option, None, Some, Contains}
+use Rattle.std.specs.List.{list_all, flat_map}
+use Rattle.qu_base.specs.declared.party.ClientId.{ClientId}
+use Rattle.qu_base.specs.declared.party.ObjectId.{ObjectId}
+use Rattle.qu_base.specs.declared.party.Party.{Party}
+use Rattle.qu_base.specs.declared.party.Party.TheVariants as party
+use Rattle.qu_base.specs.Thresholds.{replicas}
+use Rattle.qu_seal.specs.declared.constants.TheConstants.{ACT_TAG, SETS_TAG}
+use Rattle.qu_seal.specs.Digest.{digest_of}
+use Rattle.qu_stamp.specs.declared.candidate.Candidate.{Candidate}
+use Rattle.qu_history.specs.declared.sets.SetOf.{SetOf}
+use Rattle.qu_history.specs.Text.{sets_text}
+use Rattle.qu_objects.specs.declared.act.Method.{Method}
+use Rattle.qu_objects.specs.Text.{act_text, act_digest}
+use Rattle.qu_frames.specs.declared.frame.Body.{Body}
+use Rattle.qu_frames.specs.declared.frame.Body.TheVariants as body
+use Rattle.qu_frames.specs.declared.frame.Frame.{Frame}
+use Rattle.qu_frames.specs.declared.frame.Frame.TheVariants as frame
+use Rattle.qu_frames.specs.declared.frame.Letter.{Letter}
+use Rattle.qu_frames.specs.Signed.{brought}
+use Rattle.qu_trace.specs.declared.event.Event.{Event}
+use Rattle.qu_trace.specs.declared.event.Event.TheVariants.{Invoke, Deliver, Tick, Inject}
+use Rattle.qu_trace.specs.declared.trace.Entry.{Entry}
+use Rattle.qu_trace.specs.declared.trace.Setup.{Setup}
+use Rattle.qu_trace.specs.declared.trace.Trace.{Trace}
+use Rattle.qu_trace.specs.Letters.{letters_of}
+use Rattle.qu_world.specs.State.{ring_of, numbered}
+
+-- ---- which request an event hands to a replica
+
+-- a request, whatever the round in which it was sent
+pub record Request : Type 0 where
+  pub client : ClientId
+  pub number : ℕ
+  pub sets : List SetOf
+  pub body : Body
+
+-- the setup has this object
+abbrev pub is_known : Setup → SetOf → Bool
+is_known setup set = nat_lt (set.object).0 (length setup.kinds)
+
+-- the request that a frame carries, where no object of its sets is unknown
+abbrev pub request_in : Setup → Frame → Option Request
+request_in setup (frame.Request client number round sets body mac) =
+    if list_all (is_known setup) sets then Some
+    (record { client = client; number = number; sets = sets; body = body }) else None
+request_in setup (frame.Reply replica client number round verdict culled shown mac) = None
+
+-- the same of a frame that was brought, if there is one
+abbrev pub request_brought : Setup → Option Frame → Option Request
+request_brought setup None = None
+request_brought setup (Some sent) = request_in setup sent
+
+-- the request that a text brings to a replica of the setup
+abbrev pub request_to : Setup → List ℕ → Party → Option Request
+request_to setup text (party.Replica me) =
+    if nat_lt me.0 (replicas setup.bounds) then request_brought setup
+    (brought (ring_of setup) (party.Replica me) text) else None
+request_to setup text (party.Client me) = None
+
+abbrev pub request_by : Setup → Option Letter → Option Request
+request_by setup None = None
+request_by setup (Some letter) = request_to setup letter.text letter.to
+
+-- the request that an event of a trace lets a replica handle
+abbrev pub handled_by : Trace → Event → Option Request
+handled_by trace (Invoke client op) = None
+handled_by trace (Deliver number) = request_by trace.setup (numbered (letters_of trace.entries) number)
+handled_by trace (Tick client) = None
+handled_by trace (Inject to text) = request_to trace.setup text to
+
+-- a replica handled a request of this act, which has this client and number
+pub record IsHandled (trace : Trace) (client : ClientId) (number : ℕ) (parts : List (ObjectId × Method)) : Type 0 where
+  pub entry : Entry
+  pub of_trace : Contains trace.entries entry
+  pub sets : List SetOf
+  pub handled : handled_by trace entry.event ≡ Some
+      (record { client = client; number = number; sets = sets; body = body.Act parts })
+
+-- the candidate was made for this act: a replica handled it, and the stamp has its client and its digest
+pub record IsMadeFor (trace : Trace) (candidate : Candidate) (client : ClientId) (number : ℕ)
+    (parts : List (ObjectId × Method)) : Type 0 where
+  pub handled : IsHandled trace client number parts
+  pub of_client : candidate.stamp.client ≡ client
+  pub of_act : candidate.stamp.act ≡ Some (act_digest client number parts)
+
+-- ---- what is digested
+
+-- a text under the tag of its kind
+pub record Text : Type 0 where
+  pub tag : ℕ
+  pub bytes : List ℕ
+
+-- the text of an act has its tag; a query has none
+abbrev pub body_texts : ClientId → ℕ → Body → List Text
+body_texts client number (body.Act parts) = record { tag = ACT_TAG; bytes = act_text client number parts } ∷ []
+body_texts client number (body.Ask parts) = []
+
+-- the text of the sets has its tag
+abbrev pub texts_of : Option Request → List Text
+texts_of None = []
+texts_of (Some request) = record { tag = SETS_TAG; bytes = sets_text request.sets } ∷ body_texts request.client
+    request.number request.body
+
+-- the texts that are digested in a run
+unfoldable pub digested : Trace → List Text
+digested trace = flat_map (λ entry. texts_of (handled_by trace entry.event)) trace.entries
+
+-- no two of them have one digest
+abbrev pub NoCollision : Trace → Type 0
+NoCollision trace = (first second : Text) → Contains (digested trace) first → Contains (digested trace) second
+    → digest_of first.tag first.bytes ≡ digest_of second.tag second.bytes → first ≡ second

@@ -1,0 +1,28 @@
+-- What the replicas of a run accept over time, as the theory of what is decided speaks of it.
+-- All replicas are correct, and an operation names one object, so that no candidate has a group.
+-- Definitions whose comment names no source are this project's own; Query/Update is the paper of SOSP 2005.
+use Rattle.std.specs.Prelude.{true, not, nat_lt, length, is_some, None}
+use Rattle.qu_base.specs.Thresholds.{replicas, quorum, repair}
+use Rattle.qu_chain.specs.Count.{test_at}
+use Rattle.qu_chain.specs.Setting.{Setting}
+use Rattle.qu_trace.specs.declared.trace.Trace.{Trace}
+use Rattle.qu_runs.specs.Accepted.{accepts}
+use Rattle.qu_runs.specs.Times.{world_after}
+
+-- times are numbers of events; the last is that after all events
+unfoldable pub setting : Trace → Setting
+setting trace = record {
+  n = replicas trace.setup.bounds;
+  faults = 0;
+  b = trace.setup.bounds;
+  quorum = quorum trace.setup.bounds;
+  repair = repair trace.setup.bounds;
+  last = length trace.entries;
+  good = λ replica. true;
+  known = λ object. nat_lt object.0 (length trace.setup.kinds);
+  plain = λ candidate. not candidate.stamp.barrier;
+  is_act = λ candidate. is_some candidate.stamp.act;
+  member = λ candidate object. None;
+  accepted = λ time object replica candidate.
+      test_at (accepts object candidate) (world_after trace time).replicas replica;
+}

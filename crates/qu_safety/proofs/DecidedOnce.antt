@@ -1,0 +1,19 @@
+-- Each update of a run is decided once.
+use Rattle.qu_chain.specs.Joint.{Joint}
+use Rattle.qu_chain.specs.Laws.{Laws}
+use Rattle.qu_chain.proofs.Updates.{decided_once, one_update}
+use Rattle.qu_trace.specs.declared.trace.Trace.{Trace}
+use Rattle.qu_runs.specs.Setting.{setting}
+use Rattle.qu_safety.specs.Updates.{DecidesOnce, IsOf, Update}
+use Rattle.qu_safety.proofs.OneAct.{ActsAreOne}
+use Rattle.qu_safety.proofs.UpdateFacts.{UpdateFacts}
+use Rattle.qu_safety.proofs.Updates.{one_of, acts}
+
+pub decides_once : (trace : Trace) → Laws (setting trace) → Joint (setting trace) → ActsAreOne trace
+    → UpdateFacts trace → DecidesOnce trace
+decides_once trace laws joint one_act facts = record {
+  once = decided_once (setting trace) laws joint Update (IsOf trace) (one_of trace one_act) facts.shared facts.spread
+      facts.once (acts trace);
+  one_update = one_update (setting trace) laws joint Update (IsOf trace) (one_of trace one_act) facts.shared
+      facts.spread facts.once (acts trace);
+}

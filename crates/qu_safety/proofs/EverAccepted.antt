@@ -1,0 +1,49 @@
+-- What a replica of a run holds, or a quorum accepted, is accepted in the setting of the run.
+use Rattle.std.proofs.Common.{◌≡◌, ℕ, ◌<◌, ◌≤◌, true, length, Some, refl, ◌∙◌, arith}
+use Rattle.std.specs.Prelude.{slice_get, count_by}
+use Rattle.std.proofs.lemmas.Option.{slice_get_within}
+use Rattle.qu_base.specs.declared.party.ObjectId.{ObjectId}
+use Rattle.qu_base.specs.Thresholds.{replicas, quorum}
+use Rattle.qu_stamp.specs.declared.candidate.Candidate.{Candidate}
+use Rattle.qu_history.specs.History.{holds}
+use Rattle.qu_chain.specs.Laws.{Laws}
+use Rattle.qu_chain.proofs.Ancestry.{accepted_by, some-later}
+use Rattle.qu_chain.proofs.Counting.{test_at-here}
+use Rattle.qu_replica.specs.State.{ReplicaState, own_candidates}
+use Rattle.qu_trace.specs.declared.trace.Trace.{Trace}
+use Rattle.qu_runs.specs.Accepted.{accepts}
+use Rattle.qu_runs.specs.Setting.{setting}
+use Rattle.qu_runs.specs.Times.{world_after}
+use Rattle.qu_runs.proofs.Small.{some_quorum}
+use Rattle.qu_runs.proofs.OpeningReplicas.{all_replicas}
+use Rattle.qu_runs.proofs.Settings.{acceptors_are}
+use Rattle.qu_safety.specs.Updates.{IsEverAccepted}
+
+module _ (trace : Trace) (laws : Laws (setting trace)) (time : ℕ) (within : time ≤ length trace.entries) where
+  pub place_ever : (place : ℕ) → place < replicas trace.setup.bounds → (object : ObjectId) (candidate : Candidate)
+      → (setting trace).accepted time object place candidate ≡ true → IsEverAccepted trace object candidate
+  unfolding setting
+  place_ever place below object candidate accepted =
+      some-later (setting trace) laws time (length trace.entries) within object candidate
+      (accepted_by (setting trace) time object candidate
+      (record { replica = place; within = below; good = refl; accepted = accepted }))
+
+  pub held_ever : (place : ℕ) (state : ReplicaState) → slice_get (world_after trace time).replicas place ≡ Some state
+      → (object : ObjectId) (candidate : Candidate) → holds candidate (own_candidates state object) ≡ true
+      → IsEverAccepted trace object candidate
+  unfolding setting
+  held_ever place state is_state object candidate held =
+      let below : place < length (world_after trace time).replicas =
+      slice_get_within (world_after trace time).replicas place state is_state in
+      let all : length (world_after trace time).replicas ≡ replicas trace.setup.bounds = all_replicas trace time in
+      place_ever place (omega (arith, below, all)) object candidate
+      (test_at-here (accepts object candidate) (world_after trace time).replicas place state is_state ∙ held)
+
+  pub quorum_ever : (object : ObjectId) (candidate : Candidate) → 1 ≤ trace.setup.bounds
+      → quorum trace.setup.bounds ≤ count_by (accepts object candidate) (world_after trace time).replicas
+      → IsEverAccepted trace object candidate
+  unfolding setting
+  quorum_ever object candidate some enough =
+      let same = acceptors_are trace time object candidate in
+      some-later (setting trace) laws time (length trace.entries) within object candidate
+      (omega (arith, same, enough, some_quorum trace.setup.bounds some))

@@ -1,0 +1,427 @@
+-- Points are at different events, each after its operation began.
+use Rattle.std.proofs.Common.{◌≡◌, ℕ, zero, suc, ◌<◌, ◌≤◌, true, List, [], ◌∷◌, length, get_or, Option, None, Some, refl, sym, ap, subst, ◌∙◌, arith, Result, Ok, Err, inl, inr}
+use Rattle.std.specs.Prelude.{◌==◌, ◌&&◌, slice_get, Contains}
+use Rattle.std.proofs.lemmas.Bool.{false≢true, and_parts, eqb-true}
+use Rattle.std.proofs.lemmas.Option.{slice_get_within, get_or_from_slice_get}
+use Rattle.qu_base.specs.declared.party.ClientId.{ClientId}
+use Rattle.qu_base.specs.declared.party.ReplicaId.{ReplicaId}
+use Rattle.qu_base.specs.declared.party.ObjectId.{ObjectId}
+use Rattle.qu_stamp.specs.declared.candidate.Candidate.{Candidate}
+use Rattle.qu_history.specs.declared.sets.SetOf.{SetOf}
+use Rattle.qu_objects.specs.declared.op.Op.{Op}
+use Rattle.qu_objects.specs.declared.op.Op.TheVariants as op
+use Rattle.qu_objects.specs.declared.op.Outcome.{Outcome}
+use Rattle.qu_objects.specs.declared.op.Outcome.TheVariants as outcome
+use Rattle.qu_chain.specs.Setting.{IsNew}
+use Rattle.qu_chain.specs.Laws.{Laws}
+use Rattle.qu_chain.specs.Joint.{Joint}
+use Rattle.qu_chain.proofs.Ancestry.{accepted_by_decided}
+use Rattle.qu_chain.proofs.Parents.{first_new}
+use Rattle.qu_chain.proofs.Tops.{newly}
+use Rattle.qu_chain.proofs.Updates.{one_update}
+use Rattle.qu_frames.specs.declared.frame.Body.{Body}
+use Rattle.qu_frames.specs.declared.frame.Body.TheVariants as body
+use Rattle.qu_frames.specs.declared.frame.Frame.{Frame}
+use Rattle.qu_frames.specs.declared.frame.Frame.TheVariants as frame
+use Rattle.qu_frames.specs.declared.frame.Letter.{Letter}
+use Rattle.qu_frames.specs.declared.verdict.Verdict.{Verdict}
+use Rattle.qu_frames.specs.Body.{body_of}
+use Rattle.qu_machine.specs.declared.record.OpRecord.{OpRecord}
+use Rattle.qu_machine.specs.declared.record.Point.{Point}
+use Rattle.qu_machine.proofs.Equalities.{Passes, passes_from_any, client_is}
+use Rattle.qu_trace.specs.declared.trace.Entry.{Entry}
+use Rattle.qu_trace.specs.declared.trace.Trace.{Trace}
+use Rattle.qu_trace.specs.Operations.{operations_of}
+use Rattle.qu_world.specs.State.{letter_of}
+use Rattle.qu_world.specs.Run.{IsRun}
+use Rattle.qu_objects.specs.declared.act.Method.{Method}
+use Rattle.qu_objects.specs.declared.query.Ask.{Ask}
+use Rattle.qu_runs.specs.Setting.{setting}
+use Rattle.qu_safety.specs.Updates.{Update, IsOf}
+use Rattle.qu_safety.proofs.ActPoints.{IsTurnOf, turn_at}
+use Rattle.qu_safety.proofs.Updates.{last_is, acts, one_of, opening_no_act}
+use Rattle.qu_safety.proofs.UpdateFacts.{UpdateFacts}
+use Rattle.qu_safety.proofs.OneAct.{ActsAreOne, one_made_for}
+use Rattle.qu_grounds.proofs.Handled.{accepted_made}
+use Rattle.qu_runs.specs.Digested.{IsMadeFor}
+use Rattle.qu_grounds.specs.Grounds.{AcceptsOne, IsDelivered}
+use Rattle.qu_rounds.specs.Invocations.{IsRequestOf}
+use Rattle.qu_runs.specs.Times.{world_after}
+use Rattle.qu_points.specs.Order.{AnswersFirst, query_effect, effect_of, IsPoint}
+use Rattle.qu_runs.specs.Answers.{is_answer, answers, sends_answer}
+use Rattle.qu_grounds.specs.Replies.{IsReplyTo}
+use Rattle.qu_runs.specs.Plain.{ArePlain}
+use Rattle.qu_grounds.proofs.Accepting.{some_entry, Acceptance}
+use Rattle.qu_grounds.proofs.Laws.{acceptance_of}
+use Rattle.qu_rounds.proofs.Invocations.{request_of}
+use Rattle.qu_points.proofs.Recorded.{recorded_op}
+use Rattle.qu_grounds.proofs.Replying.{reply_sent, reply_asks}
+use Rattle.qu_points.proofs.Taking.{effect_once}
+use Rattle.qu_runs.proofs.Carrying.{tells_as, asks_so, one_carried, brings_carries}
+use Rattle.qu_runs.proofs.Small.{same_point}
+use Rattle.qu_runs.specs.Carried.{Asks, Tells, handed}
+use Rattle.qu_frames.specs.Decoding.{decoded}
+use Rattle.qu_history.specs.declared.sealed.Sealed.{Sealed}
+use Rattle.qu_base.specs.declared.bad_text.BadText.{BadText}
+use Rattle.qu_runs.proofs.Handing.{one_hand}
+
+-- ---- answers
+
+-- the letter is a reply to this round
+pub record IsReplyIn (client : ClientId) (number round : ℕ) (letter : Letter) : Type 0 where
+  pub replica : ReplicaId
+  pub verdict : Verdict
+  pub shown : List Sealed
+  pub is_reply : Tells letter replica client number round verdict shown
+
+reply_is : (letter : Letter) (replica : ReplicaId) (other client : ClientId) (replied number turn round : ℕ)
+    (verdict : Verdict) (shown : List Sealed)
+    → Tells letter replica other replied turn verdict shown → other ≡ client → replied ≡ number → turn ≡ round →
+    IsReplyIn client number round letter
+reply_is letter replica other client replied number turn round verdict shown is same_client same_number same_round =
+    record {
+      replica = replica;
+      verdict = verdict;
+      shown = shown;
+      is_reply = tells_as letter replica other client
+          replied number turn round verdict verdict shown same_client same_number same_round refl is;
+    }
+
+reply_in_read : (client : ClientId) (number round : ℕ) (letter : Letter) (read : Result Frame BadText)
+    → decoded letter.text ≡ read → is_answer client number round read ≡ true → IsReplyIn client number round letter
+reply_in_read client number round letter (Err bad) is answer = absurd (false≢true answer)
+reply_in_read client number round letter (Ok (frame.Request other asked turn sets asks mac)) is answer = absurd
+    (false≢true answer)
+reply_in_read client number round letter (Ok
+    (frame.Reply replica other replied turn verdict culled shown mac)) is answer =
+    let parts : ((other.0 == client.0) ≡ true) × ((replied == number && turn == round) ≡ true) = and_parts _ _ answer in
+    let more : ((replied == number) ≡ true) × ((turn == round) ≡ true) = and_parts _ _ parts.1 in
+    reply_is letter replica other client replied number turn round verdict shown
+    (record { culled = culled; mac = mac; carries = is }) (client_is other client (eqb-true _ _ parts.0))
+    (eqb-true _ _ more.0) (eqb-true _ _ more.1)
+
+pub reply_in : (client : ClientId) (number round : ℕ) (letter : Letter) → answers client number round letter ≡ true
+    → IsReplyIn client number round letter
+reply_in client number round letter answer = reply_in_read client number round letter (decoded letter.text) refl answer
+
+-- ---- one point
+
+-- an operation has one point
+pub one_point : (trace : Trace) (first second : Point) → IsPoint trace first → IsPoint trace second → first.client
+    ≡ second.client → first.number ≡ second.number → first ≡ second
+one_point trace first second one two same_client same_number =
+    let same : one.operation ≡ two.operation =
+    recorded_op trace one.operation two.operation one.of_trace two.of_trace
+    (ap (λ (it : ClientId). it.0) (one.client ∙ same_client ∙ sym two.client))
+    (one.number ∙ same_number ∙ sym two.number) in
+    let effect : effect_of trace two.operation first.event two.operation.op =
+    subst (λ (it : OpRecord). effect_of trace it first.event it.op) same one.effect in
+    same_point first second
+    (effect_once trace two.operation first.event second.event two.operation.op effect two.effect)
+    same_client same_number
+    (sym one.op ∙ ap (λ (it : OpRecord). it.op) same ∙ two.op)
+    (sym one.correct ∙ two.correct)
+
+-- ---- what an event hands over
+
+-- the event of the entry with this index hands over a request of this client and number
+record IsAskedAt (trace : Trace) (time : ℕ) (client : ClientId) (number : ℕ) : Type 0 where
+  within : time < length trace.entries
+  asked : ℕ
+  letter : Letter
+  is_letter : letter_of (world_after trace time) asked ≡ Some letter
+  is_handed : handed (world_after trace time) (get_or trace.entries time some_entry).event ≡ Some
+      (letter.to, letter.text)
+  round : ℕ
+  sets : List SetOf
+  asks : Body
+  is_request : Asks letter client number round sets asks
+
+same_frame : (first second : ClientId) (asked number turn round : ℕ) (sets shown : List SetOf) (asks told : Body)
+    (mac seal : List ℕ)
+    → frame.Request first asked turn sets asks mac ≡ frame.Request second number round shown told seal
+    → (first ≡ second) × (asked ≡ number) × (asks ≡ told)
+same_frame first second asked number turn round sets shown asks told mac seal same = (cc, cc, cc)
+
+-- one event hands over one text
+one_asked : (trace : Trace) (time : ℕ) (client other : ClientId) (number turn : ℕ)
+    (one : IsAskedAt trace time client number) (two : IsAskedAt trace time other turn)
+    → (client ≡ other) × (number ≡ turn) × (one.asks ≡ two.asks)
+one_asked trace time client other number turn one two =
+    let hand = one_hand one.letter two.letter (handed (world_after trace time)
+    (get_or trace.entries time some_entry).event) _ refl
+    one.is_handed two.is_handed in
+    same_frame client other number turn one.round two.round one.sets two.sets one.asks two.asks (one.is_request).mac
+    (two.is_request).mac
+    (one_carried two.letter (frame.Request client number one.round one.sets one.asks (one.is_request).mac)
+    (frame.Request other turn two.round two.sets two.asks (two.is_request).mac)
+    (ap decoded (sym hand.1) ∙ (one.is_request).carries) (two.is_request).carries)
+
+-- what asks for an operation of the trace asks for what it does, and after it began
+record AsksFor (operation : OpRecord) (time : ℕ) (asks : Body) : Type 0 where
+  same : asks ≡ body_of operation.op
+  begun : operation.invoked ≤ time
+
+asks_for : (trace : Trace) → IsRun trace → ArePlain trace → (time : ℕ) (operation : OpRecord) → Contains
+    (operations_of trace.entries) operation → (asked : IsAskedAt trace time operation.client operation.number) → AsksFor
+    operation time asked.asks
+asks_for trace is_run have time operation of_trace asked =
+    let within : time < length trace.entries = asked.within in
+    let request : IsRequestOf trace time operation.client operation.number asked.asks =
+    request_of trace is_run have time (omega arith) asked.asked asked.letter asked.is_letter operation.client
+    operation.number asked.round asked.sets asked.asks asked.is_request in
+    let same : request.operation ≡ operation =
+    recorded_op trace request.operation operation request.of_trace of_trace
+    (ap (λ (it : ClientId). it.0) request.of_client) request.of_number in
+    record {
+      same = request.asks ∙ ap (λ (it : OpRecord). body_of it.op) same;
+      begun = subst (λ (it : OpRecord). it.invoked ≤ time) same request.begun;
+    }
+
+module _ (trace : Trace) (is_run : IsRun trace) (have : ArePlain trace) where
+  -- ---- queries
+
+  -- a reply is sent where its request is delivered
+  asked_by_reply : (time : ℕ) (replica : ℕ) (client : ClientId) (number round : ℕ) (verdict : Verdict)
+      → IsReplyTo trace time replica client number round verdict → IsAskedAt trace time client number
+  asked_by_reply time replica client number round verdict reply = record {
+    within = slice_get_within trace.entries time reply.entry reply.is_entry;
+    asked = reply.asked;
+    letter = reply.letter;
+    is_letter = reply.is_letter;
+    is_handed = ap (λ (it : Entry). handed (world_after trace time) it.event)
+        (get_or_from_slice_get trace.entries time reply.entry some_entry reply.is_entry) ∙ reply.is_handed;
+    round = round;
+    sets = reply.sets;
+    asks = reply.body;
+    is_request = reply_asks trace time replica client number round verdict reply;
+  }
+
+  sends_asked : (client : ClientId) (number round time : ℕ) (found : Option Entry) → slice_get trace.entries time
+      ≡ found → sends_answer client number round found ≡ true → IsAskedAt trace time client number
+  sends_asked client number round time None is sends = absurd (false≢true sends)
+  sends_asked client number round time (Some entry) is sends =
+      let one : Passes (answers client number round) entry.letters =
+      passes_from_any (answers client number round) entry.letters sends in
+      let it : IsReplyIn client number round one.found = reply_in client number round one.found one.passes in
+      asked_by_reply time (it.replica).0 client number round it.verdict
+      (reply_sent trace is_run have time (slice_get_within trace.entries time entry is) entry is one.found one.of_list
+      it.replica client number round it.verdict it.shown it.is_reply)
+
+  answers_asked : (client : ClientId) (number reply event : ℕ) → AnswersFirst trace client number reply event
+      → (time : ℕ) × (event ≡ suc time) × IsAskedAt trace time client number
+  answers_asked client number reply zero first = absurd (false≢true first.by_then)
+  answers_asked client number reply (suc time) first = (
+    time,
+    refl,
+    sends_asked client number first.round time
+        (slice_get trace.entries time) refl first.by_then,
+  )
+
+  -- ---- updates
+
+  -- where a replica accepts a candidate it is handed the request of an act for which the candidate was made
+  record Accepts (time : ℕ) (object : ObjectId) (candidate : Candidate) : Type 0 where
+    client : ClientId
+    number : ℕ
+    parts : List (ObjectId × Method)
+    asked : IsAskedAt trace time client number
+    is_act : asked.asks ≡ body.Act parts
+    made : IsMadeFor trace candidate client number parts
+
+  accepts_asked : (time : ℕ) (object : ObjectId) (place : ℕ) (candidate : Candidate)
+      → IsNew (setting trace) time object place candidate → time < length trace.entries
+      → Accepts time object candidate
+  accepts_asked time object place candidate new within =
+      let accepted : Acceptance trace time object place candidate =
+      acceptance_of trace is_run have time object place candidate new in
+      let delivered : IsDelivered (world_after trace time) accepted.event place accepted.old accepted.new object =
+      accepted.delivered in
+      let one : AcceptsOne accepted.old accepted.new delivered.carried object = delivered.accepts in
+      record {
+        client = one.client;
+        number = one.number;
+        parts = (object, one.method) ∷ [];
+        asked = record {
+          within = within;
+          asked = delivered.number;
+          letter = delivered.letter;
+          is_letter = delivered.is_letter;
+          is_handed = ap (handed (world_after trace time)) (sym accepted.event_is) ∙ delivered.is_handed;
+          round = one.round;
+          sets = one.sets;
+          asks = body.Act ((object, one.method) ∷ []);
+          is_request = asks_so delivered.letter delivered.carried one.client one.number one.round one.sets
+              (body.Act ((object, one.method) ∷ [])) one.mac
+              (brings_carries accepted.old delivered.letter delivered.carried delivered.brings) one.is_request;
+        };
+        is_act = refl;
+        made = accepted_made trace is_run time within object place candidate accepted;
+      }
+
+  module _ (one_act : ActsAreOne trace) (laws : Laws (setting trace)) (joint : Joint (setting trace))
+      (facts : UpdateFacts trace) where
+    abbrev update_of : OpRecord → List (ObjectId × Method) → Update
+    update_of operation parts = record { client = operation.client; number = operation.number; parts = parts }
+
+    -- the event of such a step hands over the request of an act
+    turn_asked : (time : ℕ) (update : Update) → (turn : IsTurnOf trace laws joint one_act facts time update)
+        → (object : ObjectId) × (candidate : Candidate) × Accepts time object candidate
+    turn_asked time update it =
+        let within : time < (setting trace).last = (it.turn).within in
+        elim (newly (setting trace) laws joint time within it.object it.candidate (it.turn).after) [
+          | inl before ↦ absurd ((it.turn).before before)
+          | inr under ↦ (
+            it.object,
+            under.given,
+            accepts_asked time it.object under.replica under.given under.new (omega (arith, last_is trace, within)),
+          )
+        ]
+
+    -- an update began before the step that decides it: before its candidate was accepted first
+    turn_begun : (time : ℕ) (operation : OpRecord) → Contains (operations_of trace.entries) operation
+        → (parts : List (ObjectId × Method))
+        → IsTurnOf trace laws joint one_act facts time (update_of operation parts) → operation.invoked ≤ time
+    turn_begun time operation among parts it =
+        let within : time < (setting trace).last = (it.turn).within in
+        elim (first_new (setting trace) laws (suc time) within it.object it.candidate
+        (accepted_by_decided (setting trace) laws (suc time) it.object it.candidate (it.turn).after)) [
+          | inl begins ↦
+              absurd (opening_no_act trace it.candidate begins
+              (acts trace (update_of operation parts) it.object it.candidate it.is_of))
+          | inr first ↦
+              let earlier : first.time < suc time = first.within in
+              let upon : Accepts first.time it.object it.candidate =
+              accepts_asked first.time it.object first.replica it.candidate first.new
+              (omega (arith, last_is trace, within, earlier)) in
+              let asked : IsAskedAt trace first.time upon.client upon.number = upon.asked in
+              let same =
+              one_made_for trace one_act it.candidate upon.client operation.client upon.number operation.number
+              upon.parts parts upon.made (it.is_of).made in
+              let request : IsRequestOf trace first.time upon.client upon.number asked.asks =
+              request_of trace is_run have first.time (omega (arith, last_is trace, within, earlier)) asked.asked
+              asked.letter
+              asked.is_letter upon.client upon.number asked.round asked.sets asked.asks asked.is_request in
+              let begun : (request.operation).invoked ≤ first.time = request.begun in
+              let records : request.operation ≡ operation =
+              recorded_op trace request.operation operation request.of_trace among
+              (ap (λ (who : ClientId). who.0) (request.of_client ∙ same.0)) (request.of_number ∙ same.1) in
+              let invoked : operation.invoked ≤ first.time =
+              subst (λ (one : OpRecord). one.invoked ≤ first.time) records begun in
+              omega arith
+        ]
+
+    -- ---- points
+
+    -- how an operation takes effect at the event of the entry with this index
+    data Takes (time : ℕ) (operation : OpRecord) : Type 0 where
+      decided : (parts : List (ObjectId × Method))
+          → IsTurnOf trace laws joint one_act facts time (update_of operation parts) → Takes time operation
+      answered : (query : List (ObjectId × Ask)) → operation.op ≡ op.Query query
+          → IsAskedAt trace time operation.client operation.number → Takes time operation
+
+    record TakesAt (event : ℕ) (operation : OpRecord) : Type 0 where
+      time : ℕ
+      is_after : event ≡ suc time
+      within : time < length trace.entries
+      takes : Takes time operation
+
+    query_takes : (operation : OpRecord) (event : ℕ) (query : List (ObjectId × Ask)) → operation.op ≡ op.Query query
+        → (reply : Option (ℕ × Outcome)) → query_effect trace operation event reply → TakesAt event operation
+    query_takes operation event query is None effect = absurd effect
+    query_takes operation event query is (Some (reply, outcome.GaveUp)) effect = absurd effect
+    query_takes operation event query is (Some (reply, outcome.Done answer)) effect =
+        let it : (time : ℕ) × (event ≡ suc time) × IsAskedAt trace time operation.client operation.number =
+        answers_asked operation.client operation.number reply event effect in
+        let asked : IsAskedAt trace it.0 operation.client operation.number = it.2 in
+        record { time = it.0; is_after = it.1; within = asked.within; takes = Takes.answered query is it.2 }
+
+    takes_at : (operation : OpRecord) (event : ℕ) (what : Op) → operation.op ≡ what
+        → effect_of trace operation event what → TakesAt event operation
+    takes_at operation event (op.Act parts) is effect =
+        let it : (time : ℕ) × (event ≡ suc time)
+        × IsTurnOf trace laws joint one_act facts time (update_of operation parts) =
+        turn_at trace laws joint one_act facts (update_of operation parts) event effect in
+        let within : it.0 < (setting trace).last = ((it.2).turn).within in
+        record {
+          time = it.0;
+          is_after = it.1;
+          within = omega (arith, last_is trace, within);
+          takes = Takes.decided parts it.2;
+        }
+    takes_at operation event (op.Query query) is effect = query_takes operation event query is operation.reply effect
+
+    point_takes : (point : Point) → (is : IsPoint trace point) → TakesAt point.event is.operation
+    point_takes point is = takes_at is.operation point.event is.operation.op refl is.effect
+
+    -- a point is at an event of the trace
+    pub point_bounds : (point : Point) → IsPoint trace point → (1 ≤ point.event) × (point.event ≤ length trace.entries)
+    point_bounds point is =
+        let it : TakesAt point.event is.operation = point_takes point is in
+        let event : point.event ≡ suc it.time = it.is_after in
+        let within : it.time < length trace.entries = it.within in
+        (omega arith, omega arith)
+
+    begun : (time : ℕ) (operation : OpRecord) → Contains (operations_of trace.entries) operation
+        → Takes time operation → operation.invoked ≤ time
+    begun time operation among (Takes.decided parts turn) = turn_begun time operation among parts turn
+    begun time operation among (Takes.answered query is asked) =
+        (asks_for trace is_run have time operation among asked).begun
+
+    -- the operation of a point began before
+    pub begun_before : (point : Point) → (is : IsPoint trace point) → is.operation.invoked < point.event
+    begun_before point is =
+        let it : TakesAt point.event is.operation = point_takes point is in
+        let event : point.event ≡ suc it.time = it.is_after in
+        let before : is.operation.invoked ≤ it.time = begun it.time is.operation is.of_trace it.takes in
+        omega arith
+
+    -- an event that decides an update answers no query
+    not_both : (time : ℕ) (update : Update) → IsTurnOf trace laws joint one_act facts time update
+        → (operation : OpRecord) → Contains (operations_of trace.entries) operation
+        → (query : List (ObjectId × Ask)) → operation.op ≡ op.Query query
+        → IsAskedAt trace time operation.client operation.number → ⊥
+    not_both time update turn operation among query is asked =
+        let found = turn_asked time update turn in
+        let upon : Accepts time found.0 found.1 = found.2 in
+        different upon.parts query
+        (sym upon.is_act
+        ∙ (one_asked trace time upon.client operation.client upon.number operation.number upon.asked asked).2
+        ∙ (asks_for trace is_run have time operation among asked).same ∙ ap body_of is)
+      where
+        different : (parts : List (ObjectId × Method)) (query : List (ObjectId × Ask))
+            → body.Act parts ≡ body.Ask query → ⊥
+        different parts query same = absurd (cc)
+
+    one_takes : (time : ℕ) (first second : OpRecord) → Contains (operations_of trace.entries) first
+        → Contains (operations_of trace.entries) second → Takes time first → Takes time second
+        → (first.client ≡ second.client) × (first.number ≡ second.number)
+    one_takes time first second one two (Takes.decided parts turn) (Takes.decided others other) =
+        let same : update_of first parts ≡ update_of second others =
+        one_update (setting trace) laws joint Update (IsOf trace) (one_of trace one_act) facts.shared
+        facts.spread facts.once (acts trace) (update_of first parts) (update_of second others)
+        time turn.object other.object turn.candidate other.candidate turn.is_of other.is_of turn.turn other.turn in
+        (ap (λ (it : Update). it.client) same, ap (λ (it : Update). it.number) same)
+    one_takes time first second one two (Takes.decided parts turn) (Takes.answered query is asked) =
+        absurd (not_both time (update_of first parts) turn second two query is asked)
+    one_takes time first second one two (Takes.answered query is asked) (Takes.decided parts turn) =
+        absurd (not_both time (update_of second parts) turn first one query is asked)
+    one_takes time first second one two (Takes.answered query is asked) (Takes.answered other are besides) =
+        let same = one_asked trace time first.client second.client first.number second.number asked besides in
+        (same.0, same.1)
+
+    -- points differ in their events
+    pub points_apart : (first second : Point) → IsPoint trace first → IsPoint trace second
+        → first.event ≡ second.event → first ≡ second
+    points_apart first second one two same =
+        let it : TakesAt first.event one.operation = point_takes first one in
+        let its : TakesAt second.event two.operation = point_takes second two in
+        let event : first.event ≡ suc it.time = it.is_after in
+        let other : second.event ≡ suc its.time = its.is_after in
+        let time : it.time ≡ its.time = omega arith in
+        let fields : ((one.operation).client ≡ (two.operation).client)
+        × ((one.operation).number ≡ (two.operation).number) =
+        one_takes its.time one.operation two.operation one.of_trace two.of_trace
+        (subst (λ (at : ℕ). Takes at one.operation) time it.takes) its.takes in
+        one_point trace first second one two (sym one.client ∙ fields.0 ∙ two.client)
+        (sym one.number ∙ fields.1 ∙ two.number)

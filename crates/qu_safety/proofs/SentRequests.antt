@@ -1,0 +1,148 @@
+-- A request that was handled was sent, and belongs to an operation.
+use Rattle.std.proofs.Common.{◌≡◌, ℕ, ◌<◌, ◌≤◌, Bool, true, false, cond, List, length, Option, None, Some, refl, sym, ap, subst, ◌∙◌, arith, inl, inr}
+use Rattle.std.specs.Prelude.{nat_lt, Contains}
+use Rattle.std.specs.List.{list_all}
+use Rattle.std.proofs.lemmas.List.{take_all}
+use Rattle.std.proofs.lemmas.Option.{none-some, cond_some}
+use Rattle.qu_base.specs.declared.party.ClientId.{ClientId}
+use Rattle.qu_base.specs.declared.party.ObjectId.{ObjectId}
+use Rattle.qu_base.specs.declared.party.Party.{Party}
+use Rattle.qu_base.specs.declared.party.Party.TheVariants as party
+use Rattle.qu_base.specs.Thresholds.{replicas}
+use Rattle.qu_stamp.specs.declared.candidate.Candidate.{Candidate}
+use Rattle.qu_objects.specs.declared.act.Method.{Method}
+use Rattle.qu_frames.specs.declared.frame.Body.{Body}
+use Rattle.qu_frames.specs.declared.frame.Body.TheVariants as body
+use Rattle.qu_frames.specs.declared.frame.Frame.{Frame}
+use Rattle.qu_frames.specs.declared.frame.Frame.TheVariants as frame
+use Rattle.qu_frames.specs.declared.frame.Letter.{Letter}
+use Rattle.qu_trace.specs.declared.event.Event.{Event}
+use Rattle.qu_trace.specs.declared.event.Event.TheVariants.{Invoke, Deliver, Tick, Inject}
+use Rattle.qu_trace.specs.declared.trace.Entry.{Entry}
+use Rattle.qu_trace.specs.declared.trace.Setup.{Setup}
+use Rattle.qu_trace.specs.declared.trace.Trace.{Trace}
+use Rattle.qu_trace.specs.Letters.{letters_of}
+use Rattle.qu_world.specs.State.{numbered, ring_of}
+use Rattle.qu_world.specs.Run.{IsRun}
+use Rattle.qu_runs.specs.Digested.{Request, is_known, request_in, request_to, request_by, handled_by, IsHandled, IsMadeFor, request_brought}
+use Rattle.qu_rounds.specs.Invocations.{IsRequestOf}
+use Rattle.qu_runs.specs.Times.{world_after}
+use Rattle.qu_rounds.proofs.Invocations.{request_of}
+use Rattle.qu_runs.proofs.Recording.{entries_after, letter_stays}
+use Rattle.qu_runs.specs.Carried.{Asks}
+use Rattle.qu_runs.specs.Plain.{IsPlain, ArePlain}
+use Rattle.qu_runs.proofs.Carrying.{asks_so}
+use Rattle.qu_frames.specs.Signed.{brought}
+use Rattle.qu_frames.proofs.Signed.{brought_is_decoded}
+use Rattle.qu_runs.proofs.Plain.{setup_after}
+
+-- so it was made for the operation that the request is one of
+pub made_for_operation : (trace : Trace) (count : ℕ) (candidate : Candidate) (client : ClientId) (number : ℕ)
+    (parts : List (ObjectId × Method)) (asked : Body) (request : IsRequestOf trace count client number asked)
+    → IsMadeFor trace candidate client number parts
+    → IsMadeFor trace candidate (request.operation).client (request.operation).number parts
+made_for_operation trace count candidate client number parts asked request made =
+    subst (λ (who : ClientId). IsMadeFor trace candidate who (request.operation).number parts) (sym request.of_client)
+    (subst (λ (it : ℕ). IsMadeFor trace candidate client it parts) (sym request.of_number) made)
+
+cond_given : {X : Type 0} (test : Bool) (found : Option X) (it : X) → cond test found None ≡ Some it → found ≡ Some it
+cond_given true found it given = given
+cond_given false found it given = absurd (none-some it given)
+
+-- a letter of the trace with the request
+pub record IsSent (trace : Trace) (request : Request) : Type 0 where
+  pub number : ℕ
+  pub letter : Letter
+  pub is_letter : numbered (letters_of trace.entries) number ≡ Some letter
+  pub round : ℕ
+  pub is_request : Asks letter request.client request.number round request.sets request.body
+
+carried : (setup : Setup) (sent : Frame) (request : Request) → request_in setup sent ≡ Some request → (round : ℕ)
+    × (mac : List ℕ) × (sent ≡ frame.Request request.client request.number round request.sets request.body mac)
+carried setup (frame.Request client number round sets asked mac) request is =
+    let it : Request = record { client = client; number = number; sets = sets; body = asked } in
+    let same : it ≡ request = (cond_some (list_all (is_known setup) sets) it request is).1 in
+    (round, mac, ap (λ (one : Request). frame.Request one.client one.number round one.sets one.body mac) same)
+carried setup (frame.Reply replica client number round verdict culled shown mac) request is =
+    absurd (none-some request is)
+
+carried_to : (setup : Setup) (text : List ℕ) (to : Party) (request : Request)
+    → request_to setup text to ≡ Some request → request_brought setup (brought (ring_of setup) to text) ≡ Some request
+carried_to setup text (party.Replica me) request is =
+    cond_given (nat_lt me.0 (replicas setup.bounds))
+    (request_brought setup (brought (ring_of setup) (party.Replica me) text)) request is
+carried_to setup text (party.Client me) request is = absurd (none-some request is)
+
+-- a frame was brought that is this request
+carried_so : (setup : Setup) (letter : Letter) (read : Option Frame) (request : Request)
+    → brought (ring_of setup) letter.to letter.text ≡ read → request_brought setup read ≡ Some request
+    → (round : ℕ) × Asks letter request.client request.number round request.sets request.body
+carried_so setup letter (Some sent) request brings is =
+    let it = carried setup sent request is in (
+      it.0,
+      asks_so letter sent request.client request.number it.0 request.sets request.body it.1
+          (brought_is_decoded (ring_of setup) letter.to letter.text sent brings) it.2,
+    )
+carried_so setup letter None request brings is = absurd (none-some request is)
+
+sent_by : (trace : Trace) (number : ℕ) (found : Option Letter) (request : Request)
+    → numbered (letters_of trace.entries) number ≡ found → request_by trace.setup found ≡ Some request
+    → IsSent trace request
+sent_by trace number None request found is = absurd (none-some request is)
+sent_by trace number (Some letter) request found is =
+    let it = carried_so trace.setup letter (brought (ring_of trace.setup) letter.to letter.text) request refl
+    (carried_to trace.setup letter.text letter.to request is) in
+    record { number = number; letter = letter; is_letter = found; round = it.0; is_request = it.1 }
+
+-- injected bytes that are handled were sent
+sent_before : (trace : Trace) → IsRun trace → (time : ℕ) → time ≤ length trace.entries
+    → (to : Party) (text : List ℕ) → IsPlain (world_after trace time) (Inject to text) → (request : Request)
+    → request_to trace.setup text to ≡ Some request → IsSent trace request
+sent_before trace is_run time within to text (inl ignored) request is =
+    let none : brought (ring_of trace.setup) to text ≡ None =
+    ap (λ (setup : Setup). brought (ring_of setup) to text) (sym (setup_after trace time)) ∙ ignored.nothing in
+    absurd (none-some request (ap (request_brought trace.setup) (sym none) ∙ carried_to trace.setup text to request is))
+sent_before trace is_run time within to text (inr sent) request is =
+    let letter : Letter = sent.letter in
+    let given : request_to trace.setup letter.text letter.to ≡ Some request =
+    ap (λ (it : List ℕ). request_to trace.setup it letter.to) sent.text_is
+    ∙ ap (request_to trace.setup text) sent.to_is ∙ is in
+    sent_by trace sent.number (Some letter) request
+    (letter_stays trace is_run time within sent.number letter sent.is_letter) given
+
+pub sent : (trace : Trace) → IsRun trace → (time : ℕ) → time ≤ length trace.entries → (event : Event)
+    → IsPlain (world_after trace time) event → (request : Request) → handled_by trace event ≡ Some request
+    → IsSent trace request
+sent trace is_run time within (Invoke client op) plain request is = absurd (none-some request is)
+sent trace is_run time within (Deliver number) plain request is =
+    sent_by trace number (numbered (letters_of trace.entries) number) request refl is
+sent trace is_run time within (Tick client) plain request is = absurd (none-some request is)
+sent trace is_run time within (Inject to text) plain request is =
+    sent_before trace is_run time within to text plain request is
+
+-- each entry of a plain trace is plain
+pub plain_among : (trace : Trace) (entry : Entry) → ArePlain trace → (among : Contains trace.entries entry)
+    → IsPlain (world_after trace among.0) entry.event
+plain_among trace entry plain among =
+    subst (λ (it : Entry). IsPlain (world_after trace among.0) it.event) among.2 (plain.plain_at among.0 entry among.1)
+
+-- so it is one of an operation
+pub asked_by : (trace : Trace) → IsRun trace → ArePlain trace → (request : Request) → IsSent trace request
+    → IsRequestOf trace (length trace.entries) request.client request.number request.body
+asked_by trace is_run have request it =
+    let last : ℕ = length trace.entries in
+    let all : (world_after trace last).entries ≡ trace.entries = entries_after trace is_run last (omega arith)
+    ∙ take_all last trace.entries (omega arith) in
+    request_of trace is_run have last (omega arith) it.number it.letter
+    (ap (λ (entries : List Entry). numbered (letters_of entries) it.number) all ∙ it.is_letter)
+    request.client request.number it.round request.sets request.body it.is_request
+
+pub asked_by_handled : (trace : Trace) → IsRun trace → ArePlain trace → (client : ClientId) (number : ℕ)
+    (parts : List (ObjectId × Method)) → IsHandled trace client number parts
+    → IsRequestOf trace (length trace.entries) client number (body.Act parts)
+asked_by_handled trace is_run have client number parts it =
+    let request : Request = record { client = client; number = number; sets = it.sets; body = body.Act parts } in
+    asked_by trace is_run have request
+    (sent trace is_run (it.of_trace).0
+    (let below : (it.of_trace).0 < length trace.entries = (it.of_trace).1 in omega arith) (it.entry).event
+    (plain_among trace it.entry have it.of_trace) request it.handled)

@@ -1,0 +1,283 @@
+-- The updates of a run are as the values along the order ask: one part each, no copies, and one candidate.
+use Rattle.std.proofs.Common.{◌≡◌, ◌⊎◌, true, false, not, List, [], ◌∷◌, length, None, Some, refl, sym, ap, subst, ◌∙◌, arith, inl, inr}
+use Rattle.std.specs.Prelude.{slice_get, is_some, Option}
+use Rattle.std.proofs.lemmas.Bool.{false≢true}
+use Rattle.std.proofs.lemmas.Option.{none-some}
+use Rattle.qu_base.specs.declared.party.Digest.{Digest}
+use Rattle.qu_base.specs.declared.party.ObjectId.{ObjectId}
+use Rattle.qu_stamp.specs.declared.candidate.Candidate.{Candidate}
+use Rattle.qu_stamp.specs.declared.stamp.Stamp.{Stamp}
+use Rattle.qu_stamp.specs.Stamp.{is_below}
+use Rattle.qu_stamp.specs.Candidate.{opening}
+use Rattle.qu_stamp.proofs.Order.{is_below-self}
+use Rattle.qu_chain.specs.Setting.{Apart, IsAncestor}
+use Rattle.qu_chain.specs.Laws.{Laws}
+use Rattle.qu_chain.specs.Joint.{Joint, IsOneAct}
+use Rattle.qu_chain.proofs.Ancestry.{accepted_by_attested}
+use Rattle.qu_chain.proofs.Counting.{Found, found_at}
+use Rattle.qu_chain.proofs.Parents.{ancestor-not_above}
+use Rattle.qu_objects.specs.declared.act.Method.{Method}
+use Rattle.qu_objects.specs.declared.kind.Value.{Value}
+use Rattle.qu_objects.specs.declared.state.ObjState.{ObjState}
+use Rattle.qu_objects.specs.Perform.{performed_answer, performed_values}
+use Rattle.qu_frames.specs.declared.frame.Body.TheVariants as body
+use Rattle.qu_trace.specs.declared.trace.Trace.{Trace}
+use Rattle.qu_world.specs.State.{WorldState}
+use Rattle.qu_world.specs.Run.{IsRun}
+use Rattle.qu_runs.specs.Accepted.{accepts, is_accepted}
+use Rattle.qu_runs.specs.Digested.{IsHandled, IsMadeFor}
+use Rattle.qu_runs.specs.Plain.{ArePlain}
+use Rattle.qu_runs.specs.Setting.{setting}
+use Rattle.qu_rounds.specs.Invocations.{IsRequestOf}
+use Rattle.qu_grounds.specs.Chained.{last_world}
+use Rattle.qu_grounds.specs.Grounds.{AcceptsOne}
+use Rattle.qu_grounds.specs.Origins.{Origin}
+use Rattle.qu_runs.proofs.Settings.{AcceptedAt, accepted_somewhere, is_accepted_by}
+use Rattle.qu_grounds.proofs.Grounds.{above_base}
+use Rattle.qu_safety.specs.Updates.{Update, IsOf, IsEverAccepted}
+use Rattle.qu_safety.specs.Values.{RestsOn, values_of, HasVersion}
+use Rattle.qu_grounds.proofs.Handled.{handled, made_for}
+use Rattle.qu_safety.proofs.SentRequests.{made_for_operation, asked_by_handled}
+use Rattle.qu_safety.proofs.OneAct.{ActsAreOne, act_by, one_made_for}
+use Rattle.qu_grounds.proofs.Origins.{accepted_from}
+use Rattle.qu_safety.proofs.OneCandidate as candidates
+use Rattle.qu_safety.proofs.StoredValues.{version_held}
+use Rattle.qu_safety.proofs.Updates.{acts, opening_no_act, same_accepted}
+use Rattle.qu_safety.proofs.UpdateFacts.{HasValue, MadeFor, IsPerformed, UpdateFacts}
+use Rattle.qu_safety.proofs.Values.{IsUpdated, version_cases, one_version}
+
+module _ (trace : Trace) where
+  in_world : (object : ObjectId) (candidate : Candidate) → IsEverAccepted trace object candidate
+      → is_accepted (last_world trace) object candidate ≡ true
+  unfolding setting
+  in_world object candidate accepted = is_accepted_by trace (length trace.entries) object candidate accepted
+
+module _ (trace : Trace) (is_run : IsRun trace) (have : ArePlain trace) where
+  -- ---- where an accepted candidate came from
+
+  came_from : (object : ObjectId) (candidate : Candidate) → IsEverAccepted trace object candidate
+      → (candidate ≡ opening) ⊎ Origin trace (length trace.entries) object candidate
+  came_from object candidate accepted =
+      accepted_from trace is_run have object candidate (in_world trace object candidate accepted)
+
+  act_origin : (object : ObjectId) (candidate : Candidate) → IsEverAccepted trace object candidate
+      → (setting trace).is_act candidate ≡ true → Origin trace (length trace.entries) object candidate
+  act_origin object candidate accepted is_act =
+      elim (came_from object candidate accepted) [
+        | inl begins ↦ absurd (opening_no_act trace candidate begins is_act)
+        | inr came ↦ came
+      ]
+
+  module _ (object : ObjectId) (candidate : Candidate) (came : Origin trace
+      (length trace.entries) object candidate) where
+    abbrev one : AcceptsOne came.old came.new (came.delivered).carried object
+    one = (came.delivered).accepts
+
+    abbrev parts : List (ObjectId × Method)
+    parts = (object, one.method) ∷ []
+
+    was_handled : IsHandled trace one.client one.number parts
+    was_handled =
+        handled trace is_run came.past came.earlier came.entry came.of_trace came.event came.event_is came.place
+        came.old came.new came.is_old
+        (ap (λ (it : WorldState). slice_get it.replicas came.place) (sym came.is_step) ∙ came.is_new) object
+        came.delivered
+
+    request : IsRequestOf trace (length trace.entries) one.client one.number (body.Act parts)
+    request = asked_by_handled trace is_run have one.client one.number parts was_handled
+
+    made_for_one : IsMadeFor trace candidate one.client one.number parts
+    made_for_one =
+        made_for trace came.old came.new (came.delivered).carried object one candidate came.is_candidate was_handled
+
+    made_by : MadeFor trace object candidate
+    made_by = record {
+      operation = request.operation;
+      of_trace = request.of_trace;
+      parts = parts;
+      is_act = act_by parts (request.operation).op request.asks;
+      is_of = record {
+        made = made_for_operation trace (length trace.entries) candidate one.client one.number parts (body.Act parts)
+            request made_for_one;
+        names = inl refl;
+      };
+    }
+
+    no_barrier : (setting trace).plain candidate ≡ true
+    unfolding setting
+    no_barrier =
+        ap (λ (it : Candidate). not it.stamp.barrier) (sym came.is_candidate)
+        ∙ ap (λ (it : Stamp). not it.barrier) (one.grounds).stamp
+
+    -- its prior is strictly below it
+    prior_below : is_below candidate.prior candidate.stamp ≡ true
+    prior_below =
+        subst (λ (it : Candidate). is_below it.prior it.stamp ≡ true) came.is_candidate
+        (ap (λ (it : Stamp). is_below it (one.candidate).stamp) (one.grounds).prior ∙ above_base one.grounds)
+
+  all_plain : (object : ObjectId) (candidate : Candidate) → IsEverAccepted trace object candidate
+      → (setting trace).plain candidate ≡ true
+  unfolding setting
+  all_plain object candidate accepted =
+      elim (came_from object candidate accepted) [
+        | inl begins ↦ ap (λ (it : Candidate). not it.stamp.barrier) begins
+        | inr came ↦ no_barrier object candidate came
+      ]
+
+  module _ (one_act : ActsAreOne trace) (laws : Laws (setting trace)) (joint : Joint (setting trace)) where
+    -- an update has one candidate
+    one_of_update : (update : Update) (object other : ObjectId) (first second : Candidate)
+        → IsOf trace update object first → IsEverAccepted trace object first
+        → IsOf trace update other second → IsEverAccepted trace other second
+        → (object ≡ other) × (first ≡ second)
+    one_of_update update object other first second one accepted two besides =
+        candidates.one_candidate trace is_run have one_act object other first second
+        (in_world trace object first accepted) (in_world trace other second besides) _ (one.made).of_act
+        (two.made).of_act
+
+    not_its_ancestor : (object : ObjectId) (candidate : Candidate) → IsEverAccepted trace object candidate
+        → (setting trace).is_act candidate ≡ true
+        → IsAncestor (setting trace) (setting trace).last object candidate candidate → ⊥
+    not_its_ancestor object candidate accepted is_act ancestor =
+        let above : is_below candidate.prior candidate.stamp ≡ true =
+        prior_below object candidate (act_origin object candidate accepted is_act) in
+        false≢true (sym (by candidate ancestor) ∙ above)
+      where
+        by : (second : Candidate) → IsAncestor (setting trace) (setting trace).last object candidate second
+            → is_below second.prior candidate.stamp ≡ false
+        by second (IsAncestor.direct _ prior) =
+            ap (λ (it : Stamp). is_below it candidate.stamp) prior ∙ is_below-self candidate.stamp
+        by second (IsAncestor.through between _ prior plain attested ancestor) =
+            ap (λ (it : Stamp). is_below it candidate.stamp) prior
+            ∙ ancestor-not_above (setting trace) laws (setting trace).last (omega arith) object candidate between
+            (accepted_by_attested (setting trace) laws (setting trace).last object between attested) plain ancestor
+
+    copied : (object : ObjectId) (candidate base : Candidate) (value : Value)
+        → IsEverAccepted trace object candidate → (setting trace).is_act candidate ≡ false
+        → candidate.prior ≡ base.stamp → IsEverAccepted trace object base
+        → HasValue trace object base value → HasValue trace object candidate value
+    unfolding setting
+    copied object candidate base value accepted not_act prior base_accepted has =
+        elim (came_from object candidate accepted) [
+          | inl begins ↦
+              subst (λ (it : Candidate). HasValue trace object it value)
+              (same_accepted trace laws joint object base candidate base_accepted accepted
+              (sym prior ∙ ap (λ (it : Candidate). it.prior) begins ∙ ap (λ (it : Candidate). it.stamp) (sym begins)))
+              has
+          | inr came ↦
+              let it : MadeFor trace object candidate = made_by object candidate came in
+              absurd (none-some _ (none candidate.stamp.act not_act ∙ ((it.is_of).made).of_act))
+        ]
+      where
+        none : (found : Option Digest) → is_some found ≡ false → None ≡ found
+        none None is = refl
+        none (Some act) is = absurd (false≢true (sym is))
+
+    -- ---- what its version is
+
+    module _ (update : Update) (object : ObjectId) (candidate : Candidate) (is_of : IsOf trace update object candidate)
+        (accepted : IsEverAccepted trace object candidate) where
+      version : (it : ObjState) × HasVersion trace object candidate it
+      version =
+          let found : AcceptedAt object candidate (last_world trace).replicas =
+          accepted_somewhere object candidate (last_world trace).replicas (in_world trace object candidate accepted) in
+          let state : Found (accepts object candidate) (last_world trace).replicas found.place =
+          found_at (accepts object candidate) (last_world trace).replicas found.place found.accepted in
+          let held = version_held trace laws joint is_run have (length trace.entries) (omega arith)
+          found.place state.item state.is_at object candidate state.passed in
+          (held.0, held.2)
+
+      -- where the update has one part
+      of_one : (method : Method) (made : IsUpdated trace object candidate version.0)
+          → (made.update).parts ≡ (object, method) ∷ []
+          → IsPerformed trace (record { client = update.client; number = update.number; parts = (object, method) ∷ [] })
+          object candidate
+      of_one method made parts =
+          let base : Candidate = made.bases object in
+          let before : ObjectId → Value = λ other. (made.befores other).value in
+          let rest : RestsOn trace object candidate object base = made.rests object (made.is_of).names in
+          let answers : performed_answer ((object, method) ∷ []) (before object ∷ []) ≡ (version.0).answer =
+          subst (λ (all : List (ObjectId × Method)). performed_answer all (values_of before all) ≡ (version.0).answer)
+          parts made.answers in
+          record {
+            steps = record { before = before object; after = made.afters object } ∷ [];
+            each = (
+              record {
+                companion = candidate;
+                is_companion = inl (refl, refl);
+                accepted = accepted;
+                base = base;
+                prior = ap (λ (it : Candidate). it.prior) (itself rest.companion rest.is_companion) ∙ rest.prior;
+                base_accepted = rest.base_accepted;
+                before = record {
+                  version = made.befores object;
+                  has = made.has object (made.is_of).names;
+                  value_is = refl;
+                };
+                version = version.0;
+                has = version.1;
+                after_is = sym made.value_is;
+                answer_is = sym answers;
+              },
+              tt,
+            );
+            values = subst (λ (all : List (ObjectId × Method)).
+                performed_values all (values_of before all) ≡ values_of made.afters all) parts made.values;
+          }
+        where
+          itself : (companion : Candidate) → IsOneAct (setting trace) object object candidate companion
+              → candidate ≡ companion
+          itself companion (inl both) = both.1
+          itself companion (inr group) = absurd (group.apart refl)
+
+      by_update : IsUpdated trace object candidate version.0 → IsPerformed trace update object candidate
+      by_update made =
+          let came : Origin trace (length trace.entries) object candidate =
+          act_origin object candidate accepted (acts trace update object candidate is_of) in
+          let one : AcceptsOne came.old came.new (came.delivered).carried object = (came.delivered).accepts in
+          let parts : List (ObjectId × Method) = (object, one.method) ∷ [] in
+          let mine : IsMadeFor trace candidate one.client one.number parts = made_for_one object candidate came in
+          let same : update.parts ≡ parts =
+          (one_made_for trace one_act candidate update.client one.client update.number one.number update.parts parts
+          is_of.made mine).2 in
+          let theirs : (made.update).parts ≡ parts =
+          (one_made_for trace one_act candidate (made.update).client one.client (made.update).number one.number
+          (made.update).parts parts (made.is_of).made mine).2 in
+          subst (λ (all : List (ObjectId × Method)).
+          IsPerformed trace (record { client = update.client; number = update.number; parts = all }) object candidate)
+          (sym same) (of_one one.method made theirs)
+
+      performed : IsPerformed trace update object candidate
+      performed =
+          elim (version_cases trace object candidate version.0 version.1) [
+            | inl fresh ↦
+                absurd (opening_no_act trace candidate fresh.is_opening (acts trace update object candidate is_of))
+            | inr made ↦ by_update made
+          ]
+
+    -- no candidate has a group
+    no_group : (update : Update) (object other : ObjectId) (candidate companion : Candidate)
+        → IsOf trace update object candidate → IsEverAccepted trace object candidate → Apart object other
+        → (setting trace).member candidate other ≡ Some companion.stamp
+        → IsEverAccepted trace other companion → IsOf trace update other companion
+    unfolding setting
+    no_group update object other candidate companion is_of accepted apart is_member also =
+        absurd (none-some companion.stamp is_member)
+
+    pub update_facts : UpdateFacts trace
+    update_facts = record {
+      made = λ object candidate accepted is_act. made_by object candidate (act_origin object candidate accepted is_act);
+      plain = λ object candidate accepted is_act. all_plain object candidate accepted;
+      plain_base = λ object base entries is accepted. all_plain object base accepted;
+      shared = no_group;
+      spread = λ update object other candidate companion one accepted two besides.
+          inl (one_of_update update object other candidate companion one accepted two besides).0;
+      once = λ update object first second one accepted two besides ancestor.
+          not_its_ancestor object first accepted (acts trace update object first one)
+          (subst (IsAncestor (setting trace) (setting trace).last object first)
+          (sym (one_of_update update object object first second one accepted two besides).1) ancestor);
+      one_version = one_version trace laws joint one_act;
+      copied = λ object candidate base value accepted plain not_act prior plain_base base_accepted has.
+          copied object candidate base value accepted not_act prior base_accepted has;
+      performed = performed;
+    }

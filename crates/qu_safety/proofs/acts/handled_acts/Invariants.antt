@@ -1,8 +1,0 @@
-use Rattle.std.proofs.Common.{◌≡◌, take}
-use Rattle.std.specs.List.{filter_map}
-use Rattle.qu_safety.specs.Points.{act_at}
-use Rattle.qu_safety.proofs.acts.handled_acts.Given as goal
-
--- the acts of the entries so far
-abbrev pub invariant-loop-entry : goal.invariant-loop-entry
-invariant-loop-entry l = l.acts ≡ filter_map (act_at l.trace) (take l.entry-index l.entry-items)

@@ -1,6 +1,0 @@
-use Rattle.std.proofs.Common.{◌≡◌, drop}
-use Rattle.qu_safety.specs.Points.{earlier_of, first_mark}
-use Rattle.qu_safety.proofs.effects.first_mark.Given as goal
-
-abbrev pub invariant-loop-candidate : goal.invariant-loop-candidate
-invariant-loop-candidate l = earlier_of l.first (first_mark l.client l.act (drop l.candidate-index l.tracked)) ≡ first_mark l.client l.act l.tracked

@@ -1,0 +1,48 @@
+-- The updates of a run, and the candidates that are made for them.
+-- Definitions whose comment names no source are this project's own; Query/Update is the paper of SOSP 2005.
+use Rattle.std.specs.Prelude.{◌≡◌, ◌⊎◌, ℕ, List, [], ◌∷◌}
+use Rattle.qu_base.specs.declared.party.ClientId.{ClientId}
+use Rattle.qu_base.specs.declared.party.ObjectId.{ObjectId}
+use Rattle.qu_stamp.specs.declared.candidate.Candidate.{Candidate}
+use Rattle.qu_chain.specs.Setting.{IsAccepted}
+use Rattle.qu_chain.specs.Decided.{IsDecided, IsDecidedBy}
+use Rattle.qu_chain.specs.Joint.{IsOneAct}
+use Rattle.qu_objects.specs.declared.act.Method.{Method}
+use Rattle.qu_trace.specs.declared.trace.Trace.{Trace}
+use Rattle.qu_runs.specs.Digested.{IsMadeFor}
+use Rattle.qu_runs.specs.Setting.{setting}
+
+-- what a client asks for under one of its numbers
+pub record Update : Type 0 where
+  pub client : ClientId
+  pub number : ℕ
+  pub parts : List (ObjectId × Method)
+
+-- some part is on this object
+abbrev pub Names : {X : Type 0} → List (ObjectId × X) → ObjectId → Type 0
+Names [] object = ⊥
+Names (part ∷ parts) object = (part.0 ≡ object) ⊎ Names parts object
+
+-- the candidate was made for the update, on one of its objects
+pub record IsOf (trace : Trace) (update : Update) (object : ObjectId) (candidate : Candidate) : Type 0 where
+  pub made : IsMadeFor trace candidate update.client update.number update.parts
+  pub names : Names update.parts object
+
+-- some correct replica ever accepts the candidate
+abbrev pub IsEverAccepted : Trace → ObjectId → Candidate → Type 0
+IsEverAccepted trace object candidate = IsAccepted (setting trace) (setting trace).last object candidate
+
+-- each update is decided once
+pub record DecidesOnce (trace : Trace) : Type 0 where
+  -- what is decided of an update is one candidate, or one group
+  pub once : (update : Update) (object other : ObjectId) (candidate companion : Candidate)
+      → IsOf trace update object candidate → IsOf trace update other companion
+      → IsDecided (setting trace) (setting trace).last object candidate
+      → IsDecided (setting trace) (setting trace).last other companion
+      → IsOneAct (setting trace) object other candidate companion
+  -- what one event decides is of one update
+  pub one_update : (update other_update : Update) (time : ℕ) (object other : ObjectId)
+      (candidate companion : Candidate)
+      → IsOf trace update object candidate → IsOf trace other_update other companion
+      → IsDecidedBy (setting trace) time object candidate → IsDecidedBy (setting trace) time other companion
+      → update ≡ other_update
