@@ -95,7 +95,7 @@ fn read_one_act(alloc: Global, text: &[u8]) -> Result<Found, ReadFail> {
     let act = read_act(alloc, &KNOWN, &mut Cursor::new(text))?;
     let form = act_form(alloc, &act)?;
     let mut out = Outbytes::new(alloc);
-    write_act(&mut out, &act)?;
+    write_act(&act, &mut out)?;
     let spelled = out.done();
     Ok(Found { form, spelled })
 }
@@ -104,7 +104,7 @@ fn read_one_query(alloc: Global, text: &[u8]) -> Result<Found, ReadFail> {
     let query = read_query(alloc, &KNOWN, &mut Cursor::new(text))?;
     let form = query_form(alloc, &query)?;
     let mut out = Outbytes::new(alloc);
-    write_query(&mut out, &query)?;
+    write_query(&query, &mut out)?;
     let spelled = out.done();
     Ok(Found { form, spelled })
 }
@@ -113,7 +113,7 @@ fn read_one_answer(alloc: Global, text: &[u8]) -> Result<Found, ReadFail> {
     let answer = read_answer(alloc, &mut Cursor::new(text))?;
     let form = answer_form(alloc, &answer)?;
     let mut out = Outbytes::new(alloc);
-    write_answer(&mut out, &answer)?;
+    write_answer(&answer, &mut out)?;
     let spelled = out.done();
     Ok(Found { form, spelled })
 }

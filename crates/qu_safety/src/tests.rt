@@ -76,7 +76,7 @@ fn of_act(alloc: Global, client: ClientId, number: u64, act: &Act) -> Result<Dig
     let mut text = Outbytes::new(alloc);
     text.u16(client.0)?;
     text.u64(number)?;
-    write_act(&mut text, act)?;
+    write_act(act, &mut text)?;
     Ok(Digested {
         tag: 1,
         text: text.done(),
