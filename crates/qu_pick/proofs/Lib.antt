@@ -1,0 +1,2 @@
+pub mod AskedFirst
+pub mod Waits

@@ -1,0 +1,9 @@
+-- The number by which texts name the refusal of a vote.
+use Rattle.std.specs.Prelude.{ℕ, Option, None, Some}
+use Rattle.qu_vote.specs.declared.refusal_number.TheConstants.{TWICE}
+use Rattle.qu_vote.specs.declared.tally.VoteFail.{VoteFail}
+use Rattle.qu_vote.specs.declared.tally.VoteFail.TheVariants.{Twice, NoMemory}
+
+abbrev pub refusal_number : VoteFail → Option ℕ
+refusal_number (Twice replica) = Some TWICE
+refusal_number NoMemory = None

@@ -1,0 +1,8 @@
+use qu_base::ReplicaId;
+
+/// The answer of a replica.
+#[derive(Clone, Debug, Drop)]
+pub struct Vote<T> {
+    pub replica: ReplicaId,
+    pub value: T,
+}
