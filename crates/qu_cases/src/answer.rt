@@ -1,8 +1,8 @@
 use super::case::Case;
 use super::names::{Named, bytes_of};
-use super::parts::is_part;
-use super::{changes, events, runs, seals};
-use anyhow::anyhow;
+use super::no_answer::NoAnswer;
+use super::parts::Part;
+use super::{changes, events, program, runs, seals};
 use std::alloc::Global;
 use std::rt::Files;
 
@@ -11,42 +11,78 @@ pub fn answer(
     rt: &(impl Files + AllocGlobal),
     names: &[Named],
     case: &Case<'_>,
-) -> anyhow::Result<String> {
+    out: &mut String,
+) -> Result<(), NoAnswer> {
     let alloc = rt.alloc();
     match case.command {
-        "" => Ok(String::new(alloc)),
-        "sim" => runs::program(alloc, "sim", case.lines.as_bytes()),
-        "qu" => runs::program(alloc, case.words, case.lines.as_bytes()),
-        "example" => runs::example(rt, case.name),
-        "letters" => runs::letters(alloc, case.lines.as_bytes()),
-        "order" => runs::order(alloc, case.lines.as_bytes()),
-        "events" => events::events(alloc, names, case.lines),
-        _ => {
-            let bytes = bytes_of(alloc, names, case.base())?;
-            of_bytes(alloc, names, case, bytes.as_slice())
-        }
+        "" => Ok(()),
+        "example" => program::example(rt, case.name, out),
+        "events" => events::events(alloc, names, case.lines, out),
+        "pieces" => program::pieces(alloc, case, out),
+        "sim" | "qu" | "letters" | "injected" | "order" => of_script(alloc, case, out),
+        _ => of_words(alloc, names, case, out),
     }
 }
 
+/// The same for the commands on scripts.
+fn of_script(alloc: Global, case: &Case<'_>, out: &mut String) -> Result<(), NoAnswer> {
+    let script = case.lines.as_bytes();
+    match case.command {
+        "sim" => of_program(alloc, "sim", script, out),
+        "qu" => of_program(alloc, case.words, script, out),
+        "letters" => runs::letters(alloc, script, out),
+        "injected" => runs::injected(alloc, script, out),
+        _ => runs::order(alloc, script, out),
+    }
+}
+
+fn of_program(alloc: Global, words: &str, script: &[u8], out: &mut String) -> Result<(), NoAnswer> {
+    program::program(alloc, words, script, out)?;
+    Ok(())
+}
+
 /// The same for the commands on bytes.
-fn of_bytes(
+fn of_words(
+    alloc: Global,
+    names: &[Named],
+    case: &Case<'_>,
+    out: &mut String,
+) -> Result<(), NoAnswer> {
+    let bytes = bytes_of(alloc, names, case.base())?;
+    match case.command {
+        "decode" | "exact" | "changes" => of_part(alloc, names, case, bytes.as_slice(), out),
+        "hmac" => seals::hmac_of(alloc, names, case, bytes.as_slice(), out),
+        _ => of_seal(alloc, case, bytes.as_slice(), out),
+    }
+}
+
+/// The same for what is read of bytes.
+fn of_part(
     alloc: Global,
     names: &[Named],
     case: &Case<'_>,
     bytes: &[u8],
-) -> anyhow::Result<String> {
+    out: &mut String,
+) -> Result<(), NoAnswer> {
+    let Some(part) = Part::of(case.word(0)) else {
+        return Err(NoAnswer::Word);
+    };
     match case.command {
-        "decode" | "exact" | "changes" if !is_part(case.word(0)) => Err(anyhow!("no such part")),
-        "decode" => Ok(changes::decode(alloc, case.word(0), bytes)?),
-        "exact" => changes::exact(alloc, case.word(0), bytes),
-        "changes" => changes::changes(alloc, names, case, bytes),
-        "method" => seals::method(alloc, case, bytes),
-        "digest" => seals::digest_of(alloc, case, bytes),
-        "hmac" => seals::hmac_of(alloc, names, case, bytes),
-        "mac" => seals::mac(alloc, case, bytes),
-        "signed" => seals::signed(alloc, case, bytes),
-        "receive" => seals::received(alloc, case, bytes),
-        "cull" => seals::cull(alloc, case, bytes),
-        _ => Err(anyhow!("no such command")),
+        "decode" => Ok(changes::decode(alloc, part, bytes, out)?),
+        "exact" => Ok(changes::exact(alloc, part, bytes, out)?),
+        _ => changes::changes(alloc, names, part, case.lines, bytes, out),
+    }
+}
+
+/// The same for classes, digests and HMACs.
+fn of_seal(alloc: Global, case: &Case<'_>, bytes: &[u8], out: &mut String) -> Result<(), NoAnswer> {
+    match case.command {
+        "method" => seals::method(alloc, case, bytes, out),
+        "digest" => seals::digest_of(alloc, case, bytes, out),
+        "mac" => seals::mac(case, bytes, out),
+        "signed" => seals::signed(alloc, case, bytes, out),
+        "receive" => seals::received(alloc, case, bytes, out),
+        "cull" => seals::cull(alloc, case, bytes, out),
+        _ => Err(NoAnswer::Word),
     }
 }

@@ -1,4 +1,4 @@
-use anyhow::anyhow;
+use super::no_answer::NoAnswer;
 use qu_base::{ClientId, Party, ReplicaId};
 
 /// A case: what it is called, what is done, the further words of its line, and the lines below.
@@ -28,8 +28,20 @@ impl<'a> Case<'a> {
         self.words.split_whitespace().nth(place).unwrap_or("")
     }
 
-    pub fn number(&self, place: usize) -> anyhow::Result<u64> {
+    pub fn number(&self, place: usize) -> Result<u64, NoAnswer> {
         Ok(self.word(place).parse::<u64>()?)
+    }
+
+    pub fn short(&self, place: usize) -> Result<u16, NoAnswer> {
+        Ok(self.word(place).parse::<u16>()?)
+    }
+
+    pub fn byte(&self, place: usize) -> Result<u8, NoAnswer> {
+        Ok(self.word(place).parse::<u8>()?)
+    }
+
+    pub fn party(&self, place: usize) -> Result<Party, NoAnswer> {
+        party(self.word(place))
     }
 
     /// The lines before the first line `at ..`.
@@ -40,12 +52,12 @@ impl<'a> Case<'a> {
 }
 
 /// The party of a word, as `r0` or `c1`.
-pub fn party(word: &str) -> anyhow::Result<Party> {
+pub fn party(word: &str) -> Result<Party, NoAnswer> {
     if let Some(number) = word.strip_prefix('r') {
         return Ok(Party::Replica(ReplicaId(number.parse::<u8>()?)));
     }
     match word.strip_prefix('c') {
         Some(number) => Ok(Party::Client(ClientId(number.parse::<u16>()?))),
-        None => Err(anyhow!("no party")),
+        None => Err(NoAnswer::Word),
     }
 }

@@ -1,60 +1,80 @@
 //! Bytes that are read as they are, cut, and changed.
 
-use super::case::Case;
 use super::names::{Named, bytes_of};
-use super::parts::read_part;
-use qu_base::{BadText, ReadFail, Why};
+use super::no_answer::NoAnswer;
+use super::parts::Part;
+use qu_base::{BadText, Outbytes, ReadFail, Why};
 use std::alloc::{AllocError, Global};
 
 /// What a text is read as, or why and where it is refused.
-pub fn decode(alloc: Global, part: &str, text: &[u8]) -> Result<String, AllocError> {
-    match read_part(alloc, part, text) {
-        Ok(found) if !text.starts_with(found.spelled.as_slice()) => String::from_str(
-            alloc,
-            "not as it was read",
-        ),
-        Ok(found) if found.spelled.len() < text.len() => {
-            format!(in alloc; "{} to {}", found.form, found.spelled.len())
-        }
-        Ok(found) => Ok(found.form),
-        Err(ReadFail::Bad(bad)) => format!(in alloc; "{:?} at {}", bad.why, bad.place),
+pub fn decode(alloc: Global, part: Part, text: &[u8], out: &mut String) -> Result<(), AllocError> {
+    let mut form = String::new(alloc);
+    let mut spelled = Outbytes::new(alloc);
+    match part.read(alloc, text, &mut form, &mut spelled) {
+        Ok(()) => put_found(form.as_str(), spelled.done().as_slice(), text, out),
+        Err(ReadFail::Bad(bad)) => write!(out, "{:?} at {}", bad.why, bad.place),
         Err(ReadFail::NoMemory) => Err(AllocError),
     }
 }
 
-/// What a text is read as, at which places its cuts are short, and what a byte behind it makes of it.
-pub fn exact(alloc: Global, part: &str, text: &[u8]) -> anyhow::Result<String> {
-    let whole = decode(alloc, part, text)?;
-    let short = cuts(alloc, part, text)?;
-    let mut longer = text.to_vec(alloc)?;
-    longer.push(0)?;
-    let behind = decode(alloc, part, longer.as_slice())?;
-    Ok(format!(in alloc; "{whole}\nshort at{short}\nand a byte: {behind}")?)
+fn put_found(form: &str, spelled: &[u8], text: &[u8], out: &mut String) -> Result<(), AllocError> {
+    if !text.starts_with(spelled) {
+        return out.push_str("not as it was read");
+    }
+    out.push_str(form)?;
+    if spelled.len() < text.len() {
+        write!(out, " to {}", spelled.len())?;
+    }
+    Ok(())
 }
 
-/// The place where each cut of a text is short, each told once: where it is not the cut itself, behind
-/// the cut's length.
-fn cuts(alloc: Global, part: &str, text: &[u8]) -> Result<String, AllocError> {
-    let mut told = String::new(alloc);
+/// What a text is read as, at which places its cuts are short, and what a byte behind it makes of it.
+pub fn exact(alloc: Global, part: Part, text: &[u8], out: &mut String) -> Result<(), AllocError> {
+    decode(alloc, part, text, out)?;
+    out.push_str("\nshort at")?;
+    put_cuts(alloc, part, text, out)?;
+    out.push_str("\nand a byte: ")?;
+    decode_longer(alloc, part, text, out)
+}
+
+fn decode_longer(
+    alloc: Global,
+    part: Part,
+    text: &[u8],
+    out: &mut String,
+) -> Result<(), AllocError> {
+    let mut longer = text.to_vec(alloc)?;
+    longer.push(0)?;
+    decode(alloc, part, longer.as_slice(), out)
+}
+
+/// The place where each cut of a text is short, each told once.
+fn put_cuts(alloc: Global, part: Part, text: &[u8], out: &mut String) -> Result<(), AllocError> {
     let mut last = None;
     for cut in 0..text.len() {
         let found = short_at(alloc, part, &text[..cut]);
         if found != last || found.is_none() {
-            let form = match found {
-                Some(place) if place == cut as u64 => format!(in alloc; " {place}")?,
-                Some(place) => format!(in alloc; " {cut}:{place}")?,
-                None => format!(in alloc; " {cut}:not")?,
-            };
-            told.push_str(form.as_str())?;
+            put_cut(cut as u64, found, out)?;
         }
         last = found;
     }
-    Ok(told)
+    Ok(())
+}
+
+/// The place where a cut is short: behind the cut's length, where it is not the cut itself.
+fn put_cut(cut: u64, found: Option<u64>, out: &mut String) -> Result<(), AllocError> {
+    match found {
+        Some(place) if place == cut => write!(out, " {place}"),
+        Some(place) => write!(out, " {cut}:{place}"),
+        None => write!(out, " {cut}:not"),
+    }
 }
 
 /// Where a text is short; none where it is read or refused otherwise.
-fn short_at(alloc: Global, part: &str, text: &[u8]) -> Option<u64> {
-    match read_part(alloc, part, text) {
+fn short_at(alloc: Global, part: Part, text: &[u8]) -> Option<u64> {
+    let mut form = String::new(alloc);
+    let mut spelled = Outbytes::new(alloc);
+    match part.read(alloc, text, &mut form, &mut spelled) {
         Err(
             ReadFail::Bad(
                 BadText {
@@ -72,47 +92,69 @@ fn short_at(alloc: Global, part: &str, text: &[u8]) -> Option<u64> {
 pub fn changes(
     alloc: Global,
     names: &[Named],
-    case: &Case<'_>,
+    part: Part,
+    lines: &str,
     text: &[u8],
-) -> anyhow::Result<String> {
-    let mut told = decode(alloc, case.word(0), text)?;
-    for change in case.lines.split("\nat ").skip(1) {
-        let (place, bytes) = change.split_once(' ').unwrap_or((change, ""));
-        let at = place.parse::<usize>()?;
-        let line = match bytes.trim() {
-            "each" => each_byte(alloc, case.word(0), text, at)?,
-            words => {
-                let bytes = bytes_of(alloc, names, words)?;
-                let other = changed(alloc, text, at, bytes.as_slice())?;
-                let answer = decode(alloc, case.word(0), other.as_slice())?;
-                format!(in alloc; "\n{place} {words}: {answer}")?
-            }
-        };
-        told.push_str(line.as_str())?;
+    out: &mut String,
+) -> Result<(), NoAnswer> {
+    decode(alloc, part, text, out)?;
+    for line in lines.split("\nat ").skip(1) {
+        put_change(alloc, names, part, line, text, out)?;
     }
-    Ok(told)
+    Ok(())
+}
+
+fn put_change(
+    alloc: Global,
+    names: &[Named],
+    part: Part,
+    line: &str,
+    text: &[u8],
+    out: &mut String,
+) -> Result<(), NoAnswer> {
+    let (place, words) = line.split_once(' ').unwrap_or((line, ""));
+    let at = place.parse::<usize>()?;
+    let words = words.trim();
+    if words == "each" {
+        return Ok(each_byte(alloc, part, text, at, out)?);
+    }
+    write!(out, "\n{at} {words}: ")?;
+    let bytes = bytes_of(alloc, names, words)?;
+    Ok(decode_changed(alloc, part, text, at, bytes.as_slice(), out)?)
 }
 
 /// The answers to the text with each byte at a place, like ones in a row told once.
-fn each_byte(alloc: Global, part: &str, text: &[u8], at: usize) -> Result<String, AllocError> {
-    let mut told = String::new(alloc);
+fn each_byte(
+    alloc: Global,
+    part: Part,
+    text: &[u8],
+    at: usize,
+    out: &mut String,
+) -> Result<(), AllocError> {
     let mut last = String::new(alloc);
     for byte in 0..=255 {
-        let other = changed(alloc, text, at, &[byte])?;
-        let answer = decode(alloc, part, other.as_slice())?;
+        let mut answer = String::new(alloc);
+        decode_changed(alloc, part, text, at, &[byte], &mut answer)?;
         if answer != last {
-            told.push_str(format!(in alloc; "\n{at} from {byte:02x}: {answer}")?.as_str())?;
+            write!(out, "\n{at} from {byte:02x}: {answer}")?;
         }
         last = answer;
     }
-    Ok(told)
+    Ok(())
 }
 
-/// The text with these bytes from a place on.
-fn changed(alloc: Global, text: &[u8], at: usize, bytes: &[u8]) -> Result<Vec<u8>, AllocError> {
+/// The answer to the text with these bytes from a place on.
+fn decode_changed(
+    alloc: Global,
+    part: Part,
+    text: &[u8],
+    at: usize,
+    bytes: &[u8],
+    out: &mut String,
+) -> Result<(), AllocError> {
     let mut other = text.to_vec(alloc)?;
     for (byte, new) in other.iter_mut().skip(at).zip(bytes) {
         *byte = *new;
     }
-    Ok(other)
+    decode(alloc, part, other.as_slice(), out)
 }

@@ -1,130 +1,223 @@
 //! Runs event by event, with bytes that are injected.
 
 ghost use Rattle.std.specs.Prelude.{IfOk};
-ghost use Rattle.qu_world.specs.Run.{IsSetup};
+ghost use Rattle.qu_world.specs.Run.{IsRun};
 
 use super::case::party;
-use super::forms::{frame_form, outcome_form, party_form};
+use super::forms::{put_frame, put_outcome, put_party};
 use super::names::{Named, bytes_of};
+use super::no_answer::NoAnswer;
+use super::reading::one_frame;
 use super::runs::points;
-use anyhow::anyhow;
-use qu_base::{LAST_CLIENT, List, Party};
-use qu_frames::decode;
-use qu_script::{Line, Script, read_script};
+use super::seals::signed_text;
+use qu_base::{ClientId, LAST_CLIENT, List, Party};
+use qu_frames::Letter;
+use qu_objects::Outcome;
+use qu_script::{Line, Script, ScriptFail, read_script};
 use qu_seal::KeyRing;
-use qu_trace::{Entry, Event};
-use qu_world::World;
-use std::alloc::Global;
+use qu_trace::{Entry, Event, Trace};
+use qu_world::{World, WorldFail};
+use std::alloc::{AllocError, Global};
 
 /// Makes the events of lines behind a setup, and tells what each of them made, and the points at the end.
 ///
 /// A line is one of a script, `inject PARTY BYTES`, or `send PARTY FRAME`, where the frame gets the HMAC
 /// that its sender makes for the party.
-pub fn events(alloc: Global, names: &[Named], lines: &str) -> anyhow::Result<String> {
+pub fn events(
+    alloc: Global,
+    names: &[Named],
+    lines: &str,
+    out: &mut String,
+) -> Result<(), NoAnswer> {
     let (setup, lines) = lines.split_once("\n\n").unwrap_or((lines, ""));
-    let script = script_of(alloc, setup, "")?;
+    let trace = make_lines(alloc, names, setup, lines, out)?;
+    Ok(points(alloc, &trace, out)?)
+}
+
+/// The run of these lines.
+fn make_lines(
+    alloc: Global,
+    names: &[Named],
+    setup: &str,
+    lines: &str,
+    out: &mut String,
+) -> Result<Trace, NoAnswer>
+    ensures { IfOk result IsRun }
+{
+    let mut world = start(alloc, setup)?;
     // All keys that there may be, so that a frame of a client outside the setup can be made.
-    let keys = KeyRing::derive(script.setup.seed, &script.setup.bounds, LAST_CLIENT);
-    let mut world = World::start(alloc, script.setup)?;
-    let mut text = String::new(alloc);
+    let of = &world.trace().setup;
+    let keys = KeyRing::derive(of.seed, &of.bounds, LAST_CLIENT);
     for line in lines.lines() {
-        for event in &events_of(alloc, names, &keys, setup, line)? {
-            let made = make(alloc, &mut world, event)?;
-            text.push_str(made.as_str())?;
-        }
+        make_line(alloc, names, &keys, setup, line, &mut world, out)?;
     }
-    let points = points(alloc, &world.into_trace())?;
-    Ok(format!(in alloc; "{text}{points}")?)
+    Ok(world.into_trace())
+}
+
+fn start(alloc: Global, setup: &str) -> Result<World, NoAnswer> {
+    let text = format!(in alloc; "{setup}\n")?;
+    world_of(alloc, text.as_bytes())
+}
+
+/// The world with which the run of a script begins.
+pub fn world_of(alloc: Global, script: &[u8]) -> Result<World, NoAnswer> {
+    let script = read_script(alloc, script)?;
+    Ok(World::start(alloc, script.setup)?)
 }
 
 /// The script of a setup and one line.
-fn script_of(alloc: Global, setup: &str, line: &str) -> anyhow::Result<Script>
-    ensures { IfOk result (λ script. IsSetup script.setup) }
-{
+fn script_of(alloc: Global, setup: &str, line: &str) -> Result<Script, ScriptFail> {
     let text = format!(in alloc; "{setup}\n{line}")?;
-    match read_script(alloc, text.as_bytes()) {
-        Ok(script) => Ok(script),
-        Err(fail) => Err(anyhow!("{line}: {fail:?}")),
-    }
+    read_script(alloc, text.as_bytes())
 }
 
-/// The events of one line.
-fn events_of(
+/// Makes the events of one line.
+fn make_line(
     alloc: Global,
     names: &[Named],
     keys: &KeyRing,
     setup: &str,
     line: &str,
-) -> anyhow::Result<List<Event>> {
+    world: &mut World,
+    out: &mut String,
+) -> Result<(), NoAnswer> {
     let (verb, rest) = line.split_once(' ').unwrap_or((line, ""));
     let (who, words) = rest.split_once(' ').unwrap_or((rest, ""));
     match verb {
         "inject" => {
-            let text = List::from(bytes_of(alloc, names, words)?);
-            Ok(List::one(alloc, Event::Inject(party(who)?, text))?)
+            let event = injected(alloc, names, party(who)?, words)?;
+            Ok(make(alloc, world, event, out)?)
         }
         "send" => {
-            let bytes = bytes_of(alloc, names, words)?;
-            let to = party(who)?;
-            let text = signed(alloc, keys, to, bytes.as_slice())?;
-            Ok(List::one(alloc, Event::Inject(to, text))?)
+            let event = sent(alloc, names, keys, party(who)?, words)?;
+            Ok(make(alloc, world, event, out)?)
         }
-        _ => scripted(alloc, &script_of(alloc, setup, line)?),
+        _ => make_scripted(alloc, setup, line, world, out),
     }
 }
 
-/// The text of a frame with the HMAC that its sender makes for a party.
-fn signed(alloc: Global, keys: &KeyRing, to: Party, text: &[u8]) -> anyhow::Result<List<u8>> {
-    match decode(alloc, text) {
-        Ok(frame) => Ok(frame.signed(alloc, keys, to)?),
-        Err(fail) => Err(anyhow!("no frame: {fail:?}")),
-    }
+fn injected(alloc: Global, names: &[Named], to: Party, words: &str) -> Result<Event, NoAnswer> {
+    let bytes = bytes_of(alloc, names, words)?;
+    Ok(Event::Inject(to, List::from(bytes)))
 }
 
-/// The events of the calls and deliveries of a script.
-fn scripted(alloc: Global, script: &Script) -> anyhow::Result<List<Event>> {
-    let mut events = List::new(alloc);
+/// The injection of a frame with the HMAC that its sender makes for a party.
+fn sent(
+    alloc: Global,
+    names: &[Named],
+    keys: &KeyRing,
+    to: Party,
+    words: &str,
+) -> Result<Event, NoAnswer> {
+    let bytes = bytes_of(alloc, names, words)?;
+    let text = signed_text(alloc, keys, to, bytes.as_slice())?;
+    Ok(Event::Inject(to, text))
+}
+
+/// Makes the events of a line of scripts.
+fn make_scripted(
+    alloc: Global,
+    setup: &str,
+    line: &str,
+    world: &mut World,
+    out: &mut String,
+) -> Result<(), NoAnswer> {
+    let script = script_of(alloc, setup, line)?;
     for (_, line) in &script.lines {
-        match line {
-            Line::Call(client, op) => events.push(Event::Invoke(*client, op.copy(alloc)?))?,
-            Line::Deliver(letters) => {
-                for letter in letters {
-                    events.push(Event::Deliver(*letter))?;
-                }
-            }
-            Line::Flow(_) => return Err(anyhow!("name the letters")),
-        }
+        make_all(alloc, line, world, out)?;
     }
-    Ok(events)
+    Ok(())
+}
+
+/// Makes the call or the deliveries of a line.
+fn make_all(
+    alloc: Global,
+    line: &Line,
+    world: &mut World,
+    out: &mut String,
+) -> Result<(), NoAnswer> {
+    match line {
+        Line::Call(client, op) => {
+            let event = Event::Invoke(*client, op.copy(alloc)?);
+            Ok(make(alloc, world, event, out)?)
+        }
+        Line::Deliver(letters) => Ok(deliver(alloc, letters.as_slice(), world, out)?),
+        Line::Flow(_) => Err(NoAnswer::Flow),
+    }
+}
+
+fn deliver(
+    alloc: Global,
+    letters: &[u64],
+    world: &mut World,
+    out: &mut String,
+) -> Result<(), AllocError> {
+    for letter in letters {
+        make(alloc, world, Event::Deliver(*letter), out)?;
+    }
+    Ok(())
 }
 
 /// Makes an event, and tells its letters and the operation that ended.
-fn make(alloc: Global, world: &mut World, event: &Event) -> anyhow::Result<String> {
-    match world.apply(event.copy(alloc)?) {
-        Ok(()) => {}
-        Err(fail) => return Ok(format!(in alloc; "{fail:?}\n")?),
-    }
-    let entries = world.trace().entries.as_slice();
-    match entries.last() {
-        Some(entry) => told(alloc, entries.len(), entry),
-        None => Err(anyhow!("nothing happened")),
+fn make(
+    alloc: Global,
+    world: &mut World,
+    event: Event,
+    out: &mut String,
+) -> Result<(), AllocError> {
+    match apply(world, event) {
+        Ok(()) => put_last(alloc, world.trace().entries.as_slice(), out),
+        Err(fail) => write!(out, "{fail:?}\n"),
     }
 }
 
-/// What an event made: a line for each letter and for the operation that ended.
-fn told(alloc: Global, number: usize, entry: &Entry) -> anyhow::Result<String> {
-    let mut text = format!(in alloc; "event {number}\n")?;
+/// `World::apply` without what it promises.
+pub fn apply(world: &mut World, event: Event) -> Result<(), WorldFail> {
+    world.apply(event)
+}
+
+/// What the last event made.
+fn put_last(alloc: Global, entries: &[Entry], out: &mut String) -> Result<(), AllocError> {
+    write!(out, "event {}\n", entries.len())?;
+    match entries.last() {
+        Some(entry) => put_entry(alloc, entry, out),
+        None => Ok(()),
+    }
+}
+
+/// A line for each letter and for the operation that ended.
+fn put_entry(alloc: Global, entry: &Entry, out: &mut String) -> Result<(), AllocError> {
     for letter in &entry.letters {
-        let to = party_form(alloc, letter.to)?;
-        let form = match decode(alloc, letter.text.as_slice()) {
-            Ok(frame) => frame_form(alloc, &frame)?,
-            Err(fail) => format!(in alloc; "{fail:?}")?,
-        };
-        text.push_str(format!(in alloc; "  to {to} {form}\n")?.as_str())?;
+        put_letter(alloc, letter, out)?;
     }
-    if let Some((client, number, outcome)) = &entry.ended {
-        let outcome = outcome_form(alloc, outcome)?;
-        text.push_str(format!(in alloc; "  end {}.{number} {outcome}\n", client.0)?.as_str())?;
+    match &entry.ended {
+        Some((client, number, outcome)) => put_end(*client, *number, outcome, out),
+        None => Ok(()),
     }
-    Ok(text)
+}
+
+fn put_letter(alloc: Global, letter: &Letter, out: &mut String) -> Result<(), AllocError> {
+    out.push_str("  to ")?;
+    put_party(letter.to, out)?;
+    out.push_str(" ")?;
+    put_text(alloc, letter.text.as_slice(), out)?;
+    out.push_str("\n")
+}
+
+fn put_text(alloc: Global, text: &[u8], out: &mut String) -> Result<(), AllocError> {
+    match one_frame(alloc, text) {
+        Ok(frame) => put_frame(&frame, out),
+        Err(fail) => write!(out, "{fail:?}"),
+    }
+}
+
+fn put_end(
+    client: ClientId,
+    number: u64,
+    outcome: &Outcome,
+    out: &mut String,
+) -> Result<(), AllocError> {
+    write!(out, "  end {}.{number} ", client.0)?;
+    put_outcome(outcome, out)?;
+    out.push_str("\n")
 }

@@ -1,160 +1,211 @@
-//! What was read, in a line for people.
+//! What was read, in a line for people. Each function appends to a text.
 
-use qu_base::{ObjectId, Party, ReplicaId};
+use qu_base::{Digest, ObjectId, Party, ReplicaId};
 use qu_frames::{Body, Frame, Refusal, Verdict};
-use qu_history::{Sealed, Sets};
+use qu_history::{Sealed, SetOf, Sets};
 use qu_objects::{Act, Answer, Item, Method, Outcome, Query};
-use qu_stamp::Stamp;
-use std::alloc::{AllocError, Global};
+use qu_stamp::{Candidate, Stamp};
+use sha2::{Digest as Hasher, Sha256};
+use std::alloc::AllocError;
 
-pub fn party_form(alloc: Global, party: Party) -> Result<String, AllocError> {
+pub fn put_party(party: Party, out: &mut String) -> Result<(), AllocError> {
     match party {
-        Party::Replica(replica) => format!(in alloc; "r{}", replica.0),
-        Party::Client(client) => format!(in alloc; "c{}", client.0),
+        Party::Replica(replica) => write!(out, "r{}", replica.0),
+        Party::Client(client) => write!(out, "c{}", client.0),
     }
+}
+
+/// Bytes in hexadecimal digits.
+pub fn put_hex(bytes: &[u8], out: &mut String) -> Result<(), AllocError> {
+    for byte in bytes {
+        write!(out, "{byte:02x}")?;
+    }
+    Ok(())
+}
+
+/// The length of a text and its SHA-256.
+pub fn put_hashed(text: &[u8], out: &mut String) -> Result<(), AllocError> {
+    write!(out, "{} ", text.len())?;
+    let hash = Sha256::digest(text);
+    put_hex(hash.as_slice(), out)
 }
 
 /// Time, `barrier` where it is one, client, the digest of the act where there is one, and that of the sets.
-pub fn stamp_form(alloc: Global, stamp: &Stamp) -> Result<String, AllocError> {
+pub fn put_stamp(stamp: &Stamp, out: &mut String) -> Result<(), AllocError> {
     if *stamp == Stamp::opening() {
-        return String::from_str(alloc, "opening");
+        return out.push_str("opening");
     }
-    let barrier = if stamp.barrier { " barrier" } else { "" };
-    let act = match stamp.act {
-        Some(act) => hex::encode(alloc, act.0.as_slice())?,
-        None => String::from_str(alloc, "-")?,
-    };
-    let set = hex::encode(alloc, stamp.set.0.as_slice())?;
-    format!(in alloc;
-        "{}{barrier} c{} act {act} sets {set}",
-        stamp.time, stamp.client.0
-    )
+    put_head(stamp, out)?;
+    put_act_digest(stamp.act, out)?;
+    out.push_str(" sets ")?;
+    put_hex(&stamp.set.0, out)
 }
 
-/// Replica, number of candidates, number of HMACs.
-fn entries_form(alloc: Global, entries: &[Sealed]) -> Result<String, AllocError> {
-    let mut text = String::new(alloc);
-    for entry in entries {
-        let replica = entry.history.replica().0;
-        let form = format!(in alloc; " r{replica}/{}/{}", entry.history.len(), entry.macs.len())?;
-        text.push_str(form.as_str())?;
+fn put_head(stamp: &Stamp, out: &mut String) -> Result<(), AllocError> {
+    let barrier = if stamp.barrier { " barrier" } else { "" };
+    write!(out, "{}{barrier} c{} act ", stamp.time, stamp.client.0)
+}
+
+fn put_act_digest(act: Option<Digest>, out: &mut String) -> Result<(), AllocError> {
+    match act {
+        Some(digest) => put_hex(&digest.0, out),
+        None => out.push_str("-"),
     }
-    Ok(text)
+}
+
+/// The stamp, and the prior.
+pub fn put_candidate(candidate: &Candidate, out: &mut String) -> Result<(), AllocError> {
+    put_stamp(&candidate.stamp, out)?;
+    out.push_str(" on ")?;
+    put_stamp(&candidate.prior, out)
 }
 
 /// Each object with its entries.
-pub fn sets_form(alloc: Global, sets: &Sets) -> Result<String, AllocError> {
-    let mut text = String::from_str(alloc, "sets")?;
+pub fn put_sets(sets: &Sets, out: &mut String) -> Result<(), AllocError> {
+    out.push_str("sets")?;
     for set in sets.objects() {
-        let entries = entries_form(alloc, set.entries.as_slice())?;
-        let form = format!(in alloc; " {}:{entries}", set.object.0)?;
-        text.push_str(form.as_str())?;
+        put_set(set, out)?;
     }
-    Ok(text)
+    Ok(())
 }
 
-pub fn answer_form(alloc: Global, answer: &Answer) -> Result<String, AllocError> {
+fn put_set(set: &SetOf, out: &mut String) -> Result<(), AllocError> {
+    write!(out, " {}:", set.object.0)?;
+    for entry in &set.entries {
+        put_entry(entry, out)?;
+    }
+    Ok(())
+}
+
+/// Replica, number of candidates, number of HMACs.
+fn put_entry(entry: &Sealed, out: &mut String) -> Result<(), AllocError> {
+    let replica = entry.history.replica().0;
+    write!(
+        out,
+        " r{replica}/{}/{}",
+        entry.history.len(),
+        entry.macs.len()
+    )
+}
+
+pub fn put_answer(answer: &Answer, out: &mut String) -> Result<(), AllocError> {
     match answer {
-        Answer::Ok(items) => {
-            let mut text = String::from_str(alloc, "ok")?;
-            for item in items {
-                let Item::Number(number) = item;
-                text.push_str(format!(in alloc; " {number}")?.as_str())?;
-            }
-            Ok(text)
-        }
-        Answer::Refused { at, why } => format!(in alloc; "refused {why} at {at}"),
+        Answer::Ok(items) => put_items(items.as_slice(), out),
+        Answer::Refused { at, why } => write!(out, "refused {why} at {at}"),
     }
 }
 
-pub fn outcome_form(alloc: Global, outcome: &Outcome) -> Result<String, AllocError> {
+fn put_items(items: &[Item], out: &mut String) -> Result<(), AllocError> {
+    out.push_str("ok")?;
+    for item in items {
+        let Item::Number(number) = item;
+        write!(out, " {number}")?;
+    }
+    Ok(())
+}
+
+pub fn put_outcome(outcome: &Outcome, out: &mut String) -> Result<(), AllocError> {
     match outcome {
-        Outcome::Done(answer) => answer_form(alloc, answer),
-        Outcome::GaveUp => String::from_str(alloc, "gave up"),
+        Outcome::Done(answer) => put_answer(answer, out),
+        Outcome::GaveUp => out.push_str("gave up"),
     }
 }
 
-fn refusal_form(alloc: Global, refusal: &Refusal) -> Result<String, AllocError> {
+fn put_refusal(refusal: &Refusal, out: &mut String) -> Result<(), AllocError> {
     match refusal {
         Refusal::NotCurrent(object, latest) => {
-            let latest = stamp_form(alloc, latest)?;
-            format!(in alloc; "NotCurrent(ObjectId({})) {latest}", object.0)
+            write!(out, "NotCurrent(ObjectId({})) ", object.0)?;
+            put_stamp(latest, out)
         }
-        _ => format!(in alloc; "{refusal:?}"),
+        _ => write!(out, "{refusal:?}"),
     }
 }
 
-fn verdict_form(alloc: Global, verdict: &Verdict) -> Result<String, AllocError> {
-    let (word, stamps, answer) = match verdict {
-        Verdict::Done { stamps, answer } => ("done", stamps, answer),
-        Verdict::Told { stamps, answer } => ("told", stamps, answer),
+fn put_verdict(verdict: &Verdict, out: &mut String) -> Result<(), AllocError> {
+    match verdict {
+        Verdict::Done { stamps, answer } => put_performed("done", stamps.as_slice(), answer, out),
+        Verdict::Told { stamps, answer } => put_performed("told", stamps.as_slice(), answer, out),
         Verdict::Already(answer) => {
-            let answer = answer_form(alloc, answer)?;
-            return format!(in alloc; "already {answer}");
+            out.push_str("already ")?;
+            put_answer(answer, out)
         }
         Verdict::Mended(object, stamp) => {
-            let stamp = stamp_form(alloc, stamp)?;
-            return format!(in alloc; "mended {} {stamp}", object.0);
+            write!(out, "mended {} ", object.0)?;
+            put_stamp(stamp, out)
         }
-        Verdict::Refused(refusal) => return refusal_form(alloc, refusal),
-    };
-    let mut text = String::from_str(alloc, word)?;
+        Verdict::Refused(refusal) => put_refusal(refusal, out),
+    }
+}
+
+/// What was done, with which stamps, and the answer.
+fn put_performed(
+    word: &str,
+    stamps: &[(ObjectId, Stamp)],
+    answer: &Answer,
+    out: &mut String,
+) -> Result<(), AllocError> {
+    out.push_str(word)?;
     for (object, stamp) in stamps {
-        let stamp = stamp_form(alloc, stamp)?;
-        text.push_str(format!(in alloc; " {} at {stamp}", object.0)?.as_str())?;
+        write!(out, " {} at ", object.0)?;
+        put_stamp(stamp, out)?;
     }
-    let answer = answer_form(alloc, answer)?;
-    format!(in alloc; "{text} {answer}")
+    out.push_str(" ")?;
+    put_answer(answer, out)
 }
 
-pub fn act_form(alloc: Global, act: &Act) -> Result<String, AllocError> {
-    let mut text = String::new(alloc);
+pub fn put_act(act: &Act, out: &mut String) -> Result<(), AllocError> {
     for (object, method) in act.parts() {
-        let form = match method {
-            Method::Add(more) => format!(in alloc; " add {} {more}", object.0)?,
-            Method::Take(less) => format!(in alloc; " take {} {less}", object.0)?,
-        };
-        text.push_str(form.as_str())?;
+        put_method(*object, method, out)?;
     }
-    Ok(text)
+    Ok(())
 }
 
-pub fn query_form(alloc: Global, query: &Query) -> Result<String, AllocError> {
-    let mut text = String::new(alloc);
+fn put_method(object: ObjectId, method: &Method, out: &mut String) -> Result<(), AllocError> {
+    match method {
+        Method::Add(more) => write!(out, " add {} {more}", object.0),
+        Method::Take(less) => write!(out, " take {} {less}", object.0),
+    }
+}
+
+pub fn put_query(query: &Query, out: &mut String) -> Result<(), AllocError> {
     for (object, _) in query.parts() {
-        text.push_str(format!(in alloc; " read {}", object.0)?.as_str())?;
+        write!(out, " read {}", object.0)?;
     }
-    Ok(text)
+    Ok(())
 }
 
-fn body_form(alloc: Global, body: &Body) -> Result<String, AllocError> {
+fn put_body(body: &Body, out: &mut String) -> Result<(), AllocError> {
     match body {
-        Body::Act(act) => act_form(alloc, act),
-        Body::Ask(query) => query_form(alloc, query),
+        Body::Act(act) => put_act(act, out),
+        Body::Ask(query) => put_query(query, out),
     }
 }
 
 /// The pairs that a reply culled.
-pub fn culled_form(alloc: Global, culled: &[(ObjectId, ReplicaId)]) -> Result<String, AllocError> {
-    let mut text = String::from_str(alloc, "culled")?;
+pub fn put_culled(culled: &[(ObjectId, ReplicaId)], out: &mut String) -> Result<(), AllocError> {
+    out.push_str("culled")?;
     for (object, replica) in culled {
-        text.push_str(format!(in alloc; " {}/r{}", object.0, replica.0)?.as_str())?;
+        write!(out, " {}/r{}", object.0, replica.0)?;
     }
-    Ok(text)
+    Ok(())
 }
 
-/// The histories that a reply shows: object, replica, number of candidates, number of HMACs.
-fn shown_form(alloc: Global, shown: &[Sealed]) -> Result<String, AllocError> {
-    let mut text = String::from_str(alloc, "shown")?;
+/// The histories that a reply shows: object, number of candidates, number of HMACs.
+fn put_shown(shown: &[Sealed], out: &mut String) -> Result<(), AllocError> {
+    out.push_str(" shown")?;
     for sealed in shown {
         let object = sealed.history.object().0;
-        let form = format!(in alloc; " {object}/{}/{}", sealed.history.len(), sealed.macs.len())?;
-        text.push_str(form.as_str())?;
+        write!(
+            out,
+            " {object}/{}/{}",
+            sealed.history.len(),
+            sealed.macs.len()
+        )?;
     }
-    Ok(text)
+    Ok(())
 }
 
-pub fn frame_form(alloc: Global, frame: &Frame) -> Result<String, AllocError> {
+pub fn put_frame(frame: &Frame, out: &mut String) -> Result<(), AllocError> {
     match frame {
         Frame::Request {
             client,
@@ -164,9 +215,9 @@ pub fn frame_form(alloc: Global, frame: &Frame) -> Result<String, AllocError> {
             body,
             ..
         } => {
-            let sets = sets_form(alloc, sets)?;
-            let body = body_form(alloc, body)?;
-            format!(in alloc; "request c{} {number} round {round} {sets}{body}", client.0)
+            write!(out, "request c{} {number} round {round} ", client.0)?;
+            put_sets(sets, out)?;
+            put_body(body, out)
         }
         Frame::Reply {
             replica,
@@ -178,14 +229,15 @@ pub fn frame_form(alloc: Global, frame: &Frame) -> Result<String, AllocError> {
             shown,
             ..
         } => {
-            let verdict = verdict_form(alloc, verdict)?;
-            let culled = culled_form(alloc, culled.as_slice())?;
-            let shown = shown_form(alloc, shown.as_slice())?;
-            let round = format!(in alloc; "{number} round {round}")?;
-            format!(in alloc;
-                "reply r{} c{} {round} {verdict} {culled} {shown}",
+            write!(
+                out,
+                "reply r{} c{} {number} round {round} ",
                 replica.0, client.0
-            )
+            )?;
+            put_verdict(verdict, out)?;
+            out.push_str(" ")?;
+            put_culled(culled.as_slice(), out)?;
+            put_shown(shown.as_slice(), out)
         }
     }
 }

@@ -1,49 +1,72 @@
 //! Bytes as a person writes them: hexadecimal digits, names of bytes, and `WORD*N` for a word N times.
 
-use std::alloc::Global;
+use super::no_answer::NoAnswer;
+use std::alloc::{AllocError, Global};
 
 /// A name and the bytes for which it stands.
 pub type Named = (String, Vec<u8>);
 
 /// The names of lines `NAME = WORDS`; other lines are passed over.
-pub fn read_names(alloc: Global, text: &str) -> anyhow::Result<Vec<Named>> {
+pub fn read_names(alloc: Global, text: &str) -> Result<Vec<Named>, NoAnswer> {
     let mut names = Vec::new(alloc);
     for line in text.lines() {
         if let Some((name, words)) = line.split_once(" = ") {
-            let bytes = bytes_of(alloc, names.as_slice(), words)?;
-            names.push((String::from_str(alloc, name)?, bytes))?;
+            let named = read_name(alloc, names.as_slice(), name, words)?;
+            names.push(named)?;
         }
     }
     Ok(names)
 }
 
+fn read_name(alloc: Global, names: &[Named], name: &str, words: &str) -> Result<Named, NoAnswer> {
+    let bytes = bytes_of(alloc, names, words)?;
+    Ok((String::from_str(alloc, name)?, bytes))
+}
+
 /// The bytes of all words. Behind a `#` the rest of a line is passed over.
-pub fn bytes_of(alloc: Global, names: &[Named], text: &str) -> anyhow::Result<Vec<u8>> {
+pub fn bytes_of(alloc: Global, names: &[Named], text: &str) -> Result<Vec<u8>, NoAnswer> {
     let mut bytes = Vec::new(alloc);
     for line in text.lines() {
-        let (words, _) = line.split_once('#').unwrap_or((line, ""));
-        for word in words.split_whitespace() {
-            put_word(alloc, names, word, &mut bytes)?;
-        }
+        put_line(alloc, names, line, &mut bytes)?;
     }
     Ok(bytes)
 }
 
-fn put_word(alloc: Global, names: &[Named], word: &str, out: &mut Vec<u8>) -> anyhow::Result<()> {
-    let (spelled, count) = word.split_once('*').unwrap_or((word, "1"));
-    let count = count.parse::<u64>()?;
-    let piece = piece_of(alloc, names, spelled)?;
-    for _ in 0..count {
-        out.extend_from_slice(piece.as_slice())?;
+fn put_line(alloc: Global, names: &[Named], line: &str, out: &mut Vec<u8>) -> Result<(), NoAnswer> {
+    let (words, _) = line.split_once('#').unwrap_or((line, ""));
+    for word in words.split_whitespace() {
+        put_word(alloc, names, word, out)?;
     }
     Ok(())
 }
 
-fn piece_of(alloc: Global, names: &[Named], word: &str) -> anyhow::Result<Vec<u8>> {
+fn put_word(alloc: Global, names: &[Named], word: &str, out: &mut Vec<u8>) -> Result<(), NoAnswer> {
+    let (spelled, count) = word.split_once('*').unwrap_or((word, "1"));
+    let count = count.parse::<u64>()?;
+    match named(names, spelled) {
+        Some(piece) => Ok(put_times(piece, count, out)?),
+        None => put_digits(alloc, spelled, count, out),
+    }
+}
+
+/// The bytes for which a name stands.
+fn named<'a>(names: &'a [Named], word: &str) -> Option<&'a [u8]> {
     for (name, bytes) in names {
         if name.as_str() == word {
-            return Ok(bytes.clone()?);
+            return Some(bytes.as_slice());
         }
     }
-    Ok(hex::decode(alloc, word)?)
+    None
+}
+
+fn put_digits(alloc: Global, word: &str, count: u64, out: &mut Vec<u8>) -> Result<(), NoAnswer> {
+    let piece = hex::decode(alloc, word)?;
+    Ok(put_times(piece.as_slice(), count, out)?)
+}
+
+fn put_times(piece: &[u8], count: u64, out: &mut Vec<u8>) -> Result<(), AllocError> {
+    for _ in 0..count {
+        out.extend_from_slice(piece)?;
+    }
+    Ok(())
 }

@@ -1,119 +1,161 @@
-//! What the readers of the crates make of bytes.
+//! What the readers of the crates make of bytes: a line for people, and the bytes as they are written again.
 
-use super::forms::{act_form, answer_form, frame_form, query_form, sets_form, stamp_form};
-use qu_base::{BadText, Cursor, List, ObjectId, Outbytes, ReadFail, Why};
-use qu_frames::{decode, encode};
-use qu_history::{History, read_sets, write_sets};
-use qu_objects::{read_act, read_answer, read_query, write_act, write_answer, write_query};
-use qu_stamp::{read_candidate, read_stamp, write_candidate, write_stamp};
-use std::alloc::Global;
+use super::forms::{put_act, put_answer, put_candidate, put_frame, put_query, put_sets, put_stamp};
+use super::reading::{
+    one_act, one_answer, one_candidate, one_frame, one_history, one_query, one_stamp, some_sets,
+};
+use qu_base::{NoMemory, ObjectId, Outbytes, ReadFail};
+use qu_frames::{Frame, encode};
+use qu_history::{History, write_sets};
+use qu_objects::{write_act, write_answer, write_query};
+use qu_stamp::{write_candidate, write_stamp};
+use std::alloc::{AllocError, Global};
 
 /// The objects that stand in the sets before a body.
 const KNOWN: [ObjectId; 2] = [ObjectId(5), ObjectId(63)];
 
-/// What was read, as a line and as it is written again.
-#[derive(Drop)]
-pub struct Found {
-    pub form: String,
-    pub spelled: List<u8>,
+/// What is read.
+#[derive(Clone, Copy)]
+pub enum Part {
+    Frame,
+    Stamp,
+    Candidate,
+    History,
+    Sets,
+    Act,
+    Query,
+    Answer,
 }
 
-/// Whether a part has this name.
-pub fn is_part(part: &str) -> bool {
-    matches!(
-        part,
-        "" | "stamp" | "candidate" | "history" | "sets" | "act" | "query" | "answer"
-    )
-}
+impl Part {
+    /// The part of this name.
+    pub fn of(word: &str) -> Option<Part> {
+        match word {
+            "" => Some(Part::Frame),
+            "stamp" => Some(Part::Stamp),
+            "candidate" => Some(Part::Candidate),
+            "history" => Some(Part::History),
+            "sets" => Some(Part::Sets),
+            _ => Part::of_operation(word),
+        }
+    }
 
-/// Reads the part of this name from the start of a text; a frame is the whole text.
-pub fn read_part(alloc: Global, part: &str, text: &[u8]) -> Result<Found, ReadFail> {
-    match part {
-        "" => read_frame(alloc, text),
-        "stamp" => read_one_stamp(alloc, text),
-        "candidate" => read_one_candidate(alloc, text),
-        "history" => read_history(alloc, text),
-        "sets" => read_all_sets(alloc, text),
-        "act" => read_one_act(alloc, text),
-        "query" => read_one_query(alloc, text),
-        "answer" => read_one_answer(alloc, text),
-        _ => Err(ReadFail::Bad(BadText {
-            place: 0,
-            why: Why::Kind,
-        })),
+    fn of_operation(word: &str) -> Option<Part> {
+        match word {
+            "act" => Some(Part::Act),
+            "query" => Some(Part::Query),
+            "answer" => Some(Part::Answer),
+            _ => None,
+        }
+    }
+
+    /// Reads the part from the start of a text; a frame is the whole text.
+    pub fn read(
+        self,
+        alloc: Global,
+        text: &[u8],
+        form: &mut String,
+        spelled: &mut Outbytes,
+    ) -> Result<(), ReadFail> {
+        match self {
+            Part::Frame => tell_frame(alloc, text, form, spelled),
+            Part::Stamp => tell_stamp(text, form, spelled),
+            Part::Candidate => tell_candidate(text, form, spelled),
+            Part::History => tell_history(alloc, text, form, spelled),
+            Part::Sets => tell_sets(alloc, text, form, spelled),
+            Part::Act => tell_act(alloc, text, form, spelled),
+            Part::Query => tell_query(alloc, text, form, spelled),
+            Part::Answer => tell_answer(alloc, text, form, spelled),
+        }
     }
 }
 
-fn read_frame(alloc: Global, text: &[u8]) -> Result<Found, ReadFail> {
-    let frame = decode(alloc, text)?;
-    let form = frame_form(alloc, &frame)?;
-    let spelled = encode(alloc, &frame)?;
-    Ok(Found { form, spelled })
+fn tell_frame(
+    alloc: Global,
+    text: &[u8],
+    form: &mut String,
+    spelled: &mut Outbytes,
+) -> Result<(), ReadFail> {
+    let frame = one_frame(alloc, text)?;
+    put_frame(&frame, form)?;
+    Ok(spell_frame(alloc, &frame, spelled)?)
 }
 
-fn read_one_stamp(alloc: Global, text: &[u8]) -> Result<Found, ReadFail> {
-    let stamp = read_stamp(&mut Cursor::new(text))?;
-    let form = stamp_form(alloc, &stamp)?;
-    let mut out = Outbytes::new(alloc);
-    write_stamp(&stamp, &mut out)?;
-    let spelled = out.done();
-    Ok(Found { form, spelled })
+fn spell_frame(alloc: Global, frame: &Frame, spelled: &mut Outbytes) -> Result<(), NoMemory> {
+    let text = encode(alloc, frame)?;
+    spelled.put(text.as_slice())
 }
 
-fn read_one_candidate(alloc: Global, text: &[u8]) -> Result<Found, ReadFail> {
-    let candidate = read_candidate(&mut Cursor::new(text))?;
-    let stamp = stamp_form(alloc, &candidate.stamp)?;
-    let prior = stamp_form(alloc, &candidate.prior)?;
-    let form = format!(in alloc; "{stamp} on {prior}")?;
-    let mut out = Outbytes::new(alloc);
-    write_candidate(&candidate, &mut out)?;
-    let spelled = out.done();
-    Ok(Found { form, spelled })
+fn tell_stamp(text: &[u8], form: &mut String, spelled: &mut Outbytes) -> Result<(), ReadFail> {
+    let stamp = one_stamp(text)?;
+    put_stamp(&stamp, form)?;
+    Ok(write_stamp(&stamp, spelled)?)
 }
 
-fn read_history(alloc: Global, text: &[u8]) -> Result<Found, ReadFail> {
-    let history = History::read(alloc, &mut Cursor::new(text))?;
-    let latest = stamp_form(alloc, &history.latest())?;
-    let head = format!(in alloc; "history {} r{}", history.object().0, history.replica().0)?;
-    let form = format!(in alloc; "{head} {} to {latest}", history.len())?;
-    let mut out = Outbytes::new(alloc);
-    history.write(&mut out)?;
-    let spelled = out.done();
-    Ok(Found { form, spelled })
+fn tell_candidate(text: &[u8], form: &mut String, spelled: &mut Outbytes) -> Result<(), ReadFail> {
+    let candidate = one_candidate(text)?;
+    put_candidate(&candidate, form)?;
+    Ok(write_candidate(&candidate, spelled)?)
 }
 
-fn read_all_sets(alloc: Global, text: &[u8]) -> Result<Found, ReadFail> {
-    let sets = read_sets(alloc, &mut Cursor::new(text))?;
-    let form = sets_form(alloc, &sets)?;
-    let mut out = Outbytes::new(alloc);
-    write_sets(&sets, &mut out)?;
-    let spelled = out.done();
-    Ok(Found { form, spelled })
+fn tell_history(
+    alloc: Global,
+    text: &[u8],
+    form: &mut String,
+    spelled: &mut Outbytes,
+) -> Result<(), ReadFail> {
+    let history = one_history(alloc, text)?;
+    put_history(&history, form)?;
+    Ok(history.write(spelled)?)
 }
 
-fn read_one_act(alloc: Global, text: &[u8]) -> Result<Found, ReadFail> {
-    let act = read_act(alloc, &KNOWN, &mut Cursor::new(text))?;
-    let form = act_form(alloc, &act)?;
-    let mut out = Outbytes::new(alloc);
-    write_act(&act, &mut out)?;
-    let spelled = out.done();
-    Ok(Found { form, spelled })
+/// Object, replica, number of candidates, and the latest stamp.
+fn put_history(history: &History, out: &mut String) -> Result<(), AllocError> {
+    let (object, replica) = (history.object().0, history.replica().0);
+    write!(out, "history {object} r{replica} {} to ", history.len())?;
+    put_stamp(&history.latest(), out)
 }
 
-fn read_one_query(alloc: Global, text: &[u8]) -> Result<Found, ReadFail> {
-    let query = read_query(alloc, &KNOWN, &mut Cursor::new(text))?;
-    let form = query_form(alloc, &query)?;
-    let mut out = Outbytes::new(alloc);
-    write_query(&query, &mut out)?;
-    let spelled = out.done();
-    Ok(Found { form, spelled })
+fn tell_sets(
+    alloc: Global,
+    text: &[u8],
+    form: &mut String,
+    spelled: &mut Outbytes,
+) -> Result<(), ReadFail> {
+    let sets = some_sets(alloc, text)?;
+    put_sets(&sets, form)?;
+    Ok(write_sets(&sets, spelled)?)
 }
 
-fn read_one_answer(alloc: Global, text: &[u8]) -> Result<Found, ReadFail> {
-    let answer = read_answer(alloc, &mut Cursor::new(text))?;
-    let form = answer_form(alloc, &answer)?;
-    let mut out = Outbytes::new(alloc);
-    write_answer(&answer, &mut out)?;
-    let spelled = out.done();
-    Ok(Found { form, spelled })
+fn tell_act(
+    alloc: Global,
+    text: &[u8],
+    form: &mut String,
+    spelled: &mut Outbytes,
+) -> Result<(), ReadFail> {
+    let act = one_act(alloc, &KNOWN, text)?;
+    put_act(&act, form)?;
+    Ok(write_act(&act, spelled)?)
+}
+
+fn tell_query(
+    alloc: Global,
+    text: &[u8],
+    form: &mut String,
+    spelled: &mut Outbytes,
+) -> Result<(), ReadFail> {
+    let query = one_query(alloc, &KNOWN, text)?;
+    put_query(&query, form)?;
+    Ok(write_query(&query, spelled)?)
+}
+
+fn tell_answer(
+    alloc: Global,
+    text: &[u8],
+    form: &mut String,
+    spelled: &mut Outbytes,
+) -> Result<(), ReadFail> {
+    let answer = one_answer(alloc, text)?;
+    put_answer(&answer, form)?;
+    Ok(write_answer(&answer, spelled)?)
 }

@@ -1,86 +1,110 @@
 //! Classes of sets, digests, HMACs and keys.
 
-use super::case::{Case, party};
-use super::forms::{culled_form, frame_form, sets_form, stamp_form};
+use super::case::Case;
+use super::forms::{
+    put_candidate, put_culled, put_frame, put_hashed, put_hex, put_sets, put_stamp,
+};
 use super::names::{Named, bytes_of};
-use anyhow::anyhow;
-use qu_base::{Bounds, ClientId, Cursor, Digest, ObjectId, ReplicaId};
-use qu_frames::{receive, text_digest};
-use qu_history::{History, Sets, read_sets};
-use qu_objects::{act_digest, read_act};
+use super::no_answer::NoAnswer;
+use super::reading::{frame_to, one_act, one_frame, one_history, some_sets};
+use qu_base::{Bounds, ClientId, Cursor, Digest, List, NoMemory, ObjectId, Party, ReplicaId};
+use qu_frames::text_digest;
+use qu_history::{Culled, Sets};
+use qu_objects::act_digest;
 use qu_seal::{KeyRing, digest, hmac};
-use qu_stamp::Candidate;
-use sha2::{Digest as Hasher, Sha256};
-use std::alloc::Global;
+use qu_stamp::{Candidate, Stamp};
+use std::alloc::{AllocError, Global};
 
-/// The sets of a text.
-fn sets_of(alloc: Global, text: &[u8]) -> anyhow::Result<Sets> {
-    match read_sets(alloc, &mut Cursor::new(text)) {
-        Ok(sets) => Ok(sets),
-        Err(fail) => Err(anyhow!("no sets: {fail:?}")),
-    }
-}
-
-fn bounds(number: u8) -> anyhow::Result<Bounds> {
+fn bounds(number: u8) -> Result<Bounds, NoAnswer> {
     match Bounds::new(number) {
         Ok(bounds) => Ok(bounds),
-        Err(_) => Err(anyhow!("no bounds")),
+        Err(_) => Err(NoAnswer::Number),
     }
 }
 
 /// `method B OBJECT`: the candidate on which an operation may rest, how many entries hold it, and the
 /// latest stamp.
-pub fn method(alloc: Global, case: &Case<'_>, text: &[u8]) -> anyhow::Result<String> {
-    let bounds = bounds(case.word(0).parse::<u8>()?)?;
-    let object = ObjectId(case.word(1).parse::<u16>()?);
-    let sets = sets_of(alloc, text)?;
-    let latest = match sets.latest(object) {
-        Some(latest) => stamp_form(alloc, &latest)?,
-        None => String::from_str(alloc, "none")?,
-    };
-    let found = match sets.method_at(object, &bounds) {
-        Some(base) => based(alloc, &sets, object, &base)?,
-        None => String::from_str(alloc, "not METHOD")?,
-    };
-    let opening = sets.count(object, &Candidate::opening());
-    Ok(format!(in alloc;
-        "{found}\n{} entries, {opening} with the opening, latest {latest}",
-        sets.entries(object)
-    )?)
+pub fn method(
+    alloc: Global,
+    case: &Case<'_>,
+    text: &[u8],
+    out: &mut String,
+) -> Result<(), NoAnswer> {
+    let bounds = bounds(case.byte(0)?)?;
+    let object = ObjectId(case.short(1)?);
+    let sets = some_sets(alloc, text)?;
+    Ok(put_class(&sets, object, &bounds, out)?)
 }
 
-fn based(alloc: Global, sets: &Sets, object: ObjectId, base: &Candidate) -> anyhow::Result<String> {
-    let stamp = stamp_form(alloc, &base.stamp)?;
-    let prior = stamp_form(alloc, &base.prior)?;
-    let count = sets.count(object, base);
-    Ok(format!(in alloc; "METHOD {stamp} on {prior} in {count}")?)
+fn put_class(
+    sets: &Sets,
+    object: ObjectId,
+    bounds: &Bounds,
+    out: &mut String,
+) -> Result<(), AllocError> {
+    put_base(sets, object, sets.method_at(object, bounds), out)?;
+    let opening = sets.count(object, &Candidate::opening());
+    write!(
+        out,
+        "\n{} entries, {opening} with the opening, latest ",
+        sets.entries(object)
+    )?;
+    put_latest(sets.latest(object), out)
+}
+
+fn put_base(
+    sets: &Sets,
+    object: ObjectId,
+    base: Option<Candidate>,
+    out: &mut String,
+) -> Result<(), AllocError> {
+    let Some(base) = base else {
+        return out.push_str("not METHOD");
+    };
+    out.push_str("METHOD ")?;
+    put_candidate(&base, out)?;
+    write!(out, " in {}", sets.count(object, &base))
+}
+
+fn put_latest(latest: Option<Stamp>, out: &mut String) -> Result<(), AllocError> {
+    match latest {
+        Some(latest) => put_stamp(&latest, out),
+        None => out.push_str("none"),
+    }
 }
 
 /// `digest TAG`, or that of a part: `digest history`, `digest sets`, `digest frame`, `digest act C N`.
-pub fn digest_of(alloc: Global, case: &Case<'_>, text: &[u8]) -> anyhow::Result<String> {
-    let Digest(bytes) = match case.word(0) {
-        "history" => match History::read(alloc, &mut Cursor::new(text)) {
-            Ok(history) => history.digest(alloc)?,
-            Err(fail) => return Err(anyhow!("no history: {fail:?}")),
-        },
-        "sets" => sets_of(alloc, text)?.digest_of(alloc)?,
+pub fn digest_of(
+    alloc: Global,
+    case: &Case<'_>,
+    text: &[u8],
+    out: &mut String,
+) -> Result<(), NoAnswer> {
+    let digest = match case.word(0) {
+        "history" => digest_of_history(alloc, text)?,
+        "sets" => digest_of_sets(alloc, text)?,
         "frame" => text_digest(text),
         "act" => digest_of_act(alloc, case, text)?,
-        tag => digest(tag.parse::<u8>()?, text),
+        _ => digest(case.byte(0)?, text),
     };
-    Ok(hex::encode(alloc, bytes.as_slice())?)
+    Ok(put_hex(&digest.0, out)?)
 }
 
-fn digest_of_act(alloc: Global, case: &Case<'_>, text: &[u8]) -> anyhow::Result<Digest> {
-    let client = ClientId(case.word(1).parse::<u16>()?);
-    match read_act(
-        alloc,
-        &[ObjectId(0), ObjectId(5), ObjectId(63)],
-        &mut Cursor::new(text),
-    ) {
-        Ok(act) => Ok(act_digest(alloc, client, case.number(2)?, &act)?),
-        Err(fail) => Err(anyhow!("no act: {fail:?}")),
-    }
+fn digest_of_history(alloc: Global, text: &[u8]) -> Result<Digest, NoAnswer> {
+    let history = one_history(alloc, text)?;
+    Ok(history.digest(alloc)?)
+}
+
+fn digest_of_sets(alloc: Global, text: &[u8]) -> Result<Digest, NoAnswer> {
+    let sets = some_sets(alloc, text)?;
+    Ok(sets.digest_of(alloc)?)
+}
+
+fn digest_of_act(alloc: Global, case: &Case<'_>, text: &[u8]) -> Result<Digest, NoAnswer> {
+    let (client, number) = (ClientId(case.short(1)?), case.number(2)?);
+    let known = [ObjectId(0), ObjectId(5), ObjectId(63)];
+    let act = one_act(alloc, &known, text)?;
+    Ok(act_digest(alloc, client, number, &act)?)
 }
 
 /// `hmac`: the HMAC of the bytes under the key of the line `at key BYTES`.
@@ -89,58 +113,89 @@ pub fn hmac_of(
     names: &[Named],
     case: &Case<'_>,
     text: &[u8],
-) -> anyhow::Result<String> {
+    out: &mut String,
+) -> Result<(), NoAnswer> {
     let (_, words) = case.lines.split_once("\nat key ").unwrap_or(("", ""));
     let key = bytes_of(alloc, names, words)?;
-    Ok(hex::encode(alloc, hmac(key.as_slice(), text).as_slice())?)
+    Ok(put_hex(&hmac(key.as_slice(), text), out)?)
 }
 
 /// The keys of a seed, of 6 replicas and 64 clients.
-fn ring(case: &Case<'_>) -> anyhow::Result<KeyRing> {
-    Ok(KeyRing::derive(case.number(0)?, &bounds(1)?, 64))
+fn ring(case: &Case<'_>) -> Result<KeyRing, NoAnswer> {
+    let seed = case.number(0)?;
+    Ok(KeyRing::derive(seed, &bounds(1)?, 64))
 }
 
 /// `mac SEED FROM TO`: the HMAC of a digest under the key of a pair, and whether the other verifies it.
-pub fn mac(alloc: Global, case: &Case<'_>, text: &[u8]) -> anyhow::Result<String> {
+pub fn mac(case: &Case<'_>, text: &[u8], out: &mut String) -> Result<(), NoAnswer> {
     let keys = ring(case)?;
-    let (from, to) = (party(case.word(1))?, party(case.word(2))?);
-    let Some(digest) = Cursor::new(text).digest().ok() else {
-        return Err(anyhow!("no digest"));
+    let (from, to) = (case.party(1)?, case.party(2)?);
+    let Ok(digest) = Cursor::new(text).digest() else {
+        return Err(NoAnswer::Bytes);
     };
     let mac = keys.seal_for(from, to, &digest);
-    let verified = keys.verifies(to, from, &digest, &mac);
-    let mac = hex::encode(alloc, mac.as_slice())?;
-    Ok(format!(in alloc; "{mac} verified: {verified}")?)
+    put_hex(&mac, out)?;
+    Ok(write!(out, " verified: {}", keys.verifies(to, from, &digest, &mac))?)
+}
+
+/// The text of a frame with the HMAC that its sender makes for a party.
+pub fn signed_text(
+    alloc: Global,
+    keys: &KeyRing,
+    to: Party,
+    text: &[u8],
+) -> Result<List<u8>, NoAnswer> {
+    let frame = one_frame(alloc, text)?;
+    Ok(frame.signed(alloc, keys, to)?)
 }
 
 /// `signed SEED TO`: the length and SHA-256 of a frame with the HMAC that its sender makes for a party.
-pub fn signed(alloc: Global, case: &Case<'_>, text: &[u8]) -> anyhow::Result<String> {
+pub fn signed(
+    alloc: Global,
+    case: &Case<'_>,
+    text: &[u8],
+    out: &mut String,
+) -> Result<(), NoAnswer> {
     let keys = ring(case)?;
-    let frame = match qu_frames::decode(alloc, text) {
-        Ok(frame) => frame,
-        Err(fail) => return Err(anyhow!("no frame: {fail:?}")),
-    };
-    let text = frame.signed(alloc, &keys, party(case.word(1))?)?;
-    let hash = Sha256::digest(text.as_slice());
-    let hash = hex::encode(alloc, hash.as_slice())?;
-    Ok(format!(in alloc; "{} {hash}", text.len())?)
+    let text = signed_text(alloc, &keys, case.party(1)?, text)?;
+    Ok(put_hashed(text.as_slice(), out)?)
 }
 
 /// `receive SEED TO`: the frame that the bytes bring to a party.
-pub fn received(alloc: Global, case: &Case<'_>, text: &[u8]) -> anyhow::Result<String> {
+pub fn received(
+    alloc: Global,
+    case: &Case<'_>,
+    text: &[u8],
+    out: &mut String,
+) -> Result<(), NoAnswer> {
     let keys = ring(case)?;
-    match receive(alloc, &keys, party(case.word(1))?, text)? {
-        Some(frame) => Ok(frame_form(alloc, &frame)?),
-        None => Ok(String::from_str(alloc, "ignored")?),
+    match frame_to(alloc, &keys, case.party(1)?, text)? {
+        Some(frame) => Ok(put_frame(&frame, out)?),
+        None => Ok(out.push_str("ignored")?),
     }
 }
 
 /// `cull SEED R`: the sets that stay at a replica, and the entries that are left out.
-pub fn cull(alloc: Global, case: &Case<'_>, text: &[u8]) -> anyhow::Result<String> {
+pub fn cull(alloc: Global, case: &Case<'_>, text: &[u8], out: &mut String) -> Result<(), NoAnswer> {
     let keys = ring(case)?;
-    let me = ReplicaId(case.word(1).parse::<u8>()?);
-    let culled = sets_of(alloc, text)?.cull(alloc, me, &keys)?;
-    let sets = sets_form(alloc, &culled.sets)?;
-    let left = culled_form(alloc, culled.left.as_slice())?;
-    Ok(format!(in alloc; "{sets} {left}")?)
+    let me = ReplicaId(case.byte(1)?);
+    let sets = some_sets(alloc, text)?;
+    cull_sets(alloc, &sets, me, &keys, out)
+}
+
+fn cull_sets(
+    alloc: Global,
+    sets: &Sets,
+    me: ReplicaId,
+    keys: &KeyRing,
+    out: &mut String,
+) -> Result<(), NoAnswer> {
+    let culled = cull_by(alloc, sets, me, keys)?;
+    put_sets(&culled.sets, out)?;
+    out.push_str(" ")?;
+    Ok(put_culled(culled.left.as_slice(), out)?)
+}
+
+fn cull_by(alloc: Global, sets: &Sets, me: ReplicaId, keys: &KeyRing) -> Result<Culled, NoMemory> {
+    sets.cull(alloc, me, keys)
 }
