@@ -10,7 +10,7 @@ use Rattle.qu_base.specs.declared.bad_text.BadText.{BadText}
 use Rattle.qu_base.specs.declared.bad_text.Why.{Why}
 use Rattle.qu_base.specs.declared.bad_text.Why.TheVariants.{Short, Range}
 use Rattle.qu_base.specs.declared.limits.TheConstants.{OBJECT_IDS, REPLICA_IDS}
-use Rattle.qu_base.specs.Front.{Front, Takes}
+use Rattle.qu_base.specs.Cursor.{Front, Takes}
 use Rattle.qu_base.specs.Format.{Format, front_of, behind, refused, and_then, number_at, number, bytes_at, bytes, nothing, both, tested, FitsPart, spelled_part, made, either, FitsFrom, items_at, items, counted, flag, optional, tagged, digest_form, object_form, replica_form, Spells, AreBytes, IsExact, IsPrefixCode}
 
 -- ---- fronts

@@ -3,7 +3,7 @@ use Rattle.std.proofs.Common.{◌≡◌, Result, Ok, Err, refl, sym, ap, ◌∙�
 use Rattle.qu_base.specs.declared.bad_text.BadText.{BadText}
 use Rattle.qu_base.specs.declared.bad_text.ReadFail.{ReadFail}
 use Rattle.qu_base.specs.declared.bad_text.ReadFail.TheVariants as fail
-use Rattle.qu_base.specs.Front.{Front}
+use Rattle.qu_base.specs.Cursor.{Front}
 use Rattle.qu_base.specs.Format.{Format, AreBytes, IsExact}
 use Rattle.qu_base.specs.Reading.{Reads, IsRead, Gives, IsGiven}
 

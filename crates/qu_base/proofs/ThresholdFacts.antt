@@ -3,7 +3,7 @@ use Rattle.std.proofs.Common.{◌≡◌, ℕ, zero, suc, ◌≤◌, ◌==◌, �
 use Rattle.std.specs.Prelude.{IsTrue}
 use Rattle.std.proofs.lemmas.Bool.Decides.{nat_tests}
 use Rattle.qu_base.specs.declared.limits.TheConstants.{MOST_FAULTS, REPLICA_IDS}
-use Rattle.qu_base.specs.Thresholds.{replicas, is_replica_count, quorum, repair, AreThresholds}
+use Rattle.qu_base.specs.Bounds.{replicas, is_replica_count, quorum, repair, AreThresholds}
 
 -- the sizes for at least one lying replica
 pub are_thresholds : (b : ℕ) → 1 ≤ b → AreThresholds b

@@ -11,7 +11,7 @@ use Rattle.qu_base.specs.declared.limits.TheConstants.{OBJECT_IDS, REPLICA_IDS}
 use Rattle.qu_base.specs.declared.party.Digest.{Digest}
 use Rattle.qu_base.specs.declared.party.ObjectId.{ObjectId}
 use Rattle.qu_base.specs.declared.party.ReplicaId.{ReplicaId}
-use Rattle.qu_base.specs.Front.{Front, Takes}
+use Rattle.qu_base.specs.Cursor.{Front, Takes}
 
 pub record Format (V : Type 0) : Type 1 where
   -- the values that have a spelling

@@ -1,4 +1,4 @@
-pub mod Thresholds
-pub mod Front
+pub mod Bounds
+pub mod Cursor
 pub mod Format
 pub mod Reading

@@ -4,7 +4,7 @@ use Rattle.std.specs.Prelude.{◌≡◌, Result, Ok, Err, MatchResult, IfOk}
 use Rattle.qu_base.specs.declared.bad_text.BadText.{BadText}
 use Rattle.qu_base.specs.declared.bad_text.ReadFail.{ReadFail}
 use Rattle.qu_base.specs.declared.bad_text.ReadFail.TheVariants as fail
-use Rattle.qu_base.specs.Front.{Front}
+use Rattle.qu_base.specs.Cursor.{Front}
 use Rattle.qu_base.specs.Format.{Format, Spells}
 
 -- ---- readers that take no memory

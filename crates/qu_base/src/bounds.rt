@@ -1,5 +1,5 @@
 ghost use Rattle.std.specs.Prelude.{◌≡◌, ◌≤◌, ◌↔◌, Ok, Err, IsOk, IfOk, IfErr};
-ghost use Rattle.qu_base.specs.Thresholds.{replicas, is_replica_count, quorum, repair, AreThresholds};
+ghost use Rattle.qu_base.specs.Bounds.{replicas, is_replica_count, quorum, repair, AreThresholds};
 
 use super::{MOST_FAULTS, REPLICA_IDS};
 use std::marker::Model;
@@ -63,7 +63,7 @@ impl Bounds {
     }
 
     /// How many replicas make a quorum.
-    #[tactic(auto, unfolding(crate::specs::Thresholds::quorum))]
+    #[tactic(auto, unfolding(crate::specs::Bounds::quorum))]
     pub fn q(&self) -> u8
         ensures value { result ≡ quorum self.now }
         ensures thresholds { AreThresholds self.now }
@@ -72,7 +72,7 @@ impl Bounds {
     }
 
     /// How many replicas have to show a candidate before it may be repaired.
-    #[tactic(auto, using(crate::proofs::ThresholdFacts::are_thresholds), unfolding(crate::specs::Thresholds::repair))]
+    #[tactic(auto, using(crate::proofs::ThresholdFacts::are_thresholds), unfolding(crate::specs::Bounds::repair))]
     pub fn r(&self) -> u8
         ensures value { result ≡ repair self.now }
         ensures thresholds { AreThresholds self.now }
@@ -82,7 +82,7 @@ impl Bounds {
 }
 
 /// How many replicas there are, where so many may lie.
-#[tactic(auto, unfolding(crate::specs::Thresholds::replicas))]
+#[tactic(auto, unfolding(crate::specs::Bounds::replicas))]
 fn replicas_for(faults: u8) -> u8
     requires { faults ≤ MOST_FAULTS }
     ensures value { result ≡ replicas faults }
@@ -92,7 +92,7 @@ fn replicas_for(faults: u8) -> u8
 }
 
 /// Whether so many replicas are those of some number of faults.
-#[tactic(auto, unfolding(crate::specs::Thresholds::is_replica_count))]
+#[tactic(auto, unfolding(crate::specs::Bounds::is_replica_count))]
 pub fn is_replica_count(count: u8) -> bool
     ensures { result ≡ is_replica_count count }
 {

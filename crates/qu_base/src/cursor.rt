@@ -1,6 +1,6 @@
 ghost use Rattle.std.specs.Prelude.{◌≡◌, ◌<◌, ◌↔◌, ◌∷◌, [], length, IsNone, IfNone, IfSome, OnErr};
 ghost use Rattle.std.specs.Int.{w8, w16, w64, to_be_bytes};
-ghost use Rattle.qu_base.specs.Front.{Takes};
+ghost use Rattle.qu_base.specs.Cursor.{Takes};
 ghost use Rattle.qu_base.specs.Format.{number, bytes, flag, digest_form, object_form, replica_form, AreBytes};
 ghost use Rattle.qu_base.specs.Reading.{Reads};
 
@@ -19,7 +19,7 @@ pub struct Cursor<'a> {
 
 impl<'a> Model for Cursor<'a> {
     ghost use Rattle.std.specs.Prelude.{◌+◌, ◌^◌, ◌<◌, length};
-    ghost use Rattle.qu_base.specs.Front.{Front};
+    ghost use Rattle.qu_base.specs.Cursor.{Front};
 
     ghost Value = { Front };
 

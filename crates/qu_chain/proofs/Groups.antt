@@ -1,10 +1,10 @@
 -- What is decided on one member of a group is decided on all.
 use Rattle.std.proofs.Common.{◌≡◌, ℕ, suc, ◌<◌, ◌≤◌, true, false, refl, sym, ap, ◌∙◌, subst, arith, inl, inr, Option, None, Some}
-use Rattle.std.proofs.lemmas.Bool.{cases_Bool, and_from}
+use Rattle.std.proofs.lemmas.Bool.{false≢true, cases_Bool, and_from}
 use Rattle.qu_base.specs.declared.party.ObjectId.{ObjectId}
 use Rattle.qu_stamp.specs.declared.stamp.Stamp.{Stamp}
 use Rattle.qu_stamp.specs.declared.candidate.Candidate.{Candidate}
-use Rattle.qu_chain.specs.Setting.{Setting, Apart, acceptors, IsAccepted, IsEstablished}
+use Rattle.qu_chain.specs.Setting.{Setting, Apart, acceptors, IsAccepted, IsEstablished, IsNew}
 use Rattle.qu_chain.specs.Laws.{Laws}
 use Rattle.qu_chain.specs.Decided.{IsDecided, IsDecidedBy}
 use Rattle.qu_chain.specs.Joint.{HasCompanion, HasDecided, IsCopied, Joint}
@@ -267,3 +267,44 @@ module _ (setting : Setting) (laws : Laws setting) (all : Joint setting) where
               (is_member ∙ ap (λ (one : Stamp). Some one) (sym it.stamp_is)) already);
         },
       )
+
+  -- what a candidate's group has on another object is accepted first at the same step
+  new_companion : (object : ObjectId) (candidate : Candidate) (first : First setting setting.last object candidate)
+      → IsAccepted setting setting.last object candidate → (other : ObjectId) (companion : Candidate)
+      → Apart object other → IsAccepted setting setting.last other companion
+      → setting.member candidate other ≡ Some companion.stamp
+      → IsNew setting first.time other first.replica companion
+  new_companion object candidate first known other companion apart also is_member =
+      let new : IsNew setting first.time object first.replica candidate = first.new in
+      let step : first.time < setting.last = new.step in
+      let it : HasCompanion setting (suc first.time) object first.replica candidate other companion.stamp
+      × (setting.accepted (suc first.time) other first.replica companion ≡ true) =
+      its_companion (suc first.time) (omega arith) object first.replica candidate other companion new.good new.within
+      new.after apart also is_member in
+      let back : setting.member companion object ≡ Some candidate.stamp =
+      (companion_is setting.last (omega arith) object candidate other companion known apart also is_member).back in
+      record {
+        step = step;
+        within = new.within;
+        good = new.good;
+        after = it.1;
+        before = elim (cases_Bool (setting.accepted first.time other first.replica companion)) [
+          | inl already ↦ absurd (false≢true (sym new.before ∙
+              (its_companion first.time (omega arith) other first.replica companion object candidate new.good
+              new.within already (λ same. apart (sym same)) known back).1))
+          | inr not_yet ↦ not_yet
+        ];
+      }
+
+  -- the members of a group have one group
+  pub members_agree : (object : ObjectId) (candidate : Candidate) → First setting setting.last object candidate
+      → IsAccepted setting setting.last object candidate → (other third : ObjectId) (companion last : Candidate)
+      → Apart object other → Apart object third → Apart other third
+      → IsAccepted setting setting.last other companion → IsAccepted setting setting.last third last
+      → setting.member candidate other ≡ Some companion.stamp → setting.member candidate third ≡ Some last.stamp
+      → setting.member companion third ≡ Some last.stamp
+  members_agree object candidate first known other third companion last from_other from_third apart also too
+      is_member is_last =
+      all.together first.time other third first.replica first.replica companion last apart
+      (new_companion object candidate first known other companion from_other also is_member)
+      (new_companion object candidate first known third last from_third too is_last)

@@ -2,12 +2,12 @@
 use Rattle.std.proofs.Common.{◌≡◌, ◌≤◌, ◌^◌, ℕ, ltb, List, [], ◌∷◌, ◌++◌, length, Result, Ok, Err, refl, sym, ap, ◌∙◌, append-nil, arith}
 use Rattle.std.proofs.lemmas.Bool.{le-ltb, ltb-false}
 use Rattle.qu_base.specs.declared.bad_text.BadText.{BadText}
-use Rattle.qu_base.specs.Front.{Front}
+use Rattle.qu_base.specs.Cursor.{Front}
 use Rattle.qu_base.specs.Format.{front_of, AreBytes}
 use Rattle.qu_base.proofs.Formats.{not_refused}
 use Rattle.qu_frames.specs.declared.limits.TheConstants.{TEXT_LIMIT}
 use Rattle.qu_frames.specs.declared.frame.Frame.{Frame}
-use Rattle.qu_frames.specs.Forms.{frame_form}
+use Rattle.qu_frames.specs.Formats.{frame_form}
 use Rattle.qu_frames.specs.Decoding.{whole, decoded}
 use Rattle.qu_frames.proofs.Forms.{frame-exact}
 

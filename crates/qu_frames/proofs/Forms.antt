@@ -11,15 +11,15 @@ use Rattle.qu_base.specs.declared.party.ReplicaId.{ReplicaId}
 use Rattle.qu_base.specs.Format.{IsPrefixCode, Format, number, both, tested, FitsPart, made, either, object_form, replica_form, IsExact}
 use Rattle.qu_base.proofs.Formats.{prefix_code, some_is, wide16, wide64, number-exact, bytes-exact, both-exact, tested-exact, made-exact, fields-exact, counted-exact, tagged-exact, object-exact, replica-exact}
 use Rattle.qu_stamp.specs.declared.stamp.Stamp.{Stamp}
-use Rattle.qu_stamp.specs.Forms.{stamp_form}
+use Rattle.qu_stamp.specs.Formats.{stamp_form}
 use Rattle.qu_stamp.proofs.Forms.{stamp_with-exact}
 use Rattle.qu_objects.specs.declared.limits.TheConstants.{PARTS_LIMIT}
 use Rattle.qu_objects.specs.declared.act.Method.{Method}
 use Rattle.qu_objects.specs.declared.query.Ask.{Ask}
 use Rattle.qu_objects.specs.declared.answer.Answer.{Answer}
-use Rattle.qu_objects.specs.Forms.{word_form, is_one_of, act_form, query_form, answer_form}
+use Rattle.qu_objects.specs.Formats.{word_form, is_one_of, act_form, query_form, answer_form}
 use Rattle.qu_objects.proofs.Forms.{word-exact, act-exact, query-exact, answer-exact, byte-exact}
-use Rattle.qu_history.specs.Forms.{object_from}
+use Rattle.qu_history.specs.Formats.{object_from}
 use Rattle.qu_history.proofs.Forms.{object_from-exact, sets-exact, shown-exact}
 use Rattle.qu_frames.specs.declared.frame.Body.{Body}
 use Rattle.qu_frames.specs.declared.frame.Body.TheVariants as body
@@ -35,7 +35,7 @@ use Rattle.qu_frames.specs.declared.verdict.Refusal.TheVariants.{HistoryFull, Th
 use Rattle.qu_frames.specs.declared.verdict.Verdict.{Verdict}
 use Rattle.qu_frames.specs.declared.verdict.Verdict.TheVariants.{Done, Told, Already, Mended, Refused}
 use Rattle.qu_frames.specs.Verdict.{class_code}
-use Rattle.qu_frames.specs.Forms.{class_of, class_form, refused_object, latest_told, class_told, number_told, plain_refusal, plain_object, refusal_body, refusal_form, spelled_stamp, stamp_from, after_told, stamps_form, verdict_code, is_verdict_code, done, told, already, mended, refusal, answered_form, verdict_body, verdict_form, body_code, is_body_code, act_parts, ask_parts, body_of_code, body_form, client_form, round_form, is_after_pair, spelled_pair, pair_after, culled_form, RequestFields, request_fields, request_of, request_form, request_frame, ReplyFields, reply_fields, reply_of, reply_form, reply_frame, frame_kind, is_version, is_frame_kind, frame_body, kind_form, frame_form}
+use Rattle.qu_frames.specs.Formats.{class_of, class_form, refused_object, latest_told, class_told, number_told, plain_refusal, plain_object, refusal_body, refusal_form, spelled_stamp, stamp_from, after_told, stamps_form, verdict_code, is_verdict_code, done, told, already, mended, refusal, answered_form, verdict_body, verdict_form, body_code, is_body_code, act_parts, ask_parts, body_of_code, body_form, client_form, round_form, is_after_pair, spelled_pair, pair_after, culled_form, RequestFields, request_fields, request_of, request_form, request_frame, ReplyFields, reply_fields, reply_of, reply_form, reply_frame, frame_kind, is_version, is_frame_kind, frame_body, kind_form, frame_form}
 
 -- ---- one of two formats, by a test
 

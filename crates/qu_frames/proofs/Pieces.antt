@@ -6,11 +6,11 @@ use Rattle.qu_base.specs.declared.party.ObjectId.{ObjectId}
 use Rattle.qu_base.specs.declared.party.ReplicaId.{ReplicaId}
 use Rattle.qu_history.specs.declared.sealed.Sealed.{Sealed}
 use Rattle.qu_history.specs.declared.sets.SetOf.{SetOf}
-use Rattle.qu_history.specs.Forms.{sets_form, shown_form}
+use Rattle.qu_history.specs.Formats.{sets_form, shown_form}
 use Rattle.qu_frames.specs.declared.frame.Body.{Body}
 use Rattle.qu_frames.specs.declared.frame.Frame.TheVariants.{Request, Reply}
 use Rattle.qu_frames.specs.declared.verdict.Verdict.{Verdict}
-use Rattle.qu_frames.specs.Forms.{objects_in_sets, body_form, verdict_form, culled_form, request_frame, reply_frame, kind_form, frame_form}
+use Rattle.qu_frames.specs.Formats.{objects_in_sets, body_form, verdict_form, culled_form, request_frame, reply_frame, kind_form, frame_form}
 
 pub three_pieces : (a b c start one two end : List ℕ) → one ≡ start ++ a → two ≡ one ++ b → end ≡ two ++ c
     → end ≡ start ++ (a ++ (b ++ c))

@@ -9,16 +9,16 @@ use Rattle.std.proofs.lemmas.Option.{none-some, same_Some}
 use Rattle.qu_base.specs.declared.bad_text.BadText.{BadText}
 use Rattle.qu_seal.specs.declared.constants.TheConstants.{FRAME_TAG}
 use Rattle.qu_base.specs.declared.party.Party.{Party}
-use Rattle.qu_seal.specs.Digest.{digest_of}
+use Rattle.qu_seal.specs.Digesting.{digest_of}
 use Rattle.qu_seal.specs.Keys.{Ring, have_key, seal_of, verifies}
 use Rattle.qu_seal.proofs.Lengths.{length-hmac}
-use Rattle.qu_history.specs.Forms.{sets_form, shown_form}
+use Rattle.qu_history.specs.Formats.{sets_form, shown_form}
 use Rattle.qu_frames.specs.declared.limits.TheConstants.{TEXT_LIMIT}
 use Rattle.qu_frames.specs.declared.frame.Frame.{Frame}
 use Rattle.qu_frames.specs.declared.frame.Frame.TheVariants.{Request, Reply}
-use Rattle.qu_frames.specs.Forms.{objects_in_sets, body_form, verdict_form, culled_form, request_frame, reply_frame, kind_form, frame_form}
+use Rattle.qu_frames.specs.Formats.{objects_in_sets, body_form, verdict_form, culled_form, request_frame, reply_frame, kind_form, frame_form}
 use Rattle.qu_frames.specs.Decoding.{decoded}
-use Rattle.qu_frames.specs.Signed.{sender, mac_of, with_mac, before_mac, text_digest, signature, signed, is_signed, if_signed, brought}
+use Rattle.qu_frames.specs.Signing.{sender, mac_of, with_mac, before_mac, text_digest, signature, signed, is_signed, if_signed, brought}
 use Rattle.qu_frames.proofs.Decoded.{spelled_is_decoded}
 
 -- the bytes before the HMAC

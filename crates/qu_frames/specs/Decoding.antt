@@ -3,12 +3,12 @@ use Rattle.std.specs.Prelude.{◌≡◌, ℕ, nat_lt, if◌then◌else◌, List,
 use Rattle.qu_base.specs.declared.bad_text.BadText.{BadText}
 use Rattle.qu_base.specs.declared.bad_text.Why.TheVariants.{Range, Rest}
 use Rattle.qu_base.specs.declared.bad_text.ReadFail.{ReadFail}
-use Rattle.qu_base.specs.Front.{Front}
+use Rattle.qu_base.specs.Cursor.{Front}
 use Rattle.qu_base.specs.Format.{front_of}
 use Rattle.qu_base.specs.Reading.{FailsAs}
 use Rattle.qu_frames.specs.declared.limits.TheConstants.{TEXT_LIMIT}
 use Rattle.qu_frames.specs.declared.frame.Frame.{Frame}
-use Rattle.qu_frames.specs.Forms.{frame_form}
+use Rattle.qu_frames.specs.Formats.{frame_form}
 
 -- nothing is left behind a value
 abbrev pub at_end : {V : Type 0} → V → Front → Result V BadText

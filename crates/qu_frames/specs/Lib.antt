@@ -1,7 +1,7 @@
 pub mod Body
 pub mod Verdict
 pub mod RefusalNumber
-pub mod Forms
+pub mod Formats
 pub mod Decoding
 pub mod Blank
-pub mod Signed
+pub mod Signing

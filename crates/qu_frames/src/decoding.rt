@@ -1,6 +1,6 @@
 ghost use Rattle.std.specs.Prelude.{◌≡◌, ◌≤◌, length, IfOk};
 ghost use Rattle.qu_base.specs.Reading.{IsOrFails};
-ghost use Rattle.qu_frames.specs.Forms.{frame_form};
+ghost use Rattle.qu_frames.specs.Formats.{frame_form};
 ghost use Rattle.qu_frames.specs.declared.frame.Frame.{Frame as AFrame};
 ghost use Rattle.qu_frames.specs.Decoding.{IsDecoded, decoded};
 

@@ -1,7 +1,7 @@
 ghost use Rattle.std.specs.Prelude.{List};
 ghost use Rattle.qu_base.specs.declared.party.ObjectId.{ObjectId as Object};
 ghost use Rattle.qu_base.specs.Format.{IsPrefixCode};
-ghost use Rattle.qu_frames.specs.Forms.{refusal_form, stamps_form, verdict_form, body_form, culled_form, request_frame, reply_frame, frame_form};
+ghost use Rattle.qu_frames.specs.Formats.{refusal_form, stamps_form, verdict_form, body_form, culled_form, request_frame, reply_frame, frame_form};
 
 /// By each format of this crate, what is read is spelled so, what is spelled so is read, and no
 /// spelling begins another.

@@ -1,7 +1,7 @@
-//! Frames from bytes, by the formats of `specs/Forms.antt`.
+//! Frames from bytes, by the formats of `specs/Formats.antt`.
 ghost use Rattle.std.specs.Prelude.{◌≡◌, None, IfOk};
 ghost use Rattle.qu_base.specs.Reading.{Reads, Gives};
-ghost use Rattle.qu_frames.specs.Forms.{objects_in_sets, body_form, client_form, is_after_pair, pair_after, some_culled, culled_form, request_frame, reply_frame, kind_form, frame_form};
+ghost use Rattle.qu_frames.specs.Formats.{objects_in_sets, body_form, client_form, is_after_pair, pair_after, some_culled, culled_form, request_frame, reply_frame, kind_form, frame_form};
 
 use super::reading_verdict::verdict_at;
 use super::{Body, CULLED_LIMIT, Frame, LAST_ROUND};
@@ -13,7 +13,7 @@ use qu_objects::{read_act, read_query};
 use std::alloc::Global;
 
 /// The next frame: its version, its kind, and the fields of this kind.
-#[tactic(auto, unfolding(crate::specs::Forms::frame_form))]
+#[tactic(auto, unfolding(crate::specs::Formats::frame_form))]
 pub(crate) fn frame_at(alloc: Global, text: &mut Cursor) -> Result<Frame, ReadFail>
     ensures { Gives frame_form result text.old text.new }
 {
@@ -26,7 +26,7 @@ pub(crate) fn frame_at(alloc: Global, text: &mut Cursor) -> Result<Frame, ReadFa
 }
 
 /// The next kind, and a frame of it.
-#[tactic(auto, unfolding(crate::specs::Forms::kind_form))]
+#[tactic(auto, unfolding(crate::specs::Formats::kind_form))]
 fn kind_at(alloc: Global, text: &mut Cursor) -> Result<Frame, ReadFail>
     ensures { Gives kind_form result text.old text.new }
 {
@@ -40,7 +40,7 @@ fn kind_at(alloc: Global, text: &mut Cursor) -> Result<Frame, ReadFail>
 }
 
 /// The fields of a request.
-#[tactic(auto, unfolding(crate::specs::Forms::request_frame))]
+#[tactic(auto, unfolding(crate::specs::Formats::request_frame))]
 fn request_at(alloc: Global, text: &mut Cursor) -> Result<Frame, ReadFail>
     ensures { Gives request_frame result text.old text.new }
 {
@@ -61,7 +61,7 @@ fn request_at(alloc: Global, text: &mut Cursor) -> Result<Frame, ReadFail>
 }
 
 /// The fields of a reply.
-#[tactic(auto, unfolding(crate::specs::Forms::reply_frame))]
+#[tactic(auto, unfolding(crate::specs::Formats::reply_frame))]
 fn reply_at(alloc: Global, text: &mut Cursor) -> Result<Frame, ReadFail>
     ensures { Gives reply_frame result text.old text.new }
 {
@@ -93,7 +93,7 @@ fn client_at(text: &mut Cursor) -> Result<ClientId, BadText>
 }
 
 /// What is asked of the objects of these sets: a code, and the parts.
-#[tactic(auto, unfolding(crate::specs::Forms::body_form))]
+#[tactic(auto, unfolding(crate::specs::Formats::body_form))]
 fn body_at(alloc: Global, sets: &[SetOf], text: &mut Cursor) -> Result<Body, ReadFail>
     ensures { Gives (body_form (objects_in_sets sets.now)) result text.old text.new }
 {
@@ -119,7 +119,7 @@ fn objects_in_sets(alloc: Global, sets: &[SetOf]) -> Result<List<ObjectId>, NoMe
 }
 
 /// A count, and so many pairs of an object and a replica that rise.
-#[tactic(auto, unfolding(crate::specs::Forms::culled_form))]
+#[tactic(auto, unfolding(crate::specs::Formats::culled_form))]
 fn culled_at(alloc: Global, text: &mut Cursor) -> Result<List<(ObjectId, ReplicaId)>, ReadFail>
     ensures { Gives culled_form result text.old text.new }
 {

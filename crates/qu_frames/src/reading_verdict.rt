@@ -1,7 +1,7 @@
-//! Verdicts from bytes, by the formats of `specs/Forms.antt`.
+//! Verdicts from bytes, by the formats of `specs/Formats.antt`.
 ghost use Rattle.std.specs.Prelude.{◌≡◌, ◌<◌, IfOk, OnErr};
 ghost use Rattle.qu_base.specs.Reading.{Reads, Gives};
-ghost use Rattle.qu_frames.specs.Forms.{class_form, refusal_form, stamp_from, some_stamps, stamps_form, verdict_form};
+ghost use Rattle.qu_frames.specs.Formats.{class_form, refusal_form, stamp_from, some_stamps, stamps_form, verdict_form};
 
 use super::refusal_number::{
     HISTORY_FULL, NEEDS, NOT_CURRENT, NOT_METHOD, SOUND, SPENT, STALE, THIN, TIME_SPENT,
@@ -15,7 +15,7 @@ use qu_stamp::{Stamp, read_stamp};
 use std::alloc::Global;
 
 /// The next verdict: its code, and what it tells.
-#[tactic(auto, unfolding(crate::specs::Forms::verdict_form))]
+#[tactic(auto, unfolding(crate::specs::Formats::verdict_form))]
 pub(crate) fn verdict_at(alloc: Global, text: &mut Cursor) -> Result<Verdict, ReadFail>
     ensures { Gives verdict_form result text.old text.new }
 {
@@ -44,7 +44,7 @@ pub(crate) fn verdict_at(alloc: Global, text: &mut Cursor) -> Result<Verdict, Re
 }
 
 /// A count, and so many objects with their stamps, by rising objects.
-#[tactic(auto, unfolding(crate::specs::Forms::stamps_form))]
+#[tactic(auto, unfolding(crate::specs::Formats::stamps_form))]
 fn stamps_at(alloc: Global, text: &mut Cursor) -> Result<List<(ObjectId, Stamp)>, ReadFail>
     ensures { Gives stamps_form result text.old text.new }
 {
@@ -82,7 +82,7 @@ fn stamp_from(least: u16, text: &mut Cursor) -> Result<(ObjectId, Stamp), BadTex
 }
 
 /// The next refusal: its number, the object, and what else it tells.
-#[tactic(auto, unfolding(crate::specs::Forms::refusal_form))]
+#[tactic(auto, unfolding(crate::specs::Formats::refusal_form))]
 fn refusal_at(text: &mut Cursor) -> Result<Refusal, BadText>
     ensures { Reads refusal_form result text.old text.new }
 {

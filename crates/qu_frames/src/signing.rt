@@ -1,6 +1,6 @@
 //! Frames whose HMAC their sender makes for one receiver.
 ghost use Rattle.std.specs.Prelude.{◌≡◌, ◌++◌, IfOk};
-ghost use Rattle.qu_frames.specs.Signed.{sender, mac_of, before_mac, text_digest, signed, is_signed, brought};
+ghost use Rattle.qu_frames.specs.Signing.{sender, mac_of, before_mac, text_digest, signed, is_signed, brought};
 
 use super::{Frame, decode, encode};
 use qu_base::{Digest, List, NoMemory, Outbytes, Party, ReadFail};
@@ -19,7 +19,7 @@ impl Frame {
     }
 
     /// Its text with the HMAC that its sender makes for this receiver, in the place of its own.
-    #[tactic(auto, unfolding(crate::specs::Signed::signed))]
+    #[tactic(auto, unfolding(crate::specs::Signing::signed))]
     pub fn signed(&self, alloc: Global, keys: &KeyRing, to: Party) -> Result<List<u8>, NoMemory>
         ensures { IfOk result (λ text. text ≡ signed keys.now to self.now) }
     {
@@ -29,7 +29,7 @@ impl Frame {
     }
 
     /// Whether its HMAC is right for this receiver, where this is its text.
-    #[tactic(auto, unfolding(crate::specs::Signed::is_signed))]
+    #[tactic(auto, unfolding(crate::specs::Signing::is_signed))]
     pub fn is_signed(&self, keys: &KeyRing, to: Party, text: &[u8]) -> bool
         ensures { result ≡ is_signed keys.now to text.now self.now }
     {
@@ -47,7 +47,7 @@ impl Frame {
 
 /// The frame that a text brings to a party: the one that is decoded, where its HMAC is right for the
 /// party. None of any other text.
-#[tactic(auto, unfolding(crate::specs::Signed::brought))]
+#[tactic(auto, unfolding(crate::specs::Signing::brought))]
 pub fn receive(
     alloc: Global,
     keys: &KeyRing,
@@ -74,7 +74,7 @@ pub fn with_mac(alloc: Global, text: &[u8], mac: &[u8; 32]) -> Result<List<u8>, 
 }
 
 /// The digest of the bytes before the HMAC, of which the HMAC is made.
-#[tactic(auto, unfolding(crate::specs::Signed::text_digest))]
+#[tactic(auto, unfolding(crate::specs::Signing::text_digest))]
 pub fn text_digest(text: &[u8]) -> Digest
     ensures { result ≡ text_digest text.now }
 {

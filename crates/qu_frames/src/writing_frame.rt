@@ -1,9 +1,9 @@
-//! Frames as bytes, by the formats of `specs/Forms.antt`.
+//! Frames as bytes, by the formats of `specs/Formats.antt`.
 ghost use Rattle.std.specs.Prelude.{◌≡◌, ◌++◌, List, OnOk};
 ghost use Rattle.std.specs.List.{flat_map};
 ghost use Rattle.std.specs.Int.{w8, w16, w64, to_be_bytes};
 ghost use Rattle.qu_base.specs.declared.party.ObjectId.{ObjectId as Object};
-ghost use Rattle.qu_frames.specs.Forms.{body_form, spelled_pair, culled_form, frame_form};
+ghost use Rattle.qu_frames.specs.Formats.{body_form, spelled_pair, culled_form, frame_form};
 
 use super::writing_verdict::append_verdict;
 use super::{Body, Frame};
@@ -12,7 +12,7 @@ use qu_history::{write_sets, write_shown};
 use qu_objects::{write_act, write_query};
 
 /// Appends a frame.
-#[tactic(auto, unfolding(crate::specs::Forms::frame_form, crate::specs::Forms::kind_form, crate::specs::Forms::request_frame, crate::specs::Forms::reply_frame))]
+#[tactic(auto, unfolding(crate::specs::Formats::frame_form, crate::specs::Formats::kind_form, crate::specs::Formats::request_frame, crate::specs::Formats::reply_frame))]
 pub(crate) fn append_frame(frame: &Frame, out: &mut Outbytes) -> Result<(), NoMemory>
     ensures { OnOk result (out.new ≡ out.old ++ frame_form.spell frame.now) }
 {
@@ -72,7 +72,7 @@ fn append_round(
 }
 
 /// Appends what is asked for.
-#[tactic(auto, unfolding(crate::specs::Forms::body_form))]
+#[tactic(auto, unfolding(crate::specs::Formats::body_form))]
 fn append_body(body: &Body, out: &mut Outbytes) -> Result<(), NoMemory>
     ensures { (objects : List Object) → OnOk result (out.new ≡ out.old ++ (body_form objects).spell body.now) }
 {
@@ -91,7 +91,7 @@ fn append_body(body: &Body, out: &mut Outbytes) -> Result<(), NoMemory>
 }
 
 /// Appends a count, and so many pairs of an object and a replica.
-#[tactic(auto, unfolding(crate::specs::Forms::culled_form))]
+#[tactic(auto, unfolding(crate::specs::Formats::culled_form))]
 fn append_culled(culled: &[(ObjectId, ReplicaId)], out: &mut Outbytes) -> Result<(), NoMemory>
     ensures { OnOk result (out.new ≡ out.old ++ culled_form.spell culled.now) }
 {

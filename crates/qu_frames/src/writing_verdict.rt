@@ -1,8 +1,8 @@
-//! Verdicts as bytes, by the formats of `specs/Forms.antt`.
+//! Verdicts as bytes, by the formats of `specs/Formats.antt`.
 ghost use Rattle.std.specs.Prelude.{◌≡◌, ◌++◌, OnOk};
 ghost use Rattle.std.specs.List.{flat_map};
 ghost use Rattle.qu_frames.specs.Verdict.{class_code};
-ghost use Rattle.qu_frames.specs.Forms.{refusal_form, refused_object, spelled_stamp, stamps_form, verdict_form};
+ghost use Rattle.qu_frames.specs.Formats.{refusal_form, refused_object, spelled_stamp, stamps_form, verdict_form};
 
 use super::{ClassCode, Refusal, Verdict};
 use qu_base::{NoMemory, ObjectId, Outbytes};
@@ -10,7 +10,7 @@ use qu_objects::write_answer;
 use qu_stamp::{Stamp, write_stamp};
 
 /// Appends a verdict.
-#[tactic(auto, unfolding(crate::specs::Forms::verdict_form))]
+#[tactic(auto, unfolding(crate::specs::Formats::verdict_form))]
 pub(crate) fn append_verdict(verdict: &Verdict, out: &mut Outbytes) -> Result<(), NoMemory>
     ensures { OnOk result (out.new ≡ out.old ++ verdict_form.spell verdict.now) }
 {
@@ -41,7 +41,7 @@ pub(crate) fn append_verdict(verdict: &Verdict, out: &mut Outbytes) -> Result<()
 }
 
 /// Appends a count, and so many objects with their stamps.
-#[tactic(auto, unfolding(crate::specs::Forms::stamps_form))]
+#[tactic(auto, unfolding(crate::specs::Formats::stamps_form))]
 fn append_stamps(stamps: &[(ObjectId, Stamp)], out: &mut Outbytes) -> Result<(), NoMemory>
     ensures { OnOk result (out.new ≡ out.old ++ stamps_form.spell stamps.now) }
 {
@@ -70,7 +70,7 @@ fn append_told(object: ObjectId, stamp: &Stamp, out: &mut Outbytes) -> Result<()
 }
 
 /// Appends a refusal.
-#[tactic(auto, unfolding(crate::specs::Forms::refusal_form))]
+#[tactic(auto, unfolding(crate::specs::Formats::refusal_form))]
 fn append_refusal(refusal: &Refusal, out: &mut Outbytes) -> Result<(), NoMemory>
     ensures { OnOk result (out.new ≡ out.old ++ refusal_form.spell refusal.now) }
 {

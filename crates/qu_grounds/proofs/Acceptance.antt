@@ -16,7 +16,7 @@ use Rattle.qu_objects.specs.declared.query.Ask.{Ask}
 use Rattle.qu_objects.specs.declared.answer.Answer.{Answer}
 use Rattle.qu_objects.specs.declared.kind.Value.{Value}
 use Rattle.qu_objects.specs.declared.state.ObjState.{ObjState}
-use Rattle.qu_objects.specs.Perform.{performed_answer, performed_values}
+use Rattle.qu_objects.specs.Performing.{performed_answer, performed_values}
 use Rattle.qu_frames.specs.declared.frame.Body.TheVariants as body
 use Rattle.qu_frames.specs.declared.frame.Frame.{Frame}
 use Rattle.qu_frames.specs.declared.frame.Frame.TheVariants as frame
@@ -309,13 +309,4 @@ accepts_on old new received alone object =
           let same : alone.object ≡ object = ap numbered (sym here) in
           inr (subst (AcceptsOne old new received) same alone.one)
       | inr apart ↦ inl (alone.others object apart)
-    ]
-
-pub step_accepts : (state : ReplicaState) (received : Frame) → HasParts received → (object : ObjectId)
-    → (own_candidates (on_frame state received).0 object ≡ own_candidates state object)
-    ⊎ AcceptsOne state (on_frame state received).0 received object
-step_accepts state received parts object =
-    elim (step_moves state received parts) [
-      | inl same ↦ inl (ap (λ (it : ReplicaState). own_candidates it object) same)
-      | inr alone ↦ accepts_on state (on_frame state received).0 received alone object
     ]

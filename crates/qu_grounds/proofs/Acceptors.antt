@@ -1,13 +1,13 @@
 -- As many replicas accepted a candidate as the sets of a request show it.
 use Rattle.std.proofs.Common.{◌≡◌, ◌⊎◌, ℕ, zero, suc, ◌+◌, ◌≤◌, Bool, true, cond, List, [], ◌∷◌, length, map, Option, None, Some, refl, sym, ap, subst, ◌∙◌, arith, inl, inr, add-zero, zero-add}
-use Rattle.std.specs.Prelude.{slice_get, count_by, ◌==◌, ◌&&◌}
+use Rattle.std.specs.Prelude.{slice_get, count_by, ◌==◌}
 use Rattle.std.specs.List.{AllByRecursion}
 use Rattle.std.specs.Option.{option_and_then}
-use Rattle.std.proofs.lemmas.Bool.{cases_Bool, and_parts, eqb-true}
+use Rattle.std.proofs.lemmas.Bool.{cases_Bool}
 use Rattle.std.proofs.lemmas.List.Sums.{sum_by-cons}
-use Rattle.std.proofs.lemmas.Option.{none-some, same_Some}
+use Rattle.std.proofs.lemmas.Option.{none-some}
 use Rattle.qu_base.specs.declared.party.ObjectId.{ObjectId}
-use Rattle.qu_base.specs.Thresholds.{replicas, quorum}
+use Rattle.qu_base.specs.Bounds.{replicas, quorum}
 use Rattle.qu_stamp.specs.declared.candidate.Candidate.{Candidate}
 use Rattle.qu_history.specs.declared.sets.SetOf.{SetOf}
 use Rattle.qu_history.specs.History.{ObjectHistory, holds}
@@ -28,7 +28,7 @@ use Rattle.qu_runs.proofs.WorldGrowth.{AcceptsMore, HasMore, has_more, world_aft
 use Rattle.qu_grounds.proofs.Grounds.{is_base}
 use Rattle.qu_runs.proofs.OpeningReplicas.{all_replicas}
 use Rattle.qu_runs.proofs.Small.{same_object}
-use Rattle.qu_runs.proofs.FitRequests.{entries_with, entries_next, entries_none}
+use Rattle.qu_runs.proofs.FitRequests.{IsFound, found_among, entries_with, entries_next, entries_none}
 use Rattle.qu_history.specs.declared.sealed.Sealed.{Sealed}
 
 -- ---- a run's replicas are as many as its bounds say
@@ -82,28 +82,14 @@ record IsKept (trace : Trace) (count : ℕ) (object : ObjectId) (replica : ℕ) 
 kept_was : (trace : Trace) (count : ℕ) (object : ObjectId) (replica : ℕ) (kept : List Kept) (sealed : Sealed)
     → AllByRecursion (λ (it : Kept). WasHeld trace count (it.sealed).history) kept
     → kept_of object replica kept ≡ Some sealed → IsKept trace count object replica sealed.history
-unfolding kept_of
-kept_was trace count object replica [] sealed held found = absurd (none-some sealed found)
-kept_was trace count object replica (first ∷ later) sealed held found =
-    let own : ObjectHistory = (first.sealed).history in
-    let test : Bool = (own.object).0 == object.0 && (own.replica).0 == replica in
-    elim (cases_Bool test) [
-      | inl here ↦
-          let same : first.sealed ≡ sealed =
-          same_Some _ _
-          (sym (ap (λ (b : Bool). cond b (Some first.sealed) (kept_of object replica later)) here) ∙ found) in
-          let parts : (((own.object).0 == object.0) ≡ true) × (((own.replica).0 == replica) ≡ true) =
-          and_parts _ _ here in
-          subst (λ (it : Sealed). IsKept trace count object replica it.history) same
-          (record {
-            was = held.0;
-            object_is = same_object own.object object parts.0;
-            replica_is = eqb-true _ _ parts.1;
-          })
-      | inr other ↦
-          kept_was trace count object replica later sealed held.1
-          (sym (ap (λ (b : Bool). cond b (Some first.sealed) (kept_of object replica later)) other) ∙ found)
-    ]
+kept_was trace count object replica kept sealed held found =
+    let it : IsFound (λ (one : Sealed). WasHeld trace count one.history) object replica sealed =
+    found_among (λ (one : Sealed). WasHeld trace count one.history) object replica kept sealed held found in
+    record {
+      was = it.is;
+      object_is = same_object (sealed.history).object object it.of_object;
+      replica_is = it.of_replica;
+    }
 
 -- ---- as many accepted as show it
 

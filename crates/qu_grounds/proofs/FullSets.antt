@@ -7,7 +7,7 @@ use Rattle.std.proofs.lemmas.Option.{none-some, same_Some}
 use Rattle.qu_base.specs.declared.party.ClientId.{ClientId}
 use Rattle.qu_base.specs.declared.party.ObjectId.{ObjectId}
 use Rattle.qu_base.specs.declared.party.Party.{Party}
-use Rattle.qu_base.specs.Thresholds.{quorum}
+use Rattle.qu_base.specs.Bounds.{quorum}
 use Rattle.qu_stamp.specs.declared.candidate.Candidate.{Candidate}
 use Rattle.qu_history.specs.declared.sets.SetOf.{SetOf}
 use Rattle.qu_objects.specs.declared.act.Method.{Method}
@@ -58,11 +58,11 @@ all_pass why bad (item ∷ later) none =
     pass_first why (bad item) item (find bad later) (list_all (λ it. not (bad it)) later) none (all_pass why bad later)
 
 not_thin : (state : ReplicaState) (asked : Asked) → row_thin state asked ≡ None
-    → are_full state.bounds asked.sets ≡ true
+    → are_full state.keys.bounds asked.sets ≡ true
 unfolding row_thin
 not_thin state asked none =
     all_pass (λ (set : SetOf). refusal.Thin set.object)
-    (λ (set : SetOf). nat_lt (length set.entries) (quorum state.bounds)) asked.sets none
+    (λ (set : SetOf). nat_lt (length set.entries) (quorum state.keys.bounds)) asked.sets none
 
 -- the objects of the sets are the replica's
 abbrev pub are_had : ReplicaState → List SetOf → Bool
@@ -78,7 +78,7 @@ not_unknown state asked none =
 -- what the sets are of a request upon which something is accepted
 pub record IsUpon (state : ReplicaState) (sets : List SetOf) : Type 0 where
   pub had : are_had state sets ≡ true
-  pub full : are_full state.bounds sets ≡ true
+  pub full : are_full state.keys.bounds sets ≡ true
 
 -- an act accepts nothing, or has such sets
 act_upon : (state : ReplicaState) (asked : Asked) (parts : List (ObjectId × Method)) (objects : List ObjectId)

@@ -5,13 +5,13 @@ use Rattle.std.specs.Prelude.{nat_le}
 use Rattle.std.proofs.lemmas.Bool.{false≢true, cases_Bool, and_parts, leb-true}
 use Rattle.std.proofs.lemmas.Option.{none-some, cond_some}
 use Rattle.qu_base.specs.declared.party.ObjectId.{ObjectId}
-use Rattle.qu_base.specs.Thresholds.{quorum}
+use Rattle.qu_base.specs.Bounds.{quorum}
 use Rattle.qu_stamp.specs.declared.stamp.Stamp.{Stamp}
 use Rattle.qu_stamp.specs.declared.candidate.Candidate.{Candidate}
 use Rattle.qu_stamp.specs.Stamp.{is_below, same_stamp}
 use Rattle.qu_stamp.proofs.Order.{is_below-self, is_below-not_chain, equal_by_same_stamp}
 use Rattle.qu_history.specs.History.{ObjectHistory, holds}
-use Rattle.qu_history.specs.Sets.{entries_of, order_of, candidates_of, latest_of, object_candidate, if_method, method_at}
+use Rattle.qu_history.specs.Sets.{entries_of, order_of, latest_of, object_candidate, if_method, method_at}
 use Rattle.qu_history.proofs.Stamps.{not_below_latest}
 use Rattle.qu_replica.specs.Rows.{Asked, fresh_stamp}
 use Rattle.qu_replica.specs.State.{ReplicaState, own_candidates, own_latest}
@@ -47,12 +47,6 @@ pub is_base : (bounds : ℕ) (entries : List ObjectHistory) (base : Candidate)
 unfolding method_at
 is_base bounds entries base given = base_of_found bounds entries (object_candidate bounds entries) base given
 
--- nothing that the entries show is above the latest
-pub shown_not_above : (entries : List ObjectHistory) (shown : Candidate)
-    → holds shown (candidates_of entries) ≡ true → is_below (latest_of entries) shown.stamp ≡ false
-unfolding latest_of
-shown_not_above entries shown holding = not_below_latest (candidates_of entries) shown holding
-
 -- ---- where its replica has it
 
 below_by_latest : (held latest fresh : Stamp) → is_below latest held ≡ false → is_below latest fresh ≡ true
@@ -67,17 +61,7 @@ module _ {state : ReplicaState} {asked : Asked} {object : ObjectId} {candidate :
     (grounds : IsGround state asked object candidate) where
   -- the base is the latest of what is shown
   pub base_latest : (grounds.base).stamp ≡ latest_of (entries_of object asked.sets)
-  base_latest = (is_base state.bounds (entries_of object asked.sets) grounds.base grounds.method).latest
-
-  pub base_of_quorum : quorum state.bounds ≤ order_of grounds.base (entries_of object asked.sets)
-  base_of_quorum = (is_base state.bounds (entries_of object asked.sets) grounds.base grounds.method).of_quorum
-
-  pub base_not_below_shown : (shown : Candidate)
-      → holds shown (candidates_of (entries_of object asked.sets)) ≡ true
-      → is_below (grounds.base).stamp shown.stamp ≡ false
-  base_not_below_shown shown holding =
-      ap (λ (stamp : Stamp). is_below stamp shown.stamp) base_latest
-      ∙ shown_not_above (entries_of object asked.sets) shown holding
+  base_latest = (is_base state.keys.bounds (entries_of object asked.sets) grounds.base grounds.method).latest
 
   -- the candidate comes after its base
   pub above_base : is_below (grounds.base).stamp candidate.stamp ≡ true

@@ -15,7 +15,7 @@ use Rattle.qu_replica.specs.Growth.{HasParts}
 use Rattle.qu_replica.specs.Step.{on_received, replica_step}
 use Rattle.qu_client.specs.declared.state.ClientState.{ClientState}
 use Rattle.qu_client.specs.declared.state.Stepped.{Stepped}
-use Rattle.qu_client.specs.Step.{client_invoke, client_step, client_tick}
+use Rattle.qu_client.specs.Steps.{client_invoke, client_step, client_tick}
 use Rattle.qu_trace.specs.declared.event.Event.{Event}
 use Rattle.qu_trace.specs.declared.event.Event.TheVariants.{Invoke, Deliver, Tick, Inject}
 use Rattle.qu_world.specs.State.{WorldState, numbered, letter_of}
@@ -26,7 +26,7 @@ use Rattle.qu_world.proofs.Each.{set_here, set_other}
 use Rattle.qu_runs.specs.Carried.{Carries, handed}
 use Rattle.qu_frames.specs.Decoding.{decoded}
 use Rattle.qu_runs.specs.Plain.{IsPlain}
-use Rattle.qu_frames.specs.Signed.{brought}
+use Rattle.qu_frames.specs.Signing.{brought}
 use Rattle.qu_frames.proofs.Signed.{brought_is_decoded}
 use Rattle.qu_runs.proofs.Handing.{letter_handed, injected_cases}
 

@@ -2,7 +2,7 @@
 use Rattle.std.proofs.Common.{◌≡◌, ℕ, zero, suc, ◌+◌, ◌<◌, ◌≤◌, List, length, get_or, Some, sym, subst, arith, add-one}
 use Rattle.std.specs.Prelude.{slice_get}
 use Rattle.std.proofs.lemmas.Option.{none-some, same_Some}
-use Rattle.qu_base.specs.Thresholds.{replicas}
+use Rattle.qu_base.specs.Bounds.{replicas}
 use Rattle.qu_objects.specs.declared.kind.KindName.{KindName}
 use Rattle.qu_replica.specs.State.{ReplicaState}
 use Rattle.qu_trace.specs.declared.event.Event.{Event}
@@ -24,15 +24,15 @@ use Rattle.qu_seal.specs.Keys.{Ring}
 abbrev AllOfHeld : WorldState → Type 0
 AllOfHeld world = (place : ℕ) (state : ReplicaState) → slice_get world.replicas place ≡ Some state → AreOfHeld state
 
-opening_from : (first count : ℕ) (keys : Ring) (bounds : ℕ) (kinds : List KindName) (place : ℕ)
-    (state : ReplicaState) → slice_get (opening_replicas first count keys bounds kinds) place ≡ Some state
+opening_from : (first count : ℕ) (keys : Ring) (kinds : List KindName) (place : ℕ)
+    (state : ReplicaState) → slice_get (opening_replicas first count keys kinds) place ≡ Some state
     → AreOfHeld state
 unfolding opening_replicas
-opening_from first zero keys bounds kinds place state found = absurd (none-some state found)
-opening_from first (suc count) keys bounds kinds zero state found =
-    subst AreOfHeld (same_Some _ state found) (opening_of_held (record { 0 = first }) keys bounds kinds)
-opening_from first (suc count) keys bounds kinds (suc place) state found =
-    opening_from (first + 1) count keys bounds kinds place state found
+opening_from first zero keys kinds place state found = absurd (none-some state found)
+opening_from first (suc count) keys kinds zero state found =
+    subst AreOfHeld (same_Some _ state found) (opening_of_held (record { 0 = first }) keys kinds)
+opening_from first (suc count) keys kinds (suc place) state found =
+    opening_from (first + 1) count keys kinds place state found
 
 module _ (trace : Trace) (is_run : IsRun trace) (have : ArePlain trace) where
   held_next : (count : ℕ) → count < length trace.entries → AllOfHeld (world_after trace count)
@@ -53,7 +53,7 @@ module _ (trace : Trace) (is_run : IsRun trace) (have : ArePlain trace) where
   all_held : (count : ℕ) → count ≤ length trace.entries → AllOfHeld (world_after trace count)
   all_held zero within =
       subst AllOfHeld (sym (world_after-none trace))
-      (opening_from 0 (replicas trace.setup.bounds) (ring_of trace.setup) trace.setup.bounds trace.setup.kinds)
+      (opening_from 0 (replicas trace.setup.bounds) (ring_of trace.setup) trace.setup.kinds)
   all_held (suc count) within =
       subst (λ (at : ℕ). AllOfHeld (world_after trace at)) (add-one count)
       (held_next count (omega arith) (all_held count (omega arith)))

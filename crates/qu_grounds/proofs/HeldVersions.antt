@@ -73,9 +73,9 @@ opening_from me first (kind ∷ kinds) object stamp version found =
           record { place = suc inner.place; at = omega arith; alone = inner.alone; under = inner.under }
     ]
 
-pub opening_of_held : (me : ReplicaId) (keys : Ring) (bounds : ℕ) (kinds : List KindName)
-    → AreOfHeld (opening_state me keys bounds kinds)
-opening_of_held me keys bounds kinds = record {
+pub opening_of_held : (me : ReplicaId) (keys : Ring) (kinds : List KindName)
+    → AreOfHeld (opening_state me keys kinds)
+opening_of_held me keys kinds = record {
   of_held = λ object stamp version found.
       let begun : IsOpening me 0 kinds object stamp = opening_from me 0 kinds object stamp version found in
       let place : object.0 ≡ begun.place = begun.at ∙ zero-add begun.place in

@@ -6,7 +6,7 @@ use Rattle.qu_runs.proofs.WorldGrowth.{AcceptsMore, has_more, world_after-grows}
 use Rattle.qu_grounds.specs.Grounds.{AcceptsOne, IsDelivered}
 use Rattle.std.specs.List.{AllZip}
 use Rattle.qu_runs.specs.Plain.{ArePlain}
-use Rattle.qu_base.specs.Thresholds.{AreThresholds, quorum, replicas}
+use Rattle.qu_base.specs.Bounds.{AreThresholds, quorum, replicas}
 use Rattle.qu_frames.specs.declared.frame.Body.{Body}
 use Rattle.qu_stamp.specs.declared.candidate.Candidate.{Candidate}
 use Rattle.qu_chain.proofs.Counting.{Found, found_at, test_at-here}

@@ -8,9 +8,7 @@ pub mod TrueLetters
 pub mod Views
 pub mod Acceptors
 pub mod Accepting
-pub mod TrueReplies
 pub mod HeldInRuns
-pub mod Replying
 pub mod Origins
 pub mod FullSets
 pub mod Handled
@@ -18,4 +16,3 @@ pub mod Named
 pub mod Laws
 pub mod JointLaws
 pub mod Chained
-pub mod RepliesInRuns

@@ -4,17 +4,17 @@ use Rattle.std.specs.Prelude.{slice_get, Contains}
 use Rattle.std.proofs.lemmas.Option.{same_Some}
 use Rattle.qu_base.specs.declared.party.ObjectId.{ObjectId}
 use Rattle.qu_seal.specs.declared.constants.TheConstants.{SETS_TAG}
-use Rattle.qu_seal.specs.Digest.{digest_of}
+use Rattle.qu_seal.specs.Digesting.{digest_of}
 use Rattle.qu_stamp.specs.declared.stamp.Stamp.{Stamp}
 use Rattle.qu_stamp.specs.declared.candidate.Candidate.{Candidate}
 use Rattle.qu_history.specs.declared.sets.SetOf.{SetOf}
-use Rattle.qu_history.specs.Forms.{sets_form}
+use Rattle.qu_history.specs.Formats.{sets_form}
 use Rattle.qu_history.specs.Sets.{method_at}
 use Rattle.qu_history.specs.Text.{sets_text, sets_digest}
 use Rattle.qu_history.proofs.Unsealed.{entries_of-one}
 use Rattle.qu_frames.specs.declared.frame.Body.TheVariants as body
 use Rattle.qu_frames.specs.declared.frame.Frame.{Frame}
-use Rattle.qu_frames.specs.Forms.{frame_form}
+use Rattle.qu_frames.specs.Formats.{frame_form}
 use Rattle.qu_replica.specs.Rows.{asked_of, fresh_stamp}
 use Rattle.qu_replica.proofs.FitSteps.{request-fits}
 use Rattle.qu_trace.specs.declared.trace.Entry.{Entry}

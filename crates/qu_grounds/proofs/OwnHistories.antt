@@ -22,7 +22,7 @@ use Rattle.qu_replica.specs.Step.{carried_out, on_frame, on_received, replica_st
 use Rattle.qu_replica.proofs.Own.{IsOwn, own_history, opening-histories}
 use Rattle.qu_world.specs.State.{WorldState, opening_replicas, history_at}
 use Rattle.qu_world.proofs.Each.{set_cases}
-use Rattle.qu_frames.specs.Signed.{brought}
+use Rattle.qu_frames.specs.Signing.{brought}
 use Rattle.qu_seal.specs.Keys.{Ring}
 use Rattle.qu_base.specs.declared.party.Party.TheVariants as party
 
@@ -117,32 +117,32 @@ step-in_place place state text in_place =
 
 -- ---- all replicas of a world
 
-opening-in_place : (me : ReplicaId) (keys : Ring) (bounds : ℕ) (kinds : List KindName)
-    → IsInPlace me.0 (opening_state me keys bounds kinds)
-opening-in_place me keys bounds kinds = record {
+opening-in_place : (me : ReplicaId) (keys : Ring) (kinds : List KindName)
+    → IsInPlace me.0 (opening_state me keys kinds)
+opening-in_place me keys kinds = record {
   me = refl;
   own = λ place history found.
-      let own : IsOwn me place history = own_history (opening_state me keys bounds kinds) place history
-      (opening-histories me keys bounds kinds) found in
+      let own : IsOwn me place history = own_history (opening_state me keys kinds) place history
+      (opening-histories me keys kinds) found in
       record { object = own.object; replica = own.replica };
 }
 
-opening_from : (first count : ℕ) (keys : Ring) (bounds : ℕ) (kinds : List KindName) (number : ℕ)
-    (state : ReplicaState) → slice_get (opening_replicas first count keys bounds kinds) number ≡ Some state
+opening_from : (first count : ℕ) (keys : Ring) (kinds : List KindName) (number : ℕ)
+    (state : ReplicaState) → slice_get (opening_replicas first count keys kinds) number ≡ Some state
     → IsInPlace (first + number) state
 unfolding opening_replicas
-opening_from first zero keys bounds kinds number state found = absurd (none-some state found)
-opening_from first (suc count) keys bounds kinds zero state found =
+opening_from first zero keys kinds number state found = absurd (none-some state found)
+opening_from first (suc count) keys kinds zero state found =
     rw add-zero (subst (IsInPlace first) (same_Some _ state found)
-    (opening-in_place (record { 0 = first }) keys bounds kinds))
-opening_from first (suc count) keys bounds kinds (suc number) state found =
+    (opening-in_place (record { 0 = first }) keys kinds))
+opening_from first (suc count) keys kinds (suc number) state found =
     let sum : (first + 1) + number ≡ first + suc number = omega arith in
-    subst (λ (it : ℕ). IsInPlace it state) sum (opening_from (first + 1) count keys bounds kinds number state found)
+    subst (λ (it : ℕ). IsInPlace it state) sum (opening_from (first + 1) count keys kinds number state found)
 
-pub opening-all_in_place : (count : ℕ) (keys : Ring) (bounds : ℕ) (kinds : List KindName)
-    → AreInPlace (opening_replicas 0 count keys bounds kinds)
-opening-all_in_place count keys bounds kinds = λ number state found.
-    subst (λ (it : ℕ). IsInPlace it state) (zero-add number) (opening_from 0 count keys bounds kinds number state found)
+pub opening-all_in_place : (count : ℕ) (keys : Ring) (kinds : List KindName)
+    → AreInPlace (opening_replicas 0 count keys kinds)
+opening-all_in_place count keys kinds = λ number state found.
+    subst (λ (it : ℕ). IsInPlace it state) (zero-add number) (opening_from 0 count keys kinds number state found)
 
 pub set-in_place : (states : List ReplicaState) (number : ℕ) (new : ReplicaState) → AreInPlace states
     → IsInPlace number new → AreInPlace (slice_set states number new)

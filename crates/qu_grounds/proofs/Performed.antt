@@ -10,7 +10,6 @@ use Rattle.qu_frames.specs.declared.frame.Frame.{Frame}
 use Rattle.qu_replica.specs.declared.versions.Stored.{Stored}
 use Rattle.qu_replica.specs.State.{ReplicaState}
 use Rattle.qu_replica.specs.Versions.{is_stored, version_at}
-use Rattle.qu_replica.proofs.Growth.{version_at-append}
 use Rattle.qu_grounds.specs.Grounds.{AcceptsOne}
 
 -- a version is found where none was held under its stamp before
@@ -39,9 +38,3 @@ module _ {old new : ReplicaState} {received : Frame} {object : ObjectId}
   version_of_accepted none =
       ap (version_at object (accepts.candidate).stamp) accepts.stored
       ∙ version_at-push object (accepts.candidate).stamp old.versions accepts.version none
-
-  -- a version that was held under any stamp of any object is the one that is found
-  pub version_still_held : (other : ObjectId) (stamp : Stamp) (version : ObjState)
-      → version_at other stamp old.versions ≡ Some version → version_at other stamp new.versions ≡ Some version
-  version_still_held other stamp version found =
-      ap (version_at other stamp) accepts.stored ∙ version_at-append other stamp old.versions _ version found

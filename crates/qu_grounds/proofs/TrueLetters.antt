@@ -7,7 +7,7 @@ use Rattle.std.proofs.lemmas.Bool.{cond_both}
 use Rattle.qu_base.specs.declared.party.ClientId.{ClientId}
 use Rattle.qu_base.specs.declared.party.Party.TheVariants as party
 use Rattle.qu_base.specs.declared.party.ReplicaId.{ReplicaId}
-use Rattle.qu_base.specs.Thresholds.{replicas}
+use Rattle.qu_base.specs.Bounds.{replicas}
 use Rattle.qu_history.specs.declared.sets.SetOf.{SetOf}
 use Rattle.qu_history.specs.declared.sealed.Sealed.{Sealed}
 use Rattle.qu_history.specs.History.{ObjectHistory}
@@ -20,7 +20,7 @@ use Rattle.qu_frames.specs.declared.frame.Letter.{Letter}
 use Rattle.qu_frames.specs.declared.verdict.Verdict.{Verdict}
 use Rattle.qu_frames.specs.Body.{body_of}
 use Rattle.qu_frames.specs.Blank as seal
-use Rattle.qu_frames.specs.Forms.{frame_form}
+use Rattle.qu_frames.specs.Formats.{frame_form}
 use Rattle.qu_frames.specs.Decoding.{decoded}
 use Rattle.qu_replica.specs.declared.decision.Accepted.{Accepted}
 use Rattle.qu_replica.specs.declared.decision.Decision.{Decision}
@@ -35,13 +35,13 @@ use Rattle.qu_client.specs.declared.state.ClientState.{ClientState}
 use Rattle.qu_client.specs.declared.state.Stepped.{Stepped}
 use Rattle.qu_client.specs.State.{opening_state, is_older, same_source, keep, keep_all}
 use Rattle.qu_client.specs.Rounds.{sets_of, request_of, requests_from, asked}
-use Rattle.qu_client.specs.Step.{goes_on, counted_in, on_frame, on_received, client_step, client_invoke}
+use Rattle.qu_client.specs.Steps.{goes_on, counted_in, on_frame, on_received, client_step, client_invoke}
 use Rattle.qu_client.proofs.Cases.{counted_cases, invoke_cases}
 use Rattle.qu_runs.specs.Plain.{HasOpParts}
 use Rattle.qu_runs.specs.Carried.{Carries}
 use Rattle.qu_world.proofs.Each.{each_weaker}
 use Rattle.qu_runs.proofs.Carrying.{AsksFit, AnswersFit, signed_carries}
-use Rattle.qu_frames.specs.Signed.{brought, signed}
+use Rattle.qu_frames.specs.Signing.{brought, signed}
 use Rattle.qu_seal.specs.Keys.{Ring}
 use Rattle.qu_frames.proofs.Signed.{brought_is_decoded}
 use Rattle.qu_base.specs.declared.party.Party.{Party}
@@ -66,7 +66,7 @@ IsTrueLetter Held bounds letter = (sent : Frame) → Carries letter sent → IsT
 
 -- each history that the client keeps was held
 pub record IsTrueClient (Held : ObjectHistory → Type 0) (bounds : ℕ) (state : ClientState) : Type 0 where
-  pub bounds_are : state.bounds ≡ bounds
+  pub bounds_are : state.keys.bounds ≡ bounds
   pub kept : AllByRecursion (λ (it : Kept). Held (it.sealed).history) state.kept
   pub work : IfSome state.work (λ (work : Work). HasOpParts work.op)
 
@@ -153,13 +153,13 @@ module _ (Held : ObjectHistory → Type 0) (bounds : ℕ) where
 
   -- all replicas are asked, by the sets of what is kept
   asked-true : (state : ClientState) (work : Work)
-      → frame_form.Fits (request_of state.me work (sets_of state.bounds state.kept work.op))
+      → frame_form.Fits (request_of state.me work (sets_of state.keys.bounds state.kept work.op))
       → IsTrueClient Held bounds state → HasOpParts work.op
-      → IsTrueStep Held bounds (goes_on (asked state work (sets_of state.bounds state.kept work.op)))
+      → IsTrueStep Held bounds (goes_on (asked state work (sets_of state.keys.bounds state.kept work.op)))
   asked-true state work fits client parts = record {
     state = record { bounds_are = client.bounds_are; kept = client.kept; work = parts };
-    letters = requests-true state.keys 0 (replicas state.bounds) state.me work
-        (sets_of state.bounds state.kept work.op) fits (record {
+    letters = requests-true state.keys 0 (replicas state.keys.bounds) state.me work
+        (sets_of state.keys.bounds state.kept work.op) fits (record {
           kept = state.kept;
           op = work.op;
           parts = parts;
@@ -245,8 +245,9 @@ module _ (Held : ObjectHistory → Type 0) (bounds : ℕ) where
         letters = tt;
       })
 
-  pub opening-true : (me : ClientId) (keys : Ring) → IsTrueClient Held bounds (opening_state me keys bounds)
-  opening-true me keys = record { bounds_are = refl; kept = tt; work = tt }
+  pub opening-true : (me : ClientId) (keys : Ring) → keys.bounds ≡ bounds
+      → IsTrueClient Held bounds (opening_state me keys)
+  opening-true me keys same = record { bounds_are = same; kept = tt; work = tt }
 
 -- ---- the steps of a replica
 
@@ -284,7 +285,7 @@ module _ (Held : ObjectHistory → Type 0) (bounds : ℕ) where
         λ sent carries. subst (IsTrueFrame Held bounds)
             (sym (signed_carries (reply new client number round sets verdict) new.keys (party.Client client)
             (answer_frame new client number round sets verdict) sent (fits verdict accepted refl) refl carries))
-            (sealed-held new.bounds (shown new sets) (shown-held new sets has)),
+            (sealed-held new.keys.bounds (shown new sets) (shown-held new sets has)),
         tt,
       )
   carried_out-true state client number round sets Waits fits has = tt

@@ -7,9 +7,8 @@ use Rattle.qu_base.specs.declared.party.ClientId.{ClientId}
 use Rattle.qu_base.specs.declared.party.Party.{Party}
 use Rattle.qu_base.specs.declared.party.Party.TheVariants as party
 use Rattle.qu_base.specs.declared.party.ReplicaId.{ReplicaId}
-use Rattle.qu_base.specs.Thresholds.{replicas}
+use Rattle.qu_base.specs.Bounds.{replicas}
 use Rattle.qu_history.specs.declared.sets.SetOf.{SetOf}
-use Rattle.qu_history.specs.declared.sealed.Sealed.{Sealed}
 use Rattle.qu_history.specs.History.{ObjectHistory}
 use Rattle.qu_history.specs.Sets.{histories}
 use Rattle.qu_objects.specs.declared.op.Op.{Op}
@@ -18,7 +17,6 @@ use Rattle.qu_frames.specs.declared.frame.Body.{Body}
 use Rattle.qu_frames.specs.declared.frame.Frame.{Frame}
 use Rattle.qu_frames.specs.declared.frame.Frame.TheVariants as frame
 use Rattle.qu_frames.specs.declared.frame.Letter.{Letter}
-use Rattle.qu_frames.specs.declared.verdict.Verdict.{Verdict}
 use Rattle.qu_frames.specs.Body.{body_of}
 use Rattle.qu_frames.specs.Decoding.{decoded}
 use Rattle.qu_replica.specs.State.{ReplicaState}
@@ -26,7 +24,7 @@ use Rattle.qu_replica.specs.Step.{replica_step}
 use Rattle.qu_replica.specs.Growth.{has_parts, HasParts}
 use Rattle.qu_client.specs.declared.state.ClientState.{ClientState}
 use Rattle.qu_client.specs.declared.state.Stepped.{Stepped}
-use Rattle.qu_client.specs.Step.{client_invoke, client_step, client_tick}
+use Rattle.qu_client.specs.Steps.{client_invoke, client_step, client_tick}
 use Rattle.qu_trace.specs.declared.event.Event.{Event}
 use Rattle.qu_trace.specs.declared.event.Event.TheVariants.{Invoke, Deliver, Tick, Inject}
 use Rattle.qu_trace.specs.declared.trace.Entry.{Entry}
@@ -36,7 +34,7 @@ use Rattle.qu_trace.specs.Letters.{letters_of}
 use Rattle.qu_world.specs.State.{WorldState, opening_world, opening_clients, numbered, letter_of, history_at, ring_of}
 use Rattle.qu_world.specs.Step.{world_step, unchanged, at_replica, at_client, received, delivered}
 use Rattle.qu_world.specs.Run.{IsRun}
-use Rattle.qu_runs.specs.Carried.{Carries, Asks, Tells}
+use Rattle.qu_runs.specs.Carried.{Carries, Asks}
 use Rattle.qu_runs.specs.Times.{world_after}
 use Rattle.qu_grounds.specs.Views.{WasHeld, IsOfKept}
 use Rattle.qu_runs.specs.Plain.{HasOpParts, IsPlain, ArePlain}
@@ -176,19 +174,20 @@ module _ (Held : ObjectHistory → Type 0) (bounds : ℕ) where
       (λ me state taken found carries. fit.answers me state found number letter taken sent carries) fit before has)
       plain fits now
 
-  opening_clients-true : (keys : Ring) (number count : ℕ) → AllByRecursion (IsTrueClient Held bounds)
-      (opening_clients number count keys bounds)
+  opening_clients-true : (keys : Ring) → keys.bounds ≡ bounds → (number count : ℕ)
+      → AllByRecursion (IsTrueClient Held bounds)
+      (opening_clients number count keys)
   unfolding opening_clients
-  opening_clients-true keys number zero = tt
-  opening_clients-true keys number (suc count) =
-      (opening-true Held bounds (record { 0 = number }) keys, opening_clients-true keys (number + 1) count)
+  opening_clients-true keys same number zero = tt
+  opening_clients-true keys same number (suc count) =
+      (opening-true Held bounds (record { 0 = number }) keys same, opening_clients-true keys same (number + 1) count)
 
 opening_world-true : (Held : ObjectHistory → Type 0) (setup : Setup) → IsTrueWorld Held setup.bounds
     (opening_world setup)
 unfolding letters_of
 opening_world-true Held setup = record {
-  replicas = opening-all_in_place (replicas setup.bounds) (ring_of setup) setup.bounds setup.kinds;
-  clients = opening_clients-true Held setup.bounds (ring_of setup) 1 setup.clients;
+  replicas = opening-all_in_place (replicas setup.bounds) (ring_of setup) setup.kinds;
+  clients = opening_clients-true Held setup.bounds (ring_of setup) refl 1 setup.clients;
   letters = tt;
 }
 
@@ -272,10 +271,3 @@ module _ (trace : Trace) (is_run : IsRun trace) (have : ArePlain trace) (count :
 
     pub request_has_parts : IsTrue (has_parts body)
     request_has_parts = sent_has_parts (frame.Request client asked round sets body is.mac) is.carries
-
-  -- what a reply shows was held
-  pub view_of_reply : (replica : ReplicaId) (client : ClientId) (asked round : ℕ) (verdict : Verdict)
-      (shown : List Sealed) → Tells letter replica client asked round verdict shown
-      → AllByRecursion (WasHeld trace count) (histories shown)
-  view_of_reply replica client asked round verdict shown is =
-      true_frame (frame.Reply replica client asked round verdict is.culled shown is.mac) is.carries

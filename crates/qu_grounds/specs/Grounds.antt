@@ -9,7 +9,7 @@ use Rattle.qu_history.specs.declared.sets.SetOf.{SetOf}
 use Rattle.qu_history.specs.Sets.{entries_of, latest_of, method_at}
 use Rattle.qu_objects.specs.declared.act.Method.{Method}
 use Rattle.qu_objects.specs.declared.state.ObjState.{ObjState}
-use Rattle.qu_objects.specs.Perform.{performed_answer, performed_values}
+use Rattle.qu_objects.specs.Performing.{performed_answer, performed_values}
 use Rattle.qu_frames.specs.declared.frame.Body.TheVariants as body
 use Rattle.qu_frames.specs.declared.frame.Frame.{Frame}
 use Rattle.qu_frames.specs.declared.frame.Frame.TheVariants as frame
@@ -25,7 +25,7 @@ use Rattle.qu_runs.specs.Carried.{handed, Brings}
 -- a quorum holds and that nothing shown is above, and the replica itself has nothing above what is shown
 pub record IsGround (state : ReplicaState) (asked : Asked) (object : ObjectId) (candidate : Candidate) : Type 0 where
   pub base : Candidate
-  pub method : method_at state.bounds (entries_of object asked.sets) ≡ Some base
+  pub method : method_at state.keys.bounds (entries_of object asked.sets) ≡ Some base
   pub prior : candidate.prior ≡ base.stamp
   pub stamp : candidate.stamp ≡ fresh_stamp asked object
   pub current : is_below (latest_of (entries_of object asked.sets)) (own_latest state object) ≡ false

@@ -1,7 +1,6 @@
 pub mod Views
 pub mod Grounds
 pub mod Chained
-pub mod Replies
 pub mod Origins
 pub mod Turns
 pub mod Named

@@ -12,7 +12,7 @@ use Rattle.qu_history.specs.declared.sealed.Sealed.{Sealed}
 use Rattle.qu_history.specs.declared.sets.SetOf.{SetOf}
 use Rattle.qu_history.specs.History.{ObjectHistory}
 use Rattle.qu_history.specs.Sets.{histories, is_entry, are_entries, is_set, are_sets_from, are_sets}
-use Rattle.qu_history.specs.Culled.{is_right, culled_set, culled}
+use Rattle.qu_history.specs.Culling.{is_right, culled_set, culled}
 
 entry_lower : (object : ObjectId) (least lower : ℕ) (entry : ObjectHistory) → lower ≤ least
     → is_entry object least entry ≡ true → is_entry object lower entry ≡ true

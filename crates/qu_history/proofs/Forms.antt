@@ -7,15 +7,15 @@ use Rattle.qu_base.specs.declared.bad_text.Why.TheVariants.{Range, Order}
 use Rattle.qu_base.specs.declared.limits.TheConstants.{OBJECT_IDS, REPLICA_IDS}
 use Rattle.qu_base.specs.declared.party.ObjectId.{ObjectId}
 use Rattle.qu_base.specs.declared.party.ReplicaId.{ReplicaId}
-use Rattle.qu_base.specs.Front.{Front}
+use Rattle.qu_base.specs.Cursor.{Front}
 use Rattle.qu_base.specs.Format.{IsPrefixCode, Format, IsExact, AreBytes, FitsFrom, number, bytes, tested, object_form, replica_form}
 use Rattle.qu_base.specs.Reading.{Gives, IsGiven}
 use Rattle.qu_base.proofs.Formats.{prefix_code, wide8, wide16, number-exact, bytes-exact, both-exact, tested-exact, fields-exact, counted-exact, object-exact, replica-exact}
 use Rattle.qu_base.proofs.Reading.{given_exactly}
-use Rattle.qu_base.specs.Thresholds.{is_replica_count}
+use Rattle.qu_base.specs.Bounds.{is_replica_count}
 use Rattle.qu_stamp.specs.declared.stamp.Stamp.{Stamp}
 use Rattle.qu_stamp.specs.declared.candidate.Candidate.{Candidate}
-use Rattle.qu_stamp.specs.Forms.{stamp_form, candidate_form}
+use Rattle.qu_stamp.specs.Formats.{stamp_form, candidate_form}
 use Rattle.qu_stamp.specs.Stamp.{opening_stamp, same_stamp}
 use Rattle.qu_stamp.proofs.Forms.{prior_of_opening, stamp_with-exact, candidate_with-exact}
 use Rattle.qu_history.specs.declared.limits.TheConstants.{HISTORY_LIMIT, OBJECTS_LIMIT, SETS_YET}
@@ -23,7 +23,7 @@ use Rattle.qu_history.specs.declared.sealed.Sealed.{Sealed}
 use Rattle.qu_history.specs.declared.sets.SetOf.{SetOf}
 use Rattle.qu_history.specs.History.{ObjectHistory, is_history, rises_from}
 use Rattle.qu_history.specs.Sets.{histories, is_entry, are_entries, is_set, are_sets_from, are_sets}
-use Rattle.qu_history.specs.Forms.{next_stamp, next_candidate, candidates_form, history_with, history_form, macs_form, sealed_with, sealed_form, object_from, entry_form, next_replica, sealed_entry_form, next_entry, entries_form, set_form, sets_form, histories_form, object_text_form, sets_text_form, shown_by, next_object, shown_form}
+use Rattle.qu_history.specs.Formats.{next_stamp, next_candidate, candidates_form, history_with, history_form, macs_form, sealed_with, sealed_form, object_from, entry_form, next_replica, sealed_entry_form, next_entry, entries_form, set_form, sets_form, histories_form, object_text_form, sets_text_form, shown_by, next_object, shown_form}
 
 -- ---- histories
 

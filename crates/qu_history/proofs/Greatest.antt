@@ -9,7 +9,7 @@ use Rattle.qu_stamp.specs.declared.candidate.Candidate.{Candidate}
 use Rattle.qu_stamp.specs.Candidate.{is_before, same}
 use Rattle.qu_history.specs.History.{holds}
 use Rattle.qu_history.specs.Sets.{greater, greatest_from, greatest}
-use Rattle.qu_history.specs.Lasts.{greater_of}
+use Rattle.qu_history.specs.Entries.{greater_of}
 
 -- a candidate of the list that is before no other
 pub record IsGreatest (best : Candidate) (candidates : List Candidate) : Type 0 where

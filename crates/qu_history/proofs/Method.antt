@@ -13,10 +13,10 @@ use Rattle.qu_stamp.specs.declared.stamp.Stamp.{Stamp}
 use Rattle.qu_stamp.specs.declared.candidate.Candidate.{Candidate}
 use Rattle.qu_stamp.specs.Stamp.{opening_stamp, is_below, same_stamp}
 use Rattle.qu_stamp.specs.Candidate.{same}
-use Rattle.qu_base.specs.Thresholds.{quorum, repair}
+use Rattle.qu_base.specs.Bounds.{quorum, repair}
 use Rattle.qu_history.specs.History.{ObjectHistory, is_history, greater_stamp, greatest_stamp, latest, holds, last}
 use Rattle.qu_history.specs.Sets.{order_of, candidates_of, latest_of, greatest, object_candidate, if_method, method_at}
-use Rattle.qu_history.specs.Lasts.{IsEntryUpTo, times_last, is_last_of, greatest_last}
+use Rattle.qu_history.specs.Entries.{IsEntryUpTo, times_last, is_last_of, greatest_last}
 use Rattle.qu_history.proofs.Stamps.{latest-append, not_below_latest, not_below_greater_left, not_below_greater_right, equal_last_of, holds_last}
 use Rattle.qu_history.proofs.Greatest.{IsGreatest, greatest_cases, greatest_is, holds-filter, holds_in_filter}
 

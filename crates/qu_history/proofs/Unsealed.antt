@@ -8,7 +8,7 @@ use Rattle.qu_history.specs.declared.sealed.Sealed.{Sealed}
 use Rattle.qu_history.specs.declared.sets.SetOf.{SetOf}
 use Rattle.qu_history.specs.History.{ObjectHistory}
 use Rattle.qu_history.specs.Sets.{histories, entries_of}
-use Rattle.qu_history.specs.Forms.{entry_form, next_replica, sealed_entry_form, next_entry, entries_form, set_form, sets_form, histories_form, object_text_form, sets_text_form}
+use Rattle.qu_history.specs.Formats.{entry_form, next_replica, sealed_entry_form, next_entry, entries_form, set_form, sets_form, histories_form, object_text_form, sets_text_form}
 use Rattle.qu_history.specs.Text.{unsealed, sets_text}
 use Rattle.qu_history.proofs.Forms.{sets_text-exact}
 

@@ -1,6 +1,6 @@
 pub mod History
 pub mod Sets
-pub mod Lasts
-pub mod Forms
+pub mod Entries
+pub mod Formats
 pub mod Text
-pub mod Culled
+pub mod Culling

@@ -4,11 +4,11 @@ use Rattle.std.specs.Prelude.{ℕ, List, map}
 use Rattle.qu_base.specs.declared.party.Digest.{Digest}
 use Rattle.qu_base.specs.declared.party.ObjectId.{ObjectId}
 use Rattle.qu_seal.specs.declared.constants.TheConstants.{SETS_TAG}
-use Rattle.qu_seal.specs.Digest.{digest_of}
+use Rattle.qu_seal.specs.Digesting.{digest_of}
 use Rattle.qu_history.specs.declared.sets.SetOf.{SetOf}
 use Rattle.qu_history.specs.History.{ObjectHistory}
 use Rattle.qu_history.specs.Sets.{histories}
-use Rattle.qu_history.specs.Forms.{sets_text_form}
+use Rattle.qu_history.specs.Formats.{sets_text_form}
 
 -- the objects, each with the histories of its entries
 abbrev pub unsealed : List SetOf → List (ObjectId × List ObjectHistory)

@@ -1,7 +1,7 @@
 ghost use Rattle.std.specs.Prelude.{◌≡◌, ◌++◌, [], ◌∷◌, not, filter, map, IfOk, OnOk};
 ghost use Rattle.std.specs.List.{flat_map};
 ghost use Rattle.std.specs.Option.{option_copied};
-ghost use Rattle.qu_history.specs.Culled.{history_digest, mac_is_right, is_right, culled_set, culled, left_of, left_out};
+ghost use Rattle.qu_history.specs.Culling.{history_digest, mac_is_right, is_right, culled_set, culled, left_of, left_out};
 
 use super::{History, Sealed, SetOf, Sets};
 use qu_base::{Digest, List, NoMemory, ObjectId, Outbytes, Party, ReplicaId};
@@ -29,7 +29,7 @@ impl Culled {
 
 impl History {
     /// The digest of which the HMACs of a history are made.
-    #[tactic(auto, unfolding(crate::specs::Culled::history_digest))]
+    #[tactic(auto, unfolding(crate::specs::Culling::history_digest))]
     pub fn digest(&self, alloc: Global) -> Result<Digest, NoMemory>
         ensures { IfOk result (λ digest. digest ≡ history_digest self.now) }
     {
@@ -41,7 +41,7 @@ impl History {
 
 impl Sealed {
     /// Whether it has an HMAC for each replica, and that for this reader is right.
-    #[tactic(auto, unfolding(crate::specs::Culled::is_right))]
+    #[tactic(auto, unfolding(crate::specs::Culling::is_right))]
     pub fn is_right(&self, alloc: Global, me: ReplicaId, keys: &KeyRing) -> Result<bool, NoMemory>
         ensures { IfOk result (λ right. right ≡ is_right keys.now me self.now) }
     {
@@ -92,7 +92,7 @@ impl Sets {
 }
 
 /// The objects without such entries, which are added to those that are left out.
-#[tactic(auto, unfolding(crate::specs::Culled::culled, crate::specs::Culled::left_out))]
+#[tactic(auto, unfolding(crate::specs::Culling::culled, crate::specs::Culling::left_out))]
 fn cull_all(
     alloc: Global,
     sets: &[SetOf],

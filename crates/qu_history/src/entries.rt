@@ -2,7 +2,7 @@ ghost use Rattle.std.specs.Prelude.{◌≡◌, ◌≤◌, length, All};
 ghost use Rattle.qu_stamp.specs.Candidate.{same};
 ghost use Rattle.qu_history.specs.History.{last};
 ghost use Rattle.qu_history.specs.Sets.{histories, order_of, latest_of, method_at};
-ghost use Rattle.qu_history.specs.Lasts.{IsEntryUpTo, times_last, is_last_of, greatest_last, greater_of};
+ghost use Rattle.qu_history.specs.Entries.{IsEntryUpTo, times_last, is_last_of, greatest_last, greater_of};
 
 use super::Sealed;
 use qu_base::Bounds;
@@ -53,7 +53,7 @@ pub fn method_at(entries: &[Sealed], bounds: &Bounds) -> Option<Candidate>
 }
 
 /// How many of the entries end with the candidate.
-#[tactic(auto, unfolding(crate::specs::Lasts::times_last))]
+#[tactic(auto, unfolding(crate::specs::Entries::times_last))]
 fn times_last(entries: &[Sealed], candidate: &Candidate) -> usize
     ensures { result ≡ times_last candidate.now (histories entries.now) }
 {
@@ -82,7 +82,7 @@ fn is_last_of(entries: &[Sealed], stamp: Stamp, least: usize, candidate: &Candid
 
 /// The greatest candidate with this stamp, without barrier, with which at least so many of the
 /// entries end.
-#[tactic(auto, unfolding(crate::specs::Lasts::greatest_last), using(crate::proofs::Greatest::greatest_none, crate::proofs::Greatest::greatest_more))]
+#[tactic(auto, unfolding(crate::specs::Entries::greatest_last), using(crate::proofs::Greatest::greatest_none, crate::proofs::Greatest::greatest_more))]
 fn greatest_last(entries: &[Sealed], stamp: Stamp, least: usize) -> Option<Candidate>
     ensures { result ≡ greatest_last (histories entries.now) stamp least }
 {

@@ -1,6 +1,6 @@
 ghost use Rattle.qu_base.specs.declared.party.ReplicaId.{ReplicaId};
 ghost use Rattle.qu_base.specs.Format.{IsPrefixCode};
-ghost use Rattle.qu_history.specs.Forms.{history_form, sealed_form, sets_form, shown_form, sets_text_form};
+ghost use Rattle.qu_history.specs.Formats.{history_form, sealed_form, sets_form, shown_form, sets_text_form};
 
 /// By each format of this crate, what is read is spelled so, what is spelled so is read, and no
 /// spelling begins another.

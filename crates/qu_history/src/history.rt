@@ -2,10 +2,10 @@ ghost use Rattle.std.specs.Prelude.{◌≡◌, ◌<◌, ◌≤◌, ◌↔◌, le
 ghost use Rattle.qu_stamp.specs.declared.stamp.Stamp.{Stamp};
 ghost use Rattle.qu_stamp.specs.Candidate.{opening};
 ghost use Rattle.qu_stamp.specs.Stamp.{is_below};
-ghost use Rattle.qu_base.specs.Front.{Extends};
+ghost use Rattle.qu_base.specs.Cursor.{Extends};
 ghost use Rattle.qu_base.specs.Reading.{Gives, IsGiven};
 ghost use Rattle.qu_history.specs.History.{is_history, latest, holds, last};
-ghost use Rattle.qu_history.specs.Forms.{history_form};
+ghost use Rattle.qu_history.specs.Formats.{history_form};
 
 use super::HISTORY_LIMIT;
 use super::reading::candidates_at;
@@ -184,7 +184,7 @@ impl History {
         Ok(history)
     }
 
-    #[tactic(auto, unfolding(crate::specs::Forms::history_form))]
+    #[tactic(auto, unfolding(crate::specs::Formats::history_form))]
     fn at(alloc: Global, text: &mut Cursor) -> Result<History, ReadFail>
         ensures { Gives history_form result text.old text.new }
     {

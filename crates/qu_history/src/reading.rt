@@ -1,9 +1,9 @@
 ghost use Rattle.std.specs.Prelude.{◌≡◌, ◌≤◌, length, None, Some, IsTrue, IfOk, OnErr};
 ghost use Rattle.qu_base.specs.Format.{items};
 ghost use Rattle.qu_base.specs.Reading.{Reads, Gives, IsGiven};
-ghost use Rattle.qu_stamp.specs.Forms.{candidate_form};
+ghost use Rattle.qu_stamp.specs.Formats.{candidate_form};
 ghost use Rattle.qu_history.specs.History.{is_history};
-ghost use Rattle.qu_history.specs.Forms.{next_stamp, next_candidate, candidates_form};
+ghost use Rattle.qu_history.specs.Formats.{next_stamp, next_candidate, candidates_form};
 
 use super::HISTORY_LIMIT;
 use qu_base::{BadText, Cursor, List, NoMemory, ReadFail, Why};
@@ -22,7 +22,7 @@ pub(super) fn candidates_at(alloc: Global, text: &mut Cursor) -> Result<List<Can
     Ok(candidates)
 }
 
-#[tactic(auto, unfolding(crate::specs::Forms::candidates_form))]
+#[tactic(auto, unfolding(crate::specs::Formats::candidates_form))]
 fn counted_candidates(alloc: Global, text: &mut Cursor) -> Result<List<Candidate>, ReadFail>
     ensures { Gives candidates_form result text.old text.new }
 {
@@ -51,7 +51,7 @@ fn next_candidates(
 }
 
 /// The candidate after one with this stamp.
-#[tactic(auto, unfolding(crate::specs::Forms::next_candidate))]
+#[tactic(auto, unfolding(crate::specs::Formats::next_candidate))]
 fn next_candidate(text: &mut Cursor, before: Option<Stamp>) -> Result<Candidate, BadText>
     ensures { Reads (next_candidate before) result text.old text.new }
 {

@@ -1,6 +1,6 @@
 ghost use Rattle.std.specs.Prelude.{◌≡◌, ◌<◌, ◌≤◌, IfOk, OnErr};
 ghost use Rattle.qu_base.specs.Reading.{Reads, Gives};
-ghost use Rattle.qu_history.specs.Forms.{some_macs, macs_form, object_from, entry_form, sealed_entry_form, some_entries, entries_form, shown_by, some_shown, shown_form};
+ghost use Rattle.qu_history.specs.Formats.{some_macs, macs_form, object_from, entry_form, sealed_entry_form, some_entries, entries_form, shown_by, some_shown, shown_form};
 
 use super::reading::candidates_at;
 use super::{History, OBJECTS_LIMIT, Sealed};
@@ -28,7 +28,7 @@ pub fn object_from(least: u16, text: &mut Cursor) -> Result<ObjectId, BadText>
 }
 
 /// A count, and so many entries of this object, by rising replicas.
-#[tactic(auto, unfolding(crate::specs::Forms::entries_form))]
+#[tactic(auto, unfolding(crate::specs::Formats::entries_form))]
 pub(crate) fn entries_at(
     alloc: Global,
     object: ObjectId,
@@ -61,7 +61,7 @@ fn next_entries(
 }
 
 /// The next entry of this object, by a replica that is not below this number.
-#[tactic(auto, unfolding(crate::specs::Forms::sealed_entry_form))]
+#[tactic(auto, unfolding(crate::specs::Formats::sealed_entry_form))]
 fn entry_at(
     alloc: Global,
     object: ObjectId,
@@ -77,7 +77,7 @@ fn entry_at(
 }
 
 /// Its history.
-#[tactic(auto, unfolding(crate::specs::Forms::entry_form), using(crate::proofs::Forms::replica_below))]
+#[tactic(auto, unfolding(crate::specs::Formats::entry_form), using(crate::proofs::Forms::replica_below))]
 fn entry_history(
     alloc: Global,
     object: ObjectId,
@@ -103,7 +103,7 @@ fn entry_history(
 }
 
 /// A count, and so many sealed histories of this replica, by rising objects.
-#[tactic(auto, unfolding(crate::specs::Forms::shown_form))]
+#[tactic(auto, unfolding(crate::specs::Formats::shown_form))]
 pub(crate) fn shown_at(
     alloc: Global,
     replica: ReplicaId,
@@ -136,7 +136,7 @@ fn next_shown(
 }
 
 /// The next sealed history of this replica, of an object that is not below this number.
-#[tactic(auto, unfolding(crate::specs::Forms::shown_by))]
+#[tactic(auto, unfolding(crate::specs::Formats::shown_by))]
 fn shown_by(
     alloc: Global,
     replica: ReplicaId,

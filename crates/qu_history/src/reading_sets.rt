@@ -1,6 +1,6 @@
 ghost use Rattle.std.specs.Prelude.{◌≡◌, ◌<◌, IfOk, OnErr};
 ghost use Rattle.qu_base.specs.Reading.{Gives, IsGiven};
-ghost use Rattle.qu_history.specs.Forms.{set_form, some_sets, sets_form, shown_form};
+ghost use Rattle.qu_history.specs.Formats.{set_form, some_sets, sets_form, shown_form};
 
 use super::reading_entries::{entries_at, shown_at};
 use super::{SETS_YET, Sealed, SetOf, Sets, object_from};
@@ -24,7 +24,7 @@ pub fn read_sets(alloc: Global, text: &mut Cursor) -> Result<Sets, ReadFail>
 }
 
 /// A count, and so many objects with their entries.
-#[tactic(auto, unfolding(crate::specs::Forms::sets_form))]
+#[tactic(auto, unfolding(crate::specs::Formats::sets_form))]
 fn sets_at(alloc: Global, text: &mut Cursor) -> Result<List<SetOf>, ReadFail>
     ensures { Gives sets_form result text.old text.new }
 {
@@ -48,7 +48,7 @@ fn next_sets(alloc: Global, count: u8, text: &mut Cursor) -> Result<List<SetOf>,
 }
 
 /// The next object, which is not below this number, with its entries.
-#[tactic(auto, unfolding(crate::specs::Forms::set_form))]
+#[tactic(auto, unfolding(crate::specs::Formats::set_form))]
 fn set_at(alloc: Global, least: u16, text: &mut Cursor) -> Result<SetOf, ReadFail>
     ensures given { Gives (set_form least) result text.old text.new }
     ensures below { IfOk result (λ set. (set.object).0 < OBJECT_IDS) }

@@ -1,7 +1,7 @@
 ghost use Rattle.std.specs.Prelude.{◌≡◌, ◌++◌, OnOk, IfOk};
 ghost use Rattle.std.specs.List.{flat_map};
 ghost use Rattle.qu_history.specs.Sets.{histories};
-ghost use Rattle.qu_history.specs.Forms.{history_form, object_text_form, sets_text_form};
+ghost use Rattle.qu_history.specs.Formats.{history_form, object_text_form, sets_text_form};
 ghost use Rattle.qu_history.specs.Text.{unsealed, sets_text, sets_digest};
 
 use super::{Sealed, SetOf, Sets};
@@ -22,7 +22,7 @@ impl Sets {
 }
 
 /// Appends the count of the objects, and each of them.
-#[tactic(auto, unfolding(crate::specs::Forms::sets_text_form))]
+#[tactic(auto, unfolding(crate::specs::Formats::sets_text_form))]
 fn append_sets(sets: &[SetOf], out: &mut Outbytes) -> Result<(), NoMemory>
     ensures { OnOk result (out.new ≡ out.old ++ sets_text_form.spell (unsealed sets.now)) }
 {
@@ -41,7 +41,7 @@ fn append_each(sets: &[SetOf], out: &mut Outbytes) -> Result<(), NoMemory>
 }
 
 /// Appends the object, and its histories.
-#[tactic(auto, unfolding(crate::specs::Forms::object_text_form, crate::specs::Forms::histories_form))]
+#[tactic(auto, unfolding(crate::specs::Formats::object_text_form, crate::specs::Formats::histories_form))]
 fn append_set(set: &SetOf, out: &mut Outbytes) -> Result<(), NoMemory>
     ensures { OnOk result
         (out.new ≡ out.old ++ (object_text_form 0).spell (set.now.object, histories set.now.entries)) }

@@ -1,8 +1,8 @@
 ghost use Rattle.std.specs.Prelude.{◌≡◌, ◌++◌, take, length, OnOk, OnErr};
 ghost use Rattle.std.specs.List.{flat_map};
-ghost use Rattle.qu_base.specs.Front.{Extends};
-ghost use Rattle.qu_stamp.specs.Forms.{candidate_form};
-ghost use Rattle.qu_history.specs.Forms.{candidates_form, history_form};
+ghost use Rattle.qu_base.specs.Cursor.{Extends};
+ghost use Rattle.qu_stamp.specs.Formats.{candidate_form};
+ghost use Rattle.qu_history.specs.Formats.{candidates_form, history_form};
 
 use super::History;
 use qu_base::{NoMemory, Outbytes};
@@ -10,7 +10,7 @@ use qu_stamp::{Candidate, write_candidate};
 
 impl History {
     /// Appends object, replica and candidates.
-    #[tactic(auto, unfolding(crate::specs::Forms::history_form, crate::specs::Forms::candidates_form))]
+    #[tactic(auto, unfolding(crate::specs::Formats::history_form, crate::specs::Formats::candidates_form))]
     pub(super) fn append(&self, out: &mut Outbytes) -> Result<(), NoMemory>
         ensures ok { OnOk result (out.new ≡ out.old ++ history_form.spell self.now) }
         ensures more { Extends out.old out.new }

@@ -1,7 +1,7 @@
 ghost use Rattle.std.specs.Prelude.{◌≡◌, ◌++◌, List, take, length, OnOk, OnErr};
 ghost use Rattle.std.specs.List.{flat_map};
 ghost use Rattle.qu_base.specs.declared.party.ReplicaId.{ReplicaId};
-ghost use Rattle.qu_history.specs.Forms.{macs_form, sealed_form, entries_form, set_form, sets_form, shown_form};
+ghost use Rattle.qu_history.specs.Formats.{macs_form, sealed_form, entries_form, set_form, sets_form, shown_form};
 
 use super::{Sealed, SetOf, Sets};
 use qu_base::{NoMemory, Outbytes};
@@ -20,7 +20,7 @@ pub fn write_sets(sets: &Sets, out: &mut Outbytes) -> Result<(), NoMemory>
 }
 
 /// Appends the count of the objects, and each of them; on failure a part of this.
-#[tactic(auto, unfolding(crate::specs::Forms::sets_form), using(qu_base::proofs::Writing::writing_laws))]
+#[tactic(auto, unfolding(crate::specs::Formats::sets_form), using(qu_base::proofs::Writing::writing_laws))]
 fn append_sets(sets: &[SetOf], out: &mut Outbytes) -> Result<(), NoMemory>
     ensures ok { OnOk result (out.new ≡ out.old ++ sets_form.spell sets.now) }
     ensures err { OnErr result (take (length out.old) out.new ≡ out.old) }
@@ -42,7 +42,7 @@ fn append_each_set(sets: &[SetOf], out: &mut Outbytes) -> Result<(), NoMemory>
 }
 
 /// Appends the object, and its entries; on failure a part of this.
-#[tactic(auto, unfolding(crate::specs::Forms::set_form, crate::specs::Forms::entries_form), using(qu_base::proofs::Writing::writing_laws))]
+#[tactic(auto, unfolding(crate::specs::Formats::set_form, crate::specs::Formats::entries_form), using(qu_base::proofs::Writing::writing_laws))]
 fn append_set(set: &SetOf, out: &mut Outbytes) -> Result<(), NoMemory>
     ensures ok { OnOk result (out.new ≡ out.old ++ (set_form 0).spell set.now) }
     ensures err { OnErr result (take (length out.old) out.new ≡ out.old) }
@@ -66,7 +66,7 @@ pub fn write_shown(shown: &[Sealed], out: &mut Outbytes) -> Result<(), NoMemory>
 }
 
 /// Appends the count of the sealed histories, and each of them; on failure a part of this.
-#[tactic(auto, unfolding(crate::specs::Forms::shown_form), using(qu_base::proofs::Writing::writing_laws))]
+#[tactic(auto, unfolding(crate::specs::Formats::shown_form), using(qu_base::proofs::Writing::writing_laws))]
 fn append_shown(shown: &[Sealed], out: &mut Outbytes) -> Result<(), NoMemory>
     ensures ok { (replica : ReplicaId) → OnOk result (out.new ≡ out.old ++ (shown_form replica).spell shown.now) }
     ensures err { OnErr result (take (length out.old) out.new ≡ out.old) }
@@ -88,7 +88,7 @@ fn append_all(entries: &[Sealed], out: &mut Outbytes) -> Result<(), NoMemory>
 }
 
 /// Appends the history, and its HMACs; on failure a part of this.
-#[tactic(auto, unfolding(crate::specs::Forms::sealed_form), using(qu_base::proofs::Writing::writing_laws))]
+#[tactic(auto, unfolding(crate::specs::Formats::sealed_form), using(qu_base::proofs::Writing::writing_laws))]
 fn append_sealed(sealed: &Sealed, out: &mut Outbytes) -> Result<(), NoMemory>
     ensures ok { OnOk result (out.new ≡ out.old ++ sealed_form.spell sealed.now) }
     ensures err { OnErr result (take (length out.old) out.new ≡ out.old) }

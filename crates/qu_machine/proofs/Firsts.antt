@@ -6,7 +6,7 @@ use Rattle.std.specs.List.{position_or_len}
 use Rattle.std.proofs.lemmas.Bool.{false≢true, cases_Bool, cases_lt, lt-ltb, ltb-true}
 use Rattle.std.proofs.lemmas.List.Quantifiers.{position-Some}
 use Rattle.std.proofs.lemmas.Option.{none-some, same_Some, cond_some, slice_get_cases, slice_get_within, get_or_from_slice_get, slice_get_read}
-use Rattle.qu_machine.specs.Faults.{Nowhere, IsFirst}
+use Rattle.qu_machine.specs.Fault.{Nowhere, IsFirst}
 
 -- ---- places and members
 

@@ -17,13 +17,13 @@ use Rattle.qu_objects.specs.declared.op.Op.TheVariants as op
 use Rattle.qu_objects.specs.declared.op.Outcome.{Outcome}
 use Rattle.qu_objects.specs.declared.op.Outcome.TheVariants as outcome
 use Rattle.qu_objects.specs.Kind.{fresh_value}
-use Rattle.qu_objects.specs.Perform.{performed_values}
+use Rattle.qu_objects.specs.Performing.{performed_values}
 use Rattle.std.specs.Prelude.{map}
 use Rattle.qu_machine.specs.declared.record.OpRecord.{OpRecord}
 use Rattle.qu_machine.specs.declared.record.Point.{Point}
 use Rattle.qu_machine.specs.Machine.{with_values, values_at}
 use Rattle.qu_machine.specs.Serial.{op_values, values_after, answer_at, Stands}
-use Rattle.qu_machine.specs.Faults.{DiffersAt, TwiceAt}
+use Rattle.qu_machine.specs.Fault.{DiffersAt, TwiceAt}
 use Rattle.qu_machine.specs.PointTests.{stands, agree, has_other_answer, is_answered_otherwise, differs}
 use Rattle.qu_machine.proofs.Equalities.{decides_stands, decides_agree, decides_answer, passes_from_any, any_from_passes}
 use Rattle.qu_machine.proofs.Firsts.{one_at}

@@ -15,7 +15,7 @@ use Rattle.qu_machine.specs.declared.fault.JudgeFault.TheVariants as fault
 use Rattle.qu_machine.specs.declared.record.OpRecord.{OpRecord}
 use Rattle.qu_machine.specs.declared.record.Point.{Point}
 use Rattle.qu_machine.specs.Serial.{IsRising, answer_at, Stands, StandsAt, Completes, StandsOnce, IsKnown, IsUpdate, Agree, IsSerial}
-use Rattle.qu_machine.specs.Faults.{DiffersAt, IsBeforeReply, IsBetween, IsBeyond, IsOutside, OutsideAt, TwiceAt, AbsentAt, Nowhere, IsFault}
+use Rattle.qu_machine.specs.Fault.{DiffersAt, IsBeforeReply, IsBetween, IsBeyond, IsOutside, OutsideAt, TwiceAt, AbsentAt, Nowhere, IsFault}
 use Rattle.qu_machine.specs.PointTests.{stands, is_update, is_completed, is_before_reply, is_between, is_misplaced, is_known, is_beyond, is_outside, is_placed, is_absent}
 use Rattle.qu_machine.proofs.Equalities.{decides_stands, decides_answer, decides_known, passes_from_any, any_from_passes}
 use Rattle.qu_machine.proofs.Firsts.{contains_at, at_contains, one_at, DecidesAt}

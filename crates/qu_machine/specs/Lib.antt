@@ -1,4 +1,4 @@
 pub mod Machine
 pub mod Serial
-pub mod Faults
+pub mod Fault
 pub mod PointTests

@@ -5,7 +5,7 @@ use Rattle.qu_objects.specs.declared.act.Method.{Method}
 use Rattle.qu_objects.specs.declared.query.Ask.{Ask}
 use Rattle.qu_objects.specs.declared.answer.Answer.{Answer}
 use Rattle.qu_objects.specs.declared.kind.Value.{Value}
-use Rattle.qu_objects.specs.Perform.{performed_answer, performed_values, told_answer}
+use Rattle.qu_objects.specs.Performing.{performed_answer, performed_values, told_answer}
 
 -- the values of the objects that an operation names
 abbrev pub values_at : {X : Type 0} → List Value → List (ObjectId × X) → List Value

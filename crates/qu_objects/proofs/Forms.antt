@@ -17,7 +17,7 @@ use Rattle.qu_objects.specs.declared.answer.Answer.{Answer}
 use Rattle.qu_objects.specs.declared.answer.Answer.TheVariants as answer
 use Rattle.qu_objects.specs.declared.limits.TheConstants.{MOST_PARTS, PARTS_LIMIT, LAST_METHOD}
 use Rattle.qu_objects.specs.RefusalNumber.{is_refusal_number}
-use Rattle.qu_objects.specs.Forms.{word_form, method_code, added, taken, is_method_code, method_body, method_form, ask_code, is_ask_code, ask_form, item_code, item_number, is_item_code, item_form, is_after, next_object, part_form, spelled_object, parts_form, act_form, query_form, part_refusal_form, items_form, answer_code, answered, refusal, is_answer_code, answer_body, answer_form}
+use Rattle.qu_objects.specs.Formats.{word_form, method_code, added, taken, is_method_code, method_body, method_form, ask_code, is_ask_code, ask_form, item_code, item_number, is_item_code, item_form, is_after, next_object, part_form, spelled_object, parts_form, act_form, query_form, part_refusal_form, items_form, answer_code, answered, refusal, is_answer_code, answer_body, answer_form}
 
 pub word-exact : IsExact word_form
 word-exact = number-exact w64 (2 ^ 64) 0 (2 ^ 64 - 1) wide64 (omega arith)

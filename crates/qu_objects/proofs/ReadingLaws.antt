@@ -4,15 +4,15 @@ use Rattle.std.specs.Prelude.{IsTrue}
 use Rattle.std.proofs.lemmas.Bool.{lt-ltb}
 use Rattle.qu_base.specs.declared.limits.TheConstants.{OBJECT_IDS}
 use Rattle.qu_base.specs.declared.party.ObjectId.{ObjectId}
-use Rattle.qu_base.specs.Front.{Front}
+use Rattle.qu_base.specs.Cursor.{Front}
 use Rattle.qu_base.specs.Format.{IsPrefixCode, object_form, Format, AreBytes}
 use Rattle.qu_base.proofs.Formats.{prefix_code}
 use Rattle.qu_base.proofs.Reading.{given_exactly}
 use Rattle.qu_objects.specs.declared.act.Method.{Method}
 use Rattle.qu_objects.specs.declared.query.Ask.{Ask}
 use Rattle.qu_objects.specs.Parts.{are_parts}
-use Rattle.qu_objects.specs.Forms.{method_form, ask_form, item_form, parts_form, act_form, query_form, answer_form}
-use Rattle.qu_objects.specs.Text.{act_text_form}
+use Rattle.qu_objects.specs.Formats.{method_form, ask_form, item_form, parts_form, act_form, query_form, answer_form}
+use Rattle.qu_objects.specs.Digesting.{act_text_form}
 use Rattle.qu_objects.proofs.Forms.{method-exact, ask-exact, item-exact, act-exact, query-exact, answer-exact}
 use Rattle.qu_objects.proofs.Text.{act_text-exact}
 

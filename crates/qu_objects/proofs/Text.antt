@@ -11,8 +11,8 @@ use Rattle.qu_base.proofs.Formats.{some_is, wide16, number-exact, both-exact, ma
 use Rattle.qu_objects.specs.declared.act.Method.{Method}
 use Rattle.qu_objects.specs.declared.act.Method.TheVariants.{Add, Take}
 use Rattle.qu_objects.specs.Parts.{are_parts}
-use Rattle.qu_objects.specs.Forms.{word_form, method_form, act_form}
-use Rattle.qu_objects.specs.Text.{any_object, any_client, act_text_form, act_text, MethodFits, PartsFit}
+use Rattle.qu_objects.specs.Formats.{word_form, method_form, act_form}
+use Rattle.qu_objects.specs.Digesting.{any_object, any_client, act_text_form, act_text, MethodFits, PartsFit}
 use Rattle.qu_objects.proofs.Forms.{word-exact, act-exact}
 
 client-exact : IsExact any_client

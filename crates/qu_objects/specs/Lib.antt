@@ -1,7 +1,7 @@
 pub mod Parts
 pub mod Kind
 pub mod RefusalNumber
-pub mod Perform
-pub mod Forms
-pub mod Text
+pub mod Performing
+pub mod Formats
+pub mod Digesting
 pub mod Alike

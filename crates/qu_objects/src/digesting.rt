@@ -1,5 +1,5 @@
 ghost use Rattle.std.specs.Prelude.{◌≡◌, IfOk};
-ghost use Rattle.qu_objects.specs.Text.{act_digest};
+ghost use Rattle.qu_objects.specs.Digesting.{act_digest};
 
 use super::{Act, write_act};
 use qu_base::{ClientId, Digest, NoMemory, Outbytes};
@@ -7,7 +7,7 @@ use qu_seal::{ACT_TAG, digest};
 use std::alloc::Global;
 
 /// The digest of an act of this client, which is its operation with this number, counted from 1.
-#[tactic(auto, unfolding(crate::specs::Text::act_digest, crate::specs::Text::act_text, crate::specs::Text::act_text_form))]
+#[tactic(auto, unfolding(crate::specs::Digesting::act_digest, crate::specs::Digesting::act_text, crate::specs::Digesting::act_text_form))]
 pub fn act_digest(
     alloc: Global,
     client: ClientId,

@@ -1,8 +1,8 @@
 ghost use Rattle.std.specs.Prelude.{Bool};
 ghost use Rattle.qu_base.specs.declared.party.ObjectId.{ObjectId};
 ghost use Rattle.qu_base.specs.Format.{IsPrefixCode};
-ghost use Rattle.qu_objects.specs.Forms.{method_form, ask_form, item_form, act_form, query_form, answer_form};
-ghost use Rattle.qu_objects.specs.Text.{act_text_form};
+ghost use Rattle.qu_objects.specs.Formats.{method_form, ask_form, item_form, act_form, query_form, answer_form};
+ghost use Rattle.qu_objects.specs.Digesting.{act_text_form};
 
 /// By each format of this crate, what is read is spelled so, what is spelled so is read, and no
 /// spelling begins another.

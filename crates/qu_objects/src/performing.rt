@@ -1,5 +1,5 @@
 ghost use Rattle.std.specs.Prelude.{◌≡◌, ◌∷◌, [], length, IfOk};
-ghost use Rattle.qu_objects.specs.Perform.{performed_answer, performed_values, told_answer};
+ghost use Rattle.qu_objects.specs.Performing.{performed_answer, performed_values, told_answer};
 
 use super::{Act, Answer, Applied, Item, Query, Value};
 use qu_base::{List, NoMemory};

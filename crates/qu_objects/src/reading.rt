@@ -1,13 +1,13 @@
-//! Single operations and items from bytes, by the formats of `specs/Forms.antt`.
+//! Single operations and items from bytes, by the formats of `specs/Formats.antt`.
 ghost use Rattle.std.specs.Prelude.{◌≡◌};
 ghost use Rattle.qu_base.specs.Reading.{Reads};
-ghost use Rattle.qu_objects.specs.Forms.{method_form, ask_form, item_form, is_after, is_one_of, next_object};
+ghost use Rattle.qu_objects.specs.Formats.{method_form, ask_form, item_form, is_after, is_one_of, next_object};
 
 use super::{Ask, Item, Method};
 use qu_base::{BadText, Cursor, ObjectId, Why};
 
 /// The next update.
-#[tactic(auto, unfolding(crate::specs::Forms::method_form))]
+#[tactic(auto, unfolding(crate::specs::Formats::method_form))]
 pub(crate) fn read_method(text: &mut Cursor<'_>) -> Result<Method, BadText>
     ensures { Reads method_form result text.old text.new }
 {
@@ -21,7 +21,7 @@ pub(crate) fn read_method(text: &mut Cursor<'_>) -> Result<Method, BadText>
 }
 
 /// The next question.
-#[tactic(auto, unfolding(crate::specs::Forms::ask_form))]
+#[tactic(auto, unfolding(crate::specs::Formats::ask_form))]
 pub(crate) fn read_ask(text: &mut Cursor<'_>) -> Result<Ask, BadText>
     ensures { Reads ask_form result text.old text.new }
 {
@@ -34,7 +34,7 @@ pub(crate) fn read_ask(text: &mut Cursor<'_>) -> Result<Ask, BadText>
 }
 
 /// The next item.
-#[tactic(auto, unfolding(crate::specs::Forms::item_form))]
+#[tactic(auto, unfolding(crate::specs::Formats::item_form))]
 pub(crate) fn read_item(text: &mut Cursor<'_>) -> Result<Item, BadText>
     ensures { Reads item_form result text.old text.new }
 {

@@ -1,7 +1,7 @@
 //! Answers from bytes.
 ghost use Rattle.std.specs.Prelude.{◌≡◌, OnErr};
 ghost use Rattle.qu_base.specs.Reading.{Reads, Gives, IsGiven};
-ghost use Rattle.qu_objects.specs.Forms.{some_items, items_form, part_refusal_form, answer_form};
+ghost use Rattle.qu_objects.specs.Formats.{some_items, items_form, part_refusal_form, answer_form};
 
 use super::reading::read_item;
 use super::refusal_number::is_refusal_number;
@@ -25,7 +25,7 @@ pub fn read_answer(alloc: Global, text: &mut Cursor<'_>) -> Result<Answer, ReadF
 }
 
 /// The code of an answer, and the answer.
-#[tactic(auto, unfolding(crate::specs::Forms::answer_form))]
+#[tactic(auto, unfolding(crate::specs::Formats::answer_form))]
 fn coded_answer(alloc: Global, text: &mut Cursor<'_>) -> Result<Answer, ReadFail>
     ensures { Gives answer_form result text.old text.new }
 {

@@ -1,7 +1,7 @@
 //! The parts of acts and of queries from bytes.
 ghost use Rattle.std.specs.Prelude.{◌≡◌, OnErr};
 ghost use Rattle.qu_base.specs.Reading.{Reads, Gives, IsGiven};
-ghost use Rattle.qu_objects.specs.Forms.{method_form, ask_form, is_one_of, part_form, some_parts, act_form, query_form};
+ghost use Rattle.qu_objects.specs.Formats.{method_form, ask_form, is_one_of, part_form, some_parts, act_form, query_form};
 
 use super::reading::{read_ask, read_method, read_object};
 use super::{Act, Ask, MOST_PARTS, Method, Query};
@@ -27,7 +27,7 @@ pub fn read_act(alloc: Global, known: &[ObjectId], text: &mut Cursor<'_>) -> Res
 }
 
 /// A count, and so many parts of an act.
-#[tactic(auto, unfolding(crate::specs::Forms::act_form))]
+#[tactic(auto, unfolding(crate::specs::Formats::act_form))]
 fn counted_methods(
     alloc: Global,
     known: &[ObjectId],
@@ -94,7 +94,7 @@ pub fn read_query(
 }
 
 /// A count, and so many parts of a query.
-#[tactic(auto, unfolding(crate::specs::Forms::query_form))]
+#[tactic(auto, unfolding(crate::specs::Formats::query_form))]
 fn counted_asks(
     alloc: Global,
     known: &[ObjectId],

@@ -1,6 +1,6 @@
-//! Single operations and items as bytes, by the formats of `specs/Forms.antt`.
+//! Single operations and items as bytes, by the formats of `specs/Formats.antt`.
 ghost use Rattle.std.specs.Prelude.{◌≡◌, ◌++◌, length, take, OnOk, OnErr};
-ghost use Rattle.qu_objects.specs.Forms.{method_form, ask_form, item_form};
+ghost use Rattle.qu_objects.specs.Formats.{method_form, ask_form, item_form};
 
 use super::{Ask, Item, Method};
 use qu_base::{NoMemory, Outbytes};
@@ -19,7 +19,7 @@ pub fn write_method(method: &Method, out: &mut Outbytes) -> Result<(), NoMemory>
 }
 
 /// Appends a question: its code. Without memory the text stays as it is.
-#[tactic(auto, unfolding(crate::specs::Forms::ask_form))]
+#[tactic(auto, unfolding(crate::specs::Formats::ask_form))]
 pub fn write_ask(ask: &Ask, out: &mut Outbytes) -> Result<(), NoMemory>
     ensures ok { OnOk result (out.new ≡ out.old ++ ask_form.spell ask.now) }
     ensures err { OnErr result (out.new ≡ out.old) }
@@ -30,7 +30,7 @@ pub fn write_ask(ask: &Ask, out: &mut Outbytes) -> Result<(), NoMemory>
 }
 
 /// Appends an update, and on failure a part of it.
-#[tactic(auto, unfolding(crate::specs::Forms::method_form), using(qu_base::proofs::Writing::writing_laws))]
+#[tactic(auto, unfolding(crate::specs::Formats::method_form), using(qu_base::proofs::Writing::writing_laws))]
 pub(crate) fn put_method(method: &Method, out: &mut Outbytes) -> Result<(), NoMemory>
     ensures ok { OnOk result (out.new ≡ out.old ++ method_form.spell method.now) }
     ensures err { OnErr result (take (length out.old) out.new ≡ out.old) }
@@ -44,7 +44,7 @@ pub(crate) fn put_method(method: &Method, out: &mut Outbytes) -> Result<(), NoMe
 }
 
 /// Appends an item: its code, and its number as eight bytes; on failure a part of it.
-#[tactic(auto, unfolding(crate::specs::Forms::item_form), using(qu_base::proofs::Writing::writing_laws))]
+#[tactic(auto, unfolding(crate::specs::Formats::item_form), using(qu_base::proofs::Writing::writing_laws))]
 pub(crate) fn put_item(item: &Item, out: &mut Outbytes) -> Result<(), NoMemory>
     ensures ok { OnOk result (out.new ≡ out.old ++ item_form.spell item.now) }
     ensures err { OnErr result (take (length out.old) out.new ≡ out.old) }

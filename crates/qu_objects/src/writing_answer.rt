@@ -1,7 +1,7 @@
 //! Answers as bytes.
 ghost use Rattle.std.specs.Prelude.{◌≡◌, ◌++◌, length, take, OnOk, OnErr};
 ghost use Rattle.std.specs.List.{flat_map};
-ghost use Rattle.qu_objects.specs.Forms.{item_form, answer_form};
+ghost use Rattle.qu_objects.specs.Formats.{item_form, answer_form};
 
 use super::writing::put_item;
 use super::{Answer, Item};
@@ -24,7 +24,7 @@ pub fn write_answer(answer: &Answer, out: &mut Outbytes) -> Result<(), NoMemory>
 }
 
 /// Appends an answer, and on failure a part of it.
-#[tactic(auto, unfolding(crate::specs::Forms::answer_form), using(qu_base::proofs::Writing::writing_laws))]
+#[tactic(auto, unfolding(crate::specs::Formats::answer_form), using(qu_base::proofs::Writing::writing_laws))]
 fn put_answer(answer: &Answer, out: &mut Outbytes) -> Result<(), NoMemory>
     ensures ok { OnOk result (out.new ≡ out.old ++ answer_form.spell answer.now) }
     ensures err { OnErr result (take (length out.old) out.new ≡ out.old) }

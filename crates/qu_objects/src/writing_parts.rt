@@ -2,7 +2,7 @@
 ghost use Rattle.std.specs.Prelude.{◌≡◌, ◌++◌, Bool, length, take, OnOk, OnErr};
 ghost use Rattle.std.specs.List.{flat_map};
 ghost use Rattle.qu_base.specs.declared.party.ObjectId.{ObjectId as Object};
-ghost use Rattle.qu_objects.specs.Forms.{method_form, ask_form, spelled_object, act_form, query_form};
+ghost use Rattle.qu_objects.specs.Formats.{method_form, ask_form, spelled_object, act_form, query_form};
 
 use super::writing::{put_method, write_ask};
 use super::{Act, Ask, Method, Query};
@@ -22,7 +22,7 @@ pub fn write_act(act: &Act, out: &mut Outbytes) -> Result<(), NoMemory>
 }
 
 /// Appends the parts of an act, and on failure a part of them.
-#[tactic(auto, unfolding(crate::specs::Forms::act_form), using(qu_base::proofs::Writing::writing_laws))]
+#[tactic(auto, unfolding(crate::specs::Formats::act_form), using(qu_base::proofs::Writing::writing_laws))]
 fn put_act(act: &Act, out: &mut Outbytes) -> Result<(), NoMemory>
     ensures ok { (known : Object → Bool) → OnOk result (out.new ≡ out.old ++ (act_form known).spell act.now) }
     ensures err { OnErr result (take (length out.old) out.new ≡ out.old) }
@@ -59,7 +59,7 @@ pub fn write_query(query: &Query, out: &mut Outbytes) -> Result<(), NoMemory>
 }
 
 /// Appends the parts of a query, and on failure a part of them.
-#[tactic(auto, unfolding(crate::specs::Forms::query_form), using(qu_base::proofs::Writing::writing_laws))]
+#[tactic(auto, unfolding(crate::specs::Formats::query_form), using(qu_base::proofs::Writing::writing_laws))]
 fn put_query(query: &Query, out: &mut Outbytes) -> Result<(), NoMemory>
     ensures ok { (known : Object → Bool) → OnOk result (out.new ≡ out.old ++ (query_form known).spell query.now) }
     ensures err { OnErr result (take (length out.old) out.new ≡ out.old) }

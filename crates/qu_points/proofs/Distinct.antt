@@ -10,7 +10,7 @@ use Rattle.qu_machine.specs.declared.record.OpRecord.{OpRecord}
 use Rattle.qu_trace.specs.declared.event.Event.{Event}
 use Rattle.qu_trace.specs.declared.event.Event.TheVariants.{Invoke, Deliver, Tick, Inject}
 use Rattle.qu_trace.specs.declared.trace.Entry.{Entry}
-use Rattle.qu_trace.specs.Operations.{invokes, begun_by, record_of, begins_at, operations_from, operations_of}
+use Rattle.qu_trace.specs.Operation.{invokes, begun_by, record_of, begins_at, operations_from, operations_of}
 use Rattle.qu_points.specs.Points.{AreApart}
 use Rattle.qu_machine.proofs.Equalities.{client_is}
 

@@ -8,11 +8,11 @@ use Rattle.qu_base.specs.declared.party.ClientId.{ClientId}
 use Rattle.qu_machine.specs.declared.record.OpRecord.{OpRecord}
 use Rattle.qu_machine.specs.declared.record.Point.{Point}
 use Rattle.qu_trace.specs.declared.trace.Trace.{Trace}
-use Rattle.qu_trace.specs.Operations.{operations_of}
+use Rattle.qu_trace.specs.Operation.{operations_of}
 use Rattle.qu_points.specs.Order.{effect_of, are_in_order, IsPrintedOrder}
 use Rattle.qu_points.specs.Points.{AreApart, point_at, IsPointOf, ArePointsOf, AddsPoint, with_point}
 use Rattle.qu_points.proofs.Taking.{effect_once}
-use Rattle.qu_points.proofs.Sorted.{is_earlier-other, contains_with_point, with_point_contains, with_point_keeps, in_order-with_point, one_order}
+use Rattle.qu_points.proofs.Sorted.{is_earlier-other, contains_with_point, with_point_contains, with_point_keeps, in_order-with_point}
 use Rattle.qu_runs.proofs.Small.{same_point}
 
 pub points_none : (trace : Trace) → ArePointsOf trace [] []
@@ -192,11 +192,3 @@ printed trace operations points is are = record {
     effect = it.effect;
   });
 }
-
--- a trace has one printed order
-pub one_printed_order : (trace : Trace) (first second : List Point) → IsPrintedOrder trace first
-    → IsPrintedOrder trace second → first ≡ second
-one_printed_order trace first second one two =
-    one_order first second one.in_order two.in_order
-    (λ point held. two.complete point (one.sound point held))
-    (λ point held. one.complete point (two.sound point held))

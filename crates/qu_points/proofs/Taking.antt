@@ -1,9 +1,8 @@
 -- Where updates and queries took effect.
-use Rattle.std.proofs.Common.{◌≡◌, ℕ, zero, suc, ◌+◌, ◌<◌, ◌≤◌, Bool, true, false, cond, List, [], ◌∷◌, length, get_or, drop, drop-cons, Option, None, Some, refl, sym, ap, subst, ◌∙◌, arith, inl, inr, add-one}
-use Rattle.std.specs.Prelude.{position, slice_get, option_map, ◌==◌, Result, Ok, Err, IfOk, ◌||◌}
+use Rattle.std.proofs.Common.{◌≡◌, ℕ, zero, suc, ◌+◌, ◌<◌, ◌≤◌, Bool, true, false, cond, List, [], ◌∷◌, length, get_or, Option, None, Some, refl, sym, ap, subst, ◌∙◌, arith, inl, inr, add-one}
+use Rattle.std.specs.Prelude.{position, slice_get, option_map, ◌==◌, Result, Ok, Err, IfOk}
 use Rattle.std.specs.Option.{MatchOption, option_eq}
-use Rattle.std.proofs.lemmas.List.{drop_all}
-use Rattle.std.proofs.lemmas.Bool.{false≢true, cases_Bool, cases_lt, cases_order, and_parts, and_from, or_left, eq-eqb}
+use Rattle.std.proofs.lemmas.Bool.{false≢true, cases_Bool, cases_lt, cases_order, and_parts, and_from, eq-eqb}
 use Rattle.std.proofs.lemmas.Bool.Decides.{nat_tests}
 use Rattle.std.proofs.lemmas.List.Quantifiers.{position-Some}
 use Rattle.std.proofs.lemmas.Option.{none-some, same_Some}
@@ -21,7 +20,7 @@ use Rattle.qu_trace.specs.declared.trace.Entry.{Entry}
 use Rattle.qu_trace.specs.declared.trace.Trace.{Trace}
 use Rattle.qu_world.specs.State.{numbered}
 use Rattle.qu_base.specs.declared.party.Digest.{Digest}
-use Rattle.qu_objects.specs.Text.{act_digest}
+use Rattle.qu_objects.specs.Digesting.{act_digest}
 use Rattle.qu_stamp.specs.Stamp.{same_digest}
 use Rattle.qu_stamp.proofs.Order.{same_act-self, equal_by_same_act}
 use Rattle.std.specs.List.{list_any}
@@ -377,34 +376,4 @@ pub unanswered : (trace : Trace) (client : ClientId) (number reply : ℕ) (found
 unanswered trace client number reply found none is =
     subst (IsAnswer trace client number reply) (sym is) (answers_never trace client number reply (sym none))
 
--- the same of a round that was found, if one was
-pub found_answer : {E : Type 0} (trace : Trace) (client : ClientId) (number reply : ℕ) (found : Option ℕ)
-    (result : Result (Option ℕ) E) → (round : ℕ) → found ≡ delivered_round trace (numbered trace.entries reply)
-    → found ≡ Some round
-    → IfOk result
-    (λ first. first ≡ option_map (λ index. index + 1) (position (answers_in client number round) trace.entries))
-    → IfOk result (IsAnswer trace client number reply)
-found_answer trace client number reply found (Err missing) round delivered is first = first
-found_answer trace client number reply found (Ok it) round delivered is first =
-    answered trace client number reply round it (sym is ∙ delivered) first
-
 -- ---- an entry after the other
-
-pub any_here : {X : Type 0} (test : X → Bool) (items : List X) (index : ℕ) (item : X) → index < length items
-    → item ≡ get_or items index item → test item ≡ true → list_any test items ≡ list_any test (drop index items)
-    → list_any test items ≡ true
-any_here test items index item below is passes before =
-    before ∙ ap (list_any test) (drop-cons items index item below) ∙ or_left (test (get_or items index item)) _
-    (ap test (sym is) ∙ passes)
-
-pub any_more : {X : Type 0} (test : X → Bool) (items : List X) (index : ℕ) (item : X) → index < length items
-    → item ≡ get_or items index item → test item ≡ false → list_any test items ≡ list_any test (drop index items)
-    → list_any test items ≡ list_any test (drop (index + 1) items)
-any_more test items index item below is fails before =
-    before ∙ ap (list_any test) (drop-cons items index item below) ∙
-    ap (λ (it : Bool). it || list_any test (drop (suc index) items)) (ap test (sym is) ∙ fails) ∙
-    ap (λ (it : ℕ). list_any test (drop it items)) (sym (add-one index))
-
-pub any_end : {X : Type 0} (test : X → Bool) (items : List X) (index : ℕ) → length items ≤ index
-    → list_any test items ≡ list_any test (drop index items) → list_any test items ≡ false
-any_end test items index past before = before ∙ ap (list_any test) (drop_all index items past)

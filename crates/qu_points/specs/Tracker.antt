@@ -12,7 +12,7 @@ use Rattle.qu_world.specs.State.{WorldState}
 use Rattle.qu_points.specs.declared.tracked.Tracked.{Tracked}
 use Rattle.qu_runs.specs.Accepted.{accepts, is_accepted}
 use Rattle.qu_runs.specs.Times.{world_after}
-use Rattle.qu_base.specs.Thresholds.{quorum}
+use Rattle.qu_base.specs.Bounds.{quorum}
 use Rattle.qu_chain.specs.Decided.{IsDecided}
 use Rattle.qu_world.specs.Run.{IsRun}
 use Rattle.qu_runs.specs.Setting.{setting}

@@ -1,6 +1,6 @@
 ghost use Rattle.std.specs.Prelude.{◌≡◌, [], ◌++◌, IfOk, OnOk};
 ghost use Rattle.std.specs.List.{list_all, list_any, cons_option};
-ghost use Rattle.qu_frames.specs.Signed.{brought};
+ghost use Rattle.qu_frames.specs.Signing.{brought};
 ghost use Rattle.qu_world.specs.State.{ring_of};
 ghost use Rattle.qu_world.specs.Run.{IsSetup};
 ghost use Rattle.qu_runs.specs.Digested.{is_known, request_in, request_brought, request_to, handled_by};

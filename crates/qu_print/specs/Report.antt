@@ -1,10 +1,10 @@
 -- The report of a run, of which an order tells at which points the operations took effect.
 use Rattle.std.specs.Prelude.{ℕ, List, [], ◌∷◌, ◌++◌, codes}
 use Rattle.std.specs.Fmt.{decimal}
-use Rattle.qu_base.specs.Thresholds.{replicas, quorum, repair}
+use Rattle.qu_base.specs.Bounds.{replicas, quorum, repair}
 use Rattle.qu_machine.specs.declared.record.Point.{Point}
 use Rattle.qu_trace.specs.declared.trace.Trace.{Trace}
-use Rattle.qu_trace.specs.Operations.{operations_of}
+use Rattle.qu_trace.specs.Operation.{operations_of}
 use Rattle.qu_print.specs.Lines.{lines_text}
 use Rattle.qu_print.specs.Timeline.{timeline}
 use Rattle.qu_print.specs.Ends.{open_lines, end_line}

@@ -9,7 +9,7 @@ use Rattle.qu_machine.specs.declared.record.Point.{Point}
 use Rattle.qu_trace.specs.declared.event.Event.{Event}
 use Rattle.qu_trace.specs.declared.event.Event.TheVariants.{Invoke, Deliver, Tick, Inject}
 use Rattle.qu_trace.specs.declared.trace.Entry.{Entry}
-use Rattle.qu_trace.specs.Operations.{begun_by}
+use Rattle.qu_trace.specs.Operation.{begun_by}
 use Rattle.qu_print.specs.Words.{name_text, op_text, answer_text}
 
 abbrev pub call_line : ClientId → ℕ → Op → List ℕ

@@ -21,17 +21,15 @@ use Rattle.qu_objects.specs.declared.kind.Value.{Value}
 use Rattle.qu_objects.specs.declared.state.ObjState.{ObjState}
 use Rattle.qu_frames.specs.declared.frame.Body.{Body}
 use Rattle.qu_frames.specs.declared.frame.Body.TheVariants as body
-use Rattle.qu_frames.specs.declared.frame.Frame.{Frame}
-use Rattle.qu_frames.specs.declared.frame.Frame.TheVariants as frame
 use Rattle.qu_frames.specs.declared.verdict.Refusal.{Refusal}
 use Rattle.qu_frames.specs.declared.verdict.Refusal.TheVariants.{UnknownObject, NotCurrent, TimeSpent, HistoryFull}
 use Rattle.qu_frames.specs.declared.verdict.Verdict.TheVariants.{Done}
 use Rattle.qu_replica.specs.declared.decision.Decision.{Decision}
 use Rattle.qu_replica.specs.declared.decision.Decision.TheVariants.{Answers, Waits}
 use Rattle.qu_replica.specs.State.{ReplicaState, own_candidates, own_latest}
-use Rattle.qu_replica.specs.Rows.{Asked, asked_of, refuse, base_of, shown_of, fresh_stamp, fresh_on, accepted_by, row_unknown, row_thin, row_retry, row_current, row_method, row_version, row_time, row_full, row_done, row_told, first_given, decide_act, decide_ask, decision_on}
-use Rattle.qu_replica.specs.Step.{carried_out, on_frame}
-use Rattle.qu_replica.specs.Growth.{AreHistories, MayAccept, MayAcceptAll, MayDecide, has_parts, HasParts}
+use Rattle.qu_replica.specs.Rows.{Asked, refuse, base_of, shown_of, fresh_stamp, fresh_on, accepted_by, row_unknown, row_thin, row_retry, row_current, row_method, row_version, row_time, row_full, row_done, row_told, first_given, decide_act, decide_ask, decision_on}
+use Rattle.qu_replica.specs.Step.{carried_out}
+use Rattle.qu_replica.specs.Growth.{AreHistories, MayAccept, MayAcceptAll, MayDecide, has_parts}
 use Rattle.qu_replica.proofs.Own.{accept_all-histories}
 
 -- a row that may be carried out, so that what follows it is to be shown
@@ -173,8 +171,8 @@ may_accept_fresh state asked object known current in_time room fresh made versio
     ap (λ (stamp : Stamp). stamp.time) parts.1 in
     record {
       known = known_by_entries (length state.histories) asked.sets object known
-          (λ empty. parts.0 (ap (λ (entries : List ObjectHistory). method_at state.bounds entries) empty
-          ∙ method_at_none state.bounds));
+          (λ empty. parts.0 (ap (λ (entries : List ObjectHistory). method_at state.keys.bounds entries) empty
+          ∙ method_at_none state.keys.bounds));
       later = fresh_later (latest_of (shown_of asked object)) (own_latest state object) fresh.stamp next current;
       room = leb-false _ _ room;
       in_time = in_time_of (latest_of (shown_of asked object)) fresh.stamp next (leb-false _ _ in_time);
@@ -257,12 +255,3 @@ pub carried_out-histories : (state : ReplicaState) (client : ClientId) (number r
 carried_out-histories state client number round sets (Answers verdict accepted) own may =
     accept_all-histories state accepted own may
 carried_out-histories state client number round sets Waits own may = own
-
--- a step keeps the histories as they must be
-pub on_frame-histories : (state : ReplicaState) (received : Frame) → HasParts received → AreHistories state
-    → AreHistories (on_frame state received).0
-on_frame-histories state (frame.Request client number round sets asks mac) parts own =
-    let asked : Asked = asked_of client number sets asks in
-    carried_out-histories state client number round sets (decision_on state asked asks) own
-    (decision_on-may state asked asks parts)
-on_frame-histories state (frame.Reply replica client number round verdict culled shown mac) parts own = own

@@ -11,7 +11,7 @@ use Rattle.qu_objects.specs.declared.state.ObjState.{ObjState}
 use Rattle.qu_objects.specs.declared.kind.Applied.{Applied}
 use Rattle.qu_objects.specs.declared.kind.Applied.TheVariants.{Changed, Refused}
 use Rattle.qu_objects.specs.Kind.{applied}
-use Rattle.qu_objects.specs.Perform.{refusal_from, changed_values, values_by, performed_answer, performed_values, told_answer}
+use Rattle.qu_objects.specs.Performing.{refusal_from, changed_values, values_by, performed_answer, performed_values, told_answer}
 use Rattle.qu_frames.specs.declared.verdict.Verdict.TheVariants.{Done, Told}
 use Rattle.qu_replica.specs.declared.decision.Accepted.{Accepted}
 use Rattle.qu_replica.specs.declared.decision.Decision.{Decision}

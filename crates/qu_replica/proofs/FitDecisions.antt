@@ -12,12 +12,12 @@ use Rattle.qu_stamp.specs.declared.stamp.Stamp.{Stamp}
 use Rattle.qu_stamp.specs.declared.limits.TheConstants.{LAST_TIME}
 use Rattle.qu_stamp.specs.declared.candidate.Candidate.{Candidate}
 use Rattle.qu_stamp.specs.Stamp.{opening_stamp, is_below, same_stamp}
-use Rattle.qu_stamp.specs.Forms.{stamp_form, prior_form}
+use Rattle.qu_stamp.specs.Formats.{stamp_form, prior_form}
 use Rattle.qu_stamp.proofs.Order.{is_below_by_time}
 use Rattle.qu_history.specs.declared.sets.SetOf.{SetOf}
 use Rattle.qu_history.specs.History.{ObjectHistory, is_history, greatest_stamp, latest, last, holds}
 use Rattle.qu_history.specs.Sets.{latest_of}
-use Rattle.qu_history.specs.Forms.{set_form, sets_form}
+use Rattle.qu_history.specs.Formats.{set_form, sets_form}
 use Rattle.qu_history.proofs.Rising.{latest_is_last}
 use Rattle.qu_history.proofs.Stamps.{holds_last}
 use Rattle.qu_history.proofs.Method.{method_at_plain}
@@ -25,13 +25,13 @@ use Rattle.qu_objects.specs.declared.act.Method.{Method}
 use Rattle.qu_objects.specs.declared.query.Ask.{Ask}
 use Rattle.qu_objects.specs.declared.answer.Answer.{Answer}
 use Rattle.qu_objects.specs.declared.state.ObjState.{ObjState}
-use Rattle.qu_objects.specs.Forms.{answer_form}
-use Rattle.qu_objects.specs.Perform.{performed_answer, told_answer}
+use Rattle.qu_objects.specs.Formats.{answer_form}
+use Rattle.qu_objects.specs.Performing.{performed_answer, told_answer}
 use Rattle.qu_frames.specs.declared.verdict.Refusal.{Refusal}
 use Rattle.qu_frames.specs.declared.verdict.Refusal.TheVariants.{UnknownObject, Thin, NotCurrent, NotMethod, TimeSpent, HistoryFull}
 use Rattle.qu_frames.specs.declared.verdict.ClassCode.TheVariants.{Barrier}
 use Rattle.qu_frames.specs.declared.verdict.Verdict.TheVariants.{Done, Refused}
-use Rattle.qu_frames.specs.Forms.{verdict_form}
+use Rattle.qu_frames.specs.Formats.{verdict_form}
 use Rattle.qu_replica.specs.declared.decision.Decision.{Decision}
 use Rattle.qu_replica.specs.declared.decision.Decision.TheVariants.{Answers, Waits}
 use Rattle.qu_replica.specs.State.{ReplicaState, candidates_in, own_candidates, own_latest}
@@ -142,16 +142,16 @@ module _ (state : ReplicaState) (asked : Asked) (fits : StateFits state) (asks :
       let fresh : Stamp = fresh_stamp asked object in
       let above : (fresh.time == 0) ≡ false = later_time (latest_of (shown_of asked object)).time in
       let base_fits : stamp_form.Fits base.stamp =
-      shown_fit asked.sets asks.sets object base (base_shown state.bounds (shown_of asked object) base is_base) in
+      shown_fit asked.sets asks.sets object base (base_shown state.keys.bounds (shown_of asked object) base is_base) in
       let latest : base.stamp ≡ latest_of (shown_of asked object) =
-      base_latest state.bounds (shown_of asked object) base is_base in
+      base_latest state.keys.bounds (shown_of asked object) base is_base in
       let time : base.stamp.time ≡ (latest_of (shown_of asked object)).time = ap (λ (it : Stamp). it.time) latest in
       let below : is_below base.stamp fresh ≡ true = is_below_by_time base.stamp fresh (omega (arith, time)) in
       record {
         stamp = stamp_fits fresh.time asked.client asked.act asked.set above in_time asks.low asks.high asks.act
             asks.set;
         prior = prior_fits fresh base.stamp (not_opening fresh above) base_fits below
-            (method_at_plain state.bounds (shown_of asked object) base is_base);
+            (method_at_plain state.keys.bounds (shown_of asked object) base is_base);
       }
 
   -- the base of a fresh candidate
@@ -322,7 +322,7 @@ module _ (state : ReplicaState) (asked : Asked) (fits : StateFits state) (asks :
       let upon = version_of (base_of state asked object) version is_version in
       let base : Candidate = upon.0 in
       let base_fits : stamp_form.Fits base.stamp =
-      shown_fit asked.sets asks.sets object base (base_shown state.bounds (shown_of asked object) base upon.1) in
+      shown_fit asked.sets asks.sets object base (base_shown state.keys.bounds (shown_of asked object) base upon.1) in
       let value_fits : ValueFits version.value =
       (version_fits object base.stamp state.versions version fits.versions upon.2).value in
       subst DecisionFits

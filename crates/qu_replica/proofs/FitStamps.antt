@@ -9,20 +9,20 @@ use Rattle.qu_base.specs.declared.limits.TheConstants.{LAST_CLIENT}
 use Rattle.qu_base.specs.declared.party.ClientId.{ClientId}
 use Rattle.qu_base.specs.declared.party.Digest.{Digest}
 use Rattle.qu_base.specs.declared.party.ObjectId.{ObjectId}
-use Rattle.qu_base.specs.Thresholds.{quorum, repair}
+use Rattle.qu_base.specs.Bounds.{quorum, repair}
 use Rattle.qu_base.specs.Format.{FitsFrom, optional, digest_form}
 use Rattle.qu_stamp.specs.declared.stamp.Stamp.{Stamp}
 use Rattle.qu_stamp.specs.declared.limits.TheConstants.{LAST_TIME}
 use Rattle.qu_stamp.specs.declared.candidate.Candidate.{Candidate}
 use Rattle.qu_stamp.specs.Stamp.{opening_stamp, is_below, same_stamp}
 use Rattle.qu_stamp.specs.Candidate.{same}
-use Rattle.qu_stamp.specs.Forms.{stamp_with, stamp_form, prior_form}
+use Rattle.qu_stamp.specs.Formats.{stamp_with, stamp_form, prior_form}
 use Rattle.qu_stamp.proofs.Order.{equal_by_same, equal_by_same_stamp}
 use Rattle.qu_history.specs.declared.sealed.Sealed.{Sealed}
 use Rattle.qu_history.specs.declared.sets.SetOf.{SetOf}
 use Rattle.qu_history.specs.History.{ObjectHistory, holds}
 use Rattle.qu_history.specs.Sets.{histories, entries_of, order_of, candidates_of, latest_of, greatest, object_candidate, if_method, method_at}
-use Rattle.qu_history.specs.Forms.{next_candidate, candidates_form, sealed_entry_form, entry_form, next_entry, entries_form, set_form, sets_form}
+use Rattle.qu_history.specs.Formats.{next_candidate, candidates_form, sealed_entry_form, entry_form, next_entry, entries_form, set_form, sets_form}
 use Rattle.qu_history.proofs.Greatest.{greatest_cases, holds-filter}
 
 -- ---- a fresh stamp

@@ -6,24 +6,24 @@ use Rattle.std.proofs.lemmas.Option.{none-some, same_Some}
 use Rattle.qu_base.specs.declared.limits.TheConstants.{OBJECT_IDS, REPLICA_IDS}
 use Rattle.qu_base.specs.declared.party.ObjectId.{ObjectId}
 use Rattle.qu_base.specs.declared.party.ReplicaId.{ReplicaId}
-use Rattle.qu_base.specs.Thresholds.{replicas, is_replica_count}
+use Rattle.qu_base.specs.Bounds.{replicas, is_replica_count}
 use Rattle.qu_base.specs.Format.{FitsFrom}
 use Rattle.qu_seal.specs.Keys.{Ring}
 use Rattle.qu_stamp.specs.declared.stamp.Stamp.{Stamp}
 use Rattle.qu_stamp.specs.declared.candidate.Candidate.{Candidate}
 use Rattle.qu_stamp.specs.Stamp.{opening_stamp, is_below, same_stamp}
 use Rattle.qu_stamp.specs.Candidate.{opening}
-use Rattle.qu_stamp.specs.Forms.{stamp_form, prior_form}
+use Rattle.qu_stamp.specs.Formats.{stamp_form, prior_form}
 use Rattle.qu_stamp.proofs.Order.{same_stamp-self, equal_by_same_stamp}
 use Rattle.qu_history.specs.declared.limits.TheConstants.{HISTORY_LIMIT}
 use Rattle.qu_history.specs.History.{ObjectHistory, is_history, latest, last_from}
-use Rattle.qu_history.specs.Forms.{next_candidate, candidates_form}
+use Rattle.qu_history.specs.Formats.{next_candidate, candidates_form}
 use Rattle.qu_history.proofs.Rising.{latest_is_last}
 use Rattle.qu_objects.specs.declared.kind.KindName.{KindName}
 use Rattle.qu_objects.specs.declared.kind.KindName.TheVariants as kind
 use Rattle.qu_objects.specs.declared.state.ObjState.{ObjState}
 use Rattle.qu_objects.specs.Kind.{fresh_value}
-use Rattle.qu_objects.specs.Forms.{answer_form}
+use Rattle.qu_objects.specs.Formats.{answer_form}
 use Rattle.qu_replica.specs.declared.decision.Accepted.{Accepted}
 use Rattle.qu_replica.specs.declared.versions.Stored.{Stored}
 use Rattle.qu_replica.specs.State.{ReplicaState, candidates_in, with_candidate, accept, accept_all, opening_histories, opening_versions, opening_state}
@@ -185,15 +185,15 @@ opening_versions_fit first (kind ∷ kinds) = (
 )
 
 -- a replica begins so
-pub opening-fits : (me : ReplicaId) (keys : Ring) (bounds : ℕ) (kinds : List KindName) → me.0 ≤ REPLICA_IDS - 1
-    → IsTrue (is_replica_count (replicas bounds)) → length kinds ≤ OBJECT_IDS
-    → StateFits (opening_state me keys bounds kinds)
-opening-fits me keys bounds kinds within sized few = record {
+pub opening-fits : (me : ReplicaId) (keys : Ring) (kinds : List KindName) → me.0 ≤ REPLICA_IDS - 1
+    → IsTrue (is_replica_count (replicas keys.bounds)) → length kinds ≤ OBJECT_IDS
+    → StateFits (opening_state me keys kinds)
+opening-fits me keys kinds within sized few = record {
   me = within;
   bounds = sized;
   few = let number : length (opening_histories me 0 kinds) ≡ length kinds =
       opening_number me 0 kinds in omega (arith, number, few);
-  own = opening-histories me keys bounds kinds;
+  own = opening-histories me keys kinds;
   histories = opening_histories_fit me 0 kinds;
   versions = opening_versions_fit 0 kinds;
 }

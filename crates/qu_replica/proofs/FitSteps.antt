@@ -11,17 +11,17 @@ use Rattle.qu_base.specs.declared.party.Party.TheVariants as party
 use Rattle.qu_base.specs.declared.party.ClientId.{ClientId}
 use Rattle.qu_base.specs.declared.party.Digest.{Digest}
 use Rattle.qu_base.specs.declared.party.ObjectId.{ObjectId}
-use Rattle.qu_base.specs.Thresholds.{replicas, is_replica_count}
+use Rattle.qu_base.specs.Bounds.{replicas, is_replica_count}
 use Rattle.qu_base.specs.Format.{FitsFrom, AreBytes, bytes}
 use Rattle.qu_base.proofs.ThresholdFacts.{count_is_few}
 use Rattle.qu_seal.proofs.Lengths.{length-digest}
 use Rattle.qu_history.specs.declared.sets.SetOf.{SetOf}
 use Rattle.qu_history.specs.History.{ObjectHistory}
-use Rattle.qu_history.specs.Forms.{macs_form, set_form, sets_form, shown_by, shown_form}
+use Rattle.qu_history.specs.Formats.{macs_form, set_form, sets_form, shown_by, shown_form}
 use Rattle.qu_history.specs.Text.{sets_digest}
 use Rattle.qu_objects.specs.declared.act.Method.{Method}
-use Rattle.qu_objects.specs.Text.{act_digest}
-use Rattle.qu_objects.specs.Forms.{act_form, query_form}
+use Rattle.qu_objects.specs.Digesting.{act_digest}
+use Rattle.qu_objects.specs.Formats.{act_form, query_form}
 use Rattle.qu_frames.specs.declared.limits.TheConstants.{LAST_ROUND}
 use Rattle.qu_frames.specs.declared.frame.Body.{Body}
 use Rattle.qu_frames.specs.declared.frame.Body.TheVariants as body
@@ -30,15 +30,15 @@ use Rattle.qu_frames.specs.declared.frame.Letter.{Letter}
 use Rattle.qu_frames.specs.declared.frame.Frame.TheVariants as frame
 use Rattle.qu_frames.specs.declared.verdict.Verdict.{Verdict}
 use Rattle.qu_frames.specs.Blank.{blank_mac, sealed}
-use Rattle.qu_frames.specs.Forms.{objects_in_sets, culled_form, verdict_form, body_form, request_frame, reply_frame, kind_form, frame_form}
-use Rattle.qu_frames.specs.Signed.{with_mac, signature, brought}
+use Rattle.qu_frames.specs.Formats.{objects_in_sets, culled_form, verdict_form, body_form, request_frame, reply_frame, kind_form, frame_form}
+use Rattle.qu_frames.specs.Signing.{with_mac, signature, brought}
 use Rattle.qu_frames.proofs.Signed.{signed_is_spelled, brought_is_decoded}
 use Rattle.qu_frames.proofs.Decoded.{decoded_is_spelled}
 use Rattle.qu_replica.specs.declared.decision.Decision.{Decision}
 use Rattle.qu_replica.specs.declared.decision.Decision.TheVariants.{Answers, Waits}
 use Rattle.qu_replica.specs.State.{ReplicaState, accept_all}
 use Rattle.qu_replica.specs.Rows.{Asked, act_asked, asked_of, decision_on}
-use Rattle.qu_replica.specs.Step.{shown, answer_frame, carried_out, on_frame, on_received, replica_step}
+use Rattle.qu_replica.specs.Step.{shown, answer_frame, carried_out, on_frame, on_received}
 use Rattle.qu_replica.specs.Growth.{MayDecide}
 use Rattle.qu_replica.specs.Fits.{StateFits, LetterFits, StepFits}
 use Rattle.qu_replica.proofs.Own.{IsOwn, own_history}
@@ -71,7 +71,7 @@ blanks_fit count sized =
 module _ (state : ReplicaState) (fits : StateFits state) where
   one_shown : (object : ObjectId) → object.0 ≤ OBJECT_IDS - 1 → (found : Option ObjectHistory)
       → slice_get state.histories object.0 ≡ found → (shown_form state.me).Fits
-      (map (sealed state.bounds) (cons_option found []))
+      (map (sealed state.keys.bounds) (cons_option found []))
   unfolding shown_form shown_by
   one_shown object within None is = ((omega arith, omega arith), (refl, tt))
   one_shown object within (Some history) is =
@@ -90,7 +90,7 @@ module _ (state : ReplicaState) (fits : StateFits state) where
                 (((omega arith, few), eq-eqb _ _ mine), fits.histories object.0 history is),
               ),
               blanks_fit
-                  (replicas state.bounds) fits.bounds,
+                  (replicas state.keys.bounds) fits.bounds,
             ),
             tt,
           ),
@@ -98,7 +98,7 @@ module _ (state : ReplicaState) (fits : StateFits state) where
       )
 
   shown_fits : (sets : List SetOf) → sets_form.Fits sets → (shown_form state.me).Fits
-      (map (sealed state.bounds) (shown state sets))
+      (map (sealed state.keys.bounds) (shown state sets))
   unfolding shown sets_form set_form
   shown_fits [] within = absurd (omega (arith, (within.0).0))
   shown_fits (set ∷ []) within =
@@ -239,14 +239,6 @@ pub on_received-fits : (state : ReplicaState) (found : Option Frame) → StateFi
     → ((frame : Frame) → found ≡ Some frame → frame_form.Fits frame) → StepFits (on_received state found)
 on_received-fits state (Some frame) fits within = on_frame-fits state frame fits (within frame refl)
 on_received-fits state None fits within = (fits, tt)
-
--- whatever the text is
-pub step-fits : (state : ReplicaState) (text : List ℕ) → AreBytes text → StateFits state
-    → StepFits (replica_step state text)
-step-fits state text are fits =
-    on_received-fits state (brought state.keys (party.Replica state.me) text) fits
-    (λ frame given.
-    (decoded_is_spelled text frame are (brought_is_decoded state.keys (party.Replica state.me) text frame given)).0)
 
 -- ---- of a call, which may have failed
 

@@ -4,7 +4,7 @@ use Rattle.std.proofs.lemmas.Bool.{cases_Bool, ltb-true, le-leb}
 use Rattle.qu_base.specs.declared.limits.TheConstants.{OBJECT_IDS}
 use Rattle.qu_base.specs.declared.party.ObjectId.{ObjectId}
 use Rattle.qu_stamp.specs.declared.stamp.Stamp.{Stamp}
-use Rattle.qu_stamp.specs.Forms.{stamp_form}
+use Rattle.qu_stamp.specs.Formats.{stamp_form}
 use Rattle.qu_objects.specs.declared.act.Method.{Method}
 use Rattle.qu_objects.specs.declared.act.Method.TheVariants.{Add, Take}
 use Rattle.qu_objects.specs.declared.query.Ask.{Ask}
@@ -18,13 +18,13 @@ use Rattle.qu_objects.specs.declared.kind.Applied.TheVariants as made
 use Rattle.qu_objects.specs.declared.kind.Value.{Value}
 use Rattle.qu_objects.specs.declared.kind.Value.TheVariants.{Counter}
 use Rattle.qu_objects.specs.Kind.{applied}
-use Rattle.qu_objects.specs.Perform.{performed_answer, performed_values, told_answer, answer_by, refusal_from, items_of, values_by, changed_values}
-use Rattle.qu_objects.specs.Forms.{item_form, answer_form}
+use Rattle.qu_objects.specs.Performing.{performed_answer, performed_values, told_answer, answer_by, refusal_from, items_of, values_by, changed_values}
+use Rattle.qu_objects.specs.Formats.{item_form, answer_form}
 use Rattle.qu_frames.specs.declared.verdict.ClassCode.TheVariants.{Barrier}
 use Rattle.qu_frames.specs.declared.verdict.Refusal.{Refusal}
 use Rattle.qu_frames.specs.declared.verdict.Refusal.TheVariants.{HistoryFull, Thin, NotCurrent, NotMethod, TimeSpent, UnknownObject}
 use Rattle.qu_frames.specs.declared.verdict.Verdict.TheVariants.{Done, Told, Refused}
-use Rattle.qu_frames.specs.Forms.{refusal_form, stamps_form, verdict_form}
+use Rattle.qu_frames.specs.Formats.{refusal_form, stamps_form, verdict_form}
 use Rattle.qu_replica.specs.Fits.{ValueFits}
 
 -- ---- refusals

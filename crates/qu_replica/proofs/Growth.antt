@@ -9,11 +9,12 @@ use Rattle.qu_base.specs.declared.party.ObjectId.{ObjectId}
 use Rattle.qu_stamp.specs.declared.stamp.Stamp.{Stamp}
 use Rattle.qu_stamp.specs.declared.candidate.Candidate.{Candidate}
 use Rattle.qu_stamp.specs.Stamp.{same_stamp}
+use Rattle.qu_seal.specs.Keys.{Ring}
 use Rattle.qu_history.specs.declared.sets.SetOf.{SetOf}
 use Rattle.qu_history.specs.History.{ObjectHistory}
 use Rattle.qu_objects.specs.declared.state.ObjState.{ObjState}
 use Rattle.qu_frames.specs.declared.frame.Frame.{Frame}
-use Rattle.qu_frames.specs.Signed.{brought}
+use Rattle.qu_frames.specs.Signing.{brought}
 use Rattle.qu_frames.specs.declared.frame.Frame.TheVariants as frame
 use Rattle.qu_replica.specs.declared.versions.Stored.{Stored}
 use Rattle.qu_replica.specs.declared.decision.Accepted.{Accepted}
@@ -48,7 +49,6 @@ pub grows-self : (state : ReplicaState) → Grows state state
 grows-self state = record {
   me = refl;
   keys = refl;
-  bounds = refl;
   number = refl;
   candidates = λ object. ([], sym (append-nil _));
   versions = ([], sym (append-nil _));
@@ -58,7 +58,6 @@ pub grows-chain : (old middle new : ReplicaState) → Grows old middle → Grows
 grows-chain old middle new first second = record {
   me = second.me ∙ first.me;
   keys = second.keys ∙ first.keys;
-  bounds = second.bounds ∙ first.bounds;
   number = second.number ∙ first.number;
   candidates = λ object.
       let one = first.candidates object in
@@ -80,7 +79,6 @@ pub accept-grows : (state : ReplicaState) (accepted : Accepted) → Grows state 
 accept-grows state accepted = record {
   me = refl;
   keys = refl;
-  bounds = refl;
   number = length-with_candidate (accepted.object).0 accepted.candidate state.histories;
   candidates = λ object. candidates-with_candidate (accepted.object).0 object.0 accepted.candidate state.histories;
   versions = (record { object = accepted.object; stamp = accepted.candidate.stamp; state = accepted.state } ∷ [], refl);
@@ -100,8 +98,8 @@ pub accept_all-keys : (state : ReplicaState) (accepted : List Accepted) → (acc
 accept_all-keys state accepted = (accept_all-grows state accepted).keys
 
 pub accept_all-bounds : (state : ReplicaState) (accepted : List Accepted)
-    → (accept_all state accepted).bounds ≡ state.bounds
-accept_all-bounds state accepted = (accept_all-grows state accepted).bounds
+    → (accept_all state accepted).keys.bounds ≡ state.keys.bounds
+accept_all-bounds state accepted = ap (λ (it : Ring). it.bounds) (accept_all-keys state accepted)
 
 pub carried_out-grows : (state : ReplicaState) (client : ClientId) (number round : ℕ) (sets : List SetOf)
     (decision : Decision) → Grows state (carried_out state client number round sets decision).0

@@ -116,6 +116,6 @@ unfolding are_own opening_histories
 are_own_opening me first [] = refl
 are_own_opening me first (kind ∷ kinds) = and_from _ _ (is_own-opening me first) (are_own_opening me (first + 1) kinds)
 
-pub opening-histories : (me : ReplicaId) (keys : Ring) (bounds : ℕ) (kinds : List KindName)
-    → AreHistories (opening_state me keys bounds kinds)
-opening-histories me keys bounds kinds = are_own_opening me 0 kinds
+pub opening-histories : (me : ReplicaId) (keys : Ring) (kinds : List KindName)
+    → AreHistories (opening_state me keys kinds)
+opening-histories me keys kinds = are_own_opening me 0 kinds

@@ -2,18 +2,18 @@
 use Rattle.std.specs.Prelude.{◌≡◌, ℕ, false, ◌-◌, ◌^◌, ◌≤◌, List, length, slice_get, Some, IsTrue}
 use Rattle.std.specs.List.{AllByRecursion}
 use Rattle.qu_base.specs.declared.limits.TheConstants.{OBJECT_IDS, REPLICA_IDS}
-use Rattle.qu_base.specs.Thresholds.{replicas, is_replica_count}
+use Rattle.qu_base.specs.Bounds.{replicas, is_replica_count}
 use Rattle.qu_stamp.specs.declared.stamp.Stamp.{Stamp}
 use Rattle.qu_stamp.specs.Stamp.{opening_stamp, same_stamp}
 use Rattle.qu_history.specs.History.{ObjectHistory}
-use Rattle.qu_history.specs.Forms.{candidates_form}
+use Rattle.qu_history.specs.Formats.{candidates_form}
 use Rattle.qu_objects.specs.declared.kind.Value.{Value}
 use Rattle.qu_objects.specs.declared.kind.Value.TheVariants.{Counter}
 use Rattle.qu_objects.specs.declared.state.ObjState.{ObjState}
-use Rattle.qu_objects.specs.Forms.{answer_form}
+use Rattle.qu_objects.specs.Formats.{answer_form}
 use Rattle.qu_frames.specs.declared.frame.Frame.{Frame}
 use Rattle.qu_frames.specs.declared.frame.Letter.{Letter}
-use Rattle.qu_frames.specs.Forms.{frame_form}
+use Rattle.qu_frames.specs.Formats.{frame_form}
 use Rattle.qu_replica.specs.declared.versions.Stored.{Stored}
 use Rattle.qu_replica.specs.State.{ReplicaState}
 use Rattle.qu_replica.specs.Growth.{AreHistories}
@@ -33,7 +33,7 @@ VersionsFit versions = AllByRecursion (λ stored. VersionFits stored.stamp store
 -- a replica that has a number, of as many as some number of faults wants, with no more objects than have numbers
 pub record StateFits (state : ReplicaState) : Type 0 where
   pub me : (state.me).0 ≤ REPLICA_IDS - 1
-  pub bounds : IsTrue (is_replica_count (replicas state.bounds))
+  pub bounds : IsTrue (is_replica_count (replicas state.keys.bounds))
   pub few : length state.histories ≤ OBJECT_IDS
   pub own : AreHistories state
   pub histories : (place : ℕ) (history : ObjectHistory) → slice_get state.histories place ≡ Some history

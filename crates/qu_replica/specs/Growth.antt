@@ -54,7 +54,6 @@ MayDecide state Waits = Unit {0}
 pub record Grows (old new : ReplicaState) : Type 0 where
   pub me : new.me ≡ old.me
   pub keys : new.keys ≡ old.keys
-  pub bounds : new.bounds ≡ old.bounds
   pub number : length new.histories ≡ length old.histories
   pub candidates : (object : ObjectId) → (more : List Candidate)
       × (own_candidates new object ≡ own_candidates old object ++ more)

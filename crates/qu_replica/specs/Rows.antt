@@ -4,7 +4,7 @@ use Rattle.std.specs.List.{list_all, list_any, filter_map}
 use Rattle.qu_base.specs.declared.party.ClientId.{ClientId}
 use Rattle.qu_base.specs.declared.party.Digest.{Digest}
 use Rattle.qu_base.specs.declared.party.ObjectId.{ObjectId}
-use Rattle.qu_base.specs.Thresholds.{quorum}
+use Rattle.qu_base.specs.Bounds.{quorum}
 use Rattle.qu_stamp.specs.declared.stamp.Stamp.{Stamp}
 use Rattle.qu_stamp.specs.declared.limits.TheConstants.{LAST_TIME}
 use Rattle.qu_stamp.specs.declared.candidate.Candidate.{Candidate}
@@ -19,8 +19,8 @@ use Rattle.qu_objects.specs.declared.query.Ask.{Ask}
 use Rattle.qu_objects.specs.declared.answer.Answer.{Answer}
 use Rattle.qu_objects.specs.declared.kind.Value.{Value}
 use Rattle.qu_objects.specs.declared.state.ObjState.{ObjState}
-use Rattle.qu_objects.specs.Perform.{performed_answer, performed_values, told_answer}
-use Rattle.qu_objects.specs.Text.{act_digest}
+use Rattle.qu_objects.specs.Performing.{performed_answer, performed_values, told_answer}
+use Rattle.qu_objects.specs.Digesting.{act_digest}
 use Rattle.qu_frames.specs.declared.frame.Body.{Body}
 use Rattle.qu_frames.specs.declared.frame.Body.TheVariants as body
 use Rattle.qu_frames.specs.declared.verdict.ClassCode.TheVariants.{Barrier}
@@ -62,7 +62,7 @@ shown_of asked object = entries_of object asked.sets
 
 -- the candidate upon which an operation may rest
 abbrev pub base_of : ReplicaState → Asked → ObjectId → Option Candidate
-base_of state asked object = method_at state.bounds (shown_of asked object)
+base_of state asked object = method_at state.keys.bounds (shown_of asked object)
 
 -- the version upon which it rests
 abbrev pub base_version : ReplicaState → Asked → ObjectId → Option ObjState
@@ -115,7 +115,7 @@ row_unknown state asked =
 unfoldable pub row_thin : ReplicaState → Asked → Option Decision
 row_thin state asked =
     option_map (λ set. refuse (refusal.Thin set.object))
-    (find (λ set. nat_lt (length set.entries) (quorum state.bounds)) asked.sets)
+    (find (λ set. nat_lt (length set.entries) (quorum state.keys.bounds)) asked.sets)
 
 -- the fresh candidate of an object is held already
 unfoldable pub is_held : ReplicaState → Asked → ObjectId → Bool

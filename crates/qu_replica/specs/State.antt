@@ -17,8 +17,6 @@ use Rattle.qu_replica.specs.declared.decision.Accepted.{Accepted}
 pub record ReplicaState : Type 0 where
   pub me : ReplicaId
   pub keys : Ring
-  -- the number of replicas that may lie
-  pub bounds : ℕ
   -- the histories of objects 0, 1, 2, ..
   pub histories : List ObjectHistory
   pub versions : List Stored
@@ -74,12 +72,11 @@ opening_versions number (kind ∷ kinds) =
     } ∷ opening_versions (number + 1) kinds
 
 -- a replica that has accepted nothing but the opening candidates
-abbrev pub opening_state : ReplicaId → Ring → ℕ → List KindName → ReplicaState
-opening_state me keys bounds kinds =
+abbrev pub opening_state : ReplicaId → Ring → List KindName → ReplicaState
+opening_state me keys kinds =
     record {
       me = me;
       keys = keys;
-      bounds = bounds;
       histories = opening_histories me 0 kinds;
       versions = opening_versions 0 kinds;
     }

@@ -10,7 +10,7 @@ use Rattle.qu_frames.specs.declared.frame.Frame.TheVariants as frame
 use Rattle.qu_frames.specs.declared.frame.Letter.{Letter}
 use Rattle.qu_frames.specs.declared.verdict.Verdict.{Verdict}
 use Rattle.qu_frames.specs.Blank.{blank_mac, sealed}
-use Rattle.qu_frames.specs.Signed.{signed, brought}
+use Rattle.qu_frames.specs.Signing.{signed, brought}
 use Rattle.qu_replica.specs.declared.decision.Decision.{Decision}
 use Rattle.qu_replica.specs.declared.decision.Decision.TheVariants.{Answers, Waits}
 use Rattle.qu_replica.specs.State.{ReplicaState, accept_all}
@@ -23,7 +23,7 @@ shown state sets = filter_map (λ set. slice_get state.histories (set.object).0)
 -- the frame that answers a request, before its HMAC is made: no entry is culled
 abbrev pub answer_frame : ReplicaState → ClientId → ℕ → ℕ → List SetOf → Verdict → Frame
 answer_frame state client number round sets verdict =
-    frame.Reply state.me client number round verdict [] (map (sealed state.bounds) (shown state sets)) blank_mac
+    frame.Reply state.me client number round verdict [] (map (sealed state.keys.bounds) (shown state sets)) blank_mac
 
 -- the letter that carries it, signed for the client
 abbrev pub reply : ReplicaState → ClientId → ℕ → ℕ → List SetOf → Verdict → Letter

@@ -30,7 +30,6 @@ pub struct Replica {
     alloc: Global,
     me: ReplicaId,
     keys: KeyRing,
-    bounds: Bounds,
     histories: Vec<History>,
     versions: Vec<Stored>,
 }
@@ -45,7 +44,6 @@ impl Model for Replica {
     ghost view = { λ replica. record {
       me = replica.me;
       keys = replica.keys;
-      bounds = replica.bounds;
       histories = replica.histories.items;
       versions = replica.versions.items;
     } };
@@ -61,20 +59,18 @@ impl Replica {
         alloc: Global,
         me: ReplicaId,
         keys: KeyRing,
-        bounds: Bounds,
         kinds: &[KindName],
     ) -> Result<Replica, NoMemory>
         requires { length kinds.now ≤ OBJECT_IDS }
-        ensures value { IfOk result (λ replica. replica ≡ opening_state me keys bounds kinds.now) }
+        ensures value { IfOk result (λ replica. replica ≡ opening_state me keys kinds.now) }
         ensures fits { me.0 < REPLICA_IDS → IfOk result StateFits }
     {
         // Tells the proof that the number of faults is in its range.
-        bounds.b();
+        keys.bounds().b();
         Ok(Replica {
             alloc,
             me,
             keys,
-            bounds,
             histories: opening::histories(alloc, me, kinds)?,
             versions: opening::versions(alloc, kinds)?,
         })
@@ -82,9 +78,9 @@ impl Replica {
 
     /// How many replicas there are, and how many may lie.
     pub fn bounds(&self) -> Bounds
-        ensures { result ≡ self.now.bounds }
+        ensures { result ≡ self.now.keys.bounds }
     {
-        self.bounds
+        self.keys.bounds()
     }
 
     /// Its history of an object, None exactly where it does not have the object.

@@ -8,7 +8,7 @@ use Rattle.std.proofs.lemmas.List.Sums.{length-filter}
 use Rattle.std.proofs.lemmas.Option.{none-some, same_Some, slice_get_within}
 use Rattle.qu_base.specs.declared.party.ClientId.{ClientId}
 use Rattle.qu_base.specs.declared.party.ReplicaId.{ReplicaId}
-use Rattle.qu_base.specs.Thresholds.{replicas, quorum}
+use Rattle.qu_base.specs.Bounds.{replicas, quorum}
 use Rattle.qu_objects.specs.declared.answer.Answer.{Answer}
 use Rattle.qu_objects.specs.declared.op.Op.{Op}
 use Rattle.qu_objects.specs.declared.op.Outcome.TheVariants as outcome
@@ -20,14 +20,14 @@ use Rattle.qu_frames.specs.Verdict.{same_verdict}
 use Rattle.qu_client.specs.declared.state.ClientState.{ClientState}
 use Rattle.qu_client.specs.declared.work.Counted.{Counted}
 use Rattle.qu_client.specs.declared.work.Work.{Work}
-use Rattle.qu_client.specs.Step.{fitting, identical, is_asking, counts, client_invoke, client_step, client_tick}
+use Rattle.qu_client.specs.Steps.{fitting, identical, is_asking, counts, client_invoke, client_step, client_tick}
 use Rattle.qu_client.proofs.Cases.{with_verdict, invoke_cases}
 use Rattle.qu_machine.specs.declared.record.OpRecord.{OpRecord}
 use Rattle.qu_trace.specs.declared.event.Event.{Event}
 use Rattle.qu_trace.specs.declared.event.Event.TheVariants.{Invoke, Deliver, Tick, Inject}
 use Rattle.qu_trace.specs.declared.trace.Entry.{Entry}
 use Rattle.qu_trace.specs.declared.trace.Trace.{Trace}
-use Rattle.qu_trace.specs.Operations.{outcome_in, operations_of}
+use Rattle.qu_trace.specs.Operation.{outcome_in, operations_of}
 use Rattle.qu_world.specs.State.{numbered, letter_of}
 use Rattle.qu_world.specs.Run.{IsRun}
 use Rattle.qu_runs.specs.Times.{world_after}
@@ -41,7 +41,7 @@ use Rattle.qu_runs.specs.Carried.{Carries, handed}
 use Rattle.qu_runs.specs.Plain.{ArePlain}
 use Rattle.qu_client.proofs.Laws.{sound_work}
 use Rattle.qu_machine.proofs.Equalities.{client_is}
-use Rattle.qu_frames.specs.Signed.{brought}
+use Rattle.qu_frames.specs.Signing.{brought}
 use Rattle.qu_frames.proofs.Signed.{brought_is_decoded}
 use Rattle.qu_base.specs.declared.party.Party.TheVariants as party
 use Rattle.qu_base.specs.declared.party.Party.{Party}
@@ -243,7 +243,7 @@ by_letter trace is have recorded one operation among index answer number letter 
       members = agreeing done.verdict replies;
       different = agreeing_different done.verdict replies different;
       enough =
-          let enough : quorum state.bounds ≤ identical done.verdict replies = done.enough in
+          let enough : quorum state.keys.bounds ≤ identical done.verdict replies = done.enough in
           let number_is : length (agreeing done.verdict replies) ≡ identical done.verdict replies =
           agreeing_number done.verdict replies in
           subst (λ (bounds : ℕ). quorum bounds ≤ length (agreeing done.verdict replies)) holds.bounds (omega arith);

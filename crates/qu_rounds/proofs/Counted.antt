@@ -7,7 +7,7 @@ use Rattle.std.proofs.lemmas.List.Quantifiers.{all_pairs_push}
 use Rattle.std.proofs.lemmas.Option.{none-some}
 use Rattle.qu_base.specs.declared.party.ClientId.{ClientId}
 use Rattle.qu_base.specs.declared.party.ReplicaId.{ReplicaId}
-use Rattle.qu_base.specs.Thresholds.{replicas}
+use Rattle.qu_base.specs.Bounds.{replicas}
 use Rattle.qu_objects.specs.declared.op.Op.{Op}
 use Rattle.qu_frames.specs.declared.frame.Frame.{Frame}
 use Rattle.qu_frames.specs.declared.frame.Frame.TheVariants as frame
@@ -18,7 +18,7 @@ use Rattle.qu_client.specs.declared.state.Stepped.{Stepped}
 use Rattle.qu_client.specs.declared.work.Counted.{Counted}
 use Rattle.qu_client.specs.declared.work.Work.{Work}
 use Rattle.qu_client.specs.State.{opening_state, keep_all}
-use Rattle.qu_client.specs.Step.{is_asking, counts, on_frame, on_received, client_step, client_invoke, client_tick}
+use Rattle.qu_client.specs.Steps.{is_asking, counts, on_frame, on_received, client_step, client_invoke, client_tick}
 use Rattle.qu_client.specs.Sound.{IsSound}
 use Rattle.qu_client.proofs.Cases.{with_verdict, counted_cases, invoke_cases}
 use Rattle.qu_client.proofs.Laws.{client_step-me, client_step-bounds, client_invoke-me, client_invoke-bounds, IsSound-opening, IsSound-step, IsSound-invoke, other_replica}
@@ -40,7 +40,7 @@ use Rattle.qu_runs.specs.Carried.{Tells, Carries}
 use Rattle.qu_runs.specs.Plain.{IsPlain, ArePlain}
 use Rattle.qu_history.specs.declared.sealed.Sealed.{Sealed}
 use Rattle.qu_machine.proofs.Equalities.{client_is}
-use Rattle.qu_frames.specs.Signed.{brought}
+use Rattle.qu_frames.specs.Signing.{brought}
 use Rattle.qu_frames.proofs.Signed.{brought_is_decoded}
 use Rattle.qu_base.specs.declared.party.Party.TheVariants as party
 
@@ -195,7 +195,7 @@ answered_invoke trace before state op =
 -- what holds of the client with this number
 pub record Counts (trace : Trace) (before number : ℕ) (state : ClientState) : Type 0 where
   pub me : (state.me).0 ≡ number
-  pub bounds : state.bounds ≡ trace.setup.bounds
+  pub bounds : state.keys.bounds ≡ trace.setup.bounds
   pub sound : IsSound state
   pub answered : WorkAnswered trace before state.me state.work
 
@@ -214,7 +214,7 @@ counts_more trace before number state holds =
     }
 
 counts_moved : (trace : Trace) (before number : ℕ) (old new : ClientState) → new.me ≡ old.me
-    → new.bounds ≡ old.bounds → IsSound new → WorkAnswered trace (before + 1) old.me new.work
+    → new.keys.bounds ≡ old.keys.bounds → IsSound new → WorkAnswered trace (before + 1) old.me new.work
     → Counts trace before number old → Counts trace (before + 1) number new
 counts_moved trace before number old new me bounds sound answered holds = record {
   me = ap (λ (it : ClientId). it.0) me ∙ holds.me;
@@ -272,15 +272,15 @@ counts_step trace is have before within each event plain =
 counts_opening : (trace : Trace) → Each (Counts trace 0) (opening_world trace.setup).clients
 counts_opening trace zero state found = absurd (none-some state found)
 counts_opening trace (suc place) state found =
-    let opens : state ≡ opening_state (record { 0 = 1 + place }) (ring_of trace.setup) trace.setup.bounds =
-    opening_client 1 trace.setup.clients (ring_of trace.setup) trace.setup.bounds place state found in
+    let opens : state ≡ opening_state (record { 0 = 1 + place }) (ring_of trace.setup) =
+    opening_client 1 trace.setup.clients (ring_of trace.setup) place state found in
     let holds : Counts trace 0 (suc place)
-    (opening_state (record { 0 = 1 + place }) (ring_of trace.setup) trace.setup.bounds) =
+    (opening_state (record { 0 = 1 + place }) (ring_of trace.setup)) =
     record {
       me = omega arith;
       bounds = refl;
       sound = IsSound-opening (record { 0 = 1 + place })
-          (ring_of trace.setup) trace.setup.bounds;
+          (ring_of trace.setup);
       answered = tt;
     } in
     subst (Counts trace 0 (suc place)) (sym opens) holds

@@ -5,7 +5,7 @@ use Rattle.std.proofs.lemmas.List.Elements.{All-nil, All-cons, All-append, All-w
 use Rattle.std.proofs.lemmas.Option.{none-some, some_pair_parts, cond_some}
 use Rattle.qu_base.specs.declared.party.ClientId.{ClientId}
 use Rattle.qu_base.specs.declared.party.ReplicaId.{ReplicaId}
-use Rattle.qu_base.specs.Thresholds.{quorum}
+use Rattle.qu_base.specs.Bounds.{quorum}
 use Rattle.qu_objects.specs.declared.answer.Answer.{Answer}
 use Rattle.qu_objects.specs.declared.op.Outcome.{Outcome}
 use Rattle.qu_objects.specs.declared.op.Outcome.TheVariants as outcome
@@ -16,18 +16,18 @@ use Rattle.qu_client.specs.declared.state.ClientState.{ClientState}
 use Rattle.qu_client.specs.declared.state.Stepped.{Stepped}
 use Rattle.qu_client.specs.declared.work.Work.{Work}
 use Rattle.qu_client.specs.State.{keep_all}
-use Rattle.qu_client.specs.Step.{fitting, identical, counts, on_frame, on_received, client_step}
+use Rattle.qu_client.specs.Steps.{fitting, identical, counts, on_frame, on_received, client_step}
 use Rattle.qu_client.proofs.Cases.{with_verdict, counted_cases}
 use Rattle.qu_machine.specs.declared.record.OpRecord.{OpRecord}
 use Rattle.qu_trace.specs.declared.event.Event.{Event}
 use Rattle.qu_trace.specs.declared.event.Event.TheVariants.{Invoke, Deliver, Tick, Inject}
 use Rattle.qu_trace.specs.declared.trace.Entry.{Entry}
-use Rattle.qu_trace.specs.Operations.{outcome_in, first_end, end_from, begins_at, begun_by, operations_from, operations_of}
+use Rattle.qu_trace.specs.Operation.{outcome_in, first_end, end_from, begins_at, begun_by, operations_from, operations_of}
 use Rattle.qu_world.specs.Step.{ended_by}
 use Rattle.qu_history.specs.declared.sealed.Sealed.{Sealed}
 use Rattle.qu_base.specs.declared.party.ObjectId.{ObjectId}
 use Rattle.qu_machine.proofs.Equalities.{client_is}
-use Rattle.qu_frames.specs.Signed.{brought}
+use Rattle.qu_frames.specs.Signing.{brought}
 use Rattle.qu_base.specs.declared.party.Party.TheVariants as party
 
 -- ---- where the end is recorded
@@ -155,7 +155,7 @@ pub record ReplyCompletes (state : ClientState) (received : Frame) (answer : Ans
   pub under_way : state.work ≡ Some work
   pub counting : counts work replica number round ≡ true
   pub fits : fitting work.op verdict ≡ Some answer
-  pub enough : quorum state.bounds ≤ identical verdict (with_verdict work replica verdict).replies
+  pub enough : quorum state.keys.bounds ≤ identical verdict (with_verdict work replica verdict).replies
 
 same_answer : (first second : Answer) → Some (outcome.Done first) ≡ Some (outcome.Done second) → first ≡ second
 same_answer first second same = cc

@@ -22,14 +22,14 @@ use Rattle.qu_client.specs.declared.state.ClientState.{ClientState}
 use Rattle.qu_client.specs.declared.state.Stepped.{Stepped}
 use Rattle.qu_client.specs.declared.work.Work.{Work}
 use Rattle.qu_client.specs.State.{opening_state}
-use Rattle.qu_client.specs.Step.{client_step, client_invoke, client_tick}
+use Rattle.qu_client.specs.Steps.{client_step, client_invoke, client_tick}
 use Rattle.qu_client.specs.Sound.{last_number}
 use Rattle.qu_trace.specs.declared.event.Event.{Event}
 use Rattle.qu_trace.specs.declared.event.Event.TheVariants.{Invoke, Deliver, Tick, Inject}
 use Rattle.qu_trace.specs.declared.trace.Entry.{Entry}
 use Rattle.qu_trace.specs.declared.trace.Trace.{Trace}
 use Rattle.qu_trace.specs.Letters.{letters_of}
-use Rattle.qu_trace.specs.Operations.{invokes, begun_by, record_of}
+use Rattle.qu_trace.specs.Operation.{invokes, begun_by, record_of}
 use Rattle.qu_world.specs.State.{WorldState, opening_world, opening_clients, numbered, with_numbered, letter_of, ring_of}
 use Rattle.qu_world.specs.Step.{world_step, at_client, at_replica, received, delivered, ended_by}
 use Rattle.qu_world.specs.Refusals.{cause_of}
@@ -243,24 +243,24 @@ module _ (trace : Trace) (count : ℕ) (world : WorldState) (shown : IsShown tra
 
 -- ---- runs
 
-opening_from : (trace : Trace) (first many : ℕ) (keys : Ring) (bounds index number : ℕ) (state : ClientState)
-    → number ≡ first + index → slice_get (opening_clients first many keys bounds) index ≡ Some state
+opening_from : (trace : Trace) (first many : ℕ) (keys : Ring) (index number : ℕ) (state : ClientState)
+    → number ≡ first + index → slice_get (opening_clients first many keys) index ≡ Some state
     → IsClientAt trace 0 0 number state
 unfolding opening_clients
-opening_from trace first zero keys bounds index number state at found = absurd cc
-opening_from trace first (suc many) keys bounds zero number state at found =
-    subst (IsClientAt trace 0 0 number) (same_Some (opening_state (record { 0 = first }) keys bounds) state found)
+opening_from trace first zero keys index number state at found = absurd cc
+opening_from trace first (suc many) keys zero number state at found =
+    subst (IsClientAt trace 0 0 number) (same_Some (opening_state (record { 0 = first }) keys) state found)
     (record { named = omega arith; sound = tt; at_work = refl })
-opening_from trace first (suc many) keys bounds (suc index) number state at found =
-    opening_from trace (first + 1) many keys bounds index number state (omega arith) found
+opening_from trace first (suc many) keys (suc index) number state at found =
+    opening_from trace (first + 1) many keys index number state (omega arith) found
 
 opening_client : (trace : Trace) (number : ℕ) (state : ClientState)
-    → numbered (opening_clients 1 trace.setup.clients (ring_of trace.setup) trace.setup.bounds) number ≡ Some
+    → numbered (opening_clients 1 trace.setup.clients (ring_of trace.setup)) number ≡ Some
     state → IsClientAt trace 0 (begun_at trace 0 number) number state
 unfolding begun_by
 opening_client trace zero state found = absurd cc
 opening_client trace (suc index) state found =
-    opening_from trace 1 trace.setup.clients (ring_of trace.setup) trace.setup.bounds index (suc index) state
+    opening_from trace 1 trace.setup.clients (ring_of trace.setup) index (suc index) state
     (omega arith) found
 
 opening_shown : (trace : Trace) → IsShown trace 0 (opening_world trace.setup)

@@ -7,7 +7,7 @@ use Rattle.std.proofs.lemmas.Option.{none-some, same_Some}
 use Rattle.qu_base.specs.declared.party.ClientId.{ClientId}
 use Rattle.qu_base.specs.declared.party.ObjectId.{ObjectId}
 use Rattle.qu_base.specs.declared.party.ReplicaId.{ReplicaId}
-use Rattle.qu_base.specs.Thresholds.{quorum, replicas}
+use Rattle.qu_base.specs.Bounds.{quorum, replicas}
 use Rattle.qu_history.specs.declared.sets.SetOf.{SetOf}
 use Rattle.qu_objects.specs.declared.act.Method.{Method}
 use Rattle.qu_objects.specs.declared.answer.Answer.{Answer}
@@ -31,13 +31,13 @@ use Rattle.qu_frames.specs.declared.limits.TheConstants.{LAST_ROUND}
 use Rattle.qu_client.specs.declared.work.Work.{Work}
 use Rattle.qu_client.specs.State.{keep_all}
 use Rattle.qu_client.specs.Rounds.{is_act, sets_of, are_full, are_current, request_of, requests_from, asked, halted, begin_full, begin_round}
-use Rattle.qu_client.specs.Step.{stays, goes_on, ends, fitting, identical, is_hopeless, next_round, judged, is_asking, counts, counted_in, on_frame, on_received, client_step, client_invoke, next_number, first_work}
+use Rattle.qu_client.specs.Steps.{stays, goes_on, ends, fitting, identical, is_hopeless, next_round, judged, is_asking, counts, counted_in, on_frame, on_received, client_step, client_invoke, next_number, first_work}
 use Rattle.qu_client.specs.Sound.{IsSound, last_number}
 use Rattle.qu_client.proofs.Cases.{with_verdict}
 use Rattle.qu_runs.specs.Carried.{Asks}
-use Rattle.qu_frames.specs.Forms.{frame_form}
+use Rattle.qu_frames.specs.Formats.{frame_form}
 use Rattle.qu_client.proofs.Laws.{sound_work}
-use Rattle.qu_frames.specs.Signed.{brought, signed, signature}
+use Rattle.qu_frames.specs.Signing.{brought, signed, signature}
 use Rattle.qu_seal.specs.Keys.{Ring}
 use Rattle.qu_base.specs.declared.party.Party.TheVariants as party
 
@@ -168,7 +168,7 @@ quiet Sent bounds me state ended once = record {
 -- ---- a round
 
 module _ (Sent : Letter → Type 0) (bounds : ℕ) (state : ClientState) (work : Work)
-    (is_bounds : state.bounds ≡ bounds) (up_to : AreUpTo Sent state.me (last_number state.last_request))
+    (is_bounds : state.keys.bounds ≡ bounds) (up_to : AreUpTo Sent state.me (last_number state.last_request))
     (order : last_number state.last_request ≤ work.number)
     (unasked : IsUnasked Sent bounds state.me work.number work.acted) where
   unasked_as : (now found : Work) → Some now ≡ Some found → IsUnasked Sent bounds state.me now.number now.acted
@@ -199,7 +199,7 @@ module _ (Sent : Letter → Type 0) (bounds : ℕ) (state : ClientState) (work :
     now = record work { acted = acted }
 
     abbrev letters : List Letter
-    letters = requests_from state.keys 0 (replicas state.bounds) state.me now sets
+    letters = requests_from state.keys 0 (replicas state.keys.bounds) state.me now sets
 
     -- no earlier letter asks for the act that these ask for
     abbrev IsApart : Type 0
@@ -215,7 +215,7 @@ module _ (Sent : Letter → Type 0) (bounds : ℕ) (state : ClientState) (work :
         (signature state.keys letter.to (request_of state.me work sets))
         (signed_carries letter state.keys letter.to (request_of state.me work sets)
         (frame.Request client number round others asks is.mac) fits
-        (request_is state.keys 0 (replicas state.bounds) state.me now sets letter new) is.carries)
+        (request_is state.keys 0 (replicas state.keys.bounds) state.me now sets letter new) is.carries)
 
     new_apart : IsApart → (old letter : Letter) → Sent old → StandsIn letters letter
         → (client : ClientId) (number : ℕ) (others besides : List SetOf) (parts more : List (ObjectId × Method))
@@ -300,18 +300,18 @@ module _ (Sent : Letter → Type 0) (bounds : ℕ) (state : ClientState) (work :
 
   begin_once : IsOnceIf Sent bounds state.me (goes_on (begin_round state work))
   begin_once =
-      let sets : List SetOf = sets_of state.bounds state.kept work.op in
-      cond_both (are_full state.bounds sets) (begin_full state work sets) (asked state work sets)
+      let sets : List SetOf = sets_of state.keys.bounds state.kept work.op in
+      cond_both (are_full state.keys.bounds sets) (begin_full state work sets) (asked state work sets)
       (λ begun. IsOnceIf Sent bounds state.me (goes_on begun))
-      (λ full. cond_both (are_current state.bounds sets && not (is_act work.op && work.acted)) _ _
+      (λ full. cond_both (are_current state.keys.bounds sets && not (is_act work.op && work.acted)) _ _
       (λ begun. IsOnceIf Sent bounds state.me (goes_on begun))
-      (λ may fits. full_once sets (fits _ refl) (and_parts (are_current state.bounds sets) _ may).1)
+      (λ may fits. full_once sets (fits _ refl) (and_parts (are_current state.keys.bounds sets) _ may).1)
       (λ _. halted_once))
       (λ thin fits. thin_once sets (fits _ refl) (ap (λ (size : ℕ). are_full size sets) (sym is_bounds) ∙ thin))
 
 -- ---- what a client is sent
 
-module _ (Sent : Letter → Type 0) (bounds : ℕ) (state : ClientState) (is_bounds : state.bounds ≡ bounds)
+module _ (Sent : Letter → Type 0) (bounds : ℕ) (state : ClientState) (is_bounds : state.keys.bounds ≡ bounds)
     (up_to : AreUpTo Sent state.me (last_number state.last_request)) where
   next_once : (work : Work) → last_number state.last_request ≤ work.number
       → IsUnasked Sent bounds state.me work.number work.acted → IsOnceIf Sent bounds state.me (next_round state work)
@@ -324,18 +324,18 @@ module _ (Sent : Letter → Type 0) (bounds : ℕ) (state : ClientState) (is_bou
       → last_number state.last_request ≤ work.number → IsUnasked Sent bounds state.me work.number work.acted
       → IsOnceIf Sent bounds state.me (judged state work verdict found)
   judged_once work verdict None order unasked =
-      cond_both (is_hopeless state.bounds work.op work.replies) _ _ (IsOnceIf Sent bounds state.me)
+      cond_both (is_hopeless state.keys.bounds work.op work.replies) _ _ (IsOnceIf Sent bounds state.me)
       (λ _. next_once work order unasked)
       (λ _. waits_once Sent bounds state work is_bounds up_to order unasked)
   judged_once work verdict (Some answer) order unasked =
-      cond_both (leb (quorum state.bounds) (identical verdict work.replies)) _ _ (IsOnceIf Sent bounds state.me)
+      cond_both (leb (quorum state.keys.bounds) (identical verdict work.replies)) _ _ (IsOnceIf Sent bounds state.me)
       (λ _. ended_once Sent bounds state work is_bounds up_to order unasked (outcome.Done answer))
-      (λ _. cond_both (is_hopeless state.bounds work.op work.replies) _ _ (IsOnceIf Sent bounds state.me)
+      (λ _. cond_both (is_hopeless state.keys.bounds work.op work.replies) _ _ (IsOnceIf Sent bounds state.me)
       (λ _. next_once work order unasked)
       (λ _. waits_once Sent bounds state work is_bounds up_to order unasked))
 
 counted_once : (Sent : Letter → Type 0) (bounds : ℕ) (state : ClientState) (found : Option Work)
-    (replica : ReplicaId) (number round : ℕ) (verdict : Verdict) → state.work ≡ found → state.bounds ≡ bounds
+    (replica : ReplicaId) (number round : ℕ) (verdict : Verdict) → state.work ≡ found → state.keys.bounds ≡ bounds
     → IsSound state → IsOnce Sent bounds state → IsOnceIf Sent bounds state.me
     (counted_in state found replica number round verdict)
 counted_once Sent bounds state None replica number round verdict is is_bounds sound once =
@@ -351,7 +351,7 @@ counted_once Sent bounds state (Some work) replica number round verdict is is_bo
     (λ _ fits. quiet Sent bounds state.me state None once)
 
 frame-once : (Sent : Letter → Type 0) (bounds : ℕ) (state : ClientState) (received : Frame)
-    → state.bounds ≡ bounds → IsSound state → IsOnce Sent bounds state → IsOnceIf Sent bounds state.me
+    → state.keys.bounds ≡ bounds → IsSound state → IsOnce Sent bounds state → IsOnceIf Sent bounds state.me
     (on_frame state received)
 frame-once Sent bounds state (frame.Request client number round sets asks mac) is_bounds sound once =
     λ fits. quiet Sent bounds state.me state None once
@@ -363,14 +363,14 @@ frame-once Sent bounds state (frame.Reply replica client number round verdict cu
     (λ _ fits. quiet Sent bounds state.me state None once)
 
 brought-once : (Sent : Letter → Type 0) (bounds : ℕ) (state : ClientState) (found : Option Frame)
-    → state.bounds ≡ bounds → IsSound state → IsOnce Sent bounds state → IsOnceIf Sent bounds state.me
+    → state.keys.bounds ≡ bounds → IsSound state → IsOnce Sent bounds state → IsOnceIf Sent bounds state.me
     (on_received state found)
 brought-once Sent bounds state (Some taken) is_bounds sound once =
     frame-once Sent bounds state taken is_bounds sound once
 brought-once Sent bounds state None is_bounds sound once = λ fits. quiet Sent bounds state.me state None once
 
 pub client_step-once : (Sent : Letter → Type 0) (bounds : ℕ) (state : ClientState) (text : List ℕ)
-    → state.bounds ≡ bounds → IsSound state → IsOnce Sent bounds state → IsOnceIf Sent bounds state.me
+    → state.keys.bounds ≡ bounds → IsSound state → IsOnce Sent bounds state → IsOnceIf Sent bounds state.me
     (client_step state text)
 client_step-once Sent bounds state text =
     brought-once Sent bounds state (brought state.keys (party.Client state.me) text)
@@ -385,7 +385,8 @@ next_is (Some last) = refl
 
 -- the number of an operation that begins was not used before
 pub client_invoke-once : (Sent : Letter → Type 0) (bounds : ℕ) (state : ClientState) (operation : Op)
-    → state.bounds ≡ bounds → IsOnce Sent bounds state → IsOnceIf Sent bounds state.me (client_invoke state operation)
+    → state.keys.bounds ≡ bounds → IsOnce Sent bounds state
+    → IsOnceIf Sent bounds state.me (client_invoke state operation)
 client_invoke-once Sent bounds state operation is_bounds once =
     let next : next_number state.last_request ≡ last_number state.last_request + 1 = next_is state.last_request in
     begin_once Sent bounds state (first_work operation (next_number state.last_request)) is_bounds once.up_to

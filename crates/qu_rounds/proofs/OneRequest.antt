@@ -25,7 +25,7 @@ use Rattle.qu_client.specs.declared.state.ClientState.{ClientState}
 use Rattle.qu_client.specs.declared.state.Stepped.{Stepped}
 use Rattle.qu_client.specs.State.{opening_state}
 use Rattle.qu_client.specs.Rounds.{are_full}
-use Rattle.qu_client.specs.Step.{client_invoke, client_step, client_tick}
+use Rattle.qu_client.specs.Steps.{client_invoke, client_step, client_tick}
 use Rattle.qu_client.specs.Sound.{IsSound}
 use Rattle.qu_client.proofs.Laws.{client_step-me, client_step-bounds, client_invoke-me, client_invoke-bounds, IsSound-step, IsSound-invoke}
 use Rattle.qu_trace.specs.declared.event.Event.{Event}
@@ -48,7 +48,7 @@ use Rattle.qu_runs.specs.Plain.{IsPlain, ArePlain}
 use Rattle.qu_runs.proofs.Carrying.{AsksFit, IsFitStep, numbered_here, no_request, signed_spelled}
 use Rattle.qu_runs.proofs.Fitting.{fit_step}
 use Rattle.qu_world.proofs.LetterLaws.{letters-push}
-use Rattle.qu_frames.specs.Signed.{brought, signature}
+use Rattle.qu_frames.specs.Signing.{brought, signature}
 use Rattle.qu_replica.proofs.FitSteps.{blank_sized}
 use Rattle.qu_seal.specs.Keys.{Ring}
 use Rattle.qu_runs.proofs.Handing.{injected_cases}
@@ -92,7 +92,7 @@ numbered_found items number old new other found was is =
 -- the client has this number, and the bounds of the setup
 pub record IsNumberedClient (bounds number : ℕ) (state : ClientState) : Type 0 where
   pub me : (state.me).0 ≡ number
-  pub bounds_are : state.bounds ≡ bounds
+  pub bounds_are : state.keys.bounds ≡ bounds
   pub sound : IsSound state
 
 pub record AreOnce (Sent : Letter → Type 0) (bounds : ℕ) (clients : List ClientState) : Type 0 where
@@ -182,7 +182,7 @@ answered state client number round sets (Answers verdict accepted) letter stands
     let frame : Frame = answer_frame new client number round sets verdict in
     let to : Party = party.Client client in
     no_request (reply new client number round sets verdict) new.me client number round verdict []
-    (map (sealed new.bounds) (shown new sets)) (signature new.keys to frame)
+    (map (sealed new.keys.bounds) (shown new sets)) (signature new.keys to frame)
     (signed_spelled new.keys to frame blank_sized))
 
 frame_asks : (state : ReplicaState) (sent : Frame) (letter : Letter) → StandsIn (replica.on_frame state sent).1
@@ -299,13 +299,13 @@ module _ (bounds : ℕ) where
 
 -- ---- all worlds of a run
 
-opening_at : (keys : Ring) (bounds : ℕ) (number : ℕ) (me : ClientId) → me.0 ≡ number
-    → IsNumberedClient bounds number (opening_state me keys bounds)
-opening_at keys bounds number me is = record { me = is; bounds_are = refl; sound = tt }
+opening_at : (keys : Ring) (number : ℕ) (me : ClientId) → me.0 ≡ number
+    → IsNumberedClient keys.bounds number (opening_state me keys)
+opening_at keys number me is = record { me = is; bounds_are = refl; sound = tt }
 
-opening_once : (Sent : Letter → Type 0) (keys : Ring) (bounds : ℕ) (me : ClientId)
-    → ((letter : Letter) → Sent letter → ⊥) → IsOnce Sent bounds (opening_state me keys bounds)
-opening_once Sent keys bounds me none = record {
+opening_once : (Sent : Letter → Type 0) (keys : Ring) (me : ClientId)
+    → ((letter : Letter) → Sent letter → ⊥) → IsOnce Sent keys.bounds (opening_state me keys)
+opening_once Sent keys me none = record {
   up_to = λ letter sent. absurd (none letter sent);
   unasked = λ work is. absurd (none-some work is);
 }
@@ -315,12 +315,12 @@ unfolding letters_of
 opening_world-once setup = record {
   clients_are = λ number state is.
       subst (IsNumberedClient setup.bounds number)
-      (sym (opening_clients-at setup.clients (ring_of setup) setup.bounds number state is))
-      (opening_at (ring_of setup) setup.bounds number (record { 0 = number }) refl);
+      (sym (opening_clients-at setup.clients (ring_of setup) number state is))
+      (opening_at (ring_of setup) number (record { 0 = number }) refl);
   once = λ number state is.
       subst (IsOnce (StandsIn []) setup.bounds)
-      (sym (opening_clients-at setup.clients (ring_of setup) setup.bounds number state is))
-      (opening_once (StandsIn []) (ring_of setup) setup.bounds (record { 0 = number }) none_stands);
+      (sym (opening_clients-at setup.clients (ring_of setup) number state is))
+      (opening_once (StandsIn []) (ring_of setup) (record { 0 = number }) none_stands);
   alike = λ first second one. absurd (none_stands first one);
 }
 

@@ -15,7 +15,7 @@ use Rattle.qu_replica.specs.Step.{replica_step}
 use Rattle.qu_client.specs.declared.state.ClientState.{ClientState}
 use Rattle.qu_client.specs.declared.state.Stepped.{Stepped}
 use Rattle.qu_client.specs.State.{opening_state}
-use Rattle.qu_client.specs.Step.{client_invoke, client_step, client_tick}
+use Rattle.qu_client.specs.Steps.{client_invoke, client_step, client_tick}
 use Rattle.qu_trace.specs.declared.event.Event.{Event}
 use Rattle.qu_trace.specs.declared.event.Event.TheVariants.{Invoke, Deliver, Tick, Inject}
 use Rattle.qu_trace.specs.declared.trace.Entry.{Entry}
@@ -175,17 +175,17 @@ module _ (bounds : ℕ) (world : WorldState)
 
 -- ---- all worlds of a run
 
-opening_within : (Sent : Letter → Type 0) (me : ClientId) (keys : Ring) (bounds : ℕ)
-    → AreWithin Sent (opening_state me keys bounds)
-opening_within Sent me keys bounds work is = absurd (none-some work is)
+opening_within : (Sent : Letter → Type 0) (me : ClientId) (keys : Ring)
+    → AreWithin Sent (opening_state me keys)
+opening_within Sent me keys work is = absurd (none-some work is)
 
 opening_world-round : (setup : Setup) → IsRoundWorld (opening_world setup)
 unfolding letters_of
 opening_world-round setup = record {
   within = λ number state is.
       subst (AreWithin (StandsIn []))
-      (sym (opening_clients-at setup.clients (ring_of setup) setup.bounds number state is))
-      (opening_within (StandsIn []) (record { 0 = number }) (ring_of setup) setup.bounds);
+      (sym (opening_clients-at setup.clients (ring_of setup) number state is))
+      (opening_within (StandsIn []) (record { 0 = number }) (ring_of setup));
   alike = λ first second one. absurd (none_stands first one);
 }
 

@@ -7,7 +7,7 @@ use Rattle.std.proofs.lemmas.Option.{none-some, same_Some, slice_get_within, get
 use Rattle.qu_base.specs.declared.party.ClientId.{ClientId}
 use Rattle.qu_base.specs.declared.party.Party.TheVariants as party
 use Rattle.qu_base.specs.declared.party.ReplicaId.{ReplicaId}
-use Rattle.qu_base.specs.Thresholds.{replicas}
+use Rattle.qu_base.specs.Bounds.{replicas}
 use Rattle.qu_history.specs.declared.sets.SetOf.{SetOf}
 use Rattle.qu_objects.specs.declared.kind.KindName.{KindName}
 use Rattle.qu_objects.specs.declared.op.Op.{Op}
@@ -27,7 +27,7 @@ use Rattle.qu_replica.proofs.Growth.{accept_all-me}
 use Rattle.qu_client.specs.declared.state.ClientState.{ClientState}
 use Rattle.qu_client.specs.declared.work.Work.{Work}
 use Rattle.qu_client.specs.Rounds.{request_of, requests_from}
-use Rattle.qu_client.specs.Step.{client_invoke, client_step}
+use Rattle.qu_client.specs.Steps.{client_invoke, client_step}
 use Rattle.qu_client.proofs.Cases.{step_cases, invoke_cases}
 use Rattle.qu_trace.specs.declared.trace.Entry.{Entry}
 use Rattle.qu_trace.specs.declared.trace.Trace.{Trace}
@@ -40,33 +40,33 @@ use Rattle.qu_runs.specs.Times.{world_after}
 use Rattle.qu_runs.proofs.WorldGrowth.{world_after-none, world_after-grows}
 use Rattle.qu_runs.proofs.Recording.{entries_after, entry_cases}
 use Rattle.qu_runs.specs.Carried.{Tells}
-use Rattle.qu_frames.specs.Forms.{frame_form}
+use Rattle.qu_frames.specs.Formats.{frame_form}
 use Rattle.qu_runs.specs.Plain.{ArePlain}
 use Rattle.qu_history.specs.declared.sealed.Sealed.{Sealed}
 use Rattle.qu_runs.proofs.Carrying.{AnswersFit, no_reply, signed_spelled, signed_carries, brings_carries}
 use Rattle.qu_runs.proofs.Fitting.{fit_step}
-use Rattle.qu_frames.specs.Signed.{brought, signed, signature, with_mac}
+use Rattle.qu_frames.specs.Signing.{brought, signed, signature, with_mac}
 use Rattle.qu_seal.specs.Keys.{Ring}
 use Rattle.qu_replica.proofs.FitSteps.{blank_sized}
 use Rattle.qu_base.specs.declared.party.Party.{Party}
 
 -- ---- the names of replicas
 
-replica_name : (number count : ℕ) (keys : Ring) (bounds : ℕ) (kinds : List KindName) (news : List ReplicaState)
-    → AllZip Grows (opening_replicas number count keys bounds kinds) news → (place : ℕ) (state : ReplicaState)
+replica_name : (number count : ℕ) (keys : Ring) (kinds : List KindName) (news : List ReplicaState)
+    → AllZip Grows (opening_replicas number count keys kinds) news → (place : ℕ) (state : ReplicaState)
     → slice_get news place ≡ Some state → (state.me).0 < number + count
 unfolding opening_replicas
-replica_name number zero keys bounds kinds [] grows place state found = absurd (none-some state found)
-replica_name number zero keys bounds kinds (new ∷ news) grows place state found = absurd grows
-replica_name number (suc count) keys bounds kinds [] grows place state found = absurd grows
-replica_name number (suc count) keys bounds kinds (new ∷ news) grows zero state found =
+replica_name number zero keys kinds [] grows place state found = absurd (none-some state found)
+replica_name number zero keys kinds (new ∷ news) grows place state found = absurd grows
+replica_name number (suc count) keys kinds [] grows place state found = absurd grows
+replica_name number (suc count) keys kinds (new ∷ news) grows zero state found =
     let same : new ≡ state = same_Some new state found in
     let name : (state.me).0 ≡ number = ap (λ (it : ReplicaState). (it.me).0) (sym same)
     ∙ ap (λ (it : ReplicaId). it.0) grows.0.me in
     omega arith
-replica_name number (suc count) keys bounds kinds (new ∷ news) grows (suc place) state found =
+replica_name number (suc count) keys kinds (new ∷ news) grows (suc place) state found =
     let below : (state.me).0 < (number + 1) + count =
-    replica_name (number + 1) count keys bounds kinds news grows.1 place state found in
+    replica_name (number + 1) count keys kinds news grows.1 place state found in
     omega arith
 
 -- a replica's name is below the number of replicas
@@ -77,7 +77,7 @@ replica_within trace index place state found =
     subst (λ (world : WorldState). GrowsTo world (world_after trace index)) (world_after-none trace)
     (world_after-grows trace 0 index (omega arith)) in
     let below : (state.me).0 < 0 + replicas trace.setup.bounds =
-    replica_name 0 (replicas trace.setup.bounds) (ring_of trace.setup) trace.setup.bounds trace.setup.kinds
+    replica_name 0 (replicas trace.setup.bounds) (ring_of trace.setup) trace.setup.kinds
     (world_after trace index).replicas grows.replicas place state found in
     omega arith
 
@@ -143,7 +143,7 @@ step_replies bound state text =
     let none : All (RepliesWithin bound) [] = All-nil (RepliesWithin bound) in
     step_cases state (λ stepped. All (RepliesWithin bound) stepped.letters)
     none (λ _. none) (λ _ _ _ _ _ _ _ _. none) (λ _ _. none)
-    (λ kept work replies acted is asking below. by_client bound state.keys 0 (replicas state.bounds) state.me _ _)
+    (λ kept work replies acted is asking below. by_client bound state.keys 0 (replicas state.keys.bounds) state.me _ _)
     (λ _ _ _ _ _ _. none)
     text
 
@@ -151,7 +151,7 @@ invoke_replies : (bound : ℕ) (state : ClientState) (op : Op) → All (RepliesW
     (client_invoke state op).letters
 invoke_replies bound state op =
     invoke_cases state op (λ stepped. All (RepliesWithin bound) stepped.letters)
-    (λ acted. by_client bound state.keys 0 (replicas state.bounds) state.me _ _) (All-nil (RepliesWithin bound))
+    (λ acted. by_client bound state.keys 0 (replicas state.keys.bounds) state.me _ _) (All-nil (RepliesWithin bound))
 
 -- each reply among a run's letters is from one of its replicas
 pub replies_within : (trace : Trace) → IsRun trace → ArePlain trace → (index : ℕ) (entry : Entry)

@@ -7,7 +7,7 @@ use Rattle.qu_base.specs.declared.party.ClientId.{ClientId}
 use Rattle.qu_base.specs.declared.party.ObjectId.{ObjectId}
 use Rattle.qu_base.specs.declared.party.Party.TheVariants as party
 use Rattle.qu_base.specs.declared.party.ReplicaId.{ReplicaId}
-use Rattle.qu_base.specs.Thresholds.{replicas}
+use Rattle.qu_base.specs.Bounds.{replicas}
 use Rattle.qu_history.specs.declared.sets.SetOf.{SetOf}
 use Rattle.qu_objects.specs.declared.op.Op.{Op}
 use Rattle.qu_frames.specs.declared.frame.Body.{Body}
@@ -28,17 +28,17 @@ use Rattle.qu_client.specs.declared.work.Work.{Work}
 use Rattle.qu_client.specs.declared.state.ClientState.{ClientState}
 use Rattle.qu_client.specs.State.{keep_all}
 use Rattle.qu_client.specs.Rounds.{request_of, requests_from}
-use Rattle.qu_client.specs.Step.{on_frame, on_received, client_step, client_invoke, counted_in, counts, is_asking, next_number}
+use Rattle.qu_client.specs.Steps.{on_frame, on_received, client_step, client_invoke, counted_in, counts, is_asking, next_number}
 use Rattle.qu_client.specs.Sound.{IsSoundWork, IsSound, last_number}
 use Rattle.qu_client.proofs.Cases.{counted_cases, invoke_cases}
 use Rattle.qu_client.proofs.Laws.{client_step-me, client_invoke-me, IsSound-step, IsSound-invoke, sound_work}
 use Rattle.qu_trace.specs.declared.trace.Trace.{Trace}
 use Rattle.qu_rounds.specs.Invocations.{IsRequestOf}
 use Rattle.qu_runs.specs.Carried.{Carries}
-use Rattle.qu_frames.specs.Forms.{frame_form}
+use Rattle.qu_frames.specs.Formats.{frame_form}
 use Rattle.qu_history.specs.declared.sealed.Sealed.{Sealed}
 use Rattle.qu_runs.proofs.Carrying.{AsksFit, no_request, signed_spelled, signed_carries}
-use Rattle.qu_frames.specs.Signed.{brought, signed, signature}
+use Rattle.qu_frames.specs.Signing.{brought, signed, signature}
 use Rattle.qu_seal.specs.Keys.{Ring}
 use Rattle.qu_replica.proofs.FitSteps.{blank_sized}
 use Rattle.qu_base.specs.declared.party.Party.{Party}
@@ -114,7 +114,7 @@ carried_asked trace count state client number round sets (Answers verdict accept
     let to : Party = party.Client client in
     record {
       asked = reply_asked trace count (reply new client number round sets verdict) new.me client number round
-          verdict [] (map (sealed new.bounds) (shown new sets)) (signature new.keys to frame)
+          verdict [] (map (sealed new.keys.bounds) (shown new sets)) (signature new.keys to frame)
           (signed_spelled new.keys to frame blank_sized);
     })
     (All-nil (IsAsked trace count))
@@ -222,7 +222,7 @@ module _ (trace : Trace) (count begun : ℕ) (state : ClientState) (sound : IsSo
       })
       (λ work acted is counting below fits. record {
         at_work = record { latest = (working work is).latest; request = (working work is).request };
-        letters = requests_asked trace count state.keys 0 (replicas state.bounds) state.me _ _ (fits _ refl)
+        letters = requests_asked trace count state.keys 0 (replicas state.keys.bounds) state.me _ _ (fits _ refl)
             (working work is).request;
       })
       (λ work is counting below fits.
@@ -297,7 +297,7 @@ module _ (trace : Trace) (count begun : ℕ) (state : ClientState) (op : Op)
       invoke_cases state op (λ stepped. AsksFit stepped.state → IsStepAt trace count (begun + 1) state.me stepped)
       (λ acted fits. record {
         at_work = record { latest = next_is state.last_request begun last; request = next_request };
-        letters = requests_asked trace count state.keys 0 (replicas state.bounds) state.me _ _ (fits _ refl)
+        letters = requests_asked trace count state.keys 0 (replicas state.keys.bounds) state.me _ _ (fits _ refl)
             next_request;
       })
       (λ fits. record {

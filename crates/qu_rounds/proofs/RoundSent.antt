@@ -2,7 +2,7 @@
 use Rattle.std.proofs.Common.{◌≡◌, ◌⊎◌, ℕ, ◌+◌, ◌<◌, ◌≤◌, List, [], Option, None, Some, refl, sym, subst, ◌∙◌, arith, inl, inr}
 use Rattle.std.proofs.lemmas.Option.{none-some, same_Some}
 use Rattle.qu_base.specs.declared.party.ClientId.{ClientId}
-use Rattle.qu_base.specs.Thresholds.{replicas}
+use Rattle.qu_base.specs.Bounds.{replicas}
 use Rattle.qu_history.specs.declared.sets.SetOf.{SetOf}
 use Rattle.qu_objects.specs.declared.op.Op.{Op}
 use Rattle.qu_objects.specs.declared.op.Outcome.{Outcome}
@@ -16,13 +16,13 @@ use Rattle.qu_client.specs.declared.state.Stepped.{Stepped}
 use Rattle.qu_client.specs.declared.work.Phase.TheVariants.{Asking, Halted}
 use Rattle.qu_client.specs.declared.work.Work.{Work}
 use Rattle.qu_client.specs.Rounds.{sets_of, request_of, requests_from, asked, halted}
-use Rattle.qu_client.specs.Step.{stays, goes_on, client_step, client_invoke, next_number, first_work}
+use Rattle.qu_client.specs.Steps.{stays, goes_on, client_step, client_invoke, next_number, first_work}
 use Rattle.qu_client.specs.Sound.{last_number}
 use Rattle.qu_client.proofs.Cases.{with_verdict, step_cases, invoke_cases}
 use Rattle.qu_rounds.proofs.OnceSent.{StandsIn, none_stands, AreUpTo, OrNew, IsSameRequest, same_request, request_is, next_is}
 use Rattle.qu_runs.specs.Carried.{Asks}
-use Rattle.qu_frames.specs.Forms.{frame_form}
-use Rattle.qu_frames.specs.Signed.{signature, with_mac}
+use Rattle.qu_frames.specs.Formats.{frame_form}
+use Rattle.qu_frames.specs.Signing.{signature, with_mac}
 
 -- the requests of one operation and round are one
 abbrev pub AreOneRound : (Letter → Type 0) → Type 0
@@ -97,7 +97,7 @@ module _ (Sent : Letter → Type 0) (state : ClientState) (work : Work)
 
   module _ (sets : List SetOf) (fits : frame_form.Fits (request_of state.me work sets)) where
     abbrev letters : List Letter
-    letters = requests_from state.keys 0 (replicas state.bounds) state.me work sets
+    letters = requests_from state.keys 0 (replicas state.keys.bounds) state.me work sets
 
     new_same : (letter : Letter) → StandsIn letters letter → (client : ClientId) (number round : ℕ)
         (others : List SetOf) (asks : Body) (is : Asks letter client number round others asks)
@@ -106,7 +106,7 @@ module _ (Sent : Letter → Type 0) (state : ClientState) (work : Work)
     new_same letter new client number round others asks is =
         signed_carries letter state.keys letter.to (request_of state.me work sets)
         (frame.Request client number round others asks is.mac) fits
-        (request_is state.keys 0 (replicas state.bounds) state.me work sets letter new) is.carries
+        (request_is state.keys 0 (replicas state.keys.bounds) state.me work sets letter new) is.carries
 
     new_is : (letter : Letter) → StandsIn letters letter → (client : ClientId) (number round : ℕ)
         (others : List SetOf) (asks : Body) → Asks letter client number round others asks
@@ -179,7 +179,7 @@ client_step-round Sent state text within =
     (λ kept work replies acted is asking more fits.
     asked_round Sent (record state { kept = kept })
     (record work { round = work.round + 1; acted = acted; replies = replies }) (within work is)
-    (sets_of state.bounds kept work.op) (fits _ refl))
+    (sets_of state.keys.bounds kept work.op) (fits _ refl))
     (λ kept work replies is asking more fits. halted_round Sent (record state { kept = kept })
     (record work { round = work.round + 1; replies = replies }) (within work is))
     text
@@ -200,7 +200,7 @@ client_invoke-round Sent state operation up_to =
     invoke_cases state operation (IsRoundIf Sent)
     (λ acted fits. asked_round Sent state
     (record (first_work operation (next_number state.last_request)) { acted = acted }) none
-    (sets_of state.bounds state.kept operation) (fits _ refl))
+    (sets_of state.keys.bounds state.kept operation) (fits _ refl))
     (λ fits. halted_round Sent state (first_work operation (next_number state.last_request)) none)
 
 -- ---- letters of others

@@ -1,13 +1,13 @@
 -- What a completed operation rests upon: the answers of a quorum to one of its rounds.
 use Rattle.std.specs.Prelude.{◌≡◌, ◌≢◌, ℕ, ◌-◌, ◌<◌, ◌≤◌, true, List, length, slice_get, Some, All, AllPairs, Contains}
 use Rattle.qu_base.specs.declared.party.ClientId.{ClientId}
-use Rattle.qu_base.specs.Thresholds.{replicas, quorum}
+use Rattle.qu_base.specs.Bounds.{replicas, quorum}
 use Rattle.qu_history.specs.declared.sealed.Sealed.{Sealed}
 use Rattle.qu_objects.specs.declared.answer.Answer.{Answer}
 use Rattle.qu_frames.specs.declared.frame.Letter.{Letter}
 use Rattle.qu_frames.specs.declared.verdict.Verdict.{Verdict}
 use Rattle.qu_frames.specs.Verdict.{same_verdict}
-use Rattle.qu_client.specs.Step.{fitting}
+use Rattle.qu_client.specs.Steps.{fitting}
 use Rattle.qu_machine.specs.declared.record.OpRecord.{OpRecord}
 use Rattle.qu_trace.specs.declared.trace.Entry.{Entry}
 use Rattle.qu_trace.specs.declared.trace.Trace.{Trace}

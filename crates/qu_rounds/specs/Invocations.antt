@@ -5,7 +5,7 @@ use Rattle.qu_frames.specs.declared.frame.Body.{Body}
 use Rattle.qu_frames.specs.Body.{body_of}
 use Rattle.qu_machine.specs.declared.record.OpRecord.{OpRecord}
 use Rattle.qu_trace.specs.declared.trace.Trace.{Trace}
-use Rattle.qu_trace.specs.Operations.{operations_of}
+use Rattle.qu_trace.specs.Operation.{operations_of}
 
 -- the operation of which a request is one; it began before
 pub record IsRequestOf (trace : Trace) (count : ℕ) (client : ClientId) (number : ℕ) (asked : Body) : Type 0 where

@@ -14,7 +14,7 @@ use Rattle.qu_trace.specs.declared.event.Event.{Event}
 use Rattle.qu_trace.specs.declared.event.Event.TheVariants.{Invoke}
 use Rattle.qu_trace.specs.declared.trace.Entry.{Entry}
 use Rattle.qu_trace.specs.declared.trace.Trace.{Trace}
-use Rattle.qu_trace.specs.Operations.{invokes, begun_by, record_of, begins_at, operations_from, operations_of}
+use Rattle.qu_trace.specs.Operation.{invokes, begun_by, record_of, begins_at, operations_from, operations_of}
 use Rattle.qu_world.specs.declared.fail.WorldFail.TheVariants as fails
 use Rattle.qu_world.specs.State.{WorldState, numbered}
 use Rattle.qu_world.specs.Step.{world_step}

@@ -10,7 +10,7 @@ use Rattle.qu_base.specs.declared.party.ObjectId.{ObjectId}
 use Rattle.qu_base.specs.declared.party.Party.{Party}
 use Rattle.qu_base.specs.declared.party.Party.TheVariants as party
 use Rattle.qu_base.specs.declared.party.ReplicaId.{ReplicaId}
-use Rattle.qu_base.specs.Front.{Front}
+use Rattle.qu_base.specs.Cursor.{Front}
 use Rattle.qu_base.specs.Format.{Format, front_of, and_then, number, both, tested, made}
 use Rattle.qu_base.proofs.Formats.{wide8, number-exact, tested-exact, and_then-ok}
 use Rattle.qu_seal.specs.Keys.{Ring}
@@ -21,9 +21,9 @@ use Rattle.qu_frames.specs.declared.frame.Frame.{Frame}
 use Rattle.qu_frames.specs.declared.frame.Frame.TheVariants as frame
 use Rattle.qu_frames.specs.declared.frame.Letter.{Letter}
 use Rattle.qu_frames.specs.declared.verdict.Verdict.{Verdict}
-use Rattle.qu_frames.specs.Forms.{is_version, is_frame_kind, frame_kind, frame_body, request_form, request_fields, request_of, request_frame, reply_form, reply_fields, reply_of, reply_frame, kind_form, frame_form}
+use Rattle.qu_frames.specs.Formats.{is_version, is_frame_kind, frame_kind, frame_body, request_form, request_fields, request_of, request_frame, reply_form, reply_fields, reply_of, reply_frame, kind_form, frame_form}
 use Rattle.qu_frames.specs.Decoding.{decoded}
-use Rattle.qu_frames.specs.Signed.{mac_of, with_mac, signature, signed}
+use Rattle.qu_frames.specs.Signing.{mac_of, with_mac, signature, signed}
 use Rattle.qu_frames.proofs.Decoded.{decoded_is_read, one_frame}
 use Rattle.qu_frames.proofs.Signed.{text_with, signed_is_spelled, brought_is_decoded}
 use Rattle.qu_replica.specs.declared.decision.Accepted.{Accepted}
@@ -107,7 +107,7 @@ tells_as letter replica client other number second round turn verdict besides sh
 abbrev pub AsksFit : ClientState → Type 0
 AsksFit state =
     (work : Work) → state.work ≡ Some work
-    → frame_form.Fits (rounds.request_of state.me work (rounds.sets_of state.bounds state.kept work.op))
+    → frame_form.Fits (rounds.request_of state.me work (rounds.sets_of state.keys.bounds state.kept work.op))
 
 -- what the replica answers to a frame fits
 abbrev pub AnswersFit : ReplicaState → Frame → Type 0

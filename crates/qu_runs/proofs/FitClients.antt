@@ -9,21 +9,21 @@ use Rattle.qu_base.specs.declared.party.ClientId.{ClientId}
 use Rattle.qu_base.specs.declared.party.ObjectId.{ObjectId}
 use Rattle.qu_base.specs.declared.party.ReplicaId.{ReplicaId}
 use Rattle.qu_base.specs.Format.{FitsFrom}
-use Rattle.qu_base.specs.Thresholds.{replicas}
+use Rattle.qu_base.specs.Bounds.{replicas}
 use Rattle.qu_history.specs.declared.sealed.Sealed.{Sealed}
-use Rattle.qu_history.specs.Forms.{history_form, sealed_form, shown_by, next_object, shown_form}
+use Rattle.qu_history.specs.Formats.{history_form, sealed_form, shown_by, next_object, shown_form}
 use Rattle.qu_objects.specs.declared.op.Op.{Op}
 use Rattle.qu_frames.specs.declared.frame.Frame.{Frame}
 use Rattle.qu_frames.specs.declared.frame.Frame.TheVariants as frame
 use Rattle.qu_frames.specs.declared.verdict.Verdict.{Verdict}
-use Rattle.qu_frames.specs.Forms.{reply_frame, kind_form, frame_form}
+use Rattle.qu_frames.specs.Formats.{reply_frame, kind_form, frame_form}
 use Rattle.qu_frames.specs.Decoding.{decoded}
 use Rattle.qu_client.specs.declared.kept.Kept.{Kept}
 use Rattle.qu_client.specs.declared.state.ClientState.{ClientState}
 use Rattle.qu_client.specs.declared.state.Stepped.{Stepped}
 use Rattle.qu_client.specs.declared.work.Work.{Work}
 use Rattle.qu_client.specs.State.{opening_state, is_older, same_source, keep, keep_all}
-use Rattle.qu_client.specs.Step.{counted_in, on_frame, on_received, client_step, client_invoke, next_number}
+use Rattle.qu_client.specs.Steps.{counted_in, on_frame, on_received, client_step, client_invoke, next_number}
 use Rattle.qu_client.specs.Sound.{NumbersWithin, IsSoundWork, IsSound}
 use Rattle.qu_client.specs.Rounds.{request_of, requests_from}
 use Rattle.qu_client.proofs.Cases.{counted_cases, step_cases, invoke_cases}
@@ -35,7 +35,7 @@ use Rattle.qu_runs.specs.Plain.{HasOpParts}
 use Rattle.qu_runs.proofs.Carrying.{AsksFit}
 use Rattle.qu_runs.proofs.FitRequests.{KeptFits, request_fits}
 use Rattle.qu_world.proofs.RunLaws.{within_more}
-use Rattle.qu_frames.specs.Signed.{brought, signature, with_mac}
+use Rattle.qu_frames.specs.Signing.{brought, signature, with_mac}
 use Rattle.qu_seal.specs.Keys.{Ring}
 use Rattle.qu_frames.proofs.Signed.{brought_is_decoded, signed_is_spelled}
 use Rattle.qu_base.specs.declared.party.Party.{Party}
@@ -168,20 +168,20 @@ pub record FitClient (bounds most number : ℕ) (state : ClientState) : Type 0 w
   pub low : 1 ≤ number
   pub high : number ≤ LAST_CLIENT
   pub named : (state.me).0 ≡ number
-  pub bounds_are : state.bounds ≡ bounds
+  pub bounds_are : state.keys.bounds ≡ bounds
   pub sound : IsSound state
   pub within : NumbersWithin most state
   pub holds : HoldsFit state
 
-pub opening_fit : (keys : Ring) (bounds number : ℕ) (me : ClientId) → 1 ≤ number → number ≤ LAST_CLIENT
-    → me.0 ≡ number → FitClient bounds 0 number (opening_state me keys bounds)
-opening_fit keys bounds number me low high is = record {
+pub opening_fit : (keys : Ring) (number : ℕ) (me : ClientId) → 1 ≤ number → number ≤ LAST_CLIENT
+    → me.0 ≡ number → FitClient keys.bounds 0 number (opening_state me keys)
+opening_fit keys number me low high is = record {
   low = low;
   high = high;
   named = is;
   bounds_are = refl;
   sound = tt;
-  within = NumbersWithin-opening me keys bounds;
+  within = NumbersWithin-opening me keys;
   holds = record { kept = tt; work = tt };
 }
 
@@ -235,9 +235,9 @@ asks_fit bounds most number state few size fit work is =
     let sound : IsSoundWork state.last_request work = sound_work state work fit.sound is in
     let begins : IsBegun work = begun state.work work is (fit.holds).work in
     let up_to : work.number ≤ most = work_within most state work fit.within is in
-    let sizes : replicas state.bounds ≤ REPLICA_IDS =
+    let sizes : replicas state.keys.bounds ≤ REPLICA_IDS =
     subst (λ (it : ℕ). replicas it ≤ REPLICA_IDS) (sym fit.bounds_are) size in
-    request_fits state.me work state.bounds state.kept
+    request_fits state.me work state.keys.bounds state.kept
     (record {
       client = (omega arith, omega arith);
       number = (begins.from_one, omega arith);
@@ -267,7 +267,7 @@ pub step_letters : (state : ClientState) (text : List ℕ) → AsksFit (client_s
 step_letters state text =
     step_cases state (λ stepped. AsksFit stepped.state → AllByRecursion LetterFits stepped.letters)
     (λ fits. tt) (λ kept fits. tt) (λ kept work replica number round verdict is counting fits. tt) (λ kept end fits. tt)
-    (λ kept work replies acted is asking more fits. requests_fit state.keys 0 (replicas state.bounds) state.me _ _
+    (λ kept work replies acted is asking more fits. requests_fit state.keys 0 (replicas state.keys.bounds) state.me _ _
     (fits _ refl))
     (λ kept work replies is asking more fits. tt)
     text
@@ -276,24 +276,24 @@ pub invoke_letters : (state : ClientState) (what : Op) → AsksFit (client_invok
     → AllByRecursion LetterFits (client_invoke state what).letters
 invoke_letters state what =
     invoke_cases state what (λ stepped. AsksFit stepped.state → AllByRecursion LetterFits stepped.letters)
-    (λ acted fits. requests_fit state.keys 0 (replicas state.bounds) state.me _ _ (fits _ refl))
+    (λ acted fits. requests_fit state.keys 0 (replicas state.keys.bounds) state.me _ _ (fits _ refl))
     (λ fits. tt)
 
 -- ---- all clients at the beginning
 
-opening_from : (keys : Ring) (bounds first count place number : ℕ) (state : ClientState) → number ≡ first + place
-    → 1 ≤ first → first + count ≤ 65 → slice_get (opening_clients first count keys bounds) place ≡ Some state
-    → FitClient bounds 0 number state
+opening_from : (keys : Ring) (first count place number : ℕ) (state : ClientState) → number ≡ first + place
+    → 1 ≤ first → first + count ≤ 65 → slice_get (opening_clients first count keys) place ≡ Some state
+    → FitClient keys.bounds 0 number state
 unfolding opening_clients
-opening_from keys bounds first zero place number state at low high found = absurd (none-some state found)
-opening_from keys bounds first (suc count) zero number state at low high found =
-    subst (FitClient bounds 0 number) (same_Some (opening_state (record { 0 = first }) keys bounds) state found)
-    (opening_fit keys bounds number (record { 0 = first }) (omega arith) (omega arith) (omega arith))
-opening_from keys bounds first (suc count) (suc place) number state at low high found =
-    opening_from keys bounds (first + 1) count place number state (omega arith) (omega arith) (omega arith) found
+opening_from keys first zero place number state at low high found = absurd (none-some state found)
+opening_from keys first (suc count) zero number state at low high found =
+    subst (FitClient keys.bounds 0 number) (same_Some (opening_state (record { 0 = first }) keys) state found)
+    (opening_fit keys number (record { 0 = first }) (omega arith) (omega arith) (omega arith))
+opening_from keys first (suc count) (suc place) number state at low high found =
+    opening_from keys (first + 1) count place number state (omega arith) (omega arith) (omega arith) found
 
-pub opening_clients-fit : (keys : Ring) (bounds count number : ℕ) (state : ClientState) → count ≤ LAST_CLIENT
-    → numbered (opening_clients 1 count keys bounds) number ≡ Some state → FitClient bounds 0 number state
-opening_clients-fit keys bounds count zero state few found = absurd (none-some state found)
-opening_clients-fit keys bounds count (suc place) state few found =
-    opening_from keys bounds 1 count place (suc place) state (omega arith) (omega arith) (omega arith) found
+pub opening_clients-fit : (keys : Ring) (count number : ℕ) (state : ClientState) → count ≤ LAST_CLIENT
+    → numbered (opening_clients 1 count keys) number ≡ Some state → FitClient keys.bounds 0 number state
+opening_clients-fit keys count zero state few found = absurd (none-some state found)
+opening_clients-fit keys count (suc place) state few found =
+    opening_from keys 1 count place (suc place) state (omega arith) (omega arith) (omega arith) found

@@ -8,22 +8,22 @@ use Rattle.qu_base.specs.declared.limits.TheConstants.{LAST_CLIENT, OBJECT_IDS, 
 use Rattle.qu_base.specs.declared.party.ClientId.{ClientId}
 use Rattle.qu_base.specs.declared.party.ObjectId.{ObjectId}
 use Rattle.qu_base.specs.Format.{FitsFrom}
-use Rattle.qu_base.specs.Thresholds.{replicas}
+use Rattle.qu_base.specs.Bounds.{replicas}
 use Rattle.qu_history.specs.declared.sealed.Sealed.{Sealed}
 use Rattle.qu_history.specs.declared.sets.SetOf.{SetOf}
 use Rattle.qu_history.specs.History.{ObjectHistory}
-use Rattle.qu_history.specs.Forms.{history_form, sealed_form, entry_form, sealed_entry_form, next_entry, entries_form, set_form, sets_form}
+use Rattle.qu_history.specs.Formats.{history_form, sealed_form, entry_form, sealed_entry_form, next_entry, entries_form, set_form, sets_form}
 use Rattle.qu_objects.specs.declared.act.Method.{Method}
 use Rattle.qu_objects.specs.declared.query.Ask.{Ask}
 use Rattle.qu_objects.specs.declared.query.Ask.TheVariants.{Read}
 use Rattle.qu_objects.specs.declared.op.Op.{Op}
 use Rattle.qu_objects.specs.declared.op.Op.TheVariants as op
-use Rattle.qu_objects.specs.Forms.{is_one_of, ask_form, act_form, query_form}
-use Rattle.qu_objects.specs.Text.{MethodFits}
+use Rattle.qu_objects.specs.Formats.{is_one_of, ask_form, act_form, query_form}
+use Rattle.qu_objects.specs.Digesting.{MethodFits}
 use Rattle.qu_frames.specs.declared.limits.TheConstants.{LAST_ROUND}
 use Rattle.qu_frames.specs.Body.{body_of}
-use Rattle.qu_frames.specs.Forms.{body_form, request_frame, kind_form, frame_form}
-use Rattle.qu_frames.specs.Forms as forms
+use Rattle.qu_frames.specs.Formats.{body_form, request_frame, kind_form, frame_form}
+use Rattle.qu_frames.specs.Formats as forms
 use Rattle.qu_client.specs.declared.kept.Kept.{Kept}
 use Rattle.qu_client.specs.declared.work.Work.{Work}
 use Rattle.qu_client.specs.State.{kept_of}
@@ -62,17 +62,18 @@ KeptFits kept = AllByRecursion (λ (it : Kept). sealed_form.Fits it.sealed) kept
 
 -- ---- the sets
 
--- what is kept of an object and a replica is of them
-record IsFound (object : ObjectId) (replica : ℕ) (sealed : Sealed) : Type 0 where
-  fits : sealed_form.Fits sealed
-  of_object : (((sealed.history).object).0 == object.0) ≡ true
-  of_replica : ((sealed.history).replica).0 ≡ replica
+-- what is kept of an object and a replica is of them, and is such as all that is kept
+pub record IsFound (P : Sealed → Type 0) (object : ObjectId) (replica : ℕ) (sealed : Sealed) : Type 0 where
+  pub is : P sealed
+  pub of_object : (((sealed.history).object).0 == object.0) ≡ true
+  pub of_replica : ((sealed.history).replica).0 ≡ replica
 
-found_fits : (object : ObjectId) (replica : ℕ) (kept : List Kept) (sealed : Sealed) → KeptFits kept
-    → kept_of object replica kept ≡ Some sealed → IsFound object replica sealed
+pub found_among : (P : Sealed → Type 0) (object : ObjectId) (replica : ℕ) (kept : List Kept) (sealed : Sealed)
+    → AllByRecursion (λ (it : Kept). P it.sealed) kept → kept_of object replica kept ≡ Some sealed
+    → IsFound P object replica sealed
 unfolding kept_of
-found_fits object replica [] sealed fit found = absurd (none-some sealed found)
-found_fits object replica (first ∷ later) sealed fit found =
+found_among P object replica [] sealed all found = absurd (none-some sealed found)
+found_among P object replica (first ∷ later) sealed all found =
     let own : ObjectHistory = (first.sealed).history in
     let test : Bool = (own.object).0 == object.0 && (own.replica).0 == replica in
     elim (cases_Bool test) [
@@ -82,17 +83,17 @@ found_fits object replica (first ∷ later) sealed fit found =
           (sym (ap (λ (b : Bool). cond b (Some first.sealed) (kept_of object replica later)) here) ∙ found) in
           let tests : (((own.object).0 == object.0) ≡ true) × (((own.replica).0 == replica) ≡ true) =
           and_parts _ _ here in
-          subst (IsFound object replica) same
-          (record { fits = fit.0; of_object = tests.0; of_replica = eqb-true _ _ tests.1 })
-      | inr other ↦ found_fits object replica later sealed fit.1
+          subst (IsFound P object replica) same
+          (record { is = all.0; of_object = tests.0; of_replica = eqb-true _ _ tests.1 })
+      | inr other ↦ found_among P object replica later sealed all.1
           (sym (ap (λ (b : Bool). cond b (Some first.sealed) (kept_of object replica later)) other) ∙ found)
     ]
 
 entry_fits : (object : ObjectId) (replica key : ℕ) (sealed : Sealed) → key ≤ replica
-    → IsFound object replica sealed → (sealed_entry_form object key).Fits sealed
+    → IsFound sealed_form.Fits object replica sealed → (sealed_entry_form object key).Fits sealed
 unfolding sealed_form sealed_entry_form entry_form history_form
 entry_fits object replica key sealed order found =
-    let fits = found.fits in
+    let fits = found.is in
     let above : key ≤ ((sealed.history).replica).0 =
     (let own : ((sealed.history).replica).0 ≡ replica = found.of_replica in omega arith) in
     (((fits.0.0, found.of_object), ((fits.0.1.0, le-leb key ((sealed.history).replica).0 above), fits.0.1.1)), fits.1)
@@ -103,14 +104,14 @@ EntriesFit object key most entries = FitsFrom (sealed_entry_form object) next_en
     × (length entries ≤ most)
 
 with_fits : (object : ObjectId) (replica key count : ℕ) (found : Option Sealed) (later : List Sealed)
-    → key ≤ replica → ((sealed : Sealed) → found ≡ Some sealed → IsFound object replica sealed)
+    → key ≤ replica → ((sealed : Sealed) → found ≡ Some sealed → IsFound sealed_form.Fits object replica sealed)
     → ((from : ℕ) → from ≤ replica + 1 → EntriesFit object from count later) → EntriesFit object key (suc count)
     (entries_with found later)
 with_fits object replica key count None later order is rest =
     let fits : EntriesFit object key count later = rest key (omega arith) in
     (fits.0, omega (arith, fits.1))
 with_fits object replica key count (Some sealed) later order is rest =
-    let found : IsFound object replica sealed = is sealed refl in
+    let found : IsFound sealed_form.Fits object replica sealed = is sealed refl in
     let own : ((sealed.history).replica).0 ≡ replica = found.of_replica in
     let fits : EntriesFit object (next_entry sealed) count later = rest (next_entry sealed) (omega arith) in
     ((entry_fits object replica key sealed order found, fits.0), omega (arith, fits.1))
@@ -123,12 +124,8 @@ entries_fit object replica (suc count) kept fit key order =
     subst (EntriesFit object key (suc count)) (sym (entries_next object replica count kept))
     (with_fits object replica key count (kept_of object replica kept)
     (entries_from object (replica + 1) count kept) order
-    (λ sealed found. found_fits object replica kept sealed fit found)
+    (λ sealed found. found_among sealed_form.Fits object replica kept sealed fit found)
     (λ from below. entries_fit object (replica + 1) count kept fit from below))
-
--- one object that has a number
-abbrev IsOne : List ObjectId → ObjectId → Type 0
-IsOne objects object = (objects ≡ object ∷ []) × (object.0 < OBJECT_IDS)
 
 set_fits : (bounds : ℕ) (kept : List Kept) (object : ObjectId) → KeptFits kept → replicas bounds ≤ REPLICA_IDS
     → object.0 < OBJECT_IDS → sets_form.Fits (set_of bounds kept object ∷ [])

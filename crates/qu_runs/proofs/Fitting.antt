@@ -1,5 +1,5 @@
 -- In a run without injections all that is sent fits its format.
-use Rattle.std.proofs.Common.{◌≡◌, ℕ, zero, suc, ◌+◌, ◌<◌, ◌≤◌, ◌^◌, true, List, [], ◌∷◌, ◌++◌, length, get_or, Option, None, Some, Ok, IsTrue, refl, sym, subst, arith, add-one, inl, inr}
+use Rattle.std.proofs.Common.{◌≡◌, ℕ, zero, suc, ◌+◌, ◌<◌, ◌≤◌, ◌^◌, List, [], ◌∷◌, ◌++◌, length, get_or, Option, None, Some, Ok, IsTrue, refl, sym, subst, arith, add-one, inl, inr}
 use Rattle.std.specs.Prelude.{slice_get}
 use Rattle.std.specs.List.{AllByRecursion}
 use Rattle.std.proofs.lemmas.Option.{none-some, same_Some}
@@ -8,13 +8,13 @@ use Rattle.qu_base.specs.declared.party.ClientId.{ClientId}
 use Rattle.qu_base.specs.declared.party.Party.{Party}
 use Rattle.qu_base.specs.declared.party.Party.TheVariants as party
 use Rattle.qu_base.specs.declared.party.ReplicaId.{ReplicaId}
-use Rattle.qu_base.specs.Thresholds.{replicas, is_replica_count}
+use Rattle.qu_base.specs.Bounds.{replicas, is_replica_count}
 use Rattle.qu_base.proofs.ThresholdFacts.{replicas_are_few, replicas_are_count}
 use Rattle.qu_objects.specs.declared.kind.KindName.{KindName}
 use Rattle.qu_frames.specs.declared.frame.Frame.{Frame}
 use Rattle.qu_frames.specs.declared.frame.Frame.TheVariants as frame
 use Rattle.qu_frames.specs.declared.frame.Letter.{Letter}
-use Rattle.qu_frames.specs.Forms.{frame_form}
+use Rattle.qu_frames.specs.Formats.{frame_form}
 use Rattle.qu_frames.specs.Decoding.{decoded}
 use Rattle.qu_replica.specs.declared.decision.Decision.{Decision}
 use Rattle.qu_replica.specs.Fits.{StateFits, LetterFits, StepFits}
@@ -25,7 +25,7 @@ use Rattle.qu_replica.proofs.FitState.{opening-fits}
 use Rattle.qu_replica.proofs.FitSteps.{RequestFits, request-fits, decision-fits, answer-fits, on_frame-fits, on_received-fits}
 use Rattle.qu_client.specs.declared.state.ClientState.{ClientState}
 use Rattle.qu_client.specs.declared.state.Stepped.{Stepped}
-use Rattle.qu_client.specs.Step.{client_invoke, client_step, client_tick}
+use Rattle.qu_client.specs.Steps.{client_invoke, client_step, client_tick}
 use Rattle.qu_trace.specs.declared.event.Event.{Event}
 use Rattle.qu_trace.specs.declared.event.Event.TheVariants.{Invoke, Deliver, Tick, Inject}
 use Rattle.qu_trace.specs.declared.trace.Entry.{Entry}
@@ -44,7 +44,7 @@ use Rattle.qu_runs.proofs.FitClients.{FitClient, fit_more, step_fit, invoke_fit,
 use Rattle.qu_runs.proofs.Small.{some_entry}
 use Rattle.qu_runs.proofs.WorldGrowth.{world_after-none, world_after-next}
 use Rattle.qu_world.proofs.LetterLaws.{letters-push}
-use Rattle.qu_frames.specs.Signed.{brought}
+use Rattle.qu_frames.specs.Signing.{brought}
 use Rattle.qu_seal.specs.Keys.{Ring}
 use Rattle.qu_frames.proofs.Signed.{brought_is_decoded}
 use Rattle.qu_runs.proofs.Handing.{injected_cases}
@@ -158,26 +158,26 @@ module _ (bounds most : ℕ) (few : most + 1 < 2 ^ 64) (size : replicas bounds �
 
 -- ---- the beginning
 
-opening_from : (first count : ℕ) (keys : Ring) (bounds : ℕ) (kinds : List KindName) (place : ℕ)
-    (state : ReplicaState) → first + count ≤ REPLICA_IDS → IsTrue (is_replica_count (replicas bounds))
-    → length kinds ≤ OBJECT_IDS → slice_get (opening_replicas first count keys bounds kinds) place ≡ Some state
+opening_from : (first count : ℕ) (keys : Ring) (kinds : List KindName) (place : ℕ)
+    (state : ReplicaState) → first + count ≤ REPLICA_IDS → IsTrue (is_replica_count (replicas keys.bounds))
+    → length kinds ≤ OBJECT_IDS → slice_get (opening_replicas first count keys kinds) place ≡ Some state
     → StateFits state
 unfolding opening_replicas
-opening_from first zero keys bounds kinds place state few sized kinds_few found = absurd (none-some state found)
-opening_from first (suc count) keys bounds kinds zero state few sized kinds_few found =
-    subst StateFits (same_Some (opening_state (record { 0 = first }) keys bounds kinds) state found)
-    (opening-fits (record { 0 = first }) keys bounds kinds (omega arith) sized kinds_few)
-opening_from first (suc count) keys bounds kinds (suc place) state few sized kinds_few found =
-    opening_from (first + 1) count keys bounds kinds place state (omega arith) sized kinds_few found
+opening_from first zero keys kinds place state few sized kinds_few found = absurd (none-some state found)
+opening_from first (suc count) keys kinds zero state few sized kinds_few found =
+    subst StateFits (same_Some (opening_state (record { 0 = first }) keys kinds) state found)
+    (opening-fits (record { 0 = first }) keys kinds (omega arith) sized kinds_few)
+opening_from first (suc count) keys kinds (suc place) state few sized kinds_few found =
+    opening_from (first + 1) count keys kinds place state (omega arith) sized kinds_few found
 
 opening_fits : (setup : Setup) → IsSetup setup → FitWorld setup.bounds 0 (opening_world setup)
 unfolding letters_of
 opening_fits setup is =
     let size : replicas setup.bounds ≤ REPLICA_IDS = replicas_are_few setup.bounds is.few_faults in
     record {
-      clients = λ number state found. opening_clients-fit (ring_of setup) setup.bounds setup.clients number state
+      clients = λ number state found. opening_clients-fit (ring_of setup) setup.clients number state
           is.clients found;
-      replicas = λ place state found. opening_from 0 (replicas setup.bounds) (ring_of setup) setup.bounds
+      replicas = λ place state found. opening_from 0 (replicas setup.bounds) (ring_of setup)
           setup.kinds place state (omega arith) (replicas_are_count setup.bounds is.some_faults is.few_faults)
           is.kinds found;
       letters = tt;

@@ -10,7 +10,7 @@ use Rattle.qu_frames.specs.declared.frame.Letter.{Letter}
 use Rattle.qu_replica.specs.State.{ReplicaState}
 use Rattle.qu_client.specs.declared.state.ClientState.{ClientState}
 use Rattle.qu_client.specs.declared.state.Stepped.{Stepped}
-use Rattle.qu_client.specs.Step.{client_step, client_invoke, client_tick}
+use Rattle.qu_client.specs.Steps.{client_step, client_invoke, client_tick}
 use Rattle.qu_client.proofs.Laws.{client_step-me, client_step-keys, client_invoke-me, client_invoke-keys}
 use Rattle.qu_trace.specs.declared.event.Event.{Event}
 use Rattle.qu_trace.specs.declared.event.Event.TheVariants.{Invoke, Deliver, Tick, Inject}
@@ -25,27 +25,27 @@ use Rattle.qu_runs.proofs.WorldGrowth.{world_after-none, world_after-next}
 use Rattle.std.proofs.lemmas.Option.{none-some, same_Some}
 use Rattle.qu_client.specs.State.{opening_state}
 
-pub opening_client : (first count : ℕ) (keys : Ring) (bounds place : ℕ) (state : ClientState)
-    → slice_get (opening_clients first count keys bounds) place ≡ Some state
-    → state ≡ opening_state (record { 0 = first + place }) keys bounds
+pub opening_client : (first count : ℕ) (keys : Ring) (place : ℕ) (state : ClientState)
+    → slice_get (opening_clients first count keys) place ≡ Some state
+    → state ≡ opening_state (record { 0 = first + place }) keys
 unfolding opening_clients
-opening_client first zero keys bounds place state found = absurd (none-some state found)
-opening_client first (suc count) keys bounds zero state found =
-    sym (same_Some _ state found) ∙ ap (λ (it : ℕ). opening_state (record { 0 = it }) keys bounds)
+opening_client first zero keys place state found = absurd (none-some state found)
+opening_client first (suc count) keys zero state found =
+    sym (same_Some _ state found) ∙ ap (λ (it : ℕ). opening_state (record { 0 = it }) keys)
     (sym (add-zero first))
-opening_client first (suc count) keys bounds (suc place) state found =
+opening_client first (suc count) keys (suc place) state found =
     let sum : (first + 1) + place ≡ first + suc place = omega arith in
-    opening_client (first + 1) count keys bounds place state found
-    ∙ ap (λ (it : ℕ). opening_state (record { 0 = it }) keys bounds) sum
+    opening_client (first + 1) count keys place state found
+    ∙ ap (λ (it : ℕ). opening_state (record { 0 = it }) keys) sum
 
-pub opening_clients-at : (count : ℕ) (keys : Ring) (bounds number : ℕ) (state : ClientState)
-    → numbered (opening_clients 1 count keys bounds) number ≡ Some state
-    → state ≡ opening_state (record { 0 = number }) keys bounds
-opening_clients-at count keys bounds zero state found = absurd (none-some state found)
-opening_clients-at count keys bounds (suc place) state found =
+pub opening_clients-at : (count : ℕ) (keys : Ring) (number : ℕ) (state : ClientState)
+    → numbered (opening_clients 1 count keys) number ≡ Some state
+    → state ≡ opening_state (record { 0 = number }) keys
+opening_clients-at count keys zero state found = absurd (none-some state found)
+opening_clients-at count keys (suc place) state found =
     let sum : 1 + place ≡ suc place = omega arith in
-    opening_client 1 count keys bounds place state found
-    ∙ ap (λ (it : ℕ). opening_state (record { 0 = it }) keys bounds) sum
+    opening_client 1 count keys place state found
+    ∙ ap (λ (it : ℕ). opening_state (record { 0 = it }) keys) sum
 
 -- ---- their numbers and their keys
 
@@ -107,7 +107,7 @@ pub clients_keyed : (trace : Trace) (count : ℕ) → count ≤ length trace.ent
     → (number : ℕ) (state : ClientState) → numbered (world_after trace count).clients number ≡ Some state
     → HasKeys (ring_of trace.setup) number state
 clients_keyed trace zero within number state found =
-    let opens : state ≡ _ = opening_clients-at trace.setup.clients (ring_of trace.setup) trace.setup.bounds number
+    let opens : state ≡ _ = opening_clients-at trace.setup.clients (ring_of trace.setup) number
     state (ap (λ (world : WorldState). numbered world.clients number) (sym (world_after-none trace)) ∙ found) in
     record { me = ap (λ (it : ClientState). it.me) opens; keys_are = ap (λ (it : ClientState). it.keys) opens }
 clients_keyed trace (suc count) within number state found =

@@ -1,7 +1,7 @@
 -- A replica of a run has as many objects as the setup has kinds.
 use Rattle.std.proofs.Common.{◌≡◌, ℕ, zero, suc, ◌+◌, ◌≤◌, List, [], ◌∷◌, length, arith, Some, sym, subst, None, Option, refl, true, ◌<◌}
 use Rattle.std.specs.List.{AllZip}
-use Rattle.qu_base.specs.Thresholds.{replicas}
+use Rattle.qu_base.specs.Bounds.{replicas}
 use Rattle.qu_objects.specs.declared.kind.KindName.{KindName}
 use Rattle.qu_replica.specs.State.{ReplicaState, opening_histories, candidates_in}
 use Rattle.qu_replica.specs.Growth.{Grows}
@@ -36,17 +36,17 @@ each_has-grows objects (old ∷ olds) (new ∷ news) grows few =
     let before : length old.histories ≤ objects = few.0 in
     (omega arith, each_has-grows objects olds news grows.1 few.1)
 
-each_has-opening : (number count : ℕ) (keys : Ring) (bounds : ℕ) (kinds : List KindName)
-    → EachHas (length kinds) (opening_replicas number count keys bounds kinds)
+each_has-opening : (number count : ℕ) (keys : Ring) (kinds : List KindName)
+    → EachHas (length kinds) (opening_replicas number count keys kinds)
 unfolding opening_replicas
-each_has-opening number zero keys bounds kinds = tt
-each_has-opening number (suc count) keys bounds kinds =
+each_has-opening number zero keys kinds = tt
+each_has-opening number (suc count) keys kinds =
     let same_number : length (opening_histories (record { 0 = number }) 0 kinds) ≡ length kinds =
     opening_number (record { 0 = number }) 0 kinds in
-    (omega arith, each_has-opening (number + 1) count keys bounds kinds)
+    (omega arith, each_has-opening (number + 1) count keys kinds)
 
 pub opening_has : (setup : Setup) → EachHas (length setup.kinds) (opening_world setup).replicas
-opening_has setup = each_has-opening 0 (replicas setup.bounds) (ring_of setup) setup.bounds setup.kinds
+opening_has setup = each_has-opening 0 (replicas setup.bounds) (ring_of setup) setup.kinds
 
 -- the replicas of a run have the objects of its setup
 pub run_has : (trace : Trace) (count : ℕ) → EachHas (length trace.setup.kinds) (world_after trace count).replicas

@@ -11,7 +11,7 @@ use Rattle.qu_trace.specs.declared.event.Event.{Event}
 use Rattle.qu_trace.specs.declared.event.Event.TheVariants.{Invoke, Deliver, Tick, Inject}
 use Rattle.qu_trace.specs.declared.trace.Entry.{Entry}
 use Rattle.qu_trace.specs.declared.trace.Trace.{Trace}
-use Rattle.qu_trace.specs.Operations.{begun_by, invokes, record_of, begins_at, operations_from, operations_of}
+use Rattle.qu_trace.specs.Operation.{begun_by, invokes, record_of, begins_at, operations_from, operations_of}
 use Rattle.qu_world.specs.Run.{IsRun}
 use Rattle.qu_runs.specs.Plain.{HasOpParts, ArePlain, HasEventParts, HaveParts}
 

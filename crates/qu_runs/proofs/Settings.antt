@@ -15,7 +15,7 @@ use Rattle.std.specs.Prelude.{count_by}
 use Rattle.qu_runs.specs.Setting.{setting}
 use Rattle.qu_runs.specs.Times.{world_after}
 use Rattle.qu_chain.proofs.Ancestry.{Acceptor, acceptor}
-use Rattle.qu_base.specs.Thresholds.{replicas}
+use Rattle.qu_base.specs.Bounds.{replicas}
 
 -- a replica at some place accepted the candidate
 pub record AcceptedAt (object : ObjectId) (candidate : Candidate) (states : List ReplicaState) : Type 0 where

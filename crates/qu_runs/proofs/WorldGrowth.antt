@@ -3,7 +3,7 @@ use Rattle.std.proofs.Common.{◌≡◌, ℕ, zero, suc, ◌+◌, ◌<◌, ◌�
 use Rattle.std.specs.Prelude.{count_by}
 use Rattle.std.specs.List.{list_any, AllZip}
 use Rattle.std.proofs.lemmas.Bool.{false≢true, or_cases, or_left, or_right}
-use Rattle.std.proofs.lemmas.List.{map-append, take_more, take_all, take-map, take-take}
+use Rattle.std.proofs.lemmas.List.{map-append, take_more, take-map, take-take}
 use Rattle.std.proofs.lemmas.List.Folds.{list_any-append}
 use Rattle.std.proofs.lemmas.List.Sums.{sum_by-cons}
 use Rattle.qu_base.specs.declared.party.ObjectId.{ObjectId}
@@ -36,11 +36,6 @@ world_after-next trace count default below =
 pub world_after-none : (trace : Trace) → world_after trace 0 ≡ opening_world trace.setup
 unfolding run_from
 world_after-none trace = refl
-
-world_after-past : (trace : Trace) (count : ℕ) → length trace.entries ≤ count
-    → world_after trace count ≡ run trace.setup (events_of trace.entries)
-world_after-past trace count past = ap (λ (entries : List Entry). run trace.setup (events_of entries))
-    (take_all count trace.entries past)
 
 take-grows : (world : WorldState) (count : ℕ) (events : List Event) → GrowsTo (run_from world (take count events))
     (run_from world events)

@@ -6,20 +6,20 @@ use Rattle.qu_base.specs.declared.party.ClientId.{ClientId}
 use Rattle.qu_base.specs.declared.party.ObjectId.{ObjectId}
 use Rattle.qu_base.specs.declared.party.Party.{Party}
 use Rattle.qu_base.specs.declared.party.Party.TheVariants as party
-use Rattle.qu_base.specs.Thresholds.{replicas}
+use Rattle.qu_base.specs.Bounds.{replicas}
 use Rattle.qu_seal.specs.declared.constants.TheConstants.{ACT_TAG, SETS_TAG}
-use Rattle.qu_seal.specs.Digest.{digest_of}
+use Rattle.qu_seal.specs.Digesting.{digest_of}
 use Rattle.qu_stamp.specs.declared.candidate.Candidate.{Candidate}
 use Rattle.qu_history.specs.declared.sets.SetOf.{SetOf}
 use Rattle.qu_history.specs.Text.{sets_text}
 use Rattle.qu_objects.specs.declared.act.Method.{Method}
-use Rattle.qu_objects.specs.Text.{act_text, act_digest}
+use Rattle.qu_objects.specs.Digesting.{act_text, act_digest}
 use Rattle.qu_frames.specs.declared.frame.Body.{Body}
 use Rattle.qu_frames.specs.declared.frame.Body.TheVariants as body
 use Rattle.qu_frames.specs.declared.frame.Frame.{Frame}
 use Rattle.qu_frames.specs.declared.frame.Frame.TheVariants as frame
 use Rattle.qu_frames.specs.declared.frame.Letter.{Letter}
-use Rattle.qu_frames.specs.Signed.{brought}
+use Rattle.qu_frames.specs.Signing.{brought}
 use Rattle.qu_trace.specs.declared.event.Event.{Event}
 use Rattle.qu_trace.specs.declared.event.Event.TheVariants.{Invoke, Deliver, Tick, Inject}
 use Rattle.qu_trace.specs.declared.trace.Entry.{Entry}

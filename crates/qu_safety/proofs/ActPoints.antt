@@ -16,24 +16,24 @@ use Rattle.qu_objects.specs.declared.act.Method.{Method}
 use Rattle.qu_objects.specs.declared.kind.Value.{Value}
 use Rattle.qu_objects.specs.declared.op.Op.{Op}
 use Rattle.qu_objects.specs.declared.op.Op.TheVariants as op
-use Rattle.qu_objects.specs.Text.{act_digest}
+use Rattle.qu_objects.specs.Digesting.{act_digest}
 use Rattle.qu_machine.specs.declared.record.OpRecord.{OpRecord}
 use Rattle.qu_machine.specs.declared.record.Point.{Point}
 use Rattle.qu_machine.specs.Machine.{act_values}
 use Rattle.qu_machine.specs.Serial.{Stands}
 use Rattle.qu_trace.specs.declared.trace.Trace.{Trace}
-use Rattle.qu_trace.specs.Operations.{operations_of}
+use Rattle.qu_trace.specs.Operation.{operations_of}
 use Rattle.qu_runs.specs.Decided.{TookEffect}
 use Rattle.qu_runs.specs.Digested.{IsHandled, IsMadeFor}
 use Rattle.qu_runs.specs.Setting.{setting}
 use Rattle.qu_points.specs.Order.{DecidesAt, effect_of, IsPoint, IsPrintedOrder}
 use Rattle.qu_points.specs.Points.{point_at}
-use Rattle.qu_safety.specs.Updates.{Update, Names, IsOf, IsEverAccepted}
+use Rattle.qu_values.specs.Updates.{Update, Names, IsOf, IsEverAccepted}
 use Rattle.qu_points.proofs.Folding.{IsQuestion}
-use Rattle.qu_safety.proofs.MachineValues.{IsValues, object_known, known_object, stay, change}
-use Rattle.qu_safety.proofs.OneAct.{ActsAreOne, one_made_for}
-use Rattle.qu_safety.proofs.Updates.{last_is, acts, one_of, opening_no_act}
-use Rattle.qu_safety.proofs.UpdateFacts.{MadeFor, UpdateFacts}
+use Rattle.qu_values.proofs.MachineValues.{IsValues, object_known, known_object, stay, change}
+use Rattle.qu_values.proofs.OneAct.{ActsAreOne, one_made_for}
+use Rattle.qu_values.proofs.Updates.{last_is, acts, one_of, opening_no_act}
+use Rattle.qu_values.proofs.UpdateFacts.{MadeFor, UpdateFacts}
 
 -- the operation has a point, which is before the event of its reply
 pub record StandsBefore (trace : Trace) (operation : OpRecord) (reply : ℕ) : Type 0 where

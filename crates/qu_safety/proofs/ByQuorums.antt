@@ -1,9 +1,9 @@
 -- In every run a quorum stands behind the answer of each completed operation.
-use Rattle.std.proofs.Common.{◌≡◌, ℕ, ◌-◌, ◌≤◌, true, false, List, [], ◌∷◌, length, refl, sym, ap, subst, ◌∙◌, arith}
-use Rattle.std.specs.Prelude.{All, Contains, map}
-use Rattle.std.proofs.lemmas.List.Elements.{All-nil, All-cons, All-weaker}
+use Rattle.std.proofs.Common.{◌≡◌, ℕ, ◌-◌, ◌≤◌, true, false, List, length, refl, sym, ap, subst, ◌∙◌, arith}
+use Rattle.std.specs.Prelude.{All, Contains}
+use Rattle.std.proofs.lemmas.List.Elements.{All-weaker}
 use Rattle.qu_base.specs.declared.party.ObjectId.{ObjectId}
-use Rattle.qu_base.specs.Thresholds.{quorum}
+use Rattle.qu_base.specs.Bounds.{quorum}
 use Rattle.qu_stamp.specs.declared.stamp.Stamp.{Stamp}
 use Rattle.qu_stamp.specs.declared.candidate.Candidate.{Candidate}
 use Rattle.qu_stamp.specs.Stamp.{is_below}
@@ -14,14 +14,15 @@ use Rattle.qu_objects.specs.declared.answer.Answer.{Answer}
 use Rattle.qu_objects.specs.declared.op.Op.{Op}
 use Rattle.qu_objects.specs.declared.op.Op.TheVariants as op
 use Rattle.qu_objects.specs.declared.query.Ask.{Ask}
-use Rattle.qu_client.specs.Step.{fitting}
+use Rattle.qu_client.specs.Steps.{fitting}
 use Rattle.qu_machine.specs.declared.record.OpRecord.{OpRecord}
 use Rattle.qu_machine.specs.Serial.{Completes}
-use Rattle.qu_replica.specs.State.{ReplicaState, own_candidates}
+use Rattle.qu_replica.specs.State.{own_candidates}
 use Rattle.qu_trace.specs.declared.trace.Trace.{Trace}
-use Rattle.qu_trace.specs.Operations.{operations_of}
+use Rattle.qu_trace.specs.Operation.{operations_of}
 use Rattle.qu_world.specs.Run.{IsRun}
 use Rattle.qu_objects.specs.declared.act.Method.{Method}
+use Rattle.qu_values.specs.Replies.{HasTold}
 use Rattle.qu_rounds.specs.Completions.{Replied, IsCompleted}
 use Rattle.qu_runs.specs.Setting.{setting}
 use Rattle.qu_safety.specs.Quorums.{ActOfQuorum, ToldFrom, QueryOfQuorum, IsOfQuorum, CompletesByQuorums}
@@ -29,7 +30,8 @@ use Rattle.qu_runs.specs.Plain.{ArePlain}
 use Rattle.qu_safety.proofs.CompletedActs.{CompletedAct, completed_act}
 use Rattle.qu_safety.proofs.CompletedQueries.{IsTold, told_by_fit, ToldBefore, tells_by_reply, query_asked}
 use Rattle.qu_safety.proofs.KnownRuns.{completion}
-use Rattle.qu_safety.proofs.UpdateFacts.{UpdateFacts}
+use Rattle.qu_safety.proofs.Along.{objects_in, all_beside}
+use Rattle.qu_values.proofs.UpdateFacts.{UpdateFacts}
 use Rattle.qu_runs.proofs.Small.{some_member, some_quorum}
 
 module _ (trace : Trace) (is_run : IsRun trace) (have : ArePlain trace) (laws : Laws (setting trace))
@@ -38,23 +40,20 @@ module _ (trace : Trace) (is_run : IsRun trace) (have : ArePlain trace) (laws : 
       → (replica : ℕ)
       → ToldBefore trace operation.client operation.number round (reply - 1) stamps answer replica
       → ToldFrom trace operation reply round stamps answer replica
-  told_from operation reply round answer stamps replica tells =
-      let object : ObjectId = tells.object in
-      let stamp : Stamp = ((tells.tells).base).stamp in
-      record {
-        at = tells.at;
-        earlier = tells.earlier;
-        told = tells.said;
-        state = (tells.reply).old;
-        is_state = (tells.reply).is_old;
-        nothing_above = subst (All (Highest (tells.reply).old)) (sym (tells.tells).stamps_are)
-            (All-cons (Highest (tells.reply).old) (object, stamp) [] (tells.tells).nothing_above
-            (All-nil (Highest (tells.reply).old)));
-      }
+  told_from operation reply round answer stamps replica tells = record {
+    at = tells.at;
+    earlier = tells.earlier;
+    told = tells.said;
+    state = (tells.reply).old;
+    is_state = (tells.reply).is_old;
+    nothing_above = all_beside (HasTold (tells.reply).old (tells.reply).sets) Highest stamps (tells.tells).values
+        (λ told value has held holding. ap (λ (it : Stamp). is_below it held.stamp) (sym has.is_told)
+        ∙ has.nothing_above held holding) (tells.tells).each;
+  }
     where
-      Highest : ReplicaState → ObjectId × Stamp → Type 0
-      Highest state it = (held : Candidate) → holds held (own_candidates state it.0) ≡ true
-          → is_below it.1 held.stamp ≡ false
+      Highest : ObjectId × Stamp → Type 0
+      Highest told = (held : Candidate) → holds held (own_candidates (tells.reply).old told.0) ≡ true
+          → is_below told.1 held.stamp ≡ false
 
   query_of_quorum : (operation : OpRecord) → Contains (operations_of trace.entries) operation
       → (reply : ℕ) (answer : Answer) → IsCompleted trace operation reply answer
@@ -73,16 +72,13 @@ module _ (trace : Trace) (is_run : IsRun trace) (have : ArePlain trace) (laws : 
       let enough : quorum trace.setup.bounds ≤ length done.members = done.enough in
       let one : (member : ℕ) × P member = some_member P done.members (omega (arith, some, enough)) all in
       let first : P one.0 = one.1 in
-      let asked : operation.op ≡ op.Query ((first.object, first.ask) ∷ []) =
+      let these : first.query ≡ query =
       query_asked trace is_run have laws joint facts operation.client operation.number done.round (reply - 1)
       told.stamps answer 0 operation among refl refl query is one.0 first in
       record {
         round = done.round;
         stamps = told.stamps;
-        of_parts = ap (λ (it : List (ObjectId × Stamp)). map (λ (one : ObjectId × Stamp). one.0) it)
-            (first.tells).stamps_are
-            ∙ ap (λ (it : List (ObjectId × Ask)). map (λ (part : ObjectId × Ask). part.0) it)
-            (same_query ((first.object, first.ask) ∷ []) query (sym asked ∙ is));
+        of_parts = (first.tells).of_parts ∙ ap objects_in these;
         members = done.members;
         different = done.different;
         within = done.within;
@@ -90,9 +86,6 @@ module _ (trace : Trace) (is_run : IsRun trace) (have : ArePlain trace) (laws : 
         told = All-weaker P (ToldFrom trace operation reply done.round told.stamps answer)
             (told_from operation reply done.round answer told.stamps) done.members all;
       }
-    where
-      same_query : (first second : List (ObjectId × Ask)) → op.Query first ≡ op.Query second → first ≡ second
-      same_query first second same = cc
 
   act_of_quorum : (operation : OpRecord) (reply : ℕ) (answer : Answer) → CompletedAct trace operation reply answer
       → (act : List (ObjectId × Method)) → operation.op ≡ op.Act act → ActOfQuorum trace operation act reply

@@ -3,11 +3,11 @@
 use Rattle.std.proofs.Common.{◌≡◌, ◌≢◌, ℕ, ◌+◌, ◌-◌, ◌<◌, ◌≤◌, Bool, true, List, [], ◌∷◌, length, Some, refl, sym, ap, subst, ◌∙◌, arith, inl, inr, All, AllPairs}
 use Rattle.std.specs.Prelude.{Contains}
 use Rattle.std.proofs.lemmas.Bool.{false≢true, or_cases, eqb-true}
-use Rattle.std.proofs.lemmas.List.Elements.{All-nil, All-cons, All-head, All-tail, All-weaker}
+use Rattle.std.proofs.lemmas.List.Elements.{All-nil, All-cons, All-head, All-tail, All-weaker, All-contains}
 use Rattle.std.proofs.lemmas.Option.{slice_get_within}
 use Rattle.qu_base.specs.declared.party.ClientId.{ClientId}
 use Rattle.qu_base.specs.declared.party.ObjectId.{ObjectId}
-use Rattle.qu_base.specs.Thresholds.{replicas, quorum}
+use Rattle.qu_base.specs.Bounds.{replicas, quorum}
 use Rattle.qu_stamp.specs.declared.stamp.Stamp.{Stamp}
 use Rattle.qu_stamp.specs.declared.candidate.Candidate.{Candidate}
 use Rattle.qu_chain.specs.Count.{count, test_at}
@@ -27,37 +27,37 @@ use Rattle.qu_frames.specs.declared.verdict.Verdict.{Verdict}
 use Rattle.qu_frames.specs.declared.verdict.Verdict.TheVariants as verdict
 use Rattle.qu_frames.specs.Body.{body_of}
 use Rattle.qu_frames.specs.Verdict.{same_verdict}
-use Rattle.qu_client.specs.Step.{fitting}
+use Rattle.qu_client.specs.Steps.{fitting}
 use Rattle.qu_machine.specs.declared.record.OpRecord.{OpRecord}
 use Rattle.qu_trace.specs.declared.trace.Trace.{Trace}
-use Rattle.qu_trace.specs.Operations.{operations_of}
+use Rattle.qu_trace.specs.Operation.{operations_of}
 use Rattle.qu_world.specs.Run.{IsRun}
-use Rattle.qu_objects.specs.Text.{act_digest}
-use Rattle.qu_safety.proofs.CompletedQueries.{same_stamped}
-use Rattle.qu_safety.proofs.OneAct.{act_by}
-use Rattle.qu_runs.specs.Digested.{IsMadeFor}
+use Rattle.qu_objects.specs.Digesting.{act_digest}
+use Rattle.qu_safety.proofs.Along.{objects_in, all_along, all_contained, Named, first_named}
+use Rattle.qu_values.proofs.OneAct.{act_by}
+use Rattle.qu_runs.specs.Digested.{IsHandled, IsMadeFor}
 use Rattle.qu_rounds.specs.Completions.{RepliedAt, Replied, IsCompleted}
 use Rattle.qu_runs.specs.Accepted.{accepts}
 use Rattle.qu_runs.specs.Setting.{setting}
 use Rattle.qu_rounds.specs.Invocations.{IsRequestOf}
 use Rattle.qu_runs.specs.Times.{world_after}
 use Rattle.qu_runs.proofs.Settings.{acceptors_are}
-use Rattle.qu_grounds.specs.Replies.{TellsDone, IsReplyTo}
+use Rattle.qu_values.specs.Replies.{HasDone, TellsDone, IsReplyTo}
 use Rattle.qu_safety.specs.Quorums.{PartOfQuorum, ActOfQuorum}
-use Rattle.qu_safety.specs.Updates.{IsOf, IsEverAccepted}
-use Rattle.qu_safety.specs.Values.{HasVersion}
+use Rattle.qu_values.specs.Updates.{IsOf}
+use Rattle.qu_values.specs.Values.{HasVersion}
 use Rattle.qu_runs.specs.Plain.{ArePlain}
 use Rattle.qu_rounds.proofs.Endings.{EndsAt, operation_ends}
 use Rattle.qu_rounds.proofs.Invocations.{request_of}
-use Rattle.qu_safety.proofs.Updates.{same_accepted}
-use Rattle.qu_safety.proofs.EverAccepted.{place_ever}
+use Rattle.qu_values.proofs.Updates.{same_accepted}
+use Rattle.qu_values.proofs.EverAccepted.{place_ever}
 use Rattle.qu_safety.proofs.KnownRuns.{completion}
 use Rattle.qu_rounds.proofs.Members.{is_among, members_count}
 use Rattle.qu_points.proofs.Recorded.{recorded_op}
-use Rattle.qu_grounds.proofs.RepliesInRuns.{IsActOn, act_of_done, done_in_run, done_handled}
-use Rattle.qu_grounds.proofs.Replying.{reply_sent, reply_asks}
-use Rattle.qu_safety.proofs.StoredValues.{version_is}
-use Rattle.qu_safety.proofs.UpdateFacts.{UpdateFacts}
+use Rattle.qu_values.proofs.RepliesInRuns.{IsActOn, act_of_done, done_in_run, done_handled}
+use Rattle.qu_values.proofs.Replying.{reply_sent, reply_asks}
+use Rattle.qu_values.proofs.StoredValues.{version_is}
+use Rattle.qu_values.proofs.UpdateFacts.{UpdateFacts}
 use Rattle.qu_rounds.proofs.Verdicts.{IsDone, fits_act, equal_done}
 use Rattle.qu_runs.proofs.Small.{some_member, some_quorum}
 use Rattle.qu_runs.proofs.Carrying.{tells_as}
@@ -91,77 +91,97 @@ among_all P (member ∷ members) all index among =
 
 -- ---- members
 
--- the replica has a candidate of the operation after so many events, and its version has the answer
-record HasCandidate (trace : Trace) (operation : OpRecord) (answer : Answer) (stamps : List (ObjectId × Stamp))
-    (time replica : ℕ) : Type 0 where
-  object : ObjectId
-  method : Method
-  is_act : operation.op ≡ op.Act ((object, method) ∷ [])
+-- on an object of the operation, the replica has a candidate of it after so many events, and its version has the answer
+record HasPart (trace : Trace) (operation : OpRecord) (parts : List (ObjectId × Method)) (answer : Answer)
+    (time replica : ℕ) (told : ObjectId × Stamp) : Type 0 where
   candidate : Candidate
-  made : IsMadeFor trace candidate operation.client operation.number ((object, method) ∷ [])
-  stamps_are : stamps ≡ (object, candidate.stamp) ∷ []
-  accepted : (setting trace).accepted time object replica candidate ≡ true
+  is_told : candidate.stamp ≡ told.1
+  made : IsMadeFor trace candidate operation.client operation.number parts
+  accepted : (setting trace).accepted time told.0 replica candidate ≡ true
   version : ObjState
-  has : HasVersion trace object candidate version
+  has : HasVersion trace told.0 candidate version
   answer_is : answer ≡ version.answer
+
+-- on each of them
+record HasAll (trace : Trace) (operation : OpRecord) (parts : List (ObjectId × Method)) (answer : Answer)
+    (stamps : List (ObjectId × Stamp)) (time replica : ℕ) : Type 0 where
+  some : 1 ≤ length parts
+  of_parts : objects_in stamps ≡ objects_in parts
+  each : All (HasPart trace operation parts answer time replica) stamps
+
+same_acts : (first second : List (ObjectId × Method)) → op.Act first ≡ op.Act second → first ≡ second
+same_acts first second same = cc
 
 module _ (trace : Trace) (is_run : IsRun trace) (have : ArePlain trace) (laws : Laws (setting trace))
     (joint : Joint (setting trace)) (facts : UpdateFacts trace) (operation : OpRecord)
-    (among : Contains (operations_of trace.entries) operation) (answer : Answer) (stamps : List (ObjectId × Stamp))
+    (among : Contains (operations_of trace.entries) operation) (parts : List (ObjectId × Method))
+    (is_act : operation.op ≡ op.Act parts) (answer : Answer) (stamps : List (ObjectId × Stamp))
   where
-    abbrev Has : ℕ → ℕ → Type 0
-    Has time replica = HasCandidate trace operation answer stamps time replica
+    abbrev Part : ℕ → ℕ → ObjectId × Stamp → Type 0
+    Part time replica told = HasPart trace operation parts answer time replica told
 
-    -- a replica that told Done has the candidate
+    abbrev Has : ℕ → ℕ → Type 0
+    Has time replica = HasAll trace operation parts answer stamps time replica
+
+    -- ---- members
+
+    -- a replica that told Done has the candidates
     has_by_reply : (at : ℕ) → at < length trace.entries → (replica round : ℕ)
         → IsReplyTo trace at replica operation.client operation.number round (verdict.Done stamps answer)
         → Has (at + 1) replica
     unfolding setting
     has_by_reply at below replica round reply =
+        let client : ClientId = operation.client in
+        let number : ℕ = operation.number in
         let asks : IsActOn reply.body =
-        act_of_done trace is_run have at below replica operation.client operation.number round stamps answer reply in
-        let done : TellsDone reply.new operation.client
-        (act_digest operation.client operation.number ((asks.object, asks.method) ∷ [])) asks.object stamps answer =
-        done_in_run trace is_run have at below replica operation.client operation.number round stamps answer reply in
-        let request : IsRequestOf trace at operation.client operation.number reply.body =
-        request_of trace is_run have at (omega arith) reply.asked reply.letter reply.is_letter operation.client
-        operation.number round reply.sets reply.body (reply_asks _ _ _ _ _ _ _ reply) in
+        act_of_done trace is_run have at below replica client number round stamps answer reply in
+        let request : IsRequestOf trace at client number reply.body =
+        request_of trace is_run have at (omega arith) reply.asked reply.letter reply.is_letter client number round
+        reply.sets reply.body (reply_asks _ _ _ _ _ _ _ reply) in
         let same : request.operation ≡ operation =
         recorded_op trace request.operation operation request.of_trace among
         (ap (λ (it : ClientId). it.0) request.of_client) request.of_number in
+        let these : asks.parts ≡ parts =
+        same_acts asks.parts parts (sym (act_by asks.parts operation.op
+        (sym asks.is_act ∙ request.asks ∙ ap (λ (it : OpRecord). body_of it.op) same)) ∙ is_act) in
+        let done : TellsDone reply.new client (act_digest client number parts) parts stamps answer =
+        subst (λ (it : List (ObjectId × Method)).
+        TellsDone reply.new client (act_digest client number it) it stamps answer) these
+        (done_in_run trace is_run have at below replica client number round stamps answer reply) in
+        let handled : IsHandled trace client number parts =
+        subst (IsHandled trace client number) these
+        (done_handled trace is_run have at below replica client number round stamps answer reply) in
         record {
-          object = asks.object;
-          method = asks.method;
-          is_act = act_by ((asks.object, asks.method) ∷ []) operation.op
-              (sym asks.is_act ∙ request.asks ∙ ap (λ (it : OpRecord). body_of it.op) same);
-          candidate = done.candidate;
-          stamps_are = done.stamps_are;
-          made = record {
-            handled = done_handled trace is_run have at below replica operation.client operation.number round stamps
-                answer reply;
-            of_client = done.of_client;
-            of_act = done.of_act;
-          };
-          accepted = test_at-here (accepts asks.object done.candidate) (world_after trace (at + 1)).replicas replica
-              reply.new reply.is_new ∙ done.held;
-          version = done.version;
-          has = version_is trace laws joint is_run have (at + 1) (omega arith) replica reply.new
-              reply.is_new asks.object done.candidate done.held done.version done.of_candidate;
-          answer_is = done.answer_is;
+          some = subst (λ (it : List (ObjectId × Method)). 1 ≤ length it) these asks.some;
+          of_parts = done.of_parts;
+          each = All-weaker (HasDone reply.new client (act_digest client number parts) answer) (Part (at + 1) replica)
+              (λ told it. record {
+                candidate = it.candidate;
+                is_told = it.is_told;
+                made = record { handled = handled; of_client = it.of_client; of_act = it.of_act };
+                accepted = test_at-here (accepts told.0 it.candidate) (world_after trace (at + 1)).replicas replica
+                    reply.new reply.is_new ∙ it.held;
+                version = it.version;
+                has = version_is trace laws joint is_run have (at + 1) (omega arith) replica reply.new
+                    reply.is_new told.0 it.candidate it.held it.version it.of_candidate;
+                answer_is = it.answer_is;
+              }) stamps done.each;
         }
 
     has_later : (early late : ℕ) → early ≤ late → (replica : ℕ) → Has early replica → Has late replica
     has_later early late order replica held = record {
-      object = held.object;
-      method = held.method;
-      is_act = held.is_act;
-      candidate = held.candidate;
-      made = held.made;
-      stamps_are = held.stamps_are;
-      accepted = accepted-later (setting trace) laws early late order held.object replica held.candidate held.accepted;
-      version = held.version;
-      has = held.has;
-      answer_is = held.answer_is;
+      some = held.some;
+      of_parts = held.of_parts;
+      each = All-weaker (Part early replica) (Part late replica)
+          (λ told it. record {
+            candidate = it.candidate;
+            is_told = it.is_told;
+            made = it.made;
+            accepted = accepted-later (setting trace) laws early late order told.0 replica it.candidate it.accepted;
+            version = it.version;
+            has = it.has;
+            answer_is = it.answer_is;
+          }) stamps held.each;
     }
 
     has_by_verdict : (before round : ℕ) (given : Verdict) → given ≡ verdict.Done stamps answer → (replica : ℕ)
@@ -181,102 +201,119 @@ module _ (trace : Trace) (is_run : IsRun trace) (have : ArePlain trace) (laws : 
         sent.is_reply) in
         has_later (at + 1) before (omega arith) replica (has_by_reply at below replica round reply)
 
-    -- ---- they all have one
+    -- ---- they all have the same
 
     has_first : (time : ℕ) → time ≤ length trace.entries → (first : ℕ) → first < replicas trace.setup.bounds
-        → (held : Has time first) → (replica : ℕ) → replica < replicas trace.setup.bounds → Has time replica
-        → (setting trace).accepted time held.object replica held.candidate ≡ true
-    has_first time within first below held replica also other =
-        let same : (held.object ≡ other.object) × (held.candidate.stamp ≡ other.candidate.stamp) =
-        same_stamped held.object other.object held.candidate.stamp other.candidate.stamp
-        (sym held.stamps_are ∙ other.stamps_are) in
+        → (told : ObjectId × Stamp) (held : Part time first told) → (replica : ℕ)
+        → replica < replicas trace.setup.bounds → Part time replica told
+        → (setting trace).accepted time told.0 replica held.candidate ≡ true
+    has_first time within first below told held replica also other =
         let candidates : held.candidate ≡ other.candidate =
-        same_accepted trace laws joint other.object held.candidate other.candidate
-        (subst (λ (it : ObjectId). IsEverAccepted trace it held.candidate) same.0
-        (place_ever trace laws time within first below held.object held.candidate held.accepted))
-        (place_ever trace laws time within replica also other.object other.candidate other.accepted) same.1 in
-        ap (λ (it : ObjectId). (setting trace).accepted time it replica held.candidate) same.0
-        ∙ ap (λ (it : Candidate). (setting trace).accepted time other.object replica it) candidates
-        ∙ other.accepted
+        same_accepted trace laws joint told.0 held.candidate other.candidate
+        (place_ever trace laws time within first below told.0 held.candidate held.accepted)
+        (place_ever trace laws time within replica also told.0 other.candidate other.accepted)
+        (held.is_told ∙ sym other.is_told) in
+        ap (λ (it : Candidate). (setting trace).accepted time told.0 replica it) candidates ∙ other.accepted
 
-    quorum_by : (time : ℕ) → time ≤ length trace.entries → (members : List ℕ)
+    module _ (time : ℕ) (ends : time ≤ length trace.entries) (members : List ℕ)
+        (different : AllPairs (λ (a b : ℕ). a ≢ b) members)
+        (within : All (λ (member : ℕ). member < replicas trace.setup.bounds) members)
+        (enough : quorum trace.setup.bounds ≤ length members) (all : All (Has time) members) (first : ℕ)
+        (below : first < replicas trace.setup.bounds) where
+      quorum_by : (told : ObjectId × Stamp) → Contains stamps told → (held : Part time first told)
+          → quorum trace.setup.bounds ≤ acceptors (setting trace) time told.0 held.candidate
+      unfolding setting
+      quorum_by told one held =
+          let n : ℕ = replicas trace.setup.bounds in
+          let accepted : ℕ → Bool = test_at (accepts told.0 held.candidate) (world_after trace time).replicas in
+          let among_them : length members ≤ count n (is_among members) = members_count n members different within in
+          let more : count n (is_among members) ≤ count n accepted =
+          count-more n (is_among members) accepted
+          (λ index low member.
+          has_first time ends first below told held index low
+          (All-contains (Part time index) stamps told (among_all (Has time) members all index member).each one)) in
+          omega (arith, enough, among_them, more)
+
+      decided_of_quorum : (told : ObjectId × Stamp) → Contains stamps told → (held : Part time first told)
+          → IsDecided (setting trace) time told.0 held.candidate
+      unfolding setting
+      decided_of_quorum told one held =
+          let counted : quorum trace.setup.bounds ≤ acceptors (setting trace) time told.0 held.candidate =
+          quorum_by told one held in
+          IsDecided.established held.candidate
+          (facts.plain told.0 held.candidate (place_ever trace laws time ends first below told.0
+          held.candidate held.accepted) (rw (held.made).of_act refl))
+          (omega (arith, counted))
+
+    -- on each object a quorum has one candidate
+    each_of_quorum : (reply : ℕ) → reply - 1 ≤ length trace.entries → (members : List ℕ)
         → AllPairs (λ (a b : ℕ). a ≢ b) members → All (λ (member : ℕ). member < replicas trace.setup.bounds) members
-        → quorum trace.setup.bounds ≤ length members → All (Has time) members
-        → (first : ℕ) → first < replicas trace.setup.bounds → (held : Has time first)
-        → quorum trace.setup.bounds ≤ acceptors (setting trace) time held.object held.candidate
-    unfolding setting
-    quorum_by time within members different below enough all first is_member held =
-        let n : ℕ = replicas trace.setup.bounds in
-        let accepted : ℕ → Bool = test_at (accepts held.object held.candidate) (world_after trace time).replicas in
-        let among_them : length members ≤ count n (is_among members) = members_count n members different below in
-        let more : count n (is_among members) ≤ count n accepted =
-        count-more n (is_among members) accepted
-        (λ index low member.
-        has_first time within first is_member held index low (among_all (Has time) members all index member)) in
-        omega (arith, enough, among_them, more)
-
-    decided_of_quorum : (time : ℕ) → time ≤ length trace.entries → (replica : ℕ)
-        → replica < replicas trace.setup.bounds → (held : Has time replica)
-        → quorum trace.setup.bounds ≤ acceptors (setting trace) time held.object held.candidate
-        → IsDecided (setting trace) time held.object held.candidate
-    unfolding setting
-    decided_of_quorum time within replica below held enough =
-        IsDecided.established held.candidate
-        (facts.plain held.object held.candidate (place_ever trace laws time within replica below held.object
-        held.candidate held.accepted) (rw (held.made).of_act refl))
-        (omega (arith, enough))
+        → quorum trace.setup.bounds ≤ length members → All (Has (reply - 1)) members → (first : ℕ)
+        → first < replicas trace.setup.bounds → (held : Has (reply - 1) first)
+        → All (λ (part : ObjectId × Method). PartOfQuorum trace operation parts reply part.0) parts
+    each_of_quorum reply ends members different within enough all first below held =
+        all_along (PartOfQuorum trace operation parts reply) stamps parts held.of_parts
+        (all_contained (λ (told : ObjectId × Stamp). PartOfQuorum trace operation parts reply told.0) stamps
+        (λ told one. at told one (All-contains (Part (reply - 1) first) stamps told held.each one)))
+      where
+        at : (told : ObjectId × Stamp) → Contains stamps told → Part (reply - 1) first told
+            → PartOfQuorum trace operation parts reply told.0
+        at told one part =
+            let counted : quorum trace.setup.bounds ≤ acceptors (setting trace) (reply - 1) told.0 part.candidate =
+            quorum_by (reply - 1) ends members different within enough all first below told one part in
+            record {
+              candidate = part.candidate;
+              of_client = (part.made).of_client;
+              of_act = (part.made).of_act;
+              accepted = let same = acceptors_are trace (reply - 1) told.0 part.candidate in omega
+                  (arith, counted, same);
+            }
 
     -- a completed act by the members that replied to it
     by_members : (reply : ℕ) → reply ≤ length trace.entries → 1 ≤ reply → (members : List ℕ)
         → AllPairs (λ (a b : ℕ). a ≢ b) members → All (λ (member : ℕ). member < replicas trace.setup.bounds) members
         → quorum trace.setup.bounds ≤ length members → All (Has (reply - 1)) members
         → CompletedAct trace operation reply answer
-    by_members reply within begins members different below enough all =
+    by_members reply ends begins members different within enough all =
         let some : 1 ≤ quorum trace.setup.bounds = some_quorum trace.setup.bounds (is_run.setup).some_faults in
         let P : ℕ → Type 0 = λ member. Has (reply - 1) member × (member < replicas trace.setup.bounds) in
         let one : (member : ℕ) × P member =
-        some_member P members (omega (arith, some, enough)) (both members all below) in
+        some_member P members (omega (arith, some, enough)) (both members all within) in
         let held : Has (reply - 1) one.0 = (one.1).0 in
-        let low : one.0 < replicas trace.setup.bounds = (one.1).1 in
-        let accepted : quorum trace.setup.bounds ≤ acceptors (setting trace) (reply - 1) held.object held.candidate =
-        quorum_by (reply - 1) (omega arith) members different below enough all one.0 low held in
-        let parts : List (ObjectId × Method) = (held.object, held.method) ∷ [] in
+        let below : one.0 < replicas trace.setup.bounds = (one.1).1 in
+        let named : Named stamps parts = first_named stamps parts held.of_parts held.some in
+        let part : Part (reply - 1) one.0 named.told =
+        All-contains (Part (reply - 1) one.0) stamps named.told held.each named.among in
         record {
           parts = parts;
-          is_act = held.is_act;
-          object = held.object;
-          candidate = held.candidate;
-          is_of = record { made = held.made; names = inl refl };
-          version = held.version;
-          has = held.has;
-          answer_is = held.answer_is;
-          decided = decided_of_quorum (reply - 1) (omega arith) one.0 low held accepted;
+          is_act = is_act;
+          object = named.told.0;
+          candidate = part.candidate;
+          is_of = record { made = part.made; names = named.names };
+          version = part.version;
+          has = part.has;
+          answer_is = part.answer_is;
+          decided = decided_of_quorum (reply - 1) (omega arith) members different within enough all one.0 below
+              named.told named.among part;
           of_quorum = record {
-            some = omega arith;
-            each = All-cons (λ (part : ObjectId × Method). PartOfQuorum trace operation parts reply part.0)
-                (held.object, held.method) [] (record {
-                  candidate = held.candidate;
-                  of_client = (held.made).of_client;
-                  of_act = (held.made).of_act;
-                  accepted = let same = acceptors_are trace (reply - 1) held.object held.candidate in omega
-                      (arith, accepted, same);
-                }) (All-nil (λ (part : ObjectId × Method). PartOfQuorum trace operation parts reply part.0));
+            some = held.some;
+            each = each_of_quorum reply (omega arith) members different within enough all one.0 below held;
           };
-          within = within;
+          within = ends;
           begins = begins;
         }
       where
         both : (members : List ℕ) → All (Has (reply - 1)) members
             → All (λ (member : ℕ). member < replicas trace.setup.bounds) members
             → All (λ (member : ℕ). Has (reply - 1) member × (member < replicas trace.setup.bounds)) members
-        both [] all below = All-nil (λ (member : ℕ). Has (reply - 1) member × (member < replicas trace.setup.bounds))
-        both (member ∷ later) all below =
+        both [] all within = All-nil (λ (member : ℕ). Has (reply - 1) member × (member < replicas trace.setup.bounds))
+        both (member ∷ later) all within =
             All-cons (λ (it : ℕ). Has (reply - 1) it × (it < replicas trace.setup.bounds)) member later (
               All-head (Has (reply - 1)) member later all,
-              All-head (λ (it : ℕ). it < replicas trace.setup.bounds) member later below,
+              All-head (λ (it : ℕ). it < replicas trace.setup.bounds) member later within,
             )
             (both later (All-tail (Has (reply - 1)) member later all)
-            (All-tail (λ (it : ℕ). it < replicas trace.setup.bounds) member later below))
+            (All-tail (λ (it : ℕ). it < replicas trace.setup.bounds) member later within))
 
 -- of every completed act
 pub completed_act : (trace : Trace) → IsRun trace → ArePlain trace → Laws (setting trace) → Joint (setting trace)
@@ -293,9 +330,9 @@ completed_act trace is_run have laws joint facts operation among reply answer re
     let at : reply ≡ 1 + ends.index = ends.is_at in
     let below : ends.index < length trace.entries =
     slice_get_within trace.entries ends.index ends.entry ends.is_entry in
-    by_members trace is_run have laws joint facts operation among answer given.stamps reply (omega arith) (omega arith)
-    done.members done.different done.within done.enough
+    by_members trace is_run have laws joint facts operation among act is_act answer given.stamps reply (omega arith)
+    (omega arith) done.members done.different done.within done.enough
     (All-weaker (Replied trace (reply - 1) operation.client operation.number done.round done.verdict)
-    (HasCandidate trace operation answer given.stamps (reply - 1))
-    (has_by_verdict trace is_run have laws joint facts operation among answer given.stamps (reply - 1) done.round
-    done.verdict given.is) done.members done.replied)
+    (HasAll trace operation act answer given.stamps (reply - 1))
+    (has_by_verdict trace is_run have laws joint facts operation among act is_act answer given.stamps (reply - 1)
+    done.round done.verdict given.is) done.members done.replied)

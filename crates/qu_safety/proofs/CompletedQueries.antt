@@ -1,5 +1,5 @@
 -- A completed query answers from the tops of its objects when a replica first answered its round.
-use Rattle.std.proofs.Common.{◌≡◌, ◌≢◌, ℕ, zero, suc, ◌+◌, ◌-◌, ◌<◌, ◌≤◌, Bool, true, false, ◌==◌, List, [], ◌∷◌, length, Option, None, Some, refl, sym, ap, subst, ◌∙◌, arith, inl, inr, slice_get, All, AllPairs, Contains}
+use Rattle.std.proofs.Common.{◌≡◌, ◌≢◌, ℕ, zero, suc, ◌+◌, ◌-◌, ◌<◌, ◌≤◌, Bool, true, false, ◌==◌, List, [], length, Option, None, Some, refl, sym, ap, subst, ◌∙◌, arith, inl, inr, slice_get, All, AllPairs, Contains}
 use Rattle.std.specs.Prelude.{count_by}
 use Rattle.std.specs.List.{Any, AllZip}
 use Rattle.std.proofs.lemmas.Bool.{false≢true, cases_Bool, cases_lt, and_from, eqb-true, eq-eqb}
@@ -9,7 +9,7 @@ use Rattle.std.proofs.lemmas.Option.{none-some, same_Some, slice_get_within}
 use Rattle.qu_base.specs.declared.party.ClientId.{ClientId}
 use Rattle.qu_base.specs.declared.party.ObjectId.{ObjectId}
 use Rattle.qu_base.specs.declared.party.ReplicaId.{ReplicaId}
-use Rattle.qu_base.specs.Thresholds.{replicas, quorum, AreThresholds}
+use Rattle.qu_base.specs.Bounds.{replicas, quorum, AreThresholds}
 use Rattle.qu_base.proofs.ThresholdFacts.{are_thresholds}
 use Rattle.qu_stamp.specs.declared.stamp.Stamp.{Stamp}
 use Rattle.qu_stamp.specs.declared.candidate.Candidate.{Candidate}
@@ -32,7 +32,7 @@ use Rattle.qu_objects.specs.declared.op.Op.TheVariants as op
 use Rattle.qu_objects.specs.declared.op.Outcome.TheVariants as outcome
 use Rattle.qu_objects.specs.declared.kind.Value.{Value}
 use Rattle.qu_objects.specs.declared.query.Ask.{Ask}
-use Rattle.qu_objects.specs.Perform.{told_answer}
+use Rattle.qu_objects.specs.Performing.{told_answer}
 use Rattle.qu_frames.specs.declared.frame.Body.{Body}
 use Rattle.qu_frames.specs.declared.frame.Body.TheVariants as body
 use Rattle.qu_frames.specs.declared.frame.Letter.{Letter}
@@ -41,13 +41,13 @@ use Rattle.qu_frames.specs.declared.verdict.Verdict.TheVariants as verdict
 use Rattle.qu_frames.specs.Body.{body_of}
 use Rattle.qu_frames.specs.Verdict.{same_verdict}
 use Rattle.qu_replica.specs.State.{ReplicaState, own_candidates}
-use Rattle.qu_client.specs.Step.{fitting}
+use Rattle.qu_client.specs.Steps.{fitting}
 use Rattle.qu_machine.specs.declared.record.OpRecord.{OpRecord}
 use Rattle.qu_machine.specs.declared.record.Point.{Point}
 use Rattle.qu_machine.specs.Serial.{Stands}
 use Rattle.qu_trace.specs.declared.trace.Entry.{Entry}
 use Rattle.qu_trace.specs.declared.trace.Trace.{Trace}
-use Rattle.qu_trace.specs.Operations.{operations_of}
+use Rattle.qu_trace.specs.Operation.{operations_of}
 use Rattle.qu_world.specs.State.{letter_of}
 use Rattle.qu_world.specs.Run.{IsRun}
 use Rattle.qu_points.proofs.Recorded.{recorded_op}
@@ -60,9 +60,9 @@ use Rattle.qu_runs.specs.Times.{world_after}
 use Rattle.qu_runs.proofs.Settings.{acceptors_are}
 use Rattle.qu_points.specs.Order.{AnswersFirst, query_effect, effect_of, IsPoint}
 use Rattle.qu_points.specs.Points.{point_at}
-use Rattle.qu_grounds.specs.Replies.{IsReplyTo, TellsQuery}
-use Rattle.qu_safety.specs.Updates.{IsEverAccepted}
-use Rattle.qu_safety.specs.Values.{HasVersion}
+use Rattle.qu_values.specs.Replies.{IsReplyTo, HasTold, TellsQuery}
+use Rattle.qu_values.specs.Updates.{IsEverAccepted}
+use Rattle.qu_values.specs.Values.{HasVersion}
 use Rattle.qu_runs.specs.Plain.{ArePlain}
 use Rattle.qu_grounds.specs.Views.{IsOfKept}
 use Rattle.qu_grounds.proofs.Acceptors.{method_is_shown}
@@ -70,14 +70,15 @@ use Rattle.qu_grounds.proofs.HeldInRuns.{held_versions}
 use Rattle.qu_grounds.proofs.HeldVersions.{AreOfHeld, HoldsUnder}
 use Rattle.qu_runs.proofs.LaterLetters.{letter_later}
 use Rattle.qu_rounds.proofs.Members.{is_among, members_count}
-use Rattle.qu_grounds.proofs.RepliesInRuns.{IsAskOf, ask_of_told, told_in_run}
-use Rattle.qu_grounds.proofs.Replying.{reply_sent, reply_asks}
+use Rattle.qu_values.proofs.RepliesInRuns.{IsAskOf, ask_of_told, told_in_run}
+use Rattle.qu_values.proofs.Replying.{reply_sent, reply_asks}
 use Rattle.qu_rounds.proofs.Verdicts.{equal_told}
-use Rattle.qu_safety.proofs.StoredValues.{version_is}
-use Rattle.qu_safety.proofs.UpdateFacts.{HasValue, UpdateFacts}
+use Rattle.qu_safety.proofs.Along.{objects_in, zip_along, zip_weaker, zip_at}
+use Rattle.qu_values.proofs.StoredValues.{version_is}
+use Rattle.qu_values.proofs.UpdateFacts.{HasValue, UpdateFacts}
 use Rattle.qu_rounds.proofs.Invocations.{request_of}
-use Rattle.qu_safety.proofs.Updates.{same_accepted}
-use Rattle.qu_safety.proofs.EverAccepted.{held_ever}
+use Rattle.qu_values.proofs.Updates.{same_accepted}
+use Rattle.qu_values.proofs.EverAccepted.{held_ever}
 use Rattle.qu_grounds.proofs.Views.{view_of_request}
 use Rattle.qu_runs.proofs.Small.{some_member, some_quorum}
 use Rattle.qu_runs.proofs.OpeningReplicas.{bounds_are}
@@ -209,7 +210,7 @@ told_by_fit query (verdict.Already other) answer fits = absurd (none-some answer
 told_by_fit query (verdict.Mended object stamp) answer fits = absurd (none-some answer fits)
 told_by_fit query (verdict.Refused refusal) answer fits = absurd (none-some answer fits)
 
--- the replica told this answer, before an event, from a base and with nothing above it
+-- the replica told this answer to a query, before an event, from bases with nothing above them
 pub record ToldBefore (trace : Trace) (client : ClientId) (number round before : ℕ) (stamps : List (ObjectId × Stamp))
     (answer : Answer) (replica : ℕ) : Type 0 where
   pub at : ℕ
@@ -218,10 +219,9 @@ pub record ToldBefore (trace : Trace) (client : ClientId) (number round before :
   pub said : RepliedAt trace at client number round (verdict.Told stamps answer) replica
   pub answered : answers_at trace client number round (suc at) ≡ true
   pub reply : IsReplyTo trace at replica client number round (verdict.Told stamps answer)
-  pub object : ObjectId
-  pub ask : Ask
-  pub is_ask : reply.body ≡ body.Ask ((object, ask) ∷ [])
-  pub tells : TellsQuery reply.old reply.sets object ask stamps answer
+  pub query : List (ObjectId × Ask)
+  pub is_ask : reply.body ≡ body.Ask query
+  pub tells : TellsQuery reply.old reply.sets query stamps answer
 
 pub tells_by_reply : (trace : Trace) → IsRun trace → ArePlain trace → (client : ClientId) (number round before : ℕ)
     (given : Verdict) (answer : Answer) (told : IsTold given answer) (replica : ℕ) → Replied trace before client number
@@ -253,27 +253,10 @@ tells_by_reply trace is_run have client number round before given answer told re
           list_any-from_Any (answers client number round) (it.entry).letters
           (sent.0, letter, sent.1, sent.2, reply_answers client number round letter me it.told it.shown it.is_reply);
       reply = reply;
-      object = query.object;
-      ask = query.ask;
+      query = query.query;
       is_ask = query.is_ask;
       tells = told_in_run trace is_run have at below replica client number round told.stamps answer reply;
     }
-
--- ---- parts of equal wholes
-
-abbrev stamp_in : ObjectId × Stamp → List (ObjectId × Stamp) → ObjectId × Stamp
-stamp_in default [] = default
-stamp_in default (first ∷ later) = first
-
-abbrev stamped : ObjectId → Stamp → List (ObjectId × Stamp)
-stamped object stamp = (object, stamp) ∷ []
-
-pub same_stamped : (a b : ObjectId) (s t : Stamp) → stamped a s ≡ stamped b t → (a ≡ b) × (s ≡ t)
-same_stamped a b s t same = (
-  ap (λ (it : List (ObjectId × Stamp)). (stamp_in (a, s) it).0) same,
-  ap
-      (λ (it : List (ObjectId × Stamp)). (stamp_in (a, s) it).1) same,
-)
 
 abbrev asks_in : Body → List (ObjectId × Ask)
 asks_in (body.Act parts) = []
@@ -370,32 +353,35 @@ module _ (trace : Trace) (is_run : IsRun trace) (have : ArePlain trace) (laws : 
           accepted = found.in_second;
         }
 
+    -- what a member told of an object
+    abbrev TellsOf : (member : ℕ) → Member member → ObjectId × Stamp → Value → Type 0
+    TellsOf member tells = HasTold (tells.reply).old (tells.reply).sets
+
     -- what a member accepted by then is not above the base
-    not_above : (object : ObjectId) (base other : Candidate) → stamps ≡ (object, base.stamp) ∷ [] → (member : ℕ)
+    not_above : (told : ObjectId × Stamp) → Contains stamps told → (other : Candidate) → (member : ℕ)
         (tells : Member member) → time ≤ tells.at
-        → test_at (accepts object other) (world_after trace time).replicas member ≡ true
-        → is_below base.stamp other.stamp ≡ false
-    not_above object base other stamps_are member tells order accepted =
-        let told = tells.tells in
+        → test_at (accepts told.0 other) (world_after trace time).replicas member ≡ true
+        → is_below told.1 other.stamp ≡ false
+    not_above told among other member tells order accepted =
         let reply = tells.reply in
-        let same : (object ≡ tells.object) × (base.stamp ≡ (told.base).stamp) =
-        same_stamped object tells.object base.stamp (told.base).stamp (sym stamps_are ∙ told.stamps_are) in
-        let held : holds other (own_candidates reply.old object) ≡ true =
-        held_later time tells.at order member reply.old reply.is_old object other accepted in
-        ap (λ (it : Stamp). is_below it other.stamp) same.1 ∙
-        told.nothing_above other (ap (λ (it : ObjectId). holds other (own_candidates reply.old it)) (sym same.0) ∙ held)
+        let beside : (value : Value) × TellsOf member tells told value =
+        zip_at (TellsOf member tells) stamps (tells.tells).values told among (tells.tells).each in
+        let has = beside.1 in
+        let held : holds other (own_candidates reply.old told.0) ≡ true =
+        held_later time tells.at order member reply.old reply.is_old told.0 other accepted in
+        ap (λ (it : Stamp). is_below it other.stamp) (sym has.is_told) ∙ has.nothing_above other held
 
     -- the base was shown in the request that was answered first
     base_shown : AsksAlike trace → (member : ℕ) (tells : Member member) → time ≤ tells.at
         → (answered : IsAnsweredAt trace client number round time)
-        → (entries : List ObjectHistory) × (method_at trace.setup.bounds entries ≡ Some (tells.tells).base)
-        × (quorum trace.setup.bounds ≤ acceptors (setting trace) time tells.object (tells.tells).base)
+        → (told : ObjectId × Stamp) (value : Value) (has : TellsOf member tells told value)
+        → (entries : List ObjectHistory) × (method_at trace.setup.bounds entries ≡ Some has.base)
+        × (quorum trace.setup.bounds ≤ acceptors (setting trace) time told.0 has.base)
     unfolding setting
-    base_shown alike member tells order answered =
+    base_shown alike member tells order answered told value has =
         let at : ℕ = tells.at in
-        let object : ObjectId = tells.object in
-        let told = tells.tells in
-        let base : Candidate = told.base in
+        let object : ObjectId = told.0 in
+        let base : Candidate = has.base in
         let mine = tells.reply in
         let first = answered.reply in
         let below : at < length trace.entries = tells.below in
@@ -411,7 +397,7 @@ module _ (trace : Trace) (is_run : IsRun trace) (have : ArePlain trace) (laws : 
         let method : method_at trace.setup.bounds (entries_of object first.sets) ≡ Some base =
         ap (λ (it : List SetOf). method_at trace.setup.bounds (entries_of object it)) same.0 ∙
         ap (λ (it : ℕ). method_at it (entries_of object mine.sets))
-        (sym (bounds_are trace at member mine.old mine.is_old)) ∙ told.method in
+        (sym (bounds_are trace at member mine.old mine.is_old)) ∙ has.method in
         let shown : quorum trace.setup.bounds ≤ count_by (accepts object base) (world_after trace time).replicas =
         method_is_shown trace is_run time within first.sets first.body view object base method in
         let counted = acceptors_are trace time object base in
@@ -424,32 +410,31 @@ module _ (trace : Trace) (is_run : IsRun trace) (have : ArePlain trace) (laws : 
     established_by object base enough = omega (arith, enough)
 
     -- the version of the base is the one that the member stores
-    base_version : (member : ℕ) (tells : Member member)
-        → IsEverAccepted trace tells.object (tells.tells).base
-        → HasVersion trace tells.object (tells.tells).base (tells.tells).version
-    base_version member tells accepted =
+    base_version : (member : ℕ) (tells : Member member) (told : ObjectId × Stamp) (value : Value)
+        (has : TellsOf member tells told value) → IsEverAccepted trace told.0 has.base
+        → HasVersion trace told.0 has.base has.version
+    base_version member tells told value has accepted =
         let at : ℕ = tells.at in
         let below : at < length trace.entries = tells.below in
-        let object : ObjectId = tells.object in
-        let told = tells.tells in
-        let base : Candidate = told.base in
+        let object : ObjectId = told.0 in
+        let base : Candidate = has.base in
         let mine = tells.reply in
         let are : AreOfHeld mine.old = held_versions trace is_run have at (omega arith) member mine.old mine.is_old in
-        let under : HoldsUnder mine.old object base.stamp = are.of_held object base.stamp told.version told.of_base in
+        let under : HoldsUnder mine.old object base.stamp = are.of_held object base.stamp has.version has.of_base in
         let held : Candidate = under.held in
         let is_base : held ≡ base =
         same_accepted trace laws joint object held base (held_ever trace laws at (omega arith) member mine.old
         mine.is_old object held under.is_held) accepted
         under.under in
         version_is trace laws joint is_run have at (omega arith) member mine.old mine.is_old object base
-        (ap (λ (it : Candidate). holds it (own_candidates mine.old object)) (sym is_base) ∙ under.is_held) told.version
-        told.of_base
+        (ap (λ (it : Candidate). holds it (own_candidates mine.old object)) (sym is_base) ∙ under.is_held) has.version
+        has.of_base
 
     -- what the member was asked is the operation's query
     pub query_asked : (operation : OpRecord) → Contains (operations_of trace.entries) operation
         → operation.client ≡ client → operation.number ≡ number → (query : List (ObjectId × Ask))
         → operation.op ≡ op.Query query → (member : ℕ) (tells : Member member)
-        → operation.op ≡ op.Query ((tells.object, tells.ask) ∷ [])
+        → tells.query ≡ query
     query_asked operation among of_client of_number query is_query member tells =
         let mine = tells.reply in
         let below : tells.at < length trace.entries = tells.below in
@@ -460,9 +445,8 @@ module _ (trace : Trace) (is_run : IsRun trace) (have : ArePlain trace) (laws : 
         let same : request.operation ≡ operation =
         recorded_op trace request.operation operation request.of_trace among
         (ap (λ (it : ClientId). it.0) (request.of_client ∙ sym of_client)) (request.of_number ∙ sym of_number) in
-        let asks : body.Ask ((tells.object, tells.ask) ∷ []) ≡ body.Ask query =
-        sym tells.is_ask ∙ request.asks ∙ ap (λ (it : OpRecord). body_of it.op) same ∙ ap body_of is_query in
-        is_query ∙ ap (λ (it : Body). op.Query (asks_in it)) (sym asks)
+        ap asks_in
+        (sym tells.is_ask ∙ request.asks ∙ ap (λ (it : OpRecord). body_of it.op) same ∙ ap body_of is_query)
 
   -- what no established candidate is above, no decided one is
   top_by : (time : ℕ) → time ≤ (setting trace).last → (object : ObjectId) (base : Candidate)
@@ -481,6 +465,54 @@ module _ (trace : Trace) (is_run : IsRun trace) (have : ArePlain trace) (laws : 
             is_below-not_chain base.stamp (highest.0).stamp other.stamp
             (not_over highest.0 (highest.1).established) ((highest.1).nothing_above other decided);
       }
+
+  -- what the members told of an object is the value of its top when the round was first answered
+  module _ (client : ClientId) (number round before : ℕ) (stamps : List (ObjectId × Stamp)) (answer : Answer)
+      (time : ℕ) (within : time ≤ length trace.entries) (alike : AsksAlike trace)
+      (answered : IsAnsweredAt trace client number round time)
+      (not_earlier : (at : ℕ) → answers_at trace client number round (suc at) ≡ true → time ≤ at)
+      (members : List ℕ) (different : AllPairs (λ (a b : ℕ). a ≢ b) members)
+      (enough : quorum trace.setup.bounds ≤ length members)
+      (below : All (λ (member : ℕ). member < replicas trace.setup.bounds) members)
+      (all : All (ToldBefore trace client number round before stamps answer) members) where
+    from_top : (member : ℕ) (tells : ToldBefore trace client number round before stamps answer member)
+        (told : ObjectId × Stamp) (value : Value) → Contains stamps told
+        → HasTold (tells.reply).old (tells.reply).sets told value → HasTopValue trace time told.0 value
+    unfolding setting
+    from_top member tells told value one has =
+        let object : ObjectId = told.0 in
+        let base : Candidate = has.base in
+        let order : time ≤ tells.at = not_earlier tells.at tells.answered in
+        let shown : (entries : List ObjectHistory) × (method_at trace.setup.bounds entries ≡ Some base)
+        × (quorum trace.setup.bounds ≤ acceptors (setting trace) time object base) =
+        base_shown client number round before stamps answer time alike member tells order answered told value has in
+        let established : IsEstablished (setting trace) time object base =
+        established_by client number round before stamps answer time object base shown.2 in
+        let accepted : IsEverAccepted trace object base =
+        some-later (setting trace) laws time (length trace.entries) within object base
+        (accepted_by_attested (setting trace) laws time object base
+        (attested_by_established (setting trace) laws time object base established)) in
+        let who : Acceptor (setting trace) (length trace.entries) object base =
+        acceptor (setting trace) (length trace.entries) object base accepted in
+        let is_known : (setting trace).known object ≡ true =
+        laws.only_known (length trace.entries) object who.replica base who.good who.within who.accepted in
+        record {
+          base = base;
+          top = top_by time within object base is_known (facts.plain_base object base shown.0 shown.1 accepted)
+              established
+              (λ other other_established.
+              let met : Meets client number round before stamps answer time object other =
+              meets client number round before stamps answer time members different enough below all object other
+              other_established in
+              ap (λ (it : Stamp). is_below it other.stamp) has.is_told ∙
+              not_above client number round before stamps answer time told one other met.member met.tells
+              (not_earlier (met.tells).at (met.tells).answered) met.accepted);
+          has = record {
+            version = has.version;
+            has = base_version client number round before stamps answer time member tells told value has accepted;
+            value_is = has.value_is;
+          };
+        }
 
   module _ (completion : CompletesByQuorum trace) (alike : AsksAlike trace) (operation : OpRecord)
       (among : Contains (operations_of trace.entries) operation) (reply : ℕ) (answer : Answer)
@@ -506,8 +538,6 @@ module _ (trace : Trace) (is_run : IsRun trace) (have : ArePlain trace) (laws : 
         some_member P done.members (omega (arith, some_quorum trace.setup.bounds (is_run.setup).some_faults)) all in
         let member : ℕ = one.0 in
         let tells : P member = one.1 in
-        let object : ObjectId = tells.object in
-        let base : Candidate = (tells.tells).base in
         let first : FirstTrue (answers_at trace client number round) (suc tells.at) =
         first_true (answers_at trace client number round) (suc tells.at) tells.answered in
         let after : (time : ℕ) × (first.first ≡ suc time) =
@@ -522,33 +552,12 @@ module _ (trace : Trace) (is_run : IsRun trace) (have : ArePlain trace) (laws : 
         let answered : IsAnsweredAt trace client number round time =
         answered_at trace is_run have client number round time
         (ap (answers_at trace client number round) (sym is_after) ∙ first.passed) in
-        let shown : (entries : List ObjectHistory) × (method_at trace.setup.bounds entries ≡ Some base)
-        × (quorum trace.setup.bounds ≤ acceptors (setting trace) time object base) =
-        base_shown client number round (reply - 1) stamps answer time alike member tells order answered in
-        let established : IsEstablished (setting trace) time object base =
-        established_by client number round (reply - 1) stamps answer time object base shown.2 in
-        let accepted : IsEverAccepted trace object base =
-        some-later (setting trace) laws time (length trace.entries) within object base
-        (accepted_by_attested (setting trace) laws time object base
-        (attested_by_established (setting trace) laws time object base established)) in
-        let who : Acceptor (setting trace) (length trace.entries) object base =
-        acceptor (setting trace) (length trace.entries) object base accepted in
-        let is_known : (setting trace).known object ≡ true =
-        laws.only_known (length trace.entries) object who.replica base who.good who.within who.accepted in
-        let is_top : IsTop (setting trace) time object base =
-        top_by time within object base is_known (facts.plain_base object base shown.0 shown.1 accepted) established
-        (λ other other_established.
-        let met : Meets client number round (reply - 1) stamps answer time object other =
-        meets client number round (reply - 1) stamps answer time done.members done.different done.enough done.within all
-        object other other_established in
-        not_above client number round (reply - 1) stamps answer time object base other (tells.tells).stamps_are
-        met.member met.tells
-        (not_earlier client number round first.first time is_after first.not_before (met.tells).at (met.tells).answered)
-        met.accepted) in
+        let these : tells.query ≡ query =
+        query_asked client number round (reply - 1) stamps answer time operation among refl refl query is_query member
+        tells in
         record {
-          parts = (object, tells.ask) ∷ [];
-          is_query = query_asked client number round (reply - 1) stamps answer time operation among refl refl
-              query is_query member tells;
+          parts = query;
+          is_query = is_query;
           event = first.first;
           first = record {
             round = round;
@@ -559,20 +568,17 @@ module _ (trace : Trace) (is_run : IsRun trace) (have : ArePlain trace) (laws : 
           time = time;
           is_after = is_after;
           before = omega arith;
-          values = ((tells.tells).version).value ∷ [];
-          each = (
-            record {
-              base = base;
-              top = is_top;
-              has = record {
-                version = (tells.tells).version;
-                has = base_version client number round (reply - 1) stamps answer time member tells accepted;
-                value_is = refl;
-              };
-            },
-            tt,
-          );
-          answer_is = (tells.tells).answer_is;
+          values = (tells.tells).values;
+          each = zip_along (HasTopValue trace time) stamps query (tells.tells).values
+              ((tells.tells).of_parts ∙ ap objects_in these)
+              (zip_weaker (HasTold (tells.reply).old (tells.reply).sets)
+              (λ (told : ObjectId × Stamp) (value : Value). HasTopValue trace time told.0 value) stamps
+              (tells.tells).values
+              (from_top client number round (reply - 1) stamps answer time within alike answered
+              (not_earlier client number round first.first time is_after first.not_before) done.members done.different
+              done.enough done.within all member tells) (tells.tells).each);
+          answer_is = (tells.tells).answer_is
+              ∙ ap (λ (it : List (ObjectId × Ask)). told_answer it (tells.tells).values) these;
         }
       where
         -- no answer is sent before the first

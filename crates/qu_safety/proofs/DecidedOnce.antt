@@ -4,10 +4,10 @@ use Rattle.qu_chain.specs.Laws.{Laws}
 use Rattle.qu_chain.proofs.Updates.{decided_once, one_update}
 use Rattle.qu_trace.specs.declared.trace.Trace.{Trace}
 use Rattle.qu_runs.specs.Setting.{setting}
-use Rattle.qu_safety.specs.Updates.{DecidesOnce, IsOf, Update}
-use Rattle.qu_safety.proofs.OneAct.{ActsAreOne}
-use Rattle.qu_safety.proofs.UpdateFacts.{UpdateFacts}
-use Rattle.qu_safety.proofs.Updates.{one_of, acts}
+use Rattle.qu_values.specs.Updates.{DecidesOnce, IsOf, Update}
+use Rattle.qu_values.proofs.OneAct.{ActsAreOne}
+use Rattle.qu_values.proofs.UpdateFacts.{UpdateFacts}
+use Rattle.qu_values.proofs.Updates.{one_of, acts}
 
 pub decides_once : (trace : Trace) → Laws (setting trace) → Joint (setting trace) → ActsAreOne trace
     → UpdateFacts trace → DecidesOnce trace

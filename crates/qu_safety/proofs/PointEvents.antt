@@ -31,17 +31,17 @@ use Rattle.qu_machine.specs.declared.record.Point.{Point}
 use Rattle.qu_machine.proofs.Equalities.{Passes, passes_from_any, client_is}
 use Rattle.qu_trace.specs.declared.trace.Entry.{Entry}
 use Rattle.qu_trace.specs.declared.trace.Trace.{Trace}
-use Rattle.qu_trace.specs.Operations.{operations_of}
+use Rattle.qu_trace.specs.Operation.{operations_of}
 use Rattle.qu_world.specs.State.{letter_of}
 use Rattle.qu_world.specs.Run.{IsRun}
 use Rattle.qu_objects.specs.declared.act.Method.{Method}
 use Rattle.qu_objects.specs.declared.query.Ask.{Ask}
 use Rattle.qu_runs.specs.Setting.{setting}
-use Rattle.qu_safety.specs.Updates.{Update, IsOf}
+use Rattle.qu_values.specs.Updates.{Update, IsOf}
 use Rattle.qu_safety.proofs.ActPoints.{IsTurnOf, turn_at}
-use Rattle.qu_safety.proofs.Updates.{last_is, acts, one_of, opening_no_act}
-use Rattle.qu_safety.proofs.UpdateFacts.{UpdateFacts}
-use Rattle.qu_safety.proofs.OneAct.{ActsAreOne, one_made_for}
+use Rattle.qu_values.proofs.Updates.{last_is, acts, one_of, opening_no_act}
+use Rattle.qu_values.proofs.UpdateFacts.{UpdateFacts}
+use Rattle.qu_values.proofs.OneAct.{ActsAreOne, one_made_for}
 use Rattle.qu_grounds.proofs.Handled.{accepted_made}
 use Rattle.qu_runs.specs.Digested.{IsMadeFor}
 use Rattle.qu_grounds.specs.Grounds.{AcceptsOne, IsDelivered}
@@ -49,13 +49,13 @@ use Rattle.qu_rounds.specs.Invocations.{IsRequestOf}
 use Rattle.qu_runs.specs.Times.{world_after}
 use Rattle.qu_points.specs.Order.{AnswersFirst, query_effect, effect_of, IsPoint}
 use Rattle.qu_runs.specs.Answers.{is_answer, answers, sends_answer}
-use Rattle.qu_grounds.specs.Replies.{IsReplyTo}
+use Rattle.qu_values.specs.Replies.{IsReplyTo}
 use Rattle.qu_runs.specs.Plain.{ArePlain}
 use Rattle.qu_grounds.proofs.Accepting.{some_entry, Acceptance}
 use Rattle.qu_grounds.proofs.Laws.{acceptance_of}
 use Rattle.qu_rounds.proofs.Invocations.{request_of}
 use Rattle.qu_points.proofs.Recorded.{recorded_op}
-use Rattle.qu_grounds.proofs.Replying.{reply_sent, reply_asks}
+use Rattle.qu_values.proofs.Replying.{reply_sent, reply_asks}
 use Rattle.qu_points.proofs.Taking.{effect_once}
 use Rattle.qu_runs.proofs.Carrying.{tells_as, asks_so, one_carried, brings_carries}
 use Rattle.qu_runs.proofs.Small.{same_point}

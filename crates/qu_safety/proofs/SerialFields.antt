@@ -9,13 +9,13 @@ use Rattle.qu_machine.specs.declared.record.Point.{Point}
 use Rattle.qu_machine.specs.Serial.{Stands, StandsAt, StandsAtMostOnce, IsKnown, IsLoneUpdate}
 use Rattle.qu_machine.proofs.Firsts.{contains_at}
 use Rattle.qu_trace.specs.declared.trace.Trace.{Trace}
-use Rattle.qu_trace.specs.Operations.{operations_of}
+use Rattle.qu_trace.specs.Operation.{operations_of}
 use Rattle.qu_world.specs.Run.{IsRun}
 use Rattle.qu_chain.specs.Laws.{Laws}
 use Rattle.qu_chain.specs.Joint.{Joint}
 use Rattle.qu_runs.specs.Setting.{setting}
-use Rattle.qu_safety.proofs.UpdateFacts.{UpdateFacts}
-use Rattle.qu_safety.proofs.OneAct.{ActsAreOne}
+use Rattle.qu_values.proofs.UpdateFacts.{UpdateFacts}
+use Rattle.qu_values.proofs.OneAct.{ActsAreOne}
 use Rattle.qu_points.specs.Order.{is_earlier, are_in_order, IsPoint, IsPrintedOrder}
 use Rattle.qu_runs.specs.Plain.{ArePlain}
 use Rattle.qu_safety.proofs.PointEvents.{begun_before, one_point}

@@ -18,13 +18,13 @@ use Rattle.qu_objects.specs.declared.op.Op.{Op}
 use Rattle.qu_objects.specs.declared.op.Op.TheVariants as op
 use Rattle.qu_objects.specs.declared.op.Outcome.TheVariants as outcome
 use Rattle.qu_objects.specs.declared.state.ObjState.{ObjState}
-use Rattle.qu_objects.specs.Perform.{performed_answer, told_answer}
+use Rattle.qu_objects.specs.Performing.{performed_answer, told_answer}
 use Rattle.qu_machine.specs.declared.record.OpRecord.{OpRecord}
 use Rattle.qu_machine.specs.declared.record.Point.{Point}
 use Rattle.qu_machine.specs.Machine.{values_at, act_answer}
 use Rattle.qu_machine.specs.Serial.{op_answer, values_after, answer_at, IsRising, Stands, StandsAt, Completes, StandsOnce, StandsAtMostOnce, IsSerial}
 use Rattle.qu_trace.specs.declared.trace.Trace.{Trace}
-use Rattle.qu_trace.specs.Operations.{operations_of}
+use Rattle.qu_trace.specs.Operation.{operations_of}
 use Rattle.qu_world.specs.Run.{IsRun}
 use Rattle.qu_runs.specs.Plain.{ArePlain}
 use Rattle.qu_runs.specs.Setting.{setting}
@@ -32,19 +32,19 @@ use Rattle.qu_points.specs.Order.{DecidesAt, effect_of, IsPoint, IsPrintedOrder}
 use Rattle.qu_points.specs.Points.{point_at}
 use Rattle.qu_points.proofs.Rising.{rising_from_order}
 use Rattle.qu_rounds.proofs.OneRound.{one_round_request}
-use Rattle.qu_safety.specs.Updates.{Update, IsOf}
-use Rattle.qu_safety.specs.Values.{HasVersion}
+use Rattle.qu_values.specs.Updates.{Update, IsOf}
+use Rattle.qu_values.specs.Values.{HasVersion}
 use Rattle.qu_safety.proofs.ActPoints.{StandsBefore, IsTurnOf, turn_of, act_has_point, quiet_values, loud_values}
 use Rattle.qu_safety.proofs.CompletedActs.{CompletedAct, completed_act}
 use Rattle.qu_safety.proofs.CompletedQueries.{CompletedQuery, HasTopValue, completed_query, point_of_query, query_has_point}
 use Rattle.qu_points.proofs.Folding.{fold_along}
 use Rattle.qu_safety.proofs.KnownRuns.{completion}
-use Rattle.qu_safety.proofs.MachineValues.{IsValues, step_of, first_values, value_of_top, done, Steps, befores_are}
-use Rattle.qu_safety.proofs.OneAct.{ActsAreOne}
+use Rattle.qu_values.proofs.MachineValues.{IsValues, step_of, first_values, value_of_top, done, Steps, befores_are}
+use Rattle.qu_values.proofs.OneAct.{ActsAreOne}
 use Rattle.qu_safety.proofs.PointEvents.{point_bounds, one_point, points_apart}
 use Rattle.qu_safety.proofs.SerialFields.{point_at_place, points_known, points_faulty, stand_at_most_once, stands_of}
-use Rattle.qu_safety.proofs.Updates.{last_is, acts, one_of, one_companion}
-use Rattle.qu_safety.proofs.UpdateFacts.{IsPerformed, UpdateFacts}
+use Rattle.qu_values.proofs.Updates.{last_is, acts, one_of, one_companion}
+use Rattle.qu_values.proofs.UpdateFacts.{IsPerformed, UpdateFacts}
 
 -- a member of a list stands at a place
 record PlaceOf (order : List Point) (point : Point) : Type 0 where

@@ -1,3 +1,1 @@
-pub mod Updates
-pub mod Values
 pub mod Quorums

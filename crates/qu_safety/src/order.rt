@@ -1,13 +1,13 @@
 ghost use Rattle.std.specs.Prelude.{IfOk, OnOk};
 ghost use Rattle.qu_machine.specs.Serial.{IsSerial};
-ghost use Rattle.qu_trace.specs.Operations.{operations_of};
+ghost use Rattle.qu_trace.specs.Operation.{operations_of};
 ghost use Rattle.qu_world.specs.Run.{IsRun};
 ghost use Rattle.qu_grounds.specs.Chained.{IsChained};
 ghost use Rattle.qu_runs.specs.Premises.{MeetsPremises};
 ghost use Rattle.qu_grounds.specs.Named.{StampsNameHistories};
 ghost use Rattle.qu_points.specs.Order.{IsPrintedOrder};
 ghost use Rattle.qu_safety.specs.Quorums.{CompletesByQuorums};
-ghost use Rattle.qu_safety.specs.Updates.{DecidesOnce};
+ghost use Rattle.qu_values.specs.Updates.{DecidesOnce};
 ghost use Rattle.qu_grounds.specs.Turns.{DecidesInTurn, DecidesJointly};
 
 use super::parts::have_parts;

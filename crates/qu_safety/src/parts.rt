@@ -1,5 +1,5 @@
 ghost use Rattle.std.specs.Prelude.{◌<◌, ◌^◌, length};
-ghost use Rattle.qu_objects.specs.Text.{MethodFits, PartsFit};
+ghost use Rattle.qu_objects.specs.Digesting.{MethodFits, PartsFit};
 ghost use Rattle.qu_runs.specs.Plain.{HaveParts, HasEventParts};
 
 use qu_base::{ClientId, ObjectId};

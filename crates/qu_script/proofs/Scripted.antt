@@ -18,7 +18,7 @@ use Rattle.qu_script.specs.declared.line.Line.{Line}
 use Rattle.qu_script.specs.declared.line.Line.TheVariants.{Call, Deliver, Flow}
 use Rattle.qu_script.specs.declared.line.Script.{Script}
 use Rattle.qu_script.specs.Script.{then_good}
-use Rattle.qu_script.specs.Events.{unless_refused, event_made, deliveries_made, lowest_waiting, if_waiting, flow_made, flow_count, line_made, lines_made, run_of}
+use Rattle.qu_script.specs.Events.{unless_refused, event_made, deliveries_made, lowest_waiting, if_waiting, flow_made, flow_count, line_made, lines_made}
 
 -- nothing was injected so far
 IsScripted : List Entry → Type 0
@@ -117,18 +117,3 @@ unfolding IsScripted no_injection
 run_made script start made lines trace opens are is traced =
     let begins : IsScripted start.entries = ap (λ (world : WorldState). no_injection world.entries) opens in
     ap (λ (it : Trace). no_injection it.entries) traced ∙ made_scripted start made lines begins is
-
-run_traced : (result : Result WorldState Bad) (script : Script) (trace : Trace)
-    → lines_made (opening_world script.setup) script.lines ≡ result
-    → then_good result (λ world. Ok (trace_of world)) ≡ Ok trace → IsTrue (no_injection trace.entries)
-run_traced (Ok made) script trace made_is is =
-    let same : trace_of made ≡ trace = cc in
-    run_made script (opening_world script.setup) made script.lines trace refl refl made_is (sym same)
-run_traced (Err bad) script trace made_is is = absurd cc
-
--- the trace of a script's run
-pub run_injects_nothing : (script : Script) (trace : Trace) → run_of script ≡ Ok trace
-    → IsTrue (no_injection trace.entries)
-unfolding run_of
-run_injects_nothing script trace is = run_traced (lines_made (opening_world script.setup) script.lines) script
-    trace refl is

@@ -8,7 +8,7 @@ use Rattle.std.specs.Str.Parse.{digits_value_after}
 use Rattle.std.proofs.lemmas.List.{at_drop_more, at_drop_all, take_all}
 use Rattle.std.proofs.lemmas.Bool.Decides.{nat_tests}
 use Rattle.qu_script.specs.Text.{lines_of, number_of}
-use Rattle.qu_script.specs.Reading.{with_digit}
+use Rattle.qu_script.specs.Read.{with_digit}
 
 -- the number that digits write when they follow those of n
 unfoldable pub number_rest : ℕ → List ℕ → Option ℕ

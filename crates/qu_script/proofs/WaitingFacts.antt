@@ -15,7 +15,7 @@ use Rattle.qu_world.specs.State.{WorldState, numbered}
 use Rattle.qu_world.specs.Step.{world_step}
 use Rattle.qu_world.proofs.RunLaws.{Records, step_records}
 use Rattle.qu_script.specs.Events.{delivers, is_delivered, waiting_from, lowest_waiting, AreDelivered}
-use Rattle.qu_script.specs.Playing.{MayBeginAt}
+use Rattle.qu_script.specs.Player.{MayBeginAt}
 
 -- ---- numbers of letters
 

@@ -1,6 +1,6 @@
 pub mod Text
-pub mod Reading
+pub mod Read
 pub mod Grammar
 pub mod Script
 pub mod Events
-pub mod Playing
+pub mod Player

@@ -1,6 +1,6 @@
 ghost use Rattle.std.specs.Prelude.{◌≡◌};
 ghost use Rattle.qu_script.specs.Text.{number_of};
-ghost use Rattle.qu_script.specs.Reading.{with_digit};
+ghost use Rattle.qu_script.specs.Read.{with_digit};
 
 /// The number that a word of decimal digits writes; leading zeros are allowed.
 ///

@@ -2,7 +2,7 @@ ghost use Rattle.std.specs.Prelude.{◌≡◌, IfOk};
 ghost use Rattle.qu_world.specs.State.{opening_world};
 ghost use Rattle.qu_world.specs.Run.{IsRun, IsSetup, trace_of};
 ghost use Rattle.qu_script.specs.Events.{event_made, deliveries_made, flow_made, line_made, lines_made, lowest_waiting, MakesWorld};
-ghost use Rattle.qu_script.specs.Playing.{told_of};
+ghost use Rattle.qu_script.specs.Player.{told_of};
 
 use super::waiting::find_waiting;
 use super::{Bad, BadKind, Line, ScriptFail};
@@ -22,7 +22,7 @@ pub struct Player {
 
 impl Model for Player {
     ghost use Rattle.qu_world.specs.State.{WorldState};
-    ghost use Rattle.qu_script.specs.Playing.{MayBeginAt};
+    ghost use Rattle.qu_script.specs.Player.{MayBeginAt};
 
     ghost Value = { WorldState };
 

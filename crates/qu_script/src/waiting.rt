@@ -1,6 +1,6 @@
 ghost use Rattle.std.specs.Prelude.{◌≡◌, IfOk};
 ghost use Rattle.qu_script.specs.Events.{delivers, is_delivered, lowest_waiting};
-ghost use Rattle.qu_script.specs.Playing.{MayBeginAt};
+ghost use Rattle.qu_script.specs.Player.{MayBeginAt};
 
 use qu_base::NoMemory;
 use qu_trace::{Entry, Event};

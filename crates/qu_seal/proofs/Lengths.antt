@@ -3,8 +3,8 @@ use Rattle.std.proofs.Common.{◌≡◌, ℕ, List, ◌∷◌, ◌++◌, length}
 use Rattle.sha2.proofs.Facts256.{length-sha256}
 use Rattle.sha2.specs.Sha256.{sha256}
 use Rattle.qu_seal.specs.declared.constants.TheConstants.{IPAD, OPAD}
-use Rattle.qu_seal.specs.Digest.{digest_of}
-use Rattle.qu_seal.specs.Hmac.{short_key, filled, padded, hmac_of}
+use Rattle.qu_seal.specs.Digesting.{digest_of}
+use Rattle.qu_seal.specs.Authenticating.{short_key, filled, padded, hmac_of}
 
 pub length-digest : (tag : ℕ) (text : List ℕ) → length (digest_of tag text) ≡ 32
 length-digest tag text = length-sha256 (tag ∷ text)

@@ -8,8 +8,8 @@ use Rattle.qu_base.specs.declared.party.Party.{Party}
 use Rattle.qu_base.specs.declared.party.Party.TheVariants.{Replica, Client}
 use Rattle.qu_base.specs.declared.party.ReplicaId.{ReplicaId}
 use Rattle.qu_base.specs.declared.party.Digest.{Digest}
-use Rattle.qu_base.specs.Thresholds.{replicas}
-use Rattle.qu_seal.specs.Hmac.{hmac_of}
+use Rattle.qu_base.specs.Bounds.{replicas}
+use Rattle.qu_seal.specs.Authenticating.{hmac_of}
 
 -- what a ring is derived from: a seed, the number of replicas that may lie, and how many clients there are
 pub record Ring : Type 0 where

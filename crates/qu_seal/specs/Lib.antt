@@ -1,3 +1,3 @@
-pub mod Digest
-pub mod Hmac
+pub mod Digesting
+pub mod Authenticating
 pub mod Keys

@@ -1,12 +1,12 @@
 ghost use Rattle.std.specs.Prelude.{◌≡◌, ◌++◌, ◌≤◌, length};
 ghost use Rattle.sha2.specs.Sha256.{sha256};
-ghost use Rattle.qu_seal.specs.Hmac.{short_key, filled, padded, hmac_of};
+ghost use Rattle.qu_seal.specs.Authenticating.{short_key, filled, padded, hmac_of};
 
 use super::{BLOCK, IPAD, OPAD};
 use sha2::{Digest as Hasher, Sha256};
 
 /// The HMAC of a text under a key, by SHA-256, as RFC 2104 defines it. It takes no memory.
-#[tactic(auto, unfolding(crate::specs::Hmac::hmac_of))]
+#[tactic(auto, unfolding(crate::specs::Authenticating::hmac_of))]
 pub fn hmac(key: &[u8], text: &[u8]) -> [u8; 32]
     ensures { result ≡ hmac_of key.now text.now }
 {

@@ -1,5 +1,5 @@
 ghost use Rattle.std.specs.Prelude.{◌≡◌};
-ghost use Rattle.qu_seal.specs.Digest.{digest_of};
+ghost use Rattle.qu_seal.specs.Digesting.{digest_of};
 
 use qu_base::Digest;
 use sha2::{Digest as Hasher, Sha256};

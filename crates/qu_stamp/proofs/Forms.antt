@@ -4,7 +4,7 @@ use Rattle.std.specs.Int.{w8, w16, w64}
 use Rattle.std.proofs.lemmas.Bool.{and_parts, cond-true, cond-false, not-true}
 use Rattle.qu_base.specs.declared.bad_text.Why.TheVariants.{Range}
 use Rattle.qu_base.specs.declared.bad_text.BadText.{BadText}
-use Rattle.qu_base.specs.Front.{Front}
+use Rattle.qu_base.specs.Cursor.{Front}
 use Rattle.qu_base.specs.Reading.{Reads, IsRead}
 use Rattle.qu_base.proofs.Reading.{read_exactly}
 use Rattle.qu_base.specs.Format.{IsPrefixCode, AreBytes, Format, IsExact, digest_form}
@@ -13,7 +13,7 @@ use Rattle.qu_stamp.specs.declared.stamp.Stamp.{Stamp}
 use Rattle.qu_stamp.specs.declared.limits.TheConstants.{LAST_TIME}
 use Rattle.qu_stamp.specs.declared.candidate.Candidate.{Candidate}
 use Rattle.qu_stamp.specs.Stamp.{opening_stamp, is_below, same_stamp}
-use Rattle.qu_stamp.specs.Forms.{is_below_or_opening, most_client, stamp_client_form, may_be_set, stamp_set_form, stamp_with, stamp_form, may_be_prior, prior_form, candidate_with, candidate_form}
+use Rattle.qu_stamp.specs.Formats.{is_below_or_opening, most_client, stamp_client_form, may_be_set, stamp_set_form, stamp_with, stamp_form, may_be_prior, prior_form, candidate_with, candidate_form}
 
 most_client-fits : (time : ℕ) → most_client time < 2 ^ 16
 most_client-fits time = grind arith

@@ -1,3 +1,3 @@
 pub mod Stamp
 pub mod Candidate
-pub mod Forms
+pub mod Formats

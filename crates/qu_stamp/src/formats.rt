@@ -1,6 +1,6 @@
 ghost use Rattle.std.specs.Prelude.{Bool};
 ghost use Rattle.qu_base.specs.Format.{IsPrefixCode};
-ghost use Rattle.qu_stamp.specs.Forms.{stamp_with, candidate_form};
+ghost use Rattle.qu_stamp.specs.Formats.{stamp_with, candidate_form};
 
 /// By each format of this crate, what is read is spelled so, what is spelled so is read, and no
 /// spelling begins another.

@@ -1,7 +1,7 @@
 ghost use Rattle.std.specs.Prelude.{◌≡◌, OnErr};
 ghost use Rattle.qu_base.specs.Format.{optional, digest_form};
 ghost use Rattle.qu_base.specs.Reading.{Reads, IsRead};
-ghost use Rattle.qu_stamp.specs.Forms.{least_client, most_client, stamp_client_form, stamp_set_form, stamp_with, stamp_form, is_below_or_opening, may_be_prior, prior_form, candidate_form};
+ghost use Rattle.qu_stamp.specs.Formats.{least_client, most_client, stamp_client_form, stamp_set_form, stamp_with, stamp_form, is_below_or_opening, may_be_prior, prior_form, candidate_form};
 
 use super::{Candidate, LAST_TIME, Stamp};
 use qu_base::{BadText, ClientId, Cursor, Digest, LAST_CLIENT, Why};
@@ -21,7 +21,7 @@ pub fn read_stamp(text: &mut Cursor) -> Result<Stamp, BadText>
 }
 
 /// The stamp at the front of a text, a barrier's only where it may be.
-#[tactic(auto, unfolding(crate::specs::Forms::stamp_with))]
+#[tactic(auto, unfolding(crate::specs::Formats::stamp_with))]
 fn stamp_at(text: &mut Cursor, barrier_may_be: bool) -> Result<Stamp, BadText>
     ensures { Reads (stamp_with barrier_may_be) result text.old text.new }
 {
@@ -98,7 +98,7 @@ pub fn read_candidate(text: &mut Cursor) -> Result<Candidate, BadText>
     Ok(candidate)
 }
 
-#[tactic(auto, unfolding(crate::specs::Forms::candidate_form))]
+#[tactic(auto, unfolding(crate::specs::Formats::candidate_form))]
 fn candidate_at(text: &mut Cursor) -> Result<Candidate, BadText>
     ensures { Reads candidate_form result text.old text.new }
 {
@@ -119,7 +119,7 @@ pub fn read_prior(text: &mut Cursor, stamp: &Stamp) -> Result<Stamp, BadText>
     Ok(prior)
 }
 
-#[tactic(auto, unfolding(crate::specs::Forms::prior_form))]
+#[tactic(auto, unfolding(crate::specs::Formats::prior_form))]
 fn prior_at(text: &mut Cursor, stamp: &Stamp) -> Result<Stamp, BadText>
     ensures { Reads (prior_form stamp.now) result text.old text.new }
 {

@@ -1,7 +1,7 @@
 ghost use Rattle.std.specs.Prelude.{◌≡◌, ◌++◌, true, OnOk, OnErr};
-ghost use Rattle.qu_base.specs.Front.{Extends};
+ghost use Rattle.qu_base.specs.Cursor.{Extends};
 ghost use Rattle.qu_base.specs.Format.{optional, digest_form};
-ghost use Rattle.qu_stamp.specs.Forms.{stamp_form, candidate_form};
+ghost use Rattle.qu_stamp.specs.Formats.{stamp_form, candidate_form};
 
 use super::{Candidate, Stamp};
 use qu_base::{Digest, NoMemory, Outbytes};
@@ -20,7 +20,7 @@ pub fn write_stamp(stamp: &Stamp, out: &mut Outbytes) -> Result<(), NoMemory>
 }
 
 /// Appends the fields of a stamp.
-#[tactic(auto, unfolding(crate::specs::Forms::stamp_with))]
+#[tactic(auto, unfolding(crate::specs::Formats::stamp_with))]
 fn append_stamp(stamp: &Stamp, out: &mut Outbytes) -> Result<(), NoMemory>
     ensures ok { OnOk result (out.new ≡ out.old ++ stamp_form.spell stamp.now) }
     ensures more { Extends out.old out.new }
@@ -61,7 +61,7 @@ pub fn write_candidate(candidate: &Candidate, out: &mut Outbytes) -> Result<(), 
 }
 
 /// Appends stamp, prior and the count of groups.
-#[tactic(auto, unfolding(crate::specs::Forms::candidate_form, crate::specs::Forms::prior_form))]
+#[tactic(auto, unfolding(crate::specs::Formats::candidate_form, crate::specs::Formats::prior_form))]
 fn append_candidate(candidate: &Candidate, out: &mut Outbytes) -> Result<(), NoMemory>
     ensures ok { OnOk result (out.new ≡ out.old ++ candidate_form.spell candidate.now) }
     ensures more { Extends out.old out.new }

@@ -1,3 +1,3 @@
 pub mod Letters
 pub mod Injections
-pub mod Operations
+pub mod Operation

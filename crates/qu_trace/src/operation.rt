@@ -1,6 +1,6 @@
 ghost use Rattle.std.specs.Prelude.{◌≡◌, ◌<◌, ◌≤◌, ◌+◌, ◌^◌, length, take, drop, IfOk, option_map};
 ghost use Rattle.std.specs.Option.{option_copied};
-ghost use Rattle.qu_trace.specs.Operations.{operations_of, invokes, begun_by, outcome_in, end_from, record_of};
+ghost use Rattle.qu_trace.specs.Operation.{operations_of, invokes, begun_by, outcome_in, end_from, record_of};
 
 use super::{Entry, Event, Trace};
 use qu_base::{ClientId, List, NoMemory};
@@ -9,7 +9,7 @@ use qu_objects::{Op, Outcome};
 use std::alloc::Global;
 
 /// The operations that a trace shows, in the order of their invocations.
-#[tactic(auto, unfolding(crate::specs::Operations::operations_from))]
+#[tactic(auto, unfolding(crate::specs::Operation::operations_from))]
 pub fn operations(alloc: Global, trace: &Trace) -> Result<List<OpRecord>, NoMemory>
     ensures { IfOk result (λ operations. operations ≡ operations_of trace.now.entries) }
 {
@@ -48,7 +48,7 @@ fn operation_at(
 }
 
 /// How many operations a client began at these events.
-#[tactic(auto, unfolding(crate::specs::Operations::begun_by))]
+#[tactic(auto, unfolding(crate::specs::Operation::begun_by))]
 pub fn begun(entries: &[Entry], client: ClientId) -> u64
     ensures value { result ≡ begun_by client entries.now }
     ensures most { result ≤ length entries.now }
@@ -70,7 +70,7 @@ fn is_invoked(event: &Event, client: ClientId) -> bool
 }
 
 /// The first event at which an operation ended, the first entry being that with the number `first`.
-#[tactic(auto, unfolding(crate::specs::Operations::end_from))]
+#[tactic(auto, unfolding(crate::specs::Operation::end_from))]
 fn end(
     alloc: Global,
     entries: &[Entry],

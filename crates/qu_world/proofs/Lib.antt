@@ -1,7 +1,6 @@
 pub mod Each
 pub mod LetterLaws
 pub mod Injecting
-pub mod Making
 pub mod Moving
 pub mod OpeningLaws
 pub mod RunLaws

@@ -8,67 +8,66 @@ use Rattle.qu_client.specs.declared.state.ClientState.{ClientState}
 use Rattle.qu_world.specs.State.{opening_replicas, opening_clients}
 
 -- the first of those that are left, and the others
-pub replicas_more : (number count at : ℕ) (keys : Ring) (bounds : ℕ) (kinds : List KindName) → at < count
-    → opening_replicas number (count - at) keys bounds kinds
-    ≡ replica.opening_state (record { 0 = number }) keys bounds kinds ∷ opening_replicas (number + 1)
-    (count - (at + 1)) keys bounds kinds
+pub replicas_more : (number count at : ℕ) (keys : Ring) (kinds : List KindName) → at < count
+    → opening_replicas number (count - at) keys kinds
+    ≡ replica.opening_state (record { 0 = number }) keys kinds ∷ opening_replicas (number + 1)
+    (count - (at + 1)) keys kinds
 unfolding opening_replicas
-replicas_more number count at keys bounds kinds more =
+replicas_more number count at keys kinds more =
     let e : count - at ≡ suc (count - (at + 1)) = omega arith in rw e refl
 
-pub replicas_none : (number count at : ℕ) (keys : Ring) (bounds : ℕ) (kinds : List KindName) → count ≤ at
-    → opening_replicas number (count - at) keys bounds kinds ≡ []
+pub replicas_none : (number count at : ℕ) (keys : Ring) (kinds : List KindName) → count ≤ at
+    → opening_replicas number (count - at) keys kinds ≡ []
 unfolding opening_replicas
-replicas_none number count at keys bounds kinds none = let e : count - at ≡ 0 = omega arith in rw e refl
+replicas_none number count at keys kinds none = let e : count - at ≡ 0 = omega arith in rw e refl
 
-pub clients_more : (number count at : ℕ) (keys : Ring) (bounds : ℕ) → at < count
-    → opening_clients number (count - at) keys bounds
-    ≡ client.opening_state (record { 0 = number }) keys bounds ∷ opening_clients (number + 1) (count - (at + 1))
-    keys bounds
+pub clients_more : (number count at : ℕ) (keys : Ring) → at < count
+    → opening_clients number (count - at) keys
+    ≡ client.opening_state (record { 0 = number }) keys ∷ opening_clients (number + 1) (count - (at + 1)) keys
 unfolding opening_clients
-clients_more number count at keys bounds more =
+clients_more number count at keys more =
     let e : count - at ≡ suc (count - (at + 1)) = omega arith in rw e refl
 
-pub clients_none : (number count at : ℕ) (keys : Ring) (bounds : ℕ) → count ≤ at
-    → opening_clients number (count - at) keys bounds ≡ []
+pub clients_none : (number count at : ℕ) (keys : Ring) → count ≤ at
+    → opening_clients number (count - at) keys ≡ []
 unfolding opening_clients
-clients_none number count at keys bounds none = let e : count - at ≡ 0 = omega arith in rw e refl
+clients_none number count at keys none = let e : count - at ≡ 0 = omega arith in rw e refl
 
 -- one more replica was started
 pub replica_started : (started new all : List replica.ReplicaState) (state : replica.ReplicaState)
-    (number count : ℕ) (keys : Ring) (bounds : ℕ) (kinds : List KindName) → number < count
-    → started ++ opening_replicas number (count - number) keys bounds kinds ≡ all
-    → state ≡ replica.opening_state (record { 0 = number }) keys bounds kinds → new ≡ started ++ state ∷ []
-    → new ++ opening_replicas (number + 1) (count - (number + 1)) keys bounds kinds ≡ all
-replica_started started new all state number count keys bounds kinds more so_far is new_is =
-    ap (λ front. front ++ opening_replicas (number + 1) (count - (number + 1)) keys bounds kinds) new_is
-    ∙ append_assoc started (state ∷ []) (opening_replicas (number + 1) (count - (number + 1)) keys bounds kinds)
-    ∙ ap (λ first. started ++ first ∷ opening_replicas (number + 1) (count - (number + 1)) keys bounds kinds) is
-    ∙ ap (λ rest. started ++ rest) (sym (replicas_more number count number keys bounds kinds more))
+    (number count : ℕ) (keys : Ring) (kinds : List KindName) → number < count
+    → started ++ opening_replicas number (count - number) keys kinds ≡ all
+    → state ≡ replica.opening_state (record { 0 = number }) keys kinds → new ≡ started ++ state ∷ []
+    → new ++ opening_replicas (number + 1) (count - (number + 1)) keys kinds ≡ all
+replica_started started new all state number count keys kinds more so_far is new_is =
+    ap (λ front. front ++ opening_replicas (number + 1) (count - (number + 1)) keys kinds) new_is
+    ∙ append_assoc started (state ∷ []) (opening_replicas (number + 1) (count - (number + 1)) keys kinds)
+    ∙ ap (λ first. started ++ first ∷ opening_replicas (number + 1) (count - (number + 1)) keys kinds) is
+    ∙ ap (λ rest. started ++ rest) (sym (replicas_more number count number keys kinds more))
     ∙ so_far
 
-pub replicas_started : (started all : List replica.ReplicaState) (number count : ℕ) (keys : Ring) (bounds : ℕ)
+pub replicas_started : (started all : List replica.ReplicaState) (number count : ℕ) (keys : Ring)
     (kinds : List KindName) → count ≤ number
-    → started ++ opening_replicas number (count - number) keys bounds kinds ≡ all → started ≡ all
-replicas_started started all number count keys bounds kinds none so_far =
+    → started ++ opening_replicas number (count - number) keys kinds ≡ all → started ≡ all
+replicas_started started all number count keys kinds none so_far =
     sym (append-nil started) ∙ ap (λ rest. started ++ rest)
-    (sym (replicas_none number count number keys bounds kinds none)) ∙ so_far
+    (sym (replicas_none number count number keys kinds none)) ∙ so_far
 
 -- one more client was started
 pub client_started : (started new all : List ClientState) (state : ClientState) (before count : ℕ) (keys : Ring)
-    (bounds : ℕ) → before < count
-    → started ++ opening_clients (before + 1) (count - before) keys bounds ≡ all
-    → state ≡ client.opening_state (record { 0 = before + 1 }) keys bounds → new ≡ started ++ state ∷ []
-    → new ++ opening_clients (before + 1 + 1) (count - (before + 1)) keys bounds ≡ all
-client_started started new all state before count keys bounds more so_far is new_is =
-    ap (λ front. front ++ opening_clients (before + 1 + 1) (count - (before + 1)) keys bounds) new_is
-    ∙ append_assoc started (state ∷ []) (opening_clients (before + 1 + 1) (count - (before + 1)) keys bounds)
-    ∙ ap (λ first. started ++ first ∷ opening_clients (before + 1 + 1) (count - (before + 1)) keys bounds) is
-    ∙ ap (λ rest. started ++ rest) (sym (clients_more (before + 1) count before keys bounds more))
+    → before < count
+    → started ++ opening_clients (before + 1) (count - before) keys ≡ all
+    → state ≡ client.opening_state (record { 0 = before + 1 }) keys → new ≡ started ++ state ∷ []
+    → new ++ opening_clients (before + 1 + 1) (count - (before + 1)) keys ≡ all
+client_started started new all state before count keys more so_far is new_is =
+    ap (λ front. front ++ opening_clients (before + 1 + 1) (count - (before + 1)) keys) new_is
+    ∙ append_assoc started (state ∷ []) (opening_clients (before + 1 + 1) (count - (before + 1)) keys)
+    ∙ ap (λ first. started ++ first ∷ opening_clients (before + 1 + 1) (count - (before + 1)) keys) is
+    ∙ ap (λ rest. started ++ rest) (sym (clients_more (before + 1) count before keys more))
     ∙ so_far
 
-pub clients_started : (started all : List ClientState) (before count : ℕ) (keys : Ring) (bounds : ℕ) → count ≤ before
-    → started ++ opening_clients (before + 1) (count - before) keys bounds ≡ all → started ≡ all
-clients_started started all before count keys bounds none so_far =
+pub clients_started : (started all : List ClientState) (before count : ℕ) (keys : Ring) → count ≤ before
+    → started ++ opening_clients (before + 1) (count - before) keys ≡ all → started ≡ all
+clients_started started all before count keys none so_far =
     sym (append-nil started) ∙ ap (λ rest. started ++ rest)
-    (sym (clients_none (before + 1) count before keys bounds none)) ∙ so_far
+    (sym (clients_none (before + 1) count before keys none)) ∙ so_far

@@ -14,7 +14,7 @@ use Rattle.qu_frames.specs.declared.frame.Letter.{Letter}
 use Rattle.qu_replica.specs.State.{ReplicaState}
 use Rattle.qu_client.specs.declared.state.ClientState.{ClientState}
 use Rattle.qu_client.specs.declared.state.Stepped.{Stepped}
-use Rattle.qu_client.specs.Step.{client_invoke, client_step, client_tick}
+use Rattle.qu_client.specs.Steps.{client_invoke, client_step, client_tick}
 use Rattle.qu_client.specs.Sound.{NumbersWithin}
 use Rattle.qu_client.proofs.Laws.{NumbersWithin-opening, NumbersWithin-step, NumbersWithin-invoke, NumbersWithin-tick, may_invoke, last_within}
 use Rattle.qu_trace.specs.declared.event.Event.{Event}
@@ -202,12 +202,12 @@ numbers_from [] most total world is all =
 numbers_from (event ∷ later) most total world is all =
     numbers_from later (most + 1) total (world_step world event) (omega arith) (numbers_step most world event all)
 
-numbers_opening : (number count : ℕ) (keys : Ring) (bounds : ℕ) → AllByRecursion (NumbersWithin 0)
-    (opening_clients number count keys bounds)
+numbers_opening : (number count : ℕ) (keys : Ring) → AllByRecursion (NumbersWithin 0)
+    (opening_clients number count keys)
 unfolding opening_clients
-numbers_opening number zero keys bounds = tt
-numbers_opening number (suc count) keys bounds =
-    (NumbersWithin-opening (record { 0 = number }) keys bounds, numbers_opening (number + 1) count keys bounds)
+numbers_opening number zero keys = tt
+numbers_opening number (suc count) keys =
+    (NumbersWithin-opening (record { 0 = number }) keys, numbers_opening (number + 1) count keys)
 
 -- the numbers of operations are at most the number of events
 pub numbers_world : (world : WorldState) → IsWorld world → AllByRecursion (NumbersWithin (length world.entries))
@@ -217,7 +217,7 @@ numbers_world world is =
     let count : length (events_of world.entries) ≡ length world.entries = simp length-map in
     subst P is.is_run
     (numbers_from (events_of world.entries) 0 (length world.entries) (opening_world world.setup) (omega arith)
-    (numbers_opening 1 world.setup.clients (ring_of world.setup) world.setup.bounds))
+    (numbers_opening 1 world.setup.clients (ring_of world.setup)))
 
 -- ---- what may happen
 

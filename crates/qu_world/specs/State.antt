@@ -3,7 +3,7 @@ use Rattle.std.specs.Prelude.{ℕ, zero, suc, ◌+◌, List, [], ◌∷◌, slic
 use Rattle.std.specs.Option.{option_and_then}
 use Rattle.qu_base.specs.declared.party.ObjectId.{ObjectId}
 use Rattle.qu_base.specs.declared.party.ReplicaId.{ReplicaId}
-use Rattle.qu_base.specs.Thresholds.{replicas}
+use Rattle.qu_base.specs.Bounds.{replicas}
 use Rattle.qu_seal.specs.Keys.{Ring}
 use Rattle.qu_history.specs.History.{ObjectHistory}
 use Rattle.qu_objects.specs.declared.kind.KindName.{KindName}
@@ -28,17 +28,16 @@ world_of setup replicas clients entries =
     record { setup = setup; replicas = replicas; clients = clients; entries = entries }
 
 -- so many replicas from this number on, as they begin
-unfoldable pub opening_replicas : ℕ → ℕ → Ring → ℕ → List KindName → List replica.ReplicaState
-opening_replicas number zero keys bounds kinds = []
-opening_replicas number (suc count) keys bounds kinds =
-    replica.opening_state (record { 0 = number }) keys bounds kinds ∷ opening_replicas (number + 1) count keys
-    bounds kinds
+unfoldable pub opening_replicas : ℕ → ℕ → Ring → List KindName → List replica.ReplicaState
+opening_replicas number zero keys kinds = []
+opening_replicas number (suc count) keys kinds =
+    replica.opening_state (record { 0 = number }) keys kinds ∷ opening_replicas (number + 1) count keys kinds
 
 -- so many clients from this number on, as they begin
-unfoldable pub opening_clients : ℕ → ℕ → Ring → ℕ → List ClientState
-opening_clients number zero keys bounds = []
-opening_clients number (suc count) keys bounds =
-    client.opening_state (record { 0 = number }) keys bounds ∷ opening_clients (number + 1) count keys bounds
+unfoldable pub opening_clients : ℕ → ℕ → Ring → List ClientState
+opening_clients number zero keys = []
+opening_clients number (suc count) keys =
+    client.opening_state (record { 0 = number }) keys ∷ opening_clients (number + 1) count keys
 
 -- the keys of a run
 abbrev pub ring_of : Setup → Ring
@@ -48,8 +47,8 @@ ring_of setup = record { seed = setup.seed; bounds = setup.bounds; clients = set
 abbrev pub opening_world : Setup → WorldState
 opening_world setup = record {
   setup = setup;
-  replicas = opening_replicas 0 (replicas setup.bounds) (ring_of setup) setup.bounds setup.kinds;
-  clients = opening_clients 1 setup.clients (ring_of setup) setup.bounds;
+  replicas = opening_replicas 0 (replicas setup.bounds) (ring_of setup) setup.kinds;
+  clients = opening_clients 1 setup.clients (ring_of setup);
   entries = [];
 }
 

@@ -1,9 +1,9 @@
 ghost use Rattle.std.specs.Prelude.{◌≡◌, ◌≤◌, length, IfOk};
 ghost use Rattle.qu_base.specs.declared.limits.TheConstants.{LAST_CLIENT, OBJECT_IDS};
-ghost use Rattle.qu_base.specs.Thresholds.{replicas};
+ghost use Rattle.qu_base.specs.Bounds.{replicas};
 ghost use Rattle.qu_world.specs.State.{opening_replicas, opening_clients};
 
-use qu_base::{Bounds, ClientId, NoMemory, ReplicaId};
+use qu_base::{ClientId, NoMemory, ReplicaId};
 use qu_client::Client;
 use qu_objects::KindName;
 use qu_replica::Replica;
@@ -14,33 +14,27 @@ use std::alloc::Global;
 pub fn start_replicas(
     alloc: Global,
     keys: KeyRing,
-    bounds: Bounds,
     kinds: &[KindName],
 ) -> Result<Vec<Replica>, NoMemory>
     requires { length kinds.now ≤ OBJECT_IDS }
-    ensures { IfOk result (λ started. started.items ≡ opening_replicas 0 (replicas bounds) keys bounds kinds.now) }
+    ensures { IfOk result (λ started. started.items ≡ opening_replicas 0 (replicas keys.bounds) keys kinds.now) }
 {
     let mut started = Vec::new(alloc);
-    let count = bounds.n();
+    let count = keys.bounds().n();
     for number in 0..count {
-        started.push(Replica::start(alloc, ReplicaId(number), keys, bounds, kinds)?)?;
+        started.push(Replica::start(alloc, ReplicaId(number), keys, kinds)?)?;
     }
     Ok(started)
 }
 
 /// So many clients of a run, as they begin; the first has number 1.
-pub fn start_clients(
-    alloc: Global,
-    keys: KeyRing,
-    bounds: Bounds,
-    count: u16,
-) -> Result<Vec<Client>, NoMemory>
+pub fn start_clients(alloc: Global, keys: KeyRing, count: u16) -> Result<Vec<Client>, NoMemory>
     requires { count ≤ LAST_CLIENT }
-    ensures { IfOk result (λ started. started.items ≡ opening_clients 1 count keys bounds) }
+    ensures { IfOk result (λ started. started.items ≡ opening_clients 1 count keys) }
 {
     let mut started = Vec::new(alloc);
     for before in 0..count {
-        started.push(Client::start(alloc, ClientId(before + 1), keys, bounds))?;
+        started.push(Client::start(alloc, ClientId(before + 1), keys))?;
     }
     Ok(started)
 }

@@ -1,6 +1,6 @@
 ghost use Rattle.std.specs.Prelude.{◌≡◌, ◌<◌, ◌+◌, ◌⊎◌, [], MatchOption, IfOk, OnErr, None};
 ghost use Rattle.std.specs.Option.{option_copied};
-ghost use Rattle.qu_client.specs.Step.{client_invoke, client_step, client_tick};
+ghost use Rattle.qu_client.specs.Steps.{client_invoke, client_step, client_tick};
 ghost use Rattle.qu_world.specs.State.{numbered};
 ghost use Rattle.qu_world.specs.Step.{ended_as};
 ghost use Rattle.qu_world.specs.Parties.{ReplicaMoves, ClientMoves, IsIdle};

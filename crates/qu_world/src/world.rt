@@ -56,10 +56,9 @@ impl World {
         requires { IsSetup setup }
         ensures { IfOk result (λ world. world ≡ opening_world setup) }
     {
-        let bounds = setup.bounds;
-        let keys = KeyRing::derive(setup.seed, &bounds, setup.clients);
-        let replicas = start_replicas(alloc, keys, bounds, setup.kinds.as_slice())?;
-        let clients = start_clients(alloc, keys, bounds, setup.clients)?;
+        let keys = KeyRing::derive(setup.seed, &setup.bounds, setup.clients);
+        let replicas = start_replicas(alloc, keys, setup.kinds.as_slice())?;
+        let clients = start_clients(alloc, keys, setup.clients)?;
         let entries = List::new(alloc);
         Ok(World {
             alloc,

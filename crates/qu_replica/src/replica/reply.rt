@@ -91,13 +91,13 @@ impl Replica {
     fn shown(&self, asked: &Asked, accepted: &[Accepted]) -> Result<List<Sealed>, NoMemory>
         requires { MayAcceptAll self.now accepted.now }
         ensures { IfOk result
-            (λ histories. histories ≡ map (sealed self.now.bounds)
+            (λ histories. histories ≡ map (sealed self.now.keys.bounds)
             (shown (accept_all self.now accepted.now) asked.now.sets)) }
     {
         let mut histories = List::new(self.alloc);
         for set in asked.sets.objects().as_slice() {
             if let Some(history) = self.history_after(set.object, accepted)? {
-                histories.push(seal(self.alloc, history, self.bounds)?)?;
+                histories.push(seal(self.alloc, history, self.keys.bounds())?)?;
             }
         }
         Ok(histories)

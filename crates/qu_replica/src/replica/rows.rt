@@ -142,7 +142,7 @@ impl Replica {
     fn row_thin(&self, asked: &Asked) -> Option<Decision>
         ensures { result ≡ row_thin self.now asked.now }
     {
-        let quorum = usize::from(self.bounds.q());
+        let quorum = usize::from(self.keys.bounds().q());
         let set = asked
             .sets
             .objects()
@@ -280,7 +280,7 @@ impl Replica {
     fn base(&self, asked: &Asked, object: ObjectId) -> Option<Candidate>
         ensures { result ≡ base_of self.now asked.now object }
     {
-        asked.sets.method_at(object, &self.bounds)
+        asked.sets.method_at(object, &self.keys.bounds())
     }
 
     /// The version of that candidate, where the replica has it.

@@ -14,7 +14,7 @@ const COUNTER: ObjectId = ObjectId(0);
 fn started(alloc: Global) -> Result<Replica, Fail> {
     let bounds = Bounds::new(1)?;
     let keys = KeyRing::derive(7, &bounds, 1);
-    Ok(Replica::start(alloc, ReplicaId(0), keys, bounds, &[KindName::Counter])?)
+    Ok(Replica::start(alloc, ReplicaId(0), keys, &[KindName::Counter])?)
 }
 
 /// The sets of a quorum whose histories end with this stamp.
@@ -45,7 +45,7 @@ fn verdict(alloc: Global, replica: &mut Replica, latest: Stamp) -> Result<Verdic
         client: ClientId(1),
         number: 7,
         round: 1,
-        sets: sets(alloc, replica.bounds, latest)?,
+        sets: sets(alloc, replica.bounds(), latest)?,
         body: Body::Act(Act::new(parts)?),
         mac: blank_mac(),
     };

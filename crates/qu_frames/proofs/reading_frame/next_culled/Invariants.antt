@@ -1,6 +1,6 @@
 use Rattle.std.proofs.Common.{◌≡◌, ◌-◌, None, Some}
 use Rattle.qu_base.specs.Format.{items_at, put_before}
-use Rattle.qu_frames.specs.Forms.{pair_after}
+use Rattle.qu_frames.specs.Formats.{pair_after}
 use Rattle.qu_frames.proofs.reading_frame.next_culled.Given as goal
 
 -- what is read of all is what was read so far, before what is read of the rest

@@ -3,9 +3,9 @@ use Rattle.std.specs.Int.{w8, to_be_bytes}
 use Rattle.qu_base.specs.declared.party.ObjectId.{ObjectId}
 use Rattle.qu_objects.specs.declared.act.Method.{Method}
 use Rattle.qu_objects.specs.declared.query.Ask.{Ask}
-use Rattle.qu_objects.specs.Forms.{is_one_of, act_form, query_form}
+use Rattle.qu_objects.specs.Formats.{is_one_of, act_form, query_form}
 use Rattle.qu_frames.specs.declared.frame.Body.TheVariants as body
-use Rattle.qu_frames.specs.Forms.{body_form}
+use Rattle.qu_frames.specs.Formats.{body_form}
 use Rattle.qu_frames.proofs.writing_frame.append_body.Goals as goal
 
 -- a code, and the parts behind it

@@ -1,6 +1,6 @@
 use Rattle.std.proofs.Common.{◌≡◌, ◌++◌, take}
 use Rattle.std.specs.List.{flat_map}
-use Rattle.qu_frames.specs.Forms.{spelled_pair}
+use Rattle.qu_frames.specs.Formats.{spelled_pair}
 use Rattle.qu_frames.proofs.writing_frame.append_each_pair.Given as goal
 
 abbrev pub invariant-loop-pair : goal.invariant-loop-pair

@@ -1,4 +1,4 @@
-use Rattle.qu_frames.specs.Forms.{objects_in_sets}
+use Rattle.qu_frames.specs.Formats.{objects_in_sets}
 use Rattle.qu_frames.proofs.Pieces.{request_written, reply_written}
 use Rattle.qu_frames.proofs.writing_frame.append_frame.Goals as goal
 

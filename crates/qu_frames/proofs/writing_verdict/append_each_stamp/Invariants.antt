@@ -1,6 +1,6 @@
 use Rattle.std.proofs.Common.{◌≡◌, ◌++◌, take}
 use Rattle.std.specs.List.{flat_map}
-use Rattle.qu_frames.specs.Forms.{spelled_stamp}
+use Rattle.qu_frames.specs.Formats.{spelled_stamp}
 use Rattle.qu_frames.proofs.writing_verdict.append_each_stamp.Given as goal
 
 abbrev pub invariant-loop-told : goal.invariant-loop-told

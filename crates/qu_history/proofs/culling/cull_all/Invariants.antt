@@ -1,6 +1,6 @@
 use Rattle.std.proofs.Common.{◌≡◌, ◌++◌, map, take}
 use Rattle.std.specs.List.{flat_map}
-use Rattle.qu_history.specs.Culled.{culled_set, left_of}
+use Rattle.qu_history.specs.Culling.{culled_set, left_of}
 use Rattle.qu_history.proofs.culling.cull_all.Given as goal
 
 -- the objects so far, and what of them is left out

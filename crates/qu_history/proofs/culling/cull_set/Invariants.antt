@@ -1,6 +1,6 @@
 use Rattle.std.proofs.Common.{◌≡◌, ◌++◌, not, map, filter, take}
 use Rattle.qu_history.specs.declared.sealed.Sealed.{Sealed}
-use Rattle.qu_history.specs.Culled.{is_right}
+use Rattle.qu_history.specs.Culling.{is_right}
 use Rattle.qu_history.proofs.culling.cull_set.Given as goal
 
 -- the entries so far that stay, and those that do not

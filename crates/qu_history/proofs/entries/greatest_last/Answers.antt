@@ -3,7 +3,7 @@ use Rattle.std.specs.List.{filter}
 use Rattle.qu_stamp.specs.declared.candidate.Candidate.{Candidate}
 use Rattle.qu_history.specs.History.{ObjectHistory, last}
 use Rattle.qu_history.specs.Sets.{greatest}
-use Rattle.qu_history.specs.Lasts.{is_last_of, greater_of}
+use Rattle.qu_history.specs.Entries.{is_last_of, greater_of}
 use Rattle.qu_history.proofs.Greatest.{greatest_next}
 use Rattle.qu_history.specs.Sets.{histories}
 use Rattle.qu_history.proofs.Histories.{histories_within, history_at}

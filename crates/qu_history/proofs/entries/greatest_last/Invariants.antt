@@ -2,7 +2,7 @@ use Rattle.std.proofs.Common.{◌≡◌, take, map}
 use Rattle.std.specs.List.{filter}
 use Rattle.qu_history.specs.History.{last}
 use Rattle.qu_history.specs.Sets.{greatest}
-use Rattle.qu_history.specs.Lasts.{is_last_of}
+use Rattle.qu_history.specs.Entries.{is_last_of}
 use Rattle.qu_history.specs.Sets.{histories}
 use Rattle.qu_history.proofs.entries.greatest_last.Given as goal
 

@@ -1,6 +1,6 @@
 use Rattle.std.proofs.Common.{◌≡◌, None, Some, ◌-◌}
 use Rattle.qu_base.specs.Format.{items_at, put_before}
-use Rattle.qu_history.specs.Forms.{next_candidate}
+use Rattle.qu_history.specs.Formats.{next_candidate}
 use Rattle.qu_history.proofs.reading.next_candidates.Given as goal
 
 -- the candidates so far, put before what reading the rest gives, are what reading all gives

@@ -1,6 +1,6 @@
 use Rattle.std.proofs.Common.{◌≡◌, ◌-◌}
 use Rattle.qu_base.specs.Format.{items_at, put_before}
-use Rattle.qu_history.specs.Forms.{sealed_entry_form, next_entry}
+use Rattle.qu_history.specs.Formats.{sealed_entry_form, next_entry}
 use Rattle.qu_history.proofs.reading_entries.next_entries.Given as goal
 
 -- what is read of all is what was read so far, before what is read of the rest

@@ -1,6 +1,6 @@
 use Rattle.std.proofs.Common.{◌≡◌, ◌-◌}
 use Rattle.qu_base.specs.Format.{items_at, put_before}
-use Rattle.qu_history.specs.Forms.{shown_by, next_object}
+use Rattle.qu_history.specs.Formats.{shown_by, next_object}
 use Rattle.qu_history.proofs.reading_entries.next_shown.Given as goal
 
 -- what is read of all is what was read so far, before what is read of the rest

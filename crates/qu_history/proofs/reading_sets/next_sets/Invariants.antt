@@ -1,7 +1,7 @@
 use Rattle.std.proofs.Common.{◌≡◌, ◌+◌, ◌-◌}
 use Rattle.qu_base.specs.Format.{items_at, put_before}
 use Rattle.qu_history.specs.declared.sets.SetOf.{SetOf}
-use Rattle.qu_history.specs.Forms.{set_form}
+use Rattle.qu_history.specs.Formats.{set_form}
 use Rattle.qu_history.proofs.reading_sets.next_sets.Given as goal
 
 -- what is read of all is what was read so far, before what is read of the rest

@@ -1,6 +1,6 @@
 use Rattle.std.proofs.Common.{◌≡◌, ◌++◌, take}
 use Rattle.std.specs.List.{flat_map}
-use Rattle.qu_history.specs.Forms.{object_text_form}
+use Rattle.qu_history.specs.Formats.{object_text_form}
 use Rattle.qu_history.specs.Text.{unsealed}
 use Rattle.qu_history.proofs.text.append_each.Given as goal
 

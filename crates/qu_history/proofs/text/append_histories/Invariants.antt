@@ -1,6 +1,6 @@
 use Rattle.std.proofs.Common.{◌≡◌, ◌++◌, take}
 use Rattle.std.specs.List.{flat_map}
-use Rattle.qu_history.specs.Forms.{history_form}
+use Rattle.qu_history.specs.Formats.{history_form}
 use Rattle.qu_history.specs.Sets.{histories}
 use Rattle.qu_history.proofs.text.append_histories.Given as goal
 

@@ -1,6 +1,6 @@
 use Rattle.std.proofs.Common.{◌≡◌, ◌++◌, take}
 use Rattle.std.specs.List.{flat_map}
-use Rattle.qu_stamp.specs.Forms.{candidate_form}
+use Rattle.qu_stamp.specs.Formats.{candidate_form}
 use Rattle.qu_history.proofs.writing.append_candidates.Given as goal
 
 abbrev pub invariant-loop-candidate : goal.invariant-loop-candidate

@@ -1,6 +1,6 @@
 use Rattle.std.proofs.Common.{◌≡◌, ◌++◌, take}
 use Rattle.std.specs.List.{flat_map}
-use Rattle.qu_history.specs.Forms.{set_form}
+use Rattle.qu_history.specs.Formats.{set_form}
 use Rattle.qu_history.proofs.writing_sets.append_each_set.Given as goal
 
 abbrev pub invariant-loop-set : goal.invariant-loop-set

@@ -1,7 +1,7 @@
 -- the machine has run the points so far, and none of them differs
 use Rattle.std.proofs.Common.{◌≡◌, ℕ, ◌<◌, length, take}
 use Rattle.qu_machine.specs.Serial.{values_after}
-use Rattle.qu_machine.specs.Faults.{DiffersAt}
+use Rattle.qu_machine.specs.Fault.{DiffersAt}
 use Rattle.qu_machine.proofs.judging.first_differing.Given as goal
 
 abbrev pub invariant-loop-index : goal.invariant-loop-index

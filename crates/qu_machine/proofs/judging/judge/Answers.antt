@@ -1,6 +1,6 @@
 use Rattle.std.proofs.Common.{sym}
 use Rattle.qu_machine.specs.declared.fault.JudgeFault.TheVariants as fault
-use Rattle.qu_machine.specs.Faults.{OutsideAt, AbsentAt}
+use Rattle.qu_machine.specs.Fault.{OutsideAt, AbsentAt}
 use Rattle.qu_machine.specs.PointTests.{is_outside, is_absent}
 use Rattle.qu_machine.proofs.Firsts.{first_at, nowhere_at}
 use Rattle.qu_machine.proofs.Verdict.{outside_at, absent_at, serial_from, no_fault}

@@ -1,6 +1,6 @@
 use Rattle.std.proofs.Common.{◌≡◌, ◌-◌}
 use Rattle.qu_base.specs.Format.{items_at, put_before}
-use Rattle.qu_objects.specs.Forms.{item_form}
+use Rattle.qu_objects.specs.Formats.{item_form}
 use Rattle.qu_objects.proofs.reading_answer.read_items.Given as goal
 
 abbrev pub invariant-loop-at : goal.invariant-loop-at

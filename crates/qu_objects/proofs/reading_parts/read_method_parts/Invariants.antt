@@ -1,6 +1,6 @@
 use Rattle.std.proofs.Common.{◌≡◌, ◌-◌, None, Some}
 use Rattle.qu_base.specs.Format.{items_at, put_before}
-use Rattle.qu_objects.specs.Forms.{method_form, part_form, is_one_of}
+use Rattle.qu_objects.specs.Formats.{method_form, part_form, is_one_of}
 use Rattle.qu_objects.proofs.reading_parts.read_method_parts.Given as goal
 
 abbrev pub invariant-loop-at : goal.invariant-loop-at

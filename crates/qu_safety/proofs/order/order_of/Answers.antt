@@ -6,7 +6,7 @@ use Rattle.qu_machine.specs.declared.record.Point.{Point}
 use Rattle.qu_machine.specs.Serial.{IsSerial}
 use Rattle.qu_trace.specs.declared.trace.Entry.{Entry}
 use Rattle.qu_trace.specs.declared.trace.Trace.{Trace}
-use Rattle.qu_trace.specs.Operations.{operations_of}
+use Rattle.qu_trace.specs.Operation.{operations_of}
 use Rattle.qu_chain.specs.Laws.{Laws}
 use Rattle.qu_chain.specs.Joint.{Joint}
 use Rattle.qu_runs.specs.Setting.{setting}
@@ -20,9 +20,9 @@ use Rattle.qu_grounds.proofs.JointLaws.{joint_laws}
 use Rattle.qu_safety.proofs.DecidedOnce.{decides_once}
 use Rattle.qu_safety.proofs.ByQuorums.{completes_by_quorums}
 use Rattle.qu_grounds.proofs.Named.{stamps_name}
-use Rattle.qu_safety.proofs.OneAct.{ActsAreOne, acts_are_one}
-use Rattle.qu_safety.proofs.UpdateFacts.{UpdateFacts}
-use Rattle.qu_safety.proofs.UpdatesOfRuns.{update_facts}
+use Rattle.qu_values.proofs.OneAct.{ActsAreOne, acts_are_one}
+use Rattle.qu_values.proofs.UpdateFacts.{UpdateFacts}
+use Rattle.qu_values.proofs.UpdatesOfRuns.{update_facts}
 use Rattle.qu_safety.proofs.SerialOrder.{serial}
 use Rattle.qu_safety.proofs.order.order_of.Goals as goal
 

@@ -1,5 +1,5 @@
 use Rattle.std.proofs.Common.{take}
-use Rattle.qu_objects.specs.Text.{PartsFit}
+use Rattle.qu_objects.specs.Digesting.{PartsFit}
 use Rattle.qu_safety.proofs.parts.parts_fit.Given as goal
 
 -- the parts so far fit

@@ -1,7 +1,7 @@
 -- Each letter so far was delivered.
 use Rattle.std.proofs.Common.{◌+◌, ◌-◌, length}
 use Rattle.qu_trace.specs.Letters.{letters_of}
-use Rattle.qu_script.specs.Playing.{MayBeginAt}
+use Rattle.qu_script.specs.Player.{MayBeginAt}
 use Rattle.qu_script.proofs.waiting.find_waiting.Given as goal
 
 abbrev pub invariant-search : goal.invariant-search

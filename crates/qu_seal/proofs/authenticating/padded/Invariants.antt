@@ -1,5 +1,5 @@
 use Rattle.std.proofs.Common.{◌≡◌, ◌++◌, take, drop}
-use Rattle.qu_seal.specs.Hmac.{padded}
+use Rattle.qu_seal.specs.Authenticating.{padded}
 use Rattle.qu_seal.proofs.authenticating.padded.Given as goal
 
 -- the bytes so far are padded

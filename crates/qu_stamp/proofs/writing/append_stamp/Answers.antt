@@ -1,5 +1,5 @@
 use Rattle.std.proofs.Common.{◌≡◌, ℕ, List, ◌++◌, append_assoc}
-use Rattle.qu_stamp.specs.Forms.{stamp_with}
+use Rattle.qu_stamp.specs.Formats.{stamp_with}
 use Rattle.qu_stamp.proofs.writing.append_stamp.Goals as goal
 
 -- five pieces one behind the other

@@ -1,6 +1,6 @@
 -- what the entries that are left say is what all of them say
 use Rattle.std.proofs.Common.{◌≡◌, ◌+◌, drop}
-use Rattle.qu_trace.specs.Operations.{end_from}
+use Rattle.qu_trace.specs.Operation.{end_from}
 use Rattle.qu_trace.proofs.operation.end.Given as goal
 
 abbrev pub invariant-loop-entry : goal.invariant-loop-entry

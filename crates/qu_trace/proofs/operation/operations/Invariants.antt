@@ -1,6 +1,6 @@
 -- the operations so far and those of the entries that are left are those of all
 use Rattle.std.proofs.Common.{◌≡◌, ◌+◌, ◌++◌, take, drop}
-use Rattle.qu_trace.specs.Operations.{operations_from, operations_of}
+use Rattle.qu_trace.specs.Operation.{operations_from, operations_of}
 use Rattle.qu_trace.proofs.operation.operations.Given as goal
 
 abbrev pub invariant-loop-index : goal.invariant-loop-index

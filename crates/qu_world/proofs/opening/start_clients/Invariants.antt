@@ -5,5 +5,5 @@ use Rattle.qu_world.proofs.opening.start_clients.Given as goal
 
 abbrev pub invariant-loop-before : goal.invariant-loop-before
 invariant-loop-before l =
-    l.started.items ++ opening_clients (l.before + 1) (l.count - l.before) l.keys l.bounds ≡ opening_clients 1
-    l.count l.keys l.bounds
+    l.started.items ++ opening_clients (l.before + 1) (l.count - l.before) l.keys ≡ opening_clients 1
+    l.count l.keys

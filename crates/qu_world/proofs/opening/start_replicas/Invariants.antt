@@ -5,5 +5,5 @@ use Rattle.qu_world.proofs.opening.start_replicas.Given as goal
 
 abbrev pub invariant-loop-number : goal.invariant-loop-number
 invariant-loop-number l =
-    l.started.items ++ opening_replicas l.number (l.count - l.number) l.keys l.bounds l.kinds ≡ opening_replicas 0
-    l.count l.keys l.bounds l.kinds
+    l.started.items ++ opening_replicas l.number (l.count - l.number) l.keys l.kinds ≡ opening_replicas 0
+    l.count l.keys l.kinds

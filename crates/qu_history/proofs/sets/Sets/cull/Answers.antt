@@ -1,6 +1,6 @@
 use Rattle.std.proofs.Common.{◌∙◌, ap}
 use Rattle.qu_history.specs.Sets.{are_sets}
-use Rattle.qu_history.specs.Culled.{culled}
+use Rattle.qu_history.specs.Culling.{culled}
 use Rattle.qu_history.proofs.CulledSets.{culled_are_sets}
 use Rattle.qu_history.proofs.sets.Sets.cull.Goals as goal
 

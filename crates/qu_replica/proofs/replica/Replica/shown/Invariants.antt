@@ -6,4 +6,4 @@ use Rattle.qu_replica.proofs.replica.Replica.shown.Given as goal
 
 abbrev pub invariant-loop-set : goal.invariant-loop-set
 invariant-loop-set l =
-    l.histories ≡ map (sealed l.self.bounds) (shown (accept_all l.self l.accepted) (take l.set-index l.set-items))
+    l.histories ≡ map (sealed l.self.keys.bounds) (shown (accept_all l.self l.accepted) (take l.set-index l.set-items))

@@ -1,16 +1,17 @@
 -- What a replica begins with fits.
-use Rattle.std.proofs.Common.{◌≡◌, ◌≤◌, ℕ, true, subst, arith}
+use Rattle.std.proofs.Common.{◌≡◌, ◌≤◌, ℕ, true, subst, ◌∙◌, arith}
 use Rattle.qu_base.specs.declared.limits.TheConstants.{MOST_FAULTS}
-use Rattle.qu_base.specs.Thresholds.{replicas, is_replica_count}
+use Rattle.qu_base.specs.Bounds.{replicas, is_replica_count}
 use Rattle.qu_base.proofs.ThresholdFacts.{replicas_are_count}
 use Rattle.qu_replica.proofs.FitState.{opening-fits}
 use Rattle.qu_replica.proofs.replica.Replica.start.Goals as goal
 
 pub returns-clause-fits : goal.returns-clause-fits
 returns-clause-fits c = λ within.
-    let sized : is_replica_count (replicas c.args.bounds) ≡ true =
-    replicas_are_count c.args.bounds
-    (subst (λ (b : ℕ). 1 ≤ b) c.b.ensures.value c.b.ensures.in_range.0)
-    (subst (λ (b : ℕ). b ≤ MOST_FAULTS) c.b.ensures.value c.b.ensures.in_range.1) in
+    let same : c.b.result ≡ c.args.keys.bounds = c.b.ensures.value ∙ c.bounds.ensures in
+    let sized : is_replica_count (replicas c.args.keys.bounds) ≡ true =
+    replicas_are_count c.args.keys.bounds
+    (subst (λ (b : ℕ). 1 ≤ b) same c.b.ensures.in_range.0)
+    (subst (λ (b : ℕ). b ≤ MOST_FAULTS) same c.b.ensures.in_range.1) in
     rw (c.in_ok-histories.ensures, c.in_ok-versions.ensures)
-    (opening-fits c.args.me c.args.keys c.args.bounds c.args.kinds.now (omega (arith, within)) sized c.requires)
+    (opening-fits c.args.me c.args.keys c.args.kinds.now (omega (arith, within)) sized c.requires)

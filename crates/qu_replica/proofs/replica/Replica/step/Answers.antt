@@ -1,7 +1,7 @@
 -- What a text makes of what the replica holds and sends, where the call may have failed.
 use Rattle.std.proofs.Common.{◌≡◌, ◌∙◌, sym, ap, Some}
 use Rattle.qu_base.specs.declared.party.Party.TheVariants as party
-use Rattle.qu_frames.specs.Signed.{brought}
+use Rattle.qu_frames.specs.Signing.{brought}
 use Rattle.qu_replica.specs.State.{ReplicaState}
 use Rattle.qu_replica.specs.Step.{on_frame}
 use Rattle.qu_replica.proofs.FitSteps.{brought-fits, holds_what_fits, sends_what_fits}

@@ -1,5 +1,5 @@
 -- An event that may happen makes a world of a world, and adds the bytes of its letters.
-use Rattle.std.proofs.Common.{List, length, ◌<◌, ◌-◌, ◌^◌, ◌∙◌, sym, ap, subst, arith}
+use Rattle.std.proofs.Common.{List, length, ◌<◌, ◌-◌, ◌^◌, ◌∙◌, ap, subst, arith}
 use Rattle.qu_trace.specs.declared.trace.Entry.{Entry}
 use Rattle.qu_world.specs.Refusals.{cause_of}
 use Rattle.qu_world.specs.State.{WorldState, world_of}

@@ -17,13 +17,13 @@ use Rattle.qu_objects.specs.declared.kind.KindName.{KindName}
 use Rattle.qu_objects.specs.declared.kind.Value.{Value}
 use Rattle.qu_objects.specs.declared.state.ObjState.{ObjState}
 use Rattle.qu_objects.specs.Kind.{fresh_value}
-use Rattle.qu_objects.specs.Perform.{performed_answer, performed_values}
+use Rattle.qu_objects.specs.Performing.{performed_answer, performed_values}
 use Rattle.qu_trace.specs.declared.trace.Trace.{Trace}
 use Rattle.qu_runs.specs.Setting.{setting}
-use Rattle.qu_safety.specs.Updates.{Update, Names, IsOf}
-use Rattle.qu_safety.specs.Values.{RestsOn, values_of, HasVersion}
-use Rattle.qu_safety.proofs.OneAct.{ActsAreOne}
-use Rattle.qu_safety.proofs.Updates.{one_of, same_accepted, one_companion}
+use Rattle.qu_values.specs.Updates.{Update, Names, IsOf}
+use Rattle.qu_values.specs.Values.{RestsOn, values_of, HasVersion}
+use Rattle.qu_values.proofs.OneAct.{ActsAreOne}
+use Rattle.qu_values.proofs.Updates.{one_of, same_accepted, one_companion}
 
 -- ---- parts of equal wholes
 
@@ -34,7 +34,7 @@ same_version first second values answers =
     ap by_value values ∙ ap by_answer answers
 
 -- values of objects that agree where the parts name them
-same_values : (first second : ObjectId → Value) (parts : List (ObjectId × Method))
+pub same_values : (first second : ObjectId → Value) (parts : List (ObjectId × Method))
     → ((object : ObjectId) → Names parts object → first object ≡ second object)
     → values_of first parts ≡ values_of second parts
 same_values first second [] same = refl
@@ -52,7 +52,7 @@ rest_of [] = []
 rest_of (value ∷ later) = later
 
 -- and back
-values_same : (first second : ObjectId → Value) (parts : List (ObjectId × Method))
+pub values_same : (first second : ObjectId → Value) (parts : List (ObjectId × Method))
     → values_of first parts ≡ values_of second parts → (object : ObjectId) → Names parts object
     → first object ≡ second object
 values_same first second [] same object names = absurd names

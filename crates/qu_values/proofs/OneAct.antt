@@ -6,12 +6,12 @@ use Rattle.qu_base.specs.declared.party.ClientId.{ClientId}
 use Rattle.qu_base.specs.declared.party.Digest.{Digest}
 use Rattle.qu_base.specs.declared.party.ObjectId.{ObjectId}
 use Rattle.qu_seal.specs.declared.constants.TheConstants.{ACT_TAG}
-use Rattle.qu_seal.specs.Digest.{digest_of}
+use Rattle.qu_seal.specs.Digesting.{digest_of}
 use Rattle.qu_stamp.specs.declared.candidate.Candidate.{Candidate}
 use Rattle.qu_objects.specs.declared.act.Method.{Method}
 use Rattle.qu_objects.specs.declared.op.Op.{Op}
 use Rattle.qu_objects.specs.declared.op.Op.TheVariants as op
-use Rattle.qu_objects.specs.Text.{act_text, act_digest}
+use Rattle.qu_objects.specs.Digesting.{act_text, act_digest}
 use Rattle.qu_objects.proofs.Text.{act_text-one}
 use Rattle.qu_frames.specs.declared.frame.Body.TheVariants as body
 use Rattle.qu_frames.specs.Body.{body_of}
@@ -21,7 +21,7 @@ use Rattle.qu_world.specs.Run.{IsRun}
 use Rattle.qu_runs.specs.Digested.{Request, handled_by, IsHandled, IsMadeFor, Text, texts_of, digested, NoCollision}
 use Rattle.qu_rounds.specs.Invocations.{IsRequestOf}
 use Rattle.qu_runs.specs.Plain.{HasOpParts, ArePlain}
-use Rattle.qu_safety.proofs.SentRequests.{asked_by_handled}
+use Rattle.qu_values.proofs.SentRequests.{asked_by_handled}
 use Rattle.qu_runs.proofs.Ranges.{Fits, operation_fits}
 use Rattle.qu_runs.proofs.Small.{contains_mapped}
 

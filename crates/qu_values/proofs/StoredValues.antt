@@ -5,6 +5,7 @@ use Rattle.std.proofs.lemmas.Bool.{false≢true, cases_Bool, or_cases, and_from,
 use Rattle.std.proofs.lemmas.Option.{same_Some}
 use Rattle.qu_base.specs.declared.party.ObjectId.{ObjectId}
 use Rattle.qu_base.specs.declared.party.ReplicaId.{ReplicaId}
+use Rattle.qu_seal.specs.Keys.{Ring}
 use Rattle.qu_stamp.specs.declared.candidate.Candidate.{Candidate}
 use Rattle.qu_stamp.specs.Stamp.{is_below, opening_stamp, same_stamp}
 use Rattle.qu_stamp.specs.Candidate.{opening, same}
@@ -38,8 +39,8 @@ use Rattle.qu_grounds.proofs.Handled.{handled, made_for}
 use Rattle.qu_runs.specs.Digested.{IsHandled}
 use Rattle.qu_grounds.specs.Grounds.{IsGround, IsPerformed, AcceptsOne, IsMoved}
 use Rattle.qu_runs.specs.Times.{world_after}
-use Rattle.qu_safety.specs.Updates.{Names, IsEverAccepted}
-use Rattle.qu_safety.specs.Values.{RestsOn, HasVersion}
+use Rattle.qu_values.specs.Updates.{Names, IsEverAccepted}
+use Rattle.qu_values.specs.Values.{RestsOn, HasVersion}
 use Rattle.qu_runs.specs.Setting.{setting}
 use Rattle.qu_runs.specs.Plain.{ArePlain, IsPlain}
 use Rattle.qu_grounds.specs.Views.{IsOfKept}
@@ -49,12 +50,12 @@ use Rattle.qu_grounds.proofs.Grounds.{above_base}
 use Rattle.qu_runs.proofs.Befores.{WasBefore, was_before}
 use Rattle.qu_grounds.proofs.Happenings.{event_moves}
 use Rattle.qu_grounds.proofs.HeldVersions.{HoldsUnder, AreOfHeld, opening_of_held, still_of_held, version_of_fresh}
-use Rattle.qu_safety.proofs.Updates.{same_accepted}
-use Rattle.qu_safety.proofs.EverAccepted.{held_ever, quorum_ever}
+use Rattle.qu_values.proofs.Updates.{same_accepted}
+use Rattle.qu_values.proofs.EverAccepted.{held_ever, quorum_ever}
 use Rattle.qu_grounds.proofs.Views.{sent_has_parts, view_of_request}
-use Rattle.qu_runs.proofs.WorldGrowth.{world_after-none, world_after-next}
+use Rattle.qu_runs.proofs.WorldGrowth.{world_after-next}
 use Rattle.qu_runs.proofs.Small.{some_entry}
-use Rattle.qu_runs.proofs.OpeningReplicas.{opening_replica}
+use Rattle.qu_runs.proofs.OpeningReplicas.{opening_at}
 use Rattle.qu_runs.specs.Carried.{Carries, Asks, Brings}
 use Rattle.qu_runs.proofs.Carrying.{asks_so, brings_carries}
 use Rattle.qu_frames.specs.declared.frame.Frame.{Frame}
@@ -67,7 +68,7 @@ Stores trace object state candidate =
 
 -- a replica that stores the versions of all candidates that it holds, and no others
 record IsVersioned (trace : Trace) (state : ReplicaState) : Type 0 where
-  bounds : state.bounds ≡ trace.setup.bounds
+  bounds : state.keys.bounds ≡ trace.setup.bounds
   of_held : AreOfHeld state
   stores : (object : ObjectId) (candidate : Candidate) → holds candidate (own_candidates state object) ≡ true
       → Stores trace object state candidate
@@ -135,17 +136,17 @@ begun_from me first (kind ∷ kinds) object (suc place) candidate at held =
 
 begun_stores : (trace : Trace) (me : ReplicaId) (object : ObjectId) (candidate : Candidate)
     → IsBegun 0 trace.setup.kinds object object.0 candidate → Stores trace object
-    (opening_state me (ring_of trace.setup) trace.setup.bounds trace.setup.kinds) candidate
+    (opening_state me (ring_of trace.setup) trace.setup.kinds) candidate
 begun_stores trace me object candidate begun =
-    subst (Stores trace object (opening_state me (ring_of trace.setup) trace.setup.bounds trace.setup.kinds))
+    subst (Stores trace object (opening_state me (ring_of trace.setup) trace.setup.kinds))
     begun.alone
     (fresh_version begun.kind, begun.fresh, HasVersion.of_opening object begun.kind begun.is_kind)
 
 opening-versioned : (trace : Trace) (me : ReplicaId) → IsVersioned trace
-    (opening_state me (ring_of trace.setup) trace.setup.bounds trace.setup.kinds)
+    (opening_state me (ring_of trace.setup) trace.setup.kinds)
 opening-versioned trace me = record {
   bounds = refl;
-  of_held = opening_of_held me (ring_of trace.setup) trace.setup.bounds trace.setup.kinds;
+  of_held = opening_of_held me (ring_of trace.setup) trace.setup.kinds;
   stores = λ object candidate held. begun_stores trace me object candidate
       (begun_from me 0 trace.setup.kinds object object.0 candidate (omega arith) held);
 }
@@ -301,7 +302,7 @@ module _ (trace : Trace) (laws : Laws (setting trace)) (joint : Joint (setting t
       elim (event_moves (world_after trace count) event place old new is_old is_new parts plain) [
         | inl alike ↦ subst (IsVersioned trace) (sym alike) before
         | inr moved ↦ record {
-          bounds = grows.bounds ∙ before.bounds;
+          bounds = ap (λ (it : Ring). it.bounds) grows.keys ∙ before.bounds;
           of_held = still_of_held old new moved.carried moved.accepts before.of_held;
           stores = moved_stores moved;
         }
@@ -315,11 +316,10 @@ AreVersioned trace count = (place : ℕ) (state : ReplicaState) → slice_get (w
 
 versioned_none : (trace : Trace) → AreVersioned trace 0
 versioned_none trace = λ place state is_state.
-    let begun : (me : ReplicaId) × (state ≡ opening_state me
-    (ring_of trace.setup) trace.setup.bounds trace.setup.kinds) =
-    opening_replica 0 _ (ring_of trace.setup) trace.setup.bounds trace.setup.kinds place state
-    (ap (λ (world : WorldState). slice_get world.replicas place) (sym (world_after-none trace)) ∙ is_state) in
-    subst (IsVersioned trace) (sym begun.1) (opening-versioned trace begun.0)
+    let me : ReplicaId = record { 0 = place } in
+    let begun : state ≡ opening_state me (ring_of trace.setup) trace.setup.kinds =
+    opening_at trace place state is_state in
+    subst (IsVersioned trace) (sym begun) (opening-versioned trace me)
 
 versioned_next : (trace : Trace) → Laws (setting trace) → Joint (setting trace) → IsRun trace → ArePlain trace →
     (count : ℕ) → count < length trace.entries → AreVersioned trace count → AreVersioned trace (count + 1)

@@ -4,12 +4,12 @@ use Rattle.qu_base.specs.declared.bad_text.BadText.{BadText}
 use Rattle.qu_base.specs.declared.party.Digest.{Digest}
 use Rattle.qu_base.specs.declared.party.Party.{Party}
 use Rattle.qu_base.specs.declared.party.Party.TheVariants as party
-use Rattle.qu_seal.specs.Digest.{digest_of}
+use Rattle.qu_seal.specs.Digesting.{digest_of}
 use Rattle.qu_seal.specs.Keys.{Ring, seal_of, verifies}
 use Rattle.qu_frames.specs.declared.frame.Frame.{Frame}
 use Rattle.qu_frames.specs.declared.frame.Frame.TheVariants.{Request, Reply}
 use Rattle.qu_seal.specs.declared.constants.TheConstants.{FRAME_TAG}
-use Rattle.qu_frames.specs.Forms.{frame_form}
+use Rattle.qu_frames.specs.Formats.{frame_form}
 use Rattle.qu_frames.specs.Decoding.{decoded}
 
 -- who sent it

@@ -11,7 +11,7 @@ use Rattle.qu_stamp.specs.Candidate.{opening}
 use Rattle.qu_history.specs.declared.sets.SetOf.{SetOf}
 use Rattle.qu_history.specs.Sets.{entries_of, method_at}
 use Rattle.qu_objects.specs.declared.act.Method.{Method}
-use Rattle.qu_objects.specs.Text.{act_digest}
+use Rattle.qu_objects.specs.Digesting.{act_digest}
 use Rattle.qu_frames.specs.declared.frame.Body.TheVariants as body
 use Rattle.qu_frames.specs.declared.frame.Letter.{Letter}
 use Rattle.qu_replica.specs.Rows.{asked_of, fresh_stamp}
@@ -28,7 +28,7 @@ use Rattle.qu_runs.specs.Plain.{ArePlain}
 use Rattle.qu_grounds.proofs.FullSets.{accepted_upon_full}
 use Rattle.qu_grounds.proofs.Handled.{handled, made_for}
 use Rattle.qu_runs.proofs.LaterLetters.{letter_later}
-use Rattle.qu_safety.proofs.OneAct.{ActsAreOne}
+use Rattle.qu_values.proofs.OneAct.{ActsAreOne}
 use Rattle.qu_rounds.proofs.OneRequest.{one_full_request}
 use Rattle.qu_runs.proofs.OpeningReplicas.{bounds_are}
 use Rattle.qu_grounds.proofs.Origins.{accepted_from}

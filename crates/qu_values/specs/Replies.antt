@@ -1,5 +1,6 @@
 -- What a replica's reply says of the replica.
-use Rattle.std.specs.Prelude.{◌≡◌, ℕ, true, false, ◌+◌, List, [], ◌∷◌, slice_get, Some}
+use Rattle.std.specs.Prelude.{◌≡◌, ℕ, true, false, ◌+◌, List, map, slice_get, All, Some}
+use Rattle.std.specs.List.{AllZip}
 use Rattle.qu_base.specs.declared.party.ClientId.{ClientId}
 use Rattle.qu_base.specs.declared.party.Digest.{Digest}
 use Rattle.qu_base.specs.declared.party.ObjectId.{ObjectId}
@@ -10,10 +11,12 @@ use Rattle.qu_stamp.specs.Stamp.{is_below}
 use Rattle.qu_history.specs.declared.sets.SetOf.{SetOf}
 use Rattle.qu_history.specs.History.{holds}
 use Rattle.qu_history.specs.Sets.{entries_of, method_at}
+use Rattle.qu_objects.specs.declared.act.Method.{Method}
 use Rattle.qu_objects.specs.declared.answer.Answer.{Answer}
+use Rattle.qu_objects.specs.declared.kind.Value.{Value}
 use Rattle.qu_objects.specs.declared.query.Ask.{Ask}
 use Rattle.qu_objects.specs.declared.state.ObjState.{ObjState}
-use Rattle.qu_objects.specs.Perform.{told_answer}
+use Rattle.qu_objects.specs.Performing.{told_answer}
 use Rattle.qu_frames.specs.declared.frame.Body.{Body}
 use Rattle.qu_frames.specs.declared.frame.Frame.TheVariants as frame
 use Rattle.qu_frames.specs.declared.frame.Letter.{Letter}
@@ -30,31 +33,45 @@ use Rattle.qu_world.specs.State.{letter_of}
 use Rattle.qu_runs.specs.Carried.{handed, Brings}
 use Rattle.qu_runs.specs.Times.{world_after}
 
--- a replica that tells Done has the candidate of the update, whose digest is `act`, and tells the answer that is
--- stored with it
-pub record TellsDone (new : ReplicaState) (client : ClientId) (act : Digest) (object : ObjectId)
-    (stamps : List (ObjectId × Stamp)) (answer : Answer) : Type 0 where
+-- on an object of an update, whose digest is `act`, a replica has the candidate with the stamp that it tells, and
+-- the version of it with the answer
+pub record HasDone (state : ReplicaState) (client : ClientId) (act : Digest) (answer : Answer)
+    (told : ObjectId × Stamp) : Type 0 where
   pub candidate : Candidate
-  pub held : holds candidate (own_candidates new object) ≡ true
+  pub is_told : candidate.stamp ≡ told.1
+  pub held : holds candidate (own_candidates state told.0) ≡ true
   pub of_client : candidate.stamp.client ≡ client
   pub of_act : candidate.stamp.act ≡ Some act
-  pub stamps_are : stamps ≡ (object, candidate.stamp) ∷ []
   pub version : ObjState
-  pub of_candidate : version_at object candidate.stamp new.versions ≡ Some version
+  pub of_candidate : version_at told.0 candidate.stamp state.versions ≡ Some version
   pub answer_is : answer ≡ version.answer
 
--- a replica that tells a query's answer has it from the version of a base that a quorum holds in the
--- sets, and has accepted nothing above that base
-pub record TellsQuery (state : ReplicaState) (sets : List SetOf) (object : ObjectId) (ask : Ask)
+-- a replica that tells Done has a candidate of the update on each of its objects
+pub record TellsDone (new : ReplicaState) (client : ClientId) (act : Digest) (parts : List (ObjectId × Method))
     (stamps : List (ObjectId × Stamp)) (answer : Answer) : Type 0 where
+  pub of_parts : map (λ (it : ObjectId × Stamp). it.0) stamps ≡ map (λ (part : ObjectId × Method). part.0) parts
+  pub each : All (HasDone new client act answer) stamps
+
+-- on an object of a query, a replica has the value from the version of a base that a quorum holds in the sets, and
+-- has accepted nothing above that base
+pub record HasTold (state : ReplicaState) (sets : List SetOf) (told : ObjectId × Stamp) (value : Value)
+    : Type 0 where
   pub base : Candidate
-  pub method : method_at state.bounds (entries_of object sets) ≡ Some base
-  pub stamps_are : stamps ≡ (object, base.stamp) ∷ []
+  pub is_told : base.stamp ≡ told.1
+  pub method : method_at state.keys.bounds (entries_of told.0 sets) ≡ Some base
   pub version : ObjState
-  pub of_base : version_at object base.stamp state.versions ≡ Some version
-  pub answer_is : answer ≡ told_answer ((object, ask) ∷ []) (version.value ∷ [])
-  pub nothing_above : (held : Candidate) → holds held (own_candidates state object) ≡ true
+  pub of_base : version_at told.0 base.stamp state.versions ≡ Some version
+  pub value_is : version.value ≡ value
+  pub nothing_above : (held : Candidate) → holds held (own_candidates state told.0) ≡ true
       → is_below base.stamp held.stamp ≡ false
+
+-- a replica that tells a query's answer has it from such values of all its objects
+pub record TellsQuery (state : ReplicaState) (sets : List SetOf) (query : List (ObjectId × Ask))
+    (stamps : List (ObjectId × Stamp)) (answer : Answer) : Type 0 where
+  pub of_parts : map (λ (it : ObjectId × Stamp). it.0) stamps ≡ map (λ (part : ObjectId × Ask). part.0) query
+  pub values : List Value
+  pub each : AllZip (HasTold state sets) stamps values
+  pub answer_is : answer ≡ told_answer query values
 
 -- the verdict, sent at the event of the entry with this index, is that of a replica upon a request of this
 -- client, number and round, which the event hands to it

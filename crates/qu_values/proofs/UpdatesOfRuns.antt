@@ -1,4 +1,4 @@
--- The updates of a run are as the values along the order ask: one part each, no copies, and one candidate.
+-- The updates of a run are as the values along the order ask: no copies, no groups, and one candidate each.
 use Rattle.std.proofs.Common.{◌≡◌, ◌⊎◌, true, false, not, List, [], ◌∷◌, length, None, Some, refl, sym, ap, subst, ◌∙◌, arith, inl, inr}
 use Rattle.std.specs.Prelude.{slice_get, is_some, Option}
 use Rattle.std.proofs.lemmas.Bool.{false≢true}
@@ -12,14 +12,13 @@ use Rattle.qu_stamp.specs.Candidate.{opening}
 use Rattle.qu_stamp.proofs.Order.{is_below-self}
 use Rattle.qu_chain.specs.Setting.{Apart, IsAncestor}
 use Rattle.qu_chain.specs.Laws.{Laws}
-use Rattle.qu_chain.specs.Joint.{Joint, IsOneAct}
+use Rattle.qu_chain.specs.Joint.{Joint}
 use Rattle.qu_chain.proofs.Ancestry.{accepted_by_attested}
 use Rattle.qu_chain.proofs.Counting.{Found, found_at}
 use Rattle.qu_chain.proofs.Parents.{ancestor-not_above}
 use Rattle.qu_objects.specs.declared.act.Method.{Method}
 use Rattle.qu_objects.specs.declared.kind.Value.{Value}
 use Rattle.qu_objects.specs.declared.state.ObjState.{ObjState}
-use Rattle.qu_objects.specs.Perform.{performed_answer, performed_values}
 use Rattle.qu_frames.specs.declared.frame.Body.TheVariants as body
 use Rattle.qu_trace.specs.declared.trace.Trace.{Trace}
 use Rattle.qu_world.specs.State.{WorldState}
@@ -34,17 +33,17 @@ use Rattle.qu_grounds.specs.Grounds.{AcceptsOne}
 use Rattle.qu_grounds.specs.Origins.{Origin}
 use Rattle.qu_runs.proofs.Settings.{AcceptedAt, accepted_somewhere, is_accepted_by}
 use Rattle.qu_grounds.proofs.Grounds.{above_base}
-use Rattle.qu_safety.specs.Updates.{Update, IsOf, IsEverAccepted}
-use Rattle.qu_safety.specs.Values.{RestsOn, values_of, HasVersion}
+use Rattle.qu_values.specs.Updates.{Update, IsOf, IsEverAccepted}
+use Rattle.qu_values.specs.Values.{HasVersion}
 use Rattle.qu_grounds.proofs.Handled.{handled, made_for}
-use Rattle.qu_safety.proofs.SentRequests.{made_for_operation, asked_by_handled}
-use Rattle.qu_safety.proofs.OneAct.{ActsAreOne, act_by, one_made_for}
+use Rattle.qu_values.proofs.SentRequests.{made_for_operation, asked_by_handled}
+use Rattle.qu_values.proofs.OneAct.{ActsAreOne, act_by}
 use Rattle.qu_grounds.proofs.Origins.{accepted_from}
-use Rattle.qu_safety.proofs.OneCandidate as candidates
-use Rattle.qu_safety.proofs.StoredValues.{version_held}
-use Rattle.qu_safety.proofs.Updates.{acts, opening_no_act, same_accepted}
-use Rattle.qu_safety.proofs.UpdateFacts.{HasValue, MadeFor, IsPerformed, UpdateFacts}
-use Rattle.qu_safety.proofs.Values.{IsUpdated, version_cases, one_version}
+use Rattle.qu_values.proofs.OneCandidate as candidates
+use Rattle.qu_values.proofs.StoredValues.{version_held}
+use Rattle.qu_values.proofs.Updates.{acts, opening_no_act, same_accepted}
+use Rattle.qu_values.proofs.UpdateFacts.{HasValue, MadeFor, UpdateFacts}
+use Rattle.qu_values.proofs.Values.{one_version}
 
 module _ (trace : Trace) where
   in_world : (object : ObjectId) (candidate : Candidate) → IsEverAccepted trace object candidate
@@ -173,87 +172,17 @@ module _ (trace : Trace) (is_run : IsRun trace) (have : ArePlain trace) where
         none None is = refl
         none (Some act) is = absurd (false≢true (sym is))
 
-    -- ---- what its version is
-
-    module _ (update : Update) (object : ObjectId) (candidate : Candidate) (is_of : IsOf trace update object candidate)
-        (accepted : IsEverAccepted trace object candidate) where
-      version : (it : ObjState) × HasVersion trace object candidate it
-      version =
-          let found : AcceptedAt object candidate (last_world trace).replicas =
-          accepted_somewhere object candidate (last_world trace).replicas (in_world trace object candidate accepted) in
-          let state : Found (accepts object candidate) (last_world trace).replicas found.place =
-          found_at (accepts object candidate) (last_world trace).replicas found.place found.accepted in
-          let held = version_held trace laws joint is_run have (length trace.entries) (omega arith)
-          found.place state.item state.is_at object candidate state.passed in
-          (held.0, held.2)
-
-      -- where the update has one part
-      of_one : (method : Method) (made : IsUpdated trace object candidate version.0)
-          → (made.update).parts ≡ (object, method) ∷ []
-          → IsPerformed trace (record { client = update.client; number = update.number; parts = (object, method) ∷ [] })
-          object candidate
-      of_one method made parts =
-          let base : Candidate = made.bases object in
-          let before : ObjectId → Value = λ other. (made.befores other).value in
-          let rest : RestsOn trace object candidate object base = made.rests object (made.is_of).names in
-          let answers : performed_answer ((object, method) ∷ []) (before object ∷ []) ≡ (version.0).answer =
-          subst (λ (all : List (ObjectId × Method)). performed_answer all (values_of before all) ≡ (version.0).answer)
-          parts made.answers in
-          record {
-            steps = record { before = before object; after = made.afters object } ∷ [];
-            each = (
-              record {
-                companion = candidate;
-                is_companion = inl (refl, refl);
-                accepted = accepted;
-                base = base;
-                prior = ap (λ (it : Candidate). it.prior) (itself rest.companion rest.is_companion) ∙ rest.prior;
-                base_accepted = rest.base_accepted;
-                before = record {
-                  version = made.befores object;
-                  has = made.has object (made.is_of).names;
-                  value_is = refl;
-                };
-                version = version.0;
-                has = version.1;
-                after_is = sym made.value_is;
-                answer_is = sym answers;
-              },
-              tt,
-            );
-            values = subst (λ (all : List (ObjectId × Method)).
-                performed_values all (values_of before all) ≡ values_of made.afters all) parts made.values;
-          }
-        where
-          itself : (companion : Candidate) → IsOneAct (setting trace) object object candidate companion
-              → candidate ≡ companion
-          itself companion (inl both) = both.1
-          itself companion (inr group) = absurd (group.apart refl)
-
-      by_update : IsUpdated trace object candidate version.0 → IsPerformed trace update object candidate
-      by_update made =
-          let came : Origin trace (length trace.entries) object candidate =
-          act_origin object candidate accepted (acts trace update object candidate is_of) in
-          let one : AcceptsOne came.old came.new (came.delivered).carried object = (came.delivered).accepts in
-          let parts : List (ObjectId × Method) = (object, one.method) ∷ [] in
-          let mine : IsMadeFor trace candidate one.client one.number parts = made_for_one object candidate came in
-          let same : update.parts ≡ parts =
-          (one_made_for trace one_act candidate update.client one.client update.number one.number update.parts parts
-          is_of.made mine).2 in
-          let theirs : (made.update).parts ≡ parts =
-          (one_made_for trace one_act candidate (made.update).client one.client (made.update).number one.number
-          (made.update).parts parts (made.is_of).made mine).2 in
-          subst (λ (all : List (ObjectId × Method)).
-          IsPerformed trace (record { client = update.client; number = update.number; parts = all }) object candidate)
-          (sym same) (of_one one.method made theirs)
-
-      performed : IsPerformed trace update object candidate
-      performed =
-          elim (version_cases trace object candidate version.0 version.1) [
-            | inl fresh ↦
-                absurd (opening_no_act trace candidate fresh.is_opening (acts trace update object candidate is_of))
-            | inr made ↦ by_update made
-          ]
+    -- every accepted candidate has a version
+    stored : (object : ObjectId) (candidate : Candidate) → IsEverAccepted trace object candidate
+        → (version : ObjState) × HasVersion trace object candidate version
+    stored object candidate accepted =
+        let found : AcceptedAt object candidate (last_world trace).replicas =
+        accepted_somewhere object candidate (last_world trace).replicas (in_world trace object candidate accepted) in
+        let state : Found (accepts object candidate) (last_world trace).replicas found.place =
+        found_at (accepts object candidate) (last_world trace).replicas found.place found.accepted in
+        let held = version_held trace laws joint is_run have (length trace.entries) (omega arith)
+        found.place state.item state.is_at object candidate state.passed in
+        (held.0, held.2)
 
     -- no candidate has a group
     no_group : (update : Update) (object other : ObjectId) (candidate companion : Candidate)
@@ -279,5 +208,5 @@ module _ (trace : Trace) (is_run : IsRun trace) (have : ArePlain trace) where
       one_version = one_version trace laws joint one_act;
       copied = λ object candidate base value accepted plain not_act prior plain_base base_accepted has.
           copied object candidate base value accepted not_act prior base_accepted has;
-      performed = performed;
+      stored = λ object candidate accepted is_act. stored object candidate accepted;
     }

@@ -8,7 +8,7 @@ use Rattle.qu_base.specs.declared.party.ObjectId.{ObjectId}
 use Rattle.qu_base.specs.declared.party.Party.{Party}
 use Rattle.qu_base.specs.declared.party.Party.TheVariants as party
 use Rattle.qu_base.specs.declared.party.ReplicaId.{ReplicaId}
-use Rattle.qu_base.specs.Thresholds.{replicas}
+use Rattle.qu_base.specs.Bounds.{replicas}
 use Rattle.qu_history.specs.declared.sets.SetOf.{SetOf}
 use Rattle.qu_objects.specs.declared.op.Op.{Op}
 use Rattle.qu_frames.specs.declared.frame.Body.{Body}
@@ -29,7 +29,7 @@ use Rattle.qu_client.specs.declared.state.ClientState.{ClientState}
 use Rattle.qu_client.specs.declared.state.Stepped.{Stepped}
 use Rattle.qu_client.specs.declared.work.Work.{Work}
 use Rattle.qu_client.specs.Rounds.{request_of, requests_from}
-use Rattle.qu_client.specs.Step.{client_invoke, client_step, client_tick}
+use Rattle.qu_client.specs.Steps.{client_invoke, client_step, client_tick}
 use Rattle.qu_client.proofs.Cases.{step_cases, invoke_cases}
 use Rattle.qu_machine.proofs.Firsts.{at_contains}
 use Rattle.qu_trace.specs.declared.event.Event.{Event}
@@ -40,7 +40,7 @@ use Rattle.qu_world.specs.State.{WorldState, numbered, letter_of}
 use Rattle.qu_world.specs.Step.{world_step, unchanged, at_replica, at_client, received, delivered}
 use Rattle.qu_world.specs.Run.{IsRun}
 use Rattle.qu_runs.specs.Times.{world_after}
-use Rattle.qu_grounds.specs.Replies.{IsReplyTo}
+use Rattle.qu_values.specs.Replies.{IsReplyTo}
 use Rattle.qu_runs.specs.Plain.{ArePlain, IsPlain}
 use Rattle.qu_world.proofs.Each.{each_found, set_here}
 use Rattle.qu_runs.proofs.Entries.{entry_recorded}
@@ -48,11 +48,11 @@ use Rattle.qu_grounds.proofs.OwnHistories.{IsInPlace, step-in_place}
 use Rattle.qu_grounds.proofs.Views.{true_world}
 use Rattle.qu_runs.proofs.WorldGrowth.{world_after-next}
 use Rattle.qu_runs.specs.Carried.{Tells, Carries, Brings, handed, Asks}
-use Rattle.qu_frames.specs.Forms.{frame_form}
+use Rattle.qu_frames.specs.Formats.{frame_form}
 use Rattle.qu_history.specs.declared.sealed.Sealed.{Sealed}
 use Rattle.qu_runs.proofs.Carrying.{AnswersFit, no_reply, signed_spelled, signed_carries, brings_carries}
 use Rattle.qu_runs.proofs.Fitting.{fit_step}
-use Rattle.qu_frames.specs.Signed.{brought, signed, signature}
+use Rattle.qu_frames.specs.Signing.{brought, signed, signature}
 use Rattle.qu_seal.specs.Keys.{Ring}
 use Rattle.qu_replica.proofs.FitSteps.{blank_sized}
 use Rattle.qu_runs.proofs.Handing.{letter_handed, injected_cases}
@@ -93,13 +93,13 @@ requests keys replica (suc count) me work sets =
 
 invoke_requests : (state : ClientState) (op : Op) → SendsNoReply (client_invoke state op)
 invoke_requests state op =
-    invoke_cases state op SendsNoReply (λ acted. requests state.keys 0 (replicas state.bounds) state.me _ _) tt
+    invoke_cases state op SendsNoReply (λ acted. requests state.keys 0 (replicas state.keys.bounds) state.me _ _) tt
 
 step_requests : (state : ClientState) (text : List ℕ) → SendsNoReply (client_step state text)
 step_requests state text =
     step_cases state SendsNoReply tt (λ kept. tt) (λ kept work replica number round verdict is counting. tt)
     (λ kept end. tt)
-    (λ kept work replies acted is asking more. requests state.keys 0 (replicas state.bounds) state.me _ _)
+    (λ kept work replies acted is asking more. requests state.keys 0 (replicas state.keys.bounds) state.me _ _)
     (λ kept work replies is asking more. tt) text
 
 -- ---- who sends a reply
@@ -259,7 +259,7 @@ module _ (replica : ReplicaId) (client : ClientId) (number round : ℕ) (verdict
       let made : Frame = answer_frame new other asked turn sets given in
       let is_sent : sent.text ≡ signed new.keys to made =
       ap (λ (it : Letter). it.text) (sym (same_Some (reply new other asked turn sets given) sent found)) in
-      let same = same_reply new.me other asked turn given [] (map (sealed new.bounds) (own.shown new sets))
+      let same = same_reply new.me other asked turn given [] (map (sealed new.keys.bounds) (own.shown new sets))
       (signature new.keys to made)
       (sym (signed_carries sent new.keys to made
       (frame.Reply replica client number round verdict culled shown seal) (fits given accepted refl) is_sent

@@ -6,11 +6,11 @@ use Rattle.qu_base.specs.declared.limits.TheConstants.{REPLICA_IDS}
 use Rattle.qu_base.specs.declared.party.ObjectId.{ObjectId}
 use Rattle.qu_base.specs.declared.party.ReplicaId.{ReplicaId}
 use Rattle.qu_base.specs.Format.{Format, number, both, tested, made, bytes, items, counted, object_form, replica_form}
-use Rattle.qu_base.specs.Thresholds.{is_replica_count}
+use Rattle.qu_base.specs.Bounds.{is_replica_count}
 use Rattle.qu_stamp.specs.declared.stamp.Stamp.{Stamp}
 use Rattle.qu_stamp.specs.declared.candidate.Candidate.{Candidate}
 use Rattle.qu_stamp.specs.Stamp.{opening_stamp, is_below, same_stamp}
-use Rattle.qu_stamp.specs.Forms.{stamp_form, candidate_with, candidate_form}
+use Rattle.qu_stamp.specs.Formats.{stamp_form, candidate_with, candidate_form}
 use Rattle.qu_history.specs.declared.limits.TheConstants.{HISTORY_LIMIT, OBJECTS_LIMIT, SETS_YET}
 use Rattle.qu_history.specs.declared.sealed.Sealed.{Sealed}
 use Rattle.qu_history.specs.declared.sets.SetOf.{SetOf}

@@ -11,10 +11,10 @@ use Rattle.qu_objects.specs.declared.kind.KindName.{KindName}
 use Rattle.qu_objects.specs.declared.kind.Value.{Value}
 use Rattle.qu_objects.specs.declared.state.ObjState.{ObjState}
 use Rattle.qu_objects.specs.Kind.{fresh_value}
-use Rattle.qu_objects.specs.Perform.{performed_answer, performed_values}
+use Rattle.qu_objects.specs.Performing.{performed_answer, performed_values}
 use Rattle.qu_trace.specs.declared.trace.Trace.{Trace}
 use Rattle.qu_runs.specs.Setting.{setting}
-use Rattle.qu_safety.specs.Updates.{Update, Names, IsOf, IsEverAccepted}
+use Rattle.qu_values.specs.Updates.{Update, Names, IsOf, IsEverAccepted}
 
 -- on this object the candidate's update is performed upon this base
 pub record RestsOn (trace : Trace) (object : ObjectId) (candidate : Candidate) (other : ObjectId) (base : Candidate)

@@ -25,17 +25,18 @@ use Rattle.qu_objects.specs.declared.kind.KindName.TheVariants as kind
 use Rattle.qu_objects.specs.declared.kind.Value.{Value}
 use Rattle.qu_objects.specs.declared.state.ObjState.{ObjState}
 use Rattle.qu_objects.specs.Kind.{fresh_value}
-use Rattle.qu_objects.specs.Perform.{performed_answer, performed_values}
+use Rattle.qu_objects.specs.Performing.{performed_answer, performed_values}
 use Rattle.qu_machine.specs.Machine.{act_values, with_values, values_at}
 use Rattle.qu_machine.proofs.Equalities.{object_is}
 use Rattle.qu_trace.specs.declared.trace.Trace.{Trace}
 use Rattle.qu_world.proofs.Each.{set_other}
 use Rattle.qu_runs.specs.Setting.{setting}
-use Rattle.qu_safety.specs.Updates.{Update, Names, IsOf, IsEverAccepted}
-use Rattle.qu_safety.specs.Values.{HasVersion}
-use Rattle.qu_safety.proofs.OneAct.{ActsAreOne}
-use Rattle.qu_safety.proofs.Updates.{acts, one_of, same_accepted, one_companion}
-use Rattle.qu_safety.proofs.UpdateFacts.{HasValue, MadeFor, ValueStep, befores, afters, IsStep, IsPerformed, UpdateFacts}
+use Rattle.qu_values.specs.Updates.{Update, Names, IsOf, IsEverAccepted}
+use Rattle.qu_values.specs.Values.{HasVersion}
+use Rattle.qu_values.proofs.OneAct.{ActsAreOne}
+use Rattle.qu_values.proofs.PerformedUpdates.{performed}
+use Rattle.qu_values.proofs.Updates.{acts, one_of, same_accepted, one_companion}
+use Rattle.qu_values.proofs.UpdateFacts.{HasValue, MadeFor, ValueStep, befores, afters, IsStep, IsPerformed, UpdateFacts}
 
 -- ---- lists
 
@@ -242,7 +243,7 @@ module _ (trace : Trace) (laws : Laws (setting trace)) (joint : Joint (setting t
       accepted = accepted_at_last (setting trace) laws joint time object candidate turn
 
       pub done : IsPerformed trace update object candidate
-      done = facts.performed update object candidate is_of accepted
+      done = performed trace laws joint one_act facts update object candidate is_of accepted
 
       abbrev pub Steps : ObjectId → ValueStep → Type 0
       Steps other step = IsStep trace object candidate (performed_answer update.parts (befores done.steps)) other step

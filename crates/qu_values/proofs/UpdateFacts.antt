@@ -14,13 +14,13 @@ use Rattle.qu_objects.specs.declared.answer.Answer.{Answer}
 use Rattle.qu_objects.specs.declared.kind.Value.{Value}
 use Rattle.qu_objects.specs.declared.op.Op.TheVariants as op
 use Rattle.qu_objects.specs.declared.state.ObjState.{ObjState}
-use Rattle.qu_objects.specs.Perform.{performed_answer, performed_values}
+use Rattle.qu_objects.specs.Performing.{performed_answer, performed_values}
 use Rattle.qu_machine.specs.declared.record.OpRecord.{OpRecord}
 use Rattle.qu_trace.specs.declared.trace.Trace.{Trace}
-use Rattle.qu_trace.specs.Operations.{operations_of}
+use Rattle.qu_trace.specs.Operation.{operations_of}
 use Rattle.qu_runs.specs.Setting.{setting}
-use Rattle.qu_safety.specs.Updates.{Update, IsOf, IsEverAccepted}
-use Rattle.qu_safety.specs.Values.{HasVersion}
+use Rattle.qu_values.specs.Updates.{Update, IsOf, IsEverAccepted}
+use Rattle.qu_values.specs.Values.{HasVersion}
 
 -- the candidate's version has this value
 pub record HasValue (trace : Trace) (object : ObjectId) (candidate : Candidate) (value : Value) : Type 0 where
@@ -112,7 +112,6 @@ pub record UpdateFacts (trace : Trace) : Type 0 where
       → (setting trace).is_act candidate ≡ false → candidate.prior ≡ base.stamp → (setting trace).plain base ≡ true
       → IsEverAccepted trace object base
       → HasValue trace object base value → HasValue trace object candidate value
-  -- a candidate of an update is stored with what the update makes of the values of its bases
-  pub performed : (update : Update) (object : ObjectId) (candidate : Candidate)
-      → IsOf trace update object candidate → IsEverAccepted trace object candidate
-      → IsPerformed trace update object candidate
+  -- a candidate of an update has a version
+  pub stored : (object : ObjectId) (candidate : Candidate) → IsEverAccepted trace object candidate
+      → (setting trace).is_act candidate ≡ true → (version : ObjState) × HasVersion trace object candidate version

@@ -3,7 +3,7 @@ use Rattle.std.proofs.Common.{◌≡◌, ℕ, ◌<◌, ◌≤◌, true, length, 
 use Rattle.std.specs.Prelude.{slice_get, count_by}
 use Rattle.std.proofs.lemmas.Option.{slice_get_within}
 use Rattle.qu_base.specs.declared.party.ObjectId.{ObjectId}
-use Rattle.qu_base.specs.Thresholds.{replicas, quorum}
+use Rattle.qu_base.specs.Bounds.{replicas, quorum}
 use Rattle.qu_stamp.specs.declared.candidate.Candidate.{Candidate}
 use Rattle.qu_history.specs.History.{holds}
 use Rattle.qu_chain.specs.Laws.{Laws}
@@ -17,7 +17,7 @@ use Rattle.qu_runs.specs.Times.{world_after}
 use Rattle.qu_runs.proofs.Small.{some_quorum}
 use Rattle.qu_runs.proofs.OpeningReplicas.{all_replicas}
 use Rattle.qu_runs.proofs.Settings.{acceptors_are}
-use Rattle.qu_safety.specs.Updates.{IsEverAccepted}
+use Rattle.qu_values.specs.Updates.{IsEverAccepted}
 
 module _ (trace : Trace) (laws : Laws (setting trace)) (time : ℕ) (within : time ≤ length trace.entries) where
   pub place_ever : (place : ℕ) → place < replicas trace.setup.bounds → (object : ObjectId) (candidate : Candidate)

@@ -2,6 +2,7 @@
 use Rattle.std.proofs.Common.{◌≡◌, ℕ, ◌<◌, Bool, true, false, ◌&&◌, cond, List, [], ◌∷◌, length, Option, None, Some, inl, inr, refl, sym, subst, ap, ◌∙◌, arith}
 use Rattle.std.specs.Prelude.{option_map, option_and_then, find, nat_le, ◌==◌}
 use Rattle.std.proofs.lemmas.Bool.{false≢true, cases_Bool, leb-false, eqb-true}
+use Rattle.std.proofs.lemmas.List.Elements.{All-nil, All-cons}
 use Rattle.std.proofs.lemmas.Option.{none-some, same_Some}
 use Rattle.qu_base.specs.declared.party.ClientId.{ClientId}
 use Rattle.qu_base.specs.declared.party.Digest.{Digest}
@@ -20,8 +21,8 @@ use Rattle.qu_objects.specs.declared.query.Ask.{Ask}
 use Rattle.qu_objects.specs.declared.answer.Answer.{Answer}
 use Rattle.qu_objects.specs.declared.kind.Value.{Value}
 use Rattle.qu_objects.specs.declared.state.ObjState.{ObjState}
-use Rattle.qu_objects.specs.Text.{act_digest}
-use Rattle.qu_objects.specs.Perform.{performed_answer, performed_values}
+use Rattle.qu_objects.specs.Digesting.{act_digest}
+use Rattle.qu_objects.specs.Performing.{performed_answer, performed_values}
 use Rattle.qu_frames.specs.declared.frame.Body.TheVariants as body
 use Rattle.qu_frames.specs.declared.verdict.ClassCode.TheVariants.{Barrier}
 use Rattle.qu_frames.specs.declared.verdict.Refusal.{Refusal}
@@ -35,7 +36,7 @@ use Rattle.qu_replica.specs.Rows.{asked_of, Asked, refuse, shown_of, base_of, ba
 use Rattle.qu_replica.specs.Versions.{is_stored, version_at}
 use Rattle.qu_replica.proofs.Carried.{performed_one, done_one, told_one}
 use Rattle.qu_grounds.specs.Grounds.{IsGround}
-use Rattle.qu_grounds.specs.Replies.{TellsDone, TellsQuery}
+use Rattle.qu_values.specs.Replies.{HasDone, TellsDone, TellsQuery}
 use Rattle.qu_grounds.proofs.Grounds.{is_base, above_held}
 use Rattle.qu_grounds.proofs.HeldVersions.{AreOfHeld, HoldsUnder}
 use Rattle.qu_runs.proofs.Small.{some_of, single}
@@ -181,14 +182,14 @@ module _ (state : ReplicaState) (asked : Asked) (object : ObjectId) where
 
 -- ---- a query
 
--- a query is told from the version of its base, and nothing is accepted
+-- a query is told from the version of its base
 abbrev QueryTells : ReplicaState → List SetOf → ObjectId → Ask → Decision → Type 0
 QueryTells state sets object ask (Answers (verdict.Done stamps answer) accepted) = ⊥
 QueryTells state sets object ask (Answers (verdict.Told stamps answer) accepted) =
-    TellsQuery state sets object ask stamps answer × (accepted ≡ [])
+    TellsQuery state sets ((object, ask) ∷ []) stamps answer
 QueryTells state sets object ask (Answers (verdict.Already answer) accepted) = ⊥
 QueryTells state sets object ask (Answers (verdict.Mended other stamp) accepted) = ⊥
-QueryTells state sets object ask (Answers (verdict.Refused why) accepted) = accepted ≡ []
+QueryTells state sets object ask (Answers (verdict.Refused why) accepted) = Unit {0}
 QueryTells state sets object ask Waits = Unit {0}
 
 told_tells : (state : ReplicaState) (asked : Asked) (object : ObjectId) (ask : Ask)
@@ -203,30 +204,36 @@ told_tells state asked object ask is_current is_method is_version decision given
     passed_version state asked object is_version in
     let version : ObjState = stored.0 in
     let latest : Stamp = latest_of (shown_of asked object) in
-    let is_latest : base.stamp ≡ latest = (is_base state.bounds (shown_of asked object) base found.1).latest in
+    let is_latest : base.stamp ≡ latest = (is_base state.keys.bounds (shown_of asked object) base found.1).latest in
     subst (QueryTells state asked.sets object ask)
     (same_Some _ decision (sym (told_one state asked ((object, ask) ∷ []) object base version found.1 stored.1)
-    ∙ given)) (
-      record {
-        base = base;
-        method = found.1;
-        stamps_are = refl;
-        version = version;
-        of_base = version_of_base state asked object base version found.1 stored.1;
-        answer_is = refl;
-        nothing_above = λ held holding.
-            ap (λ (stamp : Stamp). is_below stamp held.stamp) is_latest ∙
-            is_below-not_chain latest (own_latest state object) held.stamp
-            (passed_current state asked object is_current)
-            (not_below_latest (own_candidates state object) held holding);
-      },
-      refl,
-    )
+    ∙ given))
+    (record {
+      of_parts = refl;
+      values = version.value ∷ [];
+      each = (
+        record {
+          base = base;
+          is_told = refl;
+          method = found.1;
+          version = version;
+          of_base = version_of_base state asked object base version found.1 stored.1;
+          value_is = refl;
+          nothing_above = λ held holding.
+              ap (λ (stamp : Stamp). is_below stamp held.stamp) is_latest ∙
+              is_below-not_chain latest (own_latest state object) held.stamp
+              (passed_current state asked object is_current)
+              (not_below_latest (own_candidates state object) held holding);
+        },
+        tt,
+      );
+      answer_is = refl;
+    })
 
 query_tells : (state : ReplicaState) (asked : Asked) (object : ObjectId) (ask : Ask)
     → QueryTells state asked.sets object ask (decision_on state asked (body.Ask ((object, ask) ∷ [])))
 query_tells state asked object ask =
-    ask_cases (QueryTells state asked.sets object ask) (λ why. refl) tt state asked ((object, ask) ∷ [])
+    ask_cases (QueryTells state asked.sets object ask) (λ why. tt) tt state asked ((object, ask) ∷ [])
     (object ∷ []) (told_tells state asked object ask)
 
 module _ (state : ReplicaState) (client : ClientId) (number : ℕ) (sets : List SetOf) (object : ObjectId)
@@ -234,16 +241,10 @@ module _ (state : ReplicaState) (client : ClientId) (number : ℕ) (sets : List 
   -- a told answer is that of the version of a base that the replica has nothing above
   pub told_is_true : decision_on state (asked_of client number sets (body.Ask ((object, ask) ∷ [])))
       (body.Ask ((object, ask) ∷ [])) ≡ Answers (verdict.Told stamps answer) accepted
-      → TellsQuery state sets object ask stamps answer
+      → TellsQuery state sets ((object, ask) ∷ []) stamps answer
   told_is_true decided =
-      (subst (QueryTells state sets object ask) decided
-      (query_tells state (asked_of client number sets (body.Ask ((object, ask) ∷ []))) object ask)).0
-
-  pub told_accepts_nothing : decision_on state (asked_of client number sets (body.Ask ((object, ask) ∷ [])))
-      (body.Ask ((object, ask) ∷ [])) ≡ Answers (verdict.Told stamps answer) accepted → accepted ≡ []
-  told_accepts_nothing decided =
-      (subst (QueryTells state sets object ask) decided
-      (query_tells state (asked_of client number sets (body.Ask ((object, ask) ∷ []))) object ask)).1
+      subst (QueryTells state sets object ask) decided
+      (query_tells state (asked_of client number sets (body.Ask ((object, ask) ∷ []))) object ask)
 
   pub query_is_not_done : decision_on state (asked_of client number sets (body.Ask ((object, ask) ∷ [])))
       (body.Ask ((object, ask) ∷ [])) ≡ Answers (verdict.Done stamps answer) accepted → ⊥
@@ -253,14 +254,33 @@ module _ (state : ReplicaState) (client : ClientId) (number : ℕ) (sets : List 
 
 -- ---- an act
 
+-- of an act on one object Done is told with the stamp of a candidate that is held, and with its answer
+record DoneOnOne (state : ReplicaState) (client : ClientId) (act : Digest) (object : ObjectId)
+    (stamps : List (ObjectId × Stamp)) (answer : Answer) : Type 0 where
+  stamp : Stamp
+  stamps_are : stamps ≡ (object, stamp) ∷ []
+  has : HasDone state client act answer (object, stamp)
+
+one_done : (state : ReplicaState) (client : ClientId) (act : Digest) (object : ObjectId) (method : Method)
+    (stamps : List (ObjectId × Stamp)) (answer : Answer) → DoneOnOne state client act object stamps answer
+    → TellsDone state client act ((object, method) ∷ []) stamps answer
+one_done state client act object method stamps answer done =
+    subst (λ (all : List (ObjectId × Stamp)). TellsDone state client act ((object, method) ∷ []) all answer)
+    (sym done.stamps_are)
+    (record {
+      of_parts = refl;
+      each = All-cons (HasDone state client act answer) (object, done.stamp) [] done.has
+          (All-nil (HasDone state client act answer));
+    })
+
 -- what is done is held, with its version
 abbrev ActTells : ReplicaState → ClientId → Digest → ObjectId → Decision → Type 0
 ActTells state client act object (Answers (verdict.Done stamps answer) accepted) =
-    TellsDone (accept_all state accepted) client act object stamps answer
+    DoneOnOne (accept_all state accepted) client act object stamps answer
 ActTells state client act object (Answers (verdict.Told stamps answer) accepted) = ⊥
 ActTells state client act object (Answers (verdict.Already answer) accepted) = ⊥
 ActTells state client act object (Answers (verdict.Mended other stamp) accepted) = ⊥
-ActTells state client act object (Answers (verdict.Refused why) accepted) = accepted ≡ []
+ActTells state client act object (Answers (verdict.Refused why) accepted) = Unit {0}
 ActTells state client act object Waits = Unit {0}
 
 abbrev fresh_of : Asked → ObjectId → Candidate → Candidate
@@ -322,14 +342,18 @@ module _ (state : ReplicaState) (asked : Asked) (object : ObjectId) where
   kept_tells act is_act base true (Some version) is_held is_stored decision given =
       subst (ActTells state asked.client act object) (same_Some _ decision given)
       (record {
-        candidate = fresh_of asked object base;
-        held = is_held;
-        of_client = refl;
-        of_act = is_act;
+        stamp = fresh_stamp asked object;
         stamps_are = refl;
-        version = version;
-        of_candidate = is_stored;
-        answer_is = refl;
+        has = record {
+          candidate = fresh_of asked object base;
+          is_told = refl;
+          held = is_held;
+          of_client = refl;
+          of_act = is_act;
+          version = version;
+          of_candidate = is_stored;
+          answer_is = refl;
+        };
       })
 
   -- a retry is told what is stored with the candidate that is held
@@ -358,22 +382,26 @@ module _ {state : ReplicaState} {asked : Asked} {object : ObjectId} {candidate :
 accepted_tells : (state : ReplicaState) (asked : Asked) (act : Digest) → asked.act ≡ Some act
     → (object : ObjectId) (base : Candidate) (version : ObjState)
     → object.0 < length state.histories → version_at object (fresh_stamp asked object) state.versions ≡ None
-    → TellsDone (accept_all state
+    → DoneOnOne (accept_all state
     (record { object = object; candidate = fresh_of asked object base; state = version } ∷ [])) asked.client act
     object ((object, fresh_stamp asked object) ∷ []) version.answer
 unfolding accept_all
 accepted_tells state asked act is_act object base version known none =
     let fresh : Candidate = fresh_of asked object base in
     record {
-      candidate = fresh;
-      held = ap (holds fresh) (candidates_after object.0 fresh state.histories known)
-          ∙ holds_pushed fresh (own_candidates state object);
-      of_client = refl;
-      of_act = is_act;
+      stamp = fresh_stamp asked object;
       stamps_are = refl;
-      version = version;
-      of_candidate = version_at-push object (fresh_stamp asked object) state.versions version none;
-      answer_is = refl;
+      has = record {
+        candidate = fresh;
+        is_told = refl;
+        held = ap (holds fresh) (candidates_after object.0 fresh state.histories known)
+            ∙ holds_pushed fresh (own_candidates state object);
+        of_client = refl;
+        of_act = is_act;
+        version = version;
+        of_candidate = version_at-push object (fresh_stamp asked object) state.versions version none;
+        answer_is = refl;
+      };
     }
 
 done_tells : (state : ReplicaState) (asked : Asked) (act : Digest) → asked.act ≡ Some act
@@ -403,7 +431,7 @@ done_tells state asked act is_act object method are is_known is_current is_metho
           object is_current;
     } in
     let known : object.0 < length state.histories =
-    known_by_base (length state.histories) state.bounds asked.sets object base
+    known_by_base (length state.histories) state.keys.bounds asked.sets object base
     (passed_unknown state asked object is_known) found.1 in
     subst (ActTells state asked.client act object)
     (same_Some _ decision
@@ -415,7 +443,7 @@ act_tells : (state : ReplicaState) (asked : Asked) (object : ObjectId) (method :
     → asked.act ≡ Some act → AreOfHeld state → ActTells state asked.client act object
     (decision_on state asked (body.Act ((object, method) ∷ [])))
 act_tells state asked object method act is_act are =
-    act_cases (ActTells state asked.client act object) (λ why. refl) tt state asked ((object, method) ∷ [])
+    act_cases (ActTells state asked.client act object) (λ why. tt) tt state asked ((object, method) ∷ [])
     (object ∷ [])
     (retry_tells state asked object act is_act (base_of state asked object) refl)
     (done_tells state asked act is_act object method are)
@@ -452,11 +480,13 @@ module _ (state : ReplicaState) (client : ClientId) (number : ℕ) (sets : List 
   -- where Done is told, the replica has the candidate afterwards, and the answer is the stored one
   pub done_is_true : decision_on state (asked_of client number sets (body.Act ((object, method) ∷ [])))
       (body.Act ((object, method) ∷ [])) ≡ Answers (verdict.Done stamps answer) accepted
-      → TellsDone (accept_all state accepted) client (act_digest client number ((object, method) ∷ [])) object
-      stamps answer
-  done_is_true decided = subst (ActTells state client (act_digest client number ((object, method) ∷ [])) object) decided
-      (act_tells state (asked_of client number sets (body.Act ((object, method) ∷ []))) object method
-      (act_digest client number ((object, method) ∷ [])) refl are)
+      → TellsDone (accept_all state accepted) client (act_digest client number ((object, method) ∷ []))
+      ((object, method) ∷ []) stamps answer
+  done_is_true decided =
+      let act : Digest = act_digest client number ((object, method) ∷ []) in
+      one_done (accept_all state accepted) client act object method stamps answer
+      (subst (ActTells state client act object) decided
+      (act_tells state (asked_of client number sets (body.Act ((object, method) ∷ []))) object method act refl are))
 
   pub act_is_not_told : decision_on state (asked_of client number sets (body.Act ((object, method) ∷ [])))
       (body.Act ((object, method) ∷ [])) ≡ Answers (verdict.Told stamps answer) accepted → ⊥

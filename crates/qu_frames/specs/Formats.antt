@@ -8,15 +8,15 @@ use Rattle.qu_base.specs.declared.party.ObjectId.{ObjectId}
 use Rattle.qu_base.specs.declared.party.ReplicaId.{ReplicaId}
 use Rattle.qu_base.specs.Format.{Format, number, bytes, both, tested, made, either, items, counted, tagged, object_form, replica_form}
 use Rattle.qu_stamp.specs.declared.stamp.Stamp.{Stamp}
-use Rattle.qu_stamp.specs.Forms.{stamp_form}
+use Rattle.qu_stamp.specs.Formats.{stamp_form}
 use Rattle.qu_objects.specs.declared.limits.TheConstants.{PARTS_LIMIT}
 use Rattle.qu_objects.specs.declared.act.Method.{Method}
 use Rattle.qu_objects.specs.declared.query.Ask.{Ask}
 use Rattle.qu_objects.specs.declared.answer.Answer.{Answer}
-use Rattle.qu_objects.specs.Forms.{word_form, is_one_of, act_form, query_form, answer_form}
+use Rattle.qu_objects.specs.Formats.{word_form, is_one_of, act_form, query_form, answer_form}
 use Rattle.qu_history.specs.declared.sealed.Sealed.{Sealed}
 use Rattle.qu_history.specs.declared.sets.SetOf.{SetOf}
-use Rattle.qu_history.specs.Forms.{object_from, sets_form, shown_form}
+use Rattle.qu_history.specs.Formats.{object_from, sets_form, shown_form}
 use Rattle.qu_frames.specs.declared.frame.Body.{Body}
 use Rattle.qu_frames.specs.declared.frame.Body.TheVariants as body
 use Rattle.qu_frames.specs.declared.frame.Frame.{Frame}

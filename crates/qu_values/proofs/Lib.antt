@@ -1,0 +1,14 @@
+pub mod OneAct
+pub mod SentRequests
+pub mod EverAccepted
+pub mod Updates
+pub mod OneCandidate
+pub mod Values
+pub mod StoredValues
+pub mod UpdateFacts
+pub mod PerformedUpdates
+pub mod UpdatesOfRuns
+pub mod MachineValues
+pub mod TrueReplies
+pub mod Replying
+pub mod RepliesInRuns
