@@ -1,5 +1,5 @@
 -- Laws by cases on the command: what was taken is refused or reported as what was held is.
-use Rattle.std.proofs.Common.{◌≡◌, ℕ, ◌<◌, ◌≤◌, List, ◌++◌, length, length-append, append-nil, Option, None, Some, refl, sym, ap, ◌∙◌, arith, inl, inr, subst, ◌⊎◌}
+use Rattle.std.proofs.Common.{◌≡◌, ℕ, ◌<◌, ◌≤◌, List, ◌++◌, length, length-append, append-nil, Option, None, Some, IfSome, refl, sym, ap, ◌∙◌, arith, inl, inr, subst, ◌⊎◌}
 use Rattle.std.specs.Io.KnownBytes.{Consumes, IsAtEnd}
 use Rattle.std.proofs.lemmas.Bool.{cases_lt}
 use Rattle.qu_io.specs.Known.{Known}
@@ -7,12 +7,12 @@ use Rattle.qu_trace.specs.declared.trace.Trace.{Trace}
 use Rattle.qu_script.specs.declared.bad.Bad.{Bad}
 use Rattle.qu_script.specs.declared.limits.TheConstants.{SCRIPT_LIMIT}
 use Rattle.qu_cli.specs.declared.command.Command.{Command}
-use Rattle.qu_cli.specs.declared.command.Command.TheVariants.{Sim}
+use Rattle.qu_cli.specs.declared.command.Command.TheVariants.{Sim, Digests}
 use Rattle.qu_cli.specs.declared.output.Output.TheVariants.{Report}
-use Rattle.qu_cli.specs.Bad.{bad_text}
+use Rattle.qu_cli.specs.Refusal.{bad_text}
 use Rattle.qu_cli.proofs.ScriptFacts.{sim_too_long}
-use Rattle.qu_cli.specs.Transfer.{TakesScript, Writes, WritesOrFails}
-use Rattle.qu_cli.specs.Ends.{Makes, HasOneHistory, Accepts, Refuses, IsRefused, IsComplete}
+use Rattle.qu_cli.specs.Transfer.{TakesScript, Writes, WritesShort, WritesOrFails}
+use Rattle.qu_cli.specs.Ends.{Reports, Tells, Makes, HasOneHistory, IsKnown, Accepts, Refuses, EndsShort, EndsDone, IsRefused, IsComplete}
 use Rattle.qu_cli.specs.Output.{Outputs}
 
 -- what was taken is all that was held, or both are too long
@@ -36,10 +36,14 @@ is_taken source source' script held takes holds =
 
 -- ---- the laws
 
+pub tells_report : (command : Command) (trace : Trace) (text : List ℕ) → command ≡ Sim → Reports trace text
+    → Tells command trace text
+tells_report command trace text is reports = rw is reports
+
 pub makes_few : (command : Command) (script : List ℕ) (trace : Option Trace) (text : List ℕ)
     → Makes command script trace text → length script ≤ SCRIPT_LIMIT
-makes_few Sim script None text makes = absurd makes
-makes_few Sim script (Some trace) text makes = by (cases_lt SCRIPT_LIMIT (length script))
+makes_few command script None text makes = absurd makes
+makes_few command script (Some trace) text makes = by (cases_lt SCRIPT_LIMIT (length script))
   where
     by : (SCRIPT_LIMIT < length script) ⊎ (length script ≤ SCRIPT_LIMIT) → length script ≤ SCRIPT_LIMIT
     by (inl more) = absurd (let refused = sim_too_long script more in let runs = makes.runs in cc)
@@ -47,39 +51,50 @@ makes_few Sim script (Some trace) text makes = by (cases_lt SCRIPT_LIMIT (length
 
 makes_accepts : (command : Command) (script : List ℕ) (trace : Option Trace) (text : List ℕ)
     → Makes command script trace text → Accepts command script
-makes_accepts Sim script None text makes = absurd makes
-makes_accepts Sim script (Some trace) text makes = rw makes.runs refl
+makes_accepts command script None text makes = absurd makes
+makes_accepts command script (Some trace) text makes = rw makes.runs refl
 
--- what is made has one history
-pub makes_history : (command : Command) (script : List ℕ) (trace : Trace) (text : List ℕ)
-    → Makes command script (Some trace) text → HasOneHistory trace
-makes_history Sim script trace text makes = record {
-  order = makes.order;
+-- what is known of the run of which a text tells; of a report, that it has one history
+pub makes_known : (command : Command) (script : List ℕ) (trace : Trace) (text : List ℕ)
+    → Makes command script (Some trace) text → IsKnown (Some command) trace
+makes_known Sim script trace text makes = record {
+  order = makes.tells.order;
   is_run = makes.is_run;
-  printed = makes.ordered;
-  serial = makes.serial;
-  chained = makes.chained;
+  printed = makes.tells.ordered;
+  serial = makes.tells.serial;
+  chained = makes.tells.chained;
 }
+makes_known Digests script trace text makes = makes.is_run
+
+-- the headline of a program whose one command makes reports
+pub has_history : (asked : Option Command) (trace : Option Trace)
+    → ((command : Command) → asked ≡ Some command → command ≡ Sim) → IfSome trace (IsKnown asked)
+    → IfSome trace HasOneHistory
+has_history asked None one known = tt
+has_history None (Some trace) one known = absurd known
+has_history (Some Sim) (Some trace) one known = known
+has_history (Some Digests) (Some trace) one known = let wrong = one Digests refl in absurd (cc)
 
 not_both : (command : Command) (script : List ℕ) (bad : Bad) → Accepts command script → Refuses command script bad → ⊥
-not_both Sim script bad accepts refuses = let accepted = rw refuses at accepts in absurd (cc)
+not_both command script bad accepts refuses = let accepted = rw refuses at accepts in absurd (cc)
 
 one_bad : (command : Command) (script : List ℕ) (bad other : Bad) → Refuses command script bad
     → Refuses command script other → bad ≡ other
-one_bad Sim script bad other refuses again = cc
+one_bad command script bad other refuses again = cc
 
 -- what is held is refused as what was taken is
 refuses_by : (command : Command) (script held : List ℕ) (bad : Bad) → IsTaken script held
     → Refuses command held bad → Refuses command script bad
-refuses_by Sim script held bad (all same) refuses = rw same refuses
-refuses_by Sim script held bad (long more most) refuses = let first = sim_too_long script more in let second =
+refuses_by command script held bad (all same) refuses = rw same refuses
+refuses_by command script held bad (long more most) refuses = let first = sim_too_long script more in let second =
     sim_too_long held most in cc
 
 -- a good script that is held was taken
 accepts_by : (command : Command) (script held : List ℕ) → IsTaken script held → Accepts command held
     → Accepts command script
-accepts_by Sim script held (all same) accepts = rw same accepts
-accepts_by Sim script held (long more most) accepts = absurd (not_both Sim held _ accepts (sim_too_long held most))
+accepts_by command script held (all same) accepts = rw same accepts
+accepts_by command script held (long more most) accepts =
+    absurd (not_both command held _ accepts (sim_too_long held most))
 
 -- what is made of what was taken is made of what was held
 makes_by : (command : Command) (script held : List ℕ) (trace : Option Trace) (text : List ℕ) → IsTaken script held
@@ -89,7 +104,7 @@ makes_by command script held trace text (all same) makes =
 makes_by command script held trace text (long more most) makes = let few =
     makes_few command script trace text makes in absurd (omega arith)
 
-pub ruleset end_laws = (makes_few, makes_history)
+pub ruleset end_laws = (makes_few, makes_known)
 
 -- ---- which end comes
 
@@ -154,3 +169,35 @@ refusal_refused asked source source' sink sink' status command script line bad a
     (refuses_by command script held why taken (subst (λ c. Refuses c held why) same refuses)) refused in
     let told : line ≡ bad_text why = tells ∙ ap bad_text (sym equal) in
     inl (is, rw (← told) writes)
+
+-- a report that is written whole
+pub report_done : (asked : Option Command) (source source' sink sink' : Known) (told : Option Trace)
+    (command : Command) (trace : Trace) (text : List ℕ) → asked ≡ Some command
+    → Outputs command source source' (Report trace text) → told ≡ Some trace → Writes sink sink' text
+    → EndsDone asked source source' sink sink' told
+report_done asked source source' sink sink' told command trace text asks answers tells writes = record {
+  command = command;
+  script = answers.script;
+  text = text;
+  asks = asks;
+  takes = answers.takes;
+  to_end = (answers.takes).to_end (makes_few command answers.script (Some trace) text answers.output_is);
+  makes = subst (λ (it : Option Trace). Makes command answers.script it text) (sym tells) answers.output_is;
+  writes = writes;
+}
+
+-- and one that a fault leaves short
+pub report_short : (asked : Option Command) (source source' sink sink' : Known) (told : Option Trace)
+    (command : Command) (trace : Trace) (text : List ℕ) → asked ≡ Some command
+    → Outputs command source source' (Report trace text) → told ≡ Some trace → WritesShort sink sink' text
+    → EndsShort asked source source' sink sink' told
+report_short asked source source' sink sink' told command trace text asks answers tells short = record {
+  command = command;
+  script = answers.script;
+  text = text;
+  asks = asks;
+  takes = answers.takes;
+  to_end = (answers.takes).to_end (makes_few command answers.script (Some trace) text answers.output_is);
+  makes = subst (λ (it : Option Trace). Makes command answers.script it text) (sym tells) answers.output_is;
+  short = short;
+}

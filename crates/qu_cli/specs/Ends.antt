@@ -1,4 +1,4 @@
--- How a run of the program ends. What is known of the source and of the sink stands as `source` and
+-- How a call of a program ends. What is known of the source and of the sink stands as `source` and
 -- `sink` before the call, and as `source'` and `sink'` behind it.
 use Rattle.std.specs.Prelude.{◌≡◌, ℕ, List, Option, None, Some, Ok, Err, IsOk, IsSome, ◌⊎◌, ◌↔◌}
 use Rattle.std.specs.Io.KnownBytes.{IsAtEnd}
@@ -6,28 +6,26 @@ use Rattle.qu_io.specs.Known.{Known, Rose}
 use Rattle.qu_machine.specs.declared.record.Point.{Point}
 use Rattle.qu_machine.specs.Serial.{IsSerial}
 use Rattle.qu_trace.specs.declared.trace.Trace.{Trace}
-use Rattle.qu_trace.specs.Operations.{operations_of}
+use Rattle.qu_trace.specs.Operation.{operations_of}
 use Rattle.qu_world.specs.Run.{IsRun}
 use Rattle.qu_runs.specs.Digested.{NoCollision}
 use Rattle.qu_grounds.specs.Chained.{IsChained}
 use Rattle.qu_points.specs.Order.{IsPrintedOrder}
 use Rattle.qu_print.specs.Report.{report_of}
+use Rattle.qu_listing.specs.Digests.{digests_of}
 use Rattle.qu_script.specs.declared.bad.Bad.{Bad}
 use Rattle.qu_script.specs.Events.{sim_of}
 use Rattle.qu_cli.specs.declared.command.Command.{Command}
-use Rattle.qu_cli.specs.declared.command.Command.TheVariants.{Sim}
-use Rattle.qu_cli.specs.Bad.{bad_text}
+use Rattle.qu_cli.specs.declared.command.Command.TheVariants.{Sim, Digests}
+use Rattle.qu_cli.specs.Refusal.{bad_text}
 use Rattle.qu_cli.specs.Transfer.{TakesScript, Writes, WritesShort, WritesOrFails}
 
 -- ---- what a command makes of a script
 
--- the trace is that of the script's run, and the text is the report of it with its printed order, which is a
--- serial order of its operations where no two digested texts have one digest; what is established in the run is
--- then a chain
-pub record Reports (script : List ℕ) (trace : Trace) (text : List ℕ) : Type 0 where
+-- the text is the report of the run with its printed order, which is a serial order of its operations where no two
+-- digested texts have one digest; what is established in the run is then a chain
+pub record Reports (trace : Trace) (text : List ℕ) : Type 0 where
   pub order : List Point
-  pub runs : sim_of script ≡ Ok trace
-  pub is_run : IsRun trace
   pub ordered : IsPrintedOrder trace order
   pub serial : NoCollision trace → IsSerial trace.setup.kinds (operations_of trace.entries) order
   pub chained : NoCollision trace → IsChained trace
@@ -43,18 +41,35 @@ pub record HasOneHistory (trace : Trace) : Type 0 where
   pub serial : NoCollision trace → IsSerial trace.setup.kinds (operations_of trace.entries) order
   pub chained : NoCollision trace → IsChained trace
 
+-- the text is what the command tells of a run
+abbrev pub Tells : Command → Trace → List ℕ → Type 0
+Tells Sim trace text = Reports trace text
+Tells Digests trace text = text ≡ digests_of trace
+
+-- the trace is that of the script's run, and the text is what the command tells of it
+pub record MakesOf (command : Command) (script : List ℕ) (trace : Trace) (text : List ℕ) : Type 0 where
+  pub runs : sim_of script ≡ Ok trace
+  pub is_run : IsRun trace
+  pub tells : Tells command trace text
+
 -- the command makes this trace and this text of it
 abbrev pub Makes : Command → List ℕ → Option Trace → List ℕ → Type 0
-Makes Sim script None text = ⊥
-Makes Sim script (Some trace) text = Reports script trace text
+Makes command script None text = ⊥
+Makes command script (Some trace) text = MakesOf command script trace text
 
--- the command can make something of it
+-- what is known of a run of which a call told that was asked this
+abbrev pub IsKnown : Option Command → Trace → Type 0
+IsKnown None trace = ⊥
+IsKnown (Some Sim) trace = HasOneHistory trace
+IsKnown (Some Digests) trace = IsRun trace
+
+-- the command can make something of it: each command runs a script
 abbrev pub Accepts : Command → List ℕ → Type 0
-Accepts Sim script = IsOk (sim_of script)
+Accepts command script = IsOk (sim_of script)
 
 -- the command refuses it, for this
 abbrev pub Refuses : Command → List ℕ → Bad → Type 0
-Refuses Sim script bad = sim_of script ≡ Err bad
+Refuses command script bad = sim_of script ≡ Err bad
 
 -- ---- the ends
 

@@ -1,4 +1,4 @@
-pub mod Bad
+pub mod Refusal
 pub mod Command
 pub mod Transfer
 pub mod Report

@@ -9,7 +9,7 @@ use Rattle.qu_cli.specs.declared.output.NoOutput.TheVariants as no_output
 use Rattle.qu_cli.specs.declared.reading.NoScript.{NoScript}
 use Rattle.qu_cli.specs.declared.reading.NoScript.TheVariants as no_script
 use Rattle.qu_cli.specs.declared.command.Command.{Command}
-use Rattle.qu_cli.specs.Bad.{bad_text}
+use Rattle.qu_cli.specs.Refusal.{bad_text}
 use Rattle.qu_cli.specs.Ends.{Makes, Refuses}
 use Rattle.qu_cli.specs.Transfer.{TakesScript}
 

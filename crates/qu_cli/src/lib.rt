@@ -1,7 +1,9 @@
-//! The command line of the service: its words, its input and its output.
+//! The command lines of the service: their words, their input and their output.
 #![tactic(auto)]
 
+mod answering;
 mod command;
+mod letters;
 mod limits;
 mod output;
 mod reading;
@@ -11,7 +13,9 @@ mod simulation;
 mod top;
 mod writing;
 
+pub use answering::answer;
 pub use command::Command;
+pub use letters::qu_letters;
 pub use limits::{PIECE, limits_are_these};
 pub use report::{End, Report};
 pub use top::qu;

@@ -14,7 +14,7 @@ use std::alloc::Global;
 /// What a command has to write, of its input.
 #[derive(Drop)]
 pub enum Output {
-    /// The run of a good script, and the whole report of it.
+    /// The run of a good script, and the whole text that tells of it.
     Report(Trace, List<u8>),
     /// The line that tells why the script is refused.
     Refusal(String),
@@ -62,10 +62,6 @@ pub fn output_for<S: Source>(
     ensures fault { result ≡ Err NoOutput.ReadFault → Rose (S.known input.old) (S.known input.new) }
     ensures calm { result ≢ Err NoOutput.ReadFault → IsCalm (S.known input.old) (S.known input.new) }
 {
-    match command {
-        Command::Sim => {
-            let script = take_script(alloc, input)?;
-            Ok(simulate(alloc, script.as_slice())?)
-        }
-    }
+    let script = take_script(alloc, input)?;
+    Ok(simulate(alloc, command, script.as_slice())?)
 }

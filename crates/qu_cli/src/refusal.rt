@@ -1,5 +1,5 @@
 ghost use Rattle.std.specs.Prelude.{◌≡◌, IfOk, string_bytes};
-ghost use Rattle.qu_cli.specs.Bad.{kind_text, bad_text};
+ghost use Rattle.qu_cli.specs.Refusal.{kind_text, bad_text};
 
 use qu_base::NoMemory;
 use qu_script::{Bad, BadKind};
@@ -20,7 +20,7 @@ fn kind_words(kind: BadKind) -> &'static str
 }
 
 /// The line that tells why a script is refused.
-#[tactic(auto, unfolding(crate::specs::Bad::bad_text))]
+#[tactic(auto, unfolding(crate::specs::Refusal::bad_text))]
 pub fn refusal_line(alloc: Global, bad: Bad) -> Result<String, NoMemory>
     ensures { IfOk result (λ text. string_bytes text ≡ bad_text bad) }
 {

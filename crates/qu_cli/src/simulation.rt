@@ -3,30 +3,50 @@ ghost use Rattle.qu_trace.specs.Injections.{no_injection};
 ghost use Rattle.qu_world.specs.Run.{IsRun};
 ghost use Rattle.qu_script.specs.Script.{Gives};
 ghost use Rattle.qu_script.specs.Events.{sim_of};
+ghost use Rattle.qu_cli.specs.Ends.{Tells};
 ghost use Rattle.qu_cli.specs.Output.{IsOutput};
 
 use super::Command;
 use super::output::Output;
 use super::refusal::refusal_line;
-use qu_base::NoMemory;
+use qu_base::{List, NoMemory};
+use qu_listing::digests_text;
 use qu_print::report_text;
 use qu_safety::order_of;
 use qu_script::{ScriptFail, read_script, run_script};
 use qu_trace::Trace;
 use std::alloc::Global;
 
-/// Runs a script and reports the run, or tells why there is none.
-pub fn simulate(alloc: Global, script: &[u8]) -> Result<Output, NoMemory>
-    ensures { IfOk result (IsOutput Command.Sim script.now) }
+/// Runs a script and tells what the command tells of the run, or why there is none.
+pub fn simulate(alloc: Global, command: Command, script: &[u8]) -> Result<Output, NoMemory>
+    ensures { IfOk result (IsOutput command script.now) }
 {
     match run_text(alloc, script) {
         Ok(trace) => {
-            let order = order_of(alloc, &trace)?;
-            let text = report_text(alloc, &trace, order.as_slice())?;
+            let text = told_text(alloc, command, &trace)?;
             Ok(Output::Report(trace, text))
         }
         Err(ScriptFail::Bad(bad)) => Ok(Output::Refusal(refusal_line(alloc, bad)?)),
         Err(ScriptFail::NoMemory) => Err(NoMemory),
+    }
+}
+
+/// What a command tells of the run of a script.
+fn told_text(alloc: Global, command: Command, trace: &Trace) -> Result<List<u8>, NoMemory>
+    requires run { IsRun trace.now }
+    requires scripted { IsTrue (no_injection trace.now.entries) }
+    ensures { IfOk result (Tells command trace.now) }
+{
+    match command {
+        Command::Sim => {
+            let order = order_of(alloc, trace)?;
+            let text = report_text(alloc, trace, order.as_slice())?;
+            Ok(text)
+        }
+        Command::Digests => {
+            let text = digests_text(alloc, trace)?;
+            Ok(text)
+        }
     }
 }
 

@@ -1,46 +1,76 @@
-ghost use Rattle.std.specs.Prelude.{◌<◌};
-
-mod faults;
-mod runs;
+//! A source and a sink that see what each call moves.
 
 use super::*;
 use qu_base::List;
-use qu_io::{MemSink, MemSource};
-use std::alloc::{AllocError, Global};
+use qu_io::{Failed, MemSink, MemSource, Sink, Source};
+use std::alloc::Global;
+use std::test::Fail;
 
-/// The setup lines of one client.
-const ONE: &str = "bounds 1\nseed 7\nclients 1\nobject 0 counter\n";
+/// A source that records whether each read asked for a whole piece.
+#[derive(Drop)]
+struct Asked {
+    source: MemSource,
+    whole: bool,
+}
 
-fn words(alloc: Global, words: &[&str]) -> Result<Vec<String>, AllocError> {
-    let mut all = Vec::new(alloc);
-    for word in words {
-        all.push(String::from_str(alloc, word)?)?;
+impl Source for Asked {
+    ghost use Rattle.qu_io.specs.InMemory.{known_of};
+
+    ghost known = { λ asked. known_of asked.source };
+
+    fn read(&mut self, into: &mut [u8]) -> Result<usize, Failed> {
+        self.whole &= into.len() == PIECE;
+        self.source.read(into)
     }
-    Ok(all)
 }
 
-fn source(
-    alloc: Global,
-    script: &[u8],
-    largest: usize,
-    failing: &[u64],
-) -> Result<MemSource, AllocError>
-    requires { 0 < largest }
-{
+/// A sink that records whether each write offered all that was left of the first.
+#[derive(Drop)]
+struct Offered {
+    sink: MemSink,
+    left: Option<usize>,
+    whole: bool,
+}
+
+impl Sink for Offered {
+    ghost use Rattle.qu_io.specs.InMemory.{known_of};
+
+    ghost known = { λ offered. known_of offered.sink };
+
+    fn write(&mut self, piece: &[u8]) -> Result<usize, Failed> {
+        let left = self.left.unwrap_or(piece.len());
+        self.whole &= piece.len() == left;
+        let taken = self.sink.write(piece)?;
+        self.left = Some(left.saturating_sub(taken));
+        Ok(taken)
+    }
+}
+
+fn short_script(alloc: Global) -> Result<Asked, Fail> {
+    let script = b"bounds 1\nseed 7\nclients 1\nobject 0 counter\n".as_slice();
     let script = List::from(script.to_vec(alloc)?);
-    let failing = List::from(failing.to_vec(alloc)?);
-    Ok(MemSource::new(script, largest, failing))
+    Ok(Asked {
+        source: MemSource::new(script, 10, List::new(alloc)),
+        whole: true,
+    })
 }
 
-fn sink(alloc: Global, largest: usize, failing: &[u64]) -> Result<MemSink, AllocError> {
-    Ok(MemSink::new(alloc, largest, List::from(failing.to_vec(alloc)?)))
+fn small_sink(alloc: Global) -> Offered {
+    Offered {
+        sink: MemSink::new(alloc, 4, List::new(alloc)),
+        left: None,
+        whole: true,
+    }
 }
 
-/// What `qu sim` leaves of a script that is read and written in pieces.
-fn sim(alloc: Global, script: &[u8]) -> Result<(Report, MemSink), AllocError> {
-    let words = words(alloc, &["sim"])?;
-    let mut input = source(alloc, script, 7, &[])?;
-    let mut output = sink(alloc, 5, &[])?;
-    let report = qu(alloc, words.as_slice(), &mut input, &mut output);
-    Ok((report, output))
+#[test]
+fn each_call_moves_what_it_can(rt: HostRuntime) -> Result<(), Fail> {
+    let words = [String::from_str(rt.alloc(), "sim")?];
+    let mut input = short_script(rt.alloc())?;
+    let mut output = small_sink(rt.alloc());
+    let status = qu(rt.alloc(), &words, &mut input, &mut output).status;
+    assert!(rt; status == 0 && input.whole && output.whole);
+    assert!(rt; input.source.calls() == 6 && output.sink.calls() == 15);
+    assert!(rt; output.sink.taken().len() == 58);
+    Ok(())
 }

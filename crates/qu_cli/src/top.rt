@@ -4,20 +4,19 @@ ghost use Rattle.qu_cli.specs.Command.{command_of, usage_text};
 ghost use Rattle.qu_cli.specs.Transfer.{TakesFew, WritesOrFails};
 ghost use Rattle.qu_cli.specs.Ends.{EndsBad, EndsShort, EndsDone, HasOneHistory, IsTraced, IsRefused, IsComplete};
 
+use super::Report;
+use super::answering::answer;
 use super::command::{USAGE, read_command};
-use super::output::{NoOutput, Output, output_for};
-use super::writing::{tell_text, write_text};
-use super::{End, Report};
 use qu_io::{Sink, Source};
 use std::alloc::Global;
 
-/// Runs the program: what the words ask for, over the input, with all that it tells in the output.
+/// Runs the program `qu`: what the words ask for, over the input, with all that it tells in the output.
 ///
 /// The status is 0 where all went well, 2 for wrong words, 3 for a script that is refused, 4 for a
 /// fault of the input, 5 for one of the output, and 6 for want of memory. Any other status than 4 comes
 /// with no new fault of the input. At 0 and 5 the report has the trace of the run, whose operations have
 /// one history.
-#[tactic(auto, using(crate::proofs::EndFacts::end_laws), unfolding(crate::specs::Command::usage_text))]
+#[tactic(auto, using(crate::proofs::EndFacts::has_history), unfolding(crate::specs::Command::usage_text))]
 pub fn qu<S: Source, K: Sink>(
     alloc: Global,
     words: &[String],
@@ -48,20 +47,5 @@ pub fn qu<S: Source, K: Sink>(
     ensures complete { IsComplete (command_of (map string_bytes words.now)) (S.known input.old)
         (S.known input.new) (K.known output.old) (K.known output.new) result.trace result.status }
 {
-    let Some(command) = read_command(words) else {
-        tell_text(output, USAGE);
-        return Report::from(End::BadWords);
-    };
-    match output_for(alloc, command, input) {
-        Ok(Output::Report(trace, text)) => match write_text(output, text.as_slice()) {
-            Ok(()) => Report::with_trace(End::Done, trace),
-            Err(_) => Report::with_trace(End::WriteFault, trace),
-        },
-        Ok(Output::Refusal(line)) => {
-            tell_text(output, line.as_bytes());
-            Report::from(End::BadScript)
-        }
-        Err(NoOutput::ReadFault) => Report::from(End::ReadFault),
-        Err(NoOutput::NoMemory) => Report::from(End::NoMemory),
-    }
+    answer(alloc, read_command(words), USAGE, input, output)
 }

@@ -1,33 +1,10 @@
--- The answer to what was taken is the one to what the source held.
-use Rattle.std.proofs.Common.{◌∙◌, sym}
-use Rattle.qu_cli.proofs.EndFacts.{report_refused, report_complete, refusal_refused, refusal_complete}
+-- The one command of `qu` makes reports.
+use Rattle.qu_cli.proofs.EndFacts.{has_history}
 use Rattle.qu_cli.proofs.top.qu.Goals as goal
 
-pub returns-in-Ok-clause-refused : goal.returns-in-Ok-clause-refused
-returns-in-Ok-clause-refused g c =
-    report_refused _ _ _ _ _ _ c.in-Some.command c.in-Ok-Report.trace c.in-Ok-Report.text
-    (sym c.read_command.ensures ∙ c.in-Some.is) (rw c.in-Ok-Report.field-0-is at c.in-Ok-Report.ensures.outputs)
+pub returns-clause-headline : goal.returns-clause-headline
+returns-clause-headline g c =
+    has_history c.read_command.result c.answer.result.trace c.read_command.ensures.sim c.answer.ensures.known
 
-pub returns-in-Ok-clause-complete : goal.returns-in-Ok-clause-complete
-returns-in-Ok-clause-complete g c =
-    report_complete _ _ _ _ _ _ _ c.in-Some.command c.in-Ok-Report.trace c.in-Ok-Report.text
-    (sym c.read_command.ensures ∙ c.in-Some.is) (rw c.in-Ok-Report.field-0-is at c.in-Ok-Report.ensures.outputs)
-    c.with_trace.ensures.trace c.with_trace.ensures.status (rw c.as_slice.ensures at c.in-Ok.ensures.whole)
-
-pub returns-in-Ok-Report-clause-refused : goal.returns-in-Ok-Report-clause-refused
-returns-in-Ok-Report-clause-refused g c =
-    report_refused _ _ _ _ _ _ c.in-Some.command c.in-Ok-Report.trace c.in-Ok-Report.text
-    (sym c.read_command.ensures ∙ c.in-Some.is) (rw c.in-Ok-Report.field-0-is at c.in-Ok-Report.ensures.outputs)
-
-pub returns-in-Ok-Refusal-clause-refused : goal.returns-in-Ok-Refusal-clause-refused
-returns-in-Ok-Refusal-clause-refused g c =
-    let answers = rw c.in-Ok-Refusal.field-0-is at c.in-Ok-Refusal.ensures.outputs in
-    refusal_refused _ _ _ _ _ _ c.in-Some.command answers.script _ answers.output_is.bad
-    (sym c.read_command.ensures ∙ c.in-Some.is) answers.takes answers.output_is.refuses answers.output_is.tells
-    c.from-in-Ok-Refusal.ensures.0 (rw c.as_bytes.ensures.value at c.tell_text-in-Ok-Refusal.ensures)
-
-pub returns-in-Ok-Refusal-clause-complete : goal.returns-in-Ok-Refusal-clause-complete
-returns-in-Ok-Refusal-clause-complete g c =
-    let answers = rw c.in-Ok-Refusal.field-0-is at c.in-Ok-Refusal.ensures.outputs in
-    refusal_complete _ _ _ _ _ _ _ c.in-Some.command answers.script answers.output_is.bad
-    (sym c.read_command.ensures ∙ c.in-Some.is) answers.takes answers.output_is.refuses
+pub returns-clause-refused : goal.returns-clause-refused
+returns-clause-refused g c = rw c.read_command.ensures.value at c.answer.ensures.refused

@@ -1,0 +1,5 @@
+-- What was asked is what the words ask.
+use Rattle.qu_cli.proofs.letters.qu_letters.Goals as goal
+
+pub returns-clause-refused : goal.returns-clause-refused
+returns-clause-refused g c = rw c.read_letters_command.ensures at c.answer.ensures.refused

@@ -1,0 +1,64 @@
+ghost use Rattle.std.specs.Prelude.{◌≡◌, ◌≢◌, ◌≤◌, ◌↔◌, None, IfSome};
+ghost use Rattle.qu_io.specs.Known.{Rose, IsCalm};
+ghost use Rattle.qu_cli.specs.Transfer.{TakesFew, WritesOrFails};
+ghost use Rattle.qu_cli.specs.Ends.{EndsBad, EndsShort, EndsDone, IsKnown, IsTraced, IsRefused, IsComplete};
+
+use super::output::{NoOutput, Output, output_for};
+use super::writing::{tell_text, write_text};
+use super::{Command, End, Report};
+use qu_io::{Sink, Source};
+use std::alloc::Global;
+
+/// Does what a program was asked, over the input, with all that it tells in the output. Where it was asked
+/// nothing that it knows, it tells its usage.
+///
+/// The statuses are those of `qu`, with their causes.
+#[tactic(auto, using(crate::proofs::EndFacts::end_laws))]
+pub fn answer<S: Source, K: Sink>(
+    alloc: Global,
+    asked: Option<Command>,
+    usage: &[u8],
+    input: &mut S,
+    output: &mut K,
+) -> Report
+    ensures status { (result.status ≤ 6) × (result.status ≢ 1) }
+    ensures few { TakesFew (S.known input.old) (S.known input.new) }
+
+    ensures bad_words { (result.status ≡ 2) ↔ (asked ≡ None) }
+    ensures usage { result.status ≡ 2 → (input.new ≡ input.old)
+        × WritesOrFails (K.known output.old) (K.known output.new) usage.now }
+    ensures bad_script { result.status ≡ 3 → EndsBad asked
+        (S.known input.old) (S.known input.new) (K.known output.old) (K.known output.new) }
+    ensures read_fault { result.status ≡ 4 →
+        Rose (S.known input.old) (S.known input.new) × (output.new ≡ output.old) }
+    ensures calm { result.status ≢ 4 → IsCalm (S.known input.old) (S.known input.new) }
+    ensures write_fault { result.status ≡ 5 → EndsShort asked
+        (S.known input.old) (S.known input.new) (K.known output.old) (K.known output.new) result.trace }
+    ensures no_memory { result.status ≡ 6 → output.new ≡ output.old }
+    ensures done { result.status ≡ 0 → EndsDone asked
+        (S.known input.old) (S.known input.new) (K.known output.old) (K.known output.new) result.trace }
+    ensures traced { IsTraced result.trace result.status }
+    ensures known { IfSome result.trace (IsKnown asked) }
+
+    ensures refused { IsRefused asked (S.known input.old)
+        (S.known input.new) (K.known output.old) (K.known output.new) result.status }
+    ensures complete { IsComplete asked (S.known input.old)
+        (S.known input.new) (K.known output.old) (K.known output.new) result.trace result.status }
+{
+    let Some(command) = asked else {
+        tell_text(output, usage);
+        return Report::from(End::BadWords);
+    };
+    match output_for(alloc, command, input) {
+        Ok(Output::Report(trace, text)) => match write_text(output, text.as_slice()) {
+            Ok(()) => Report::with_trace(End::Done, trace),
+            Err(_) => Report::with_trace(End::WriteFault, trace),
+        },
+        Ok(Output::Refusal(line)) => {
+            tell_text(output, line.as_bytes());
+            Report::from(End::BadScript)
+        }
+        Err(NoOutput::ReadFault) => Report::from(End::ReadFault),
+        Err(NoOutput::NoMemory) => Report::from(End::NoMemory),
+    }
+}

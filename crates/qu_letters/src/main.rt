@@ -1,0 +1,27 @@
+//! The program `qu-letters`: its words, its standard input and its standard output.
+#![tactic(auto)]
+
+use qu_cli::qu_letters;
+use qu_io::{StdSink, StdSource};
+use std::env;
+use std::process::ExitCode;
+use std::rt::Env;
+
+fn main(rt: HostRuntime) -> ExitCode {
+    let words = words(&rt);
+    let mut input = StdSource::new(rt.stdin());
+    let mut output = StdSink::new(rt.stdout());
+    let report = qu_letters(rt.alloc(), words.as_slice(), &mut input, &mut output);
+    ExitCode::from(report.status)
+}
+
+/// The words behind the program's name. Where they cannot be had there are none, and so they are wrong.
+fn words(rt: &(impl Env + AllocGlobal)) -> Vec<String> {
+    let Ok(args) = env::args(rt) else {
+        return Vec::new(rt.alloc());
+    };
+    match args.skip(1).collect(rt.alloc()) {
+        Ok(words) => words,
+        Err(_) => Vec::new(rt.alloc()),
+    }
+}
