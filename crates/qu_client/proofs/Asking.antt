@@ -8,15 +8,15 @@ use Rattle.qu_base.specs.declared.party.ObjectId.{ObjectId}
 use Rattle.qu_base.specs.declared.party.Digest.{Digest}
 use Rattle.qu_base.specs.declared.party.Party.{Party}
 use Rattle.qu_base.specs.declared.party.Party.TheVariants as party
-use Rattle.qu_base.specs.Thresholds.{replicas}
+use Rattle.qu_base.specs.Bounds.{replicas}
 use Rattle.qu_seal.specs.Keys.{Ring, seal_of}
 use Rattle.qu_history.specs.declared.sets.SetOf.{SetOf}
 use Rattle.qu_history.specs.declared.sealed.Sealed.{Sealed}
 use Rattle.qu_history.specs.Sets.{histories, are_entries, are_sets_from, are_sets}
 use Rattle.qu_objects.specs.Parts.{are_parts}
 use Rattle.qu_frames.specs.declared.frame.Letter.{Letter}
-use Rattle.qu_frames.specs.Forms.{frame_form}
-use Rattle.qu_frames.specs.Signed.{before_mac, text_digest, signed}
+use Rattle.qu_frames.specs.Formats.{frame_form}
+use Rattle.qu_frames.specs.Signing.{before_mac, text_digest, signed}
 use Rattle.qu_client.specs.declared.kept.Kept.{Kept}
 use Rattle.qu_client.specs.declared.work.Work.{Work}
 use Rattle.qu_client.specs.State.{kept_of}

@@ -3,7 +3,7 @@ use Rattle.std.proofs.Common.{◌≡◌, ℕ, ◌+◌, ◌<◌, ◌≤◌, Bool,
 use Rattle.std.proofs.lemmas.Bool.{cond_both, leb-false, leb-true, and_parts}
 use Rattle.qu_base.specs.declared.party.Party.TheVariants as party
 use Rattle.qu_base.specs.declared.party.ReplicaId.{ReplicaId}
-use Rattle.qu_base.specs.Thresholds.{quorum}
+use Rattle.qu_base.specs.Bounds.{quorum}
 use Rattle.qu_objects.specs.declared.answer.Answer.{Answer}
 use Rattle.qu_objects.specs.declared.op.Op.{Op}
 use Rattle.qu_objects.specs.declared.op.Outcome.{Outcome}
@@ -12,31 +12,31 @@ use Rattle.qu_frames.specs.declared.frame.Frame.{Frame}
 use Rattle.qu_frames.specs.declared.frame.Frame.TheVariants as frame
 use Rattle.qu_frames.specs.declared.frame.Letter.{Letter}
 use Rattle.qu_frames.specs.declared.verdict.Verdict.{Verdict}
-use Rattle.qu_frames.specs.Signed.{brought}
+use Rattle.qu_frames.specs.Signing.{brought}
 use Rattle.qu_client.specs.declared.kept.Kept.{Kept}
 use Rattle.qu_client.specs.declared.work.Counted.{Counted}
 use Rattle.qu_client.specs.declared.work.Work.{Work}
 use Rattle.qu_frames.specs.declared.limits.TheConstants.{LAST_ROUND}
 use Rattle.qu_client.specs.State.{ClientState, keep_all}
 use Rattle.qu_client.specs.Rounds.{sets_of, are_full, asked, halted, begin_round}
-use Rattle.qu_client.specs.Step.{Stepped, stays, goes_on, ends, fitting, identical, next_round, judged, is_asking, counts, counted_in, on_frame, on_received, client_step, client_invoke, first_work, next_number}
+use Rattle.qu_client.specs.Steps.{Stepped, stays, goes_on, ends, fitting, identical, next_round, judged, is_asking, counts, counted_in, on_frame, on_received, client_step, client_invoke, first_work, next_number}
 
 cond_by : {A : Type 0} (P : A → Type 0) (b : Bool) (x y : A) → P x → P y → P (cond b x y)
 cond_by P b x y first second = cond_both b x y P (λ _. first) (λ _. second)
 
 -- a round that begins asks all replicas, or nothing is sent
 pub begin_cases : (state : ClientState) (work : Work) (P : ClientState × List Letter → Type 0)
-    → ((acted : Bool) → P (asked state (record work { acted = acted }) (sets_of state.bounds state.kept work.op)))
+    → ((acted : Bool) → P (asked state (record work { acted = acted }) (sets_of state.keys.bounds state.kept work.op)))
     → P (halted state work) → P (begin_round state work)
 begin_cases state work P asks halts =
-    let sets = sets_of state.bounds state.kept work.op in
-    cond_by P (are_full state.bounds sets) _ _ (cond_by P _ _ _ (asks true) halts) (asks work.acted)
+    let sets = sets_of state.keys.bounds state.kept work.op in
+    cond_by P (are_full state.keys.bounds sets) _ _ (cond_by P _ _ _ (asks true) halts) (asks work.acted)
 
 -- a round that ended gives way to the next one, unless it was the last
 module _ (state : ClientState) (work : Work) (P : Stepped → Type 0)
     (asks : (acted : Bool) → work.round < LAST_ROUND
     → P (goes_on (asked state (record work { round = work.round + 1; acted = acted })
-    (sets_of state.bounds state.kept work.op))))
+    (sets_of state.keys.bounds state.kept work.op))))
     (halts : work.round < LAST_ROUND → P (goes_on (halted state (record work { round = work.round + 1 }))))
     (stops : LAST_ROUND ≤ work.round → P (ends state outcome.GaveUp)) where
   next_cases : P (next_round state work)
@@ -48,11 +48,11 @@ module _ (state : ClientState) (work : Work) (P : Stepped → Type 0)
       (λ acted. asks acted below) (halts below))
 
   judged_cases : P (stays (record state { work = Some work })) → (verdict : Verdict) (found : Option Answer)
-      → ((answer : Answer) → found ≡ Some answer → quorum state.bounds ≤ identical verdict work.replies
+      → ((answer : Answer) → found ≡ Some answer → quorum state.keys.bounds ≤ identical verdict work.replies
       → P (ends state (outcome.Done answer))) → P (judged state work verdict found)
   judged_cases waits verdict None agrees = cond_by P _ _ _ next_cases waits
   judged_cases waits verdict (Some answer) agrees =
-      cond_both (leb (quorum state.bounds) (identical verdict work.replies)) _ _ P
+      cond_both (leb (quorum state.keys.bounds) (identical verdict work.replies)) _ _ P
       (λ enough. agrees answer refl (leb-true _ _ enough))
       (λ _. cond_by P _ _ _ next_cases waits)
 
@@ -68,7 +68,7 @@ module _ (state : ClientState) (replica : ReplicaId) (number round : ℕ) (verdi
     (waits : (work : Work) → state.work ≡ Some work → counts work replica number round ≡ true
     → P (stays (record state { work = Some (with_verdict work replica verdict) })))
     (agrees : (work : Work) (answer : Answer) → state.work ≡ Some work → counts work replica number round ≡ true
-    → fitting work.op verdict ≡ Some answer → quorum state.bounds ≤ identical verdict
+    → fitting work.op verdict ≡ Some answer → quorum state.keys.bounds ≤ identical verdict
     (with_verdict work replica verdict).replies → P (ends state (outcome.Done answer)))
     (gives_up : (work : Work) → state.work ≡ Some work → counts work replica number round ≡ true
     → LAST_ROUND ≤ work.round → P (ends state outcome.GaveUp))
@@ -76,7 +76,7 @@ module _ (state : ClientState) (replica : ReplicaId) (number round : ℕ) (verdi
     → work.round < LAST_ROUND
     → P (goes_on (asked state
     (record (with_verdict work replica verdict) { round = work.round + 1; acted = acted })
-    (sets_of state.bounds state.kept work.op))))
+    (sets_of state.keys.bounds state.kept work.op))))
     (halts : (work : Work) → state.work ≡ Some work → counts work replica number round ≡ true
     → work.round < LAST_ROUND
     → P (goes_on (halted state (record (with_verdict work replica verdict) { round = work.round + 1 })))) where
@@ -105,7 +105,7 @@ module _ (state : ClientState) (P : Stepped → Type 0)
     → is_asking work.phase ≡ true → work.round < LAST_ROUND
     → P (goes_on (asked (record state { kept = kept })
     (record work { round = work.round + 1; acted = acted; replies = replies })
-    (sets_of state.bounds kept work.op))))
+    (sets_of state.keys.bounds kept work.op))))
     (halts : (kept : List Kept) (work : Work) (replies : List Counted) → state.work ≡ Some work
     → is_asking work.phase ≡ true → work.round < LAST_ROUND
     → P (goes_on (halted (record state { kept = kept })
@@ -136,7 +136,7 @@ module _ (state : ClientState) (P : Stepped → Type 0)
 pub invoke_cases : (state : ClientState) (op : Op) (P : Stepped → Type 0)
     → ((acted : Bool)
     → P (goes_on (asked state (record (first_work op (next_number state.last_request)) { acted = acted })
-    (sets_of state.bounds state.kept op))))
+    (sets_of state.keys.bounds state.kept op))))
     → P (goes_on (halted state (first_work op (next_number state.last_request)))) → P (client_invoke state op)
 invoke_cases state op P asks halts =
     begin_cases state (first_work op (next_number state.last_request)) (λ begun. P (goes_on begun)) asks halts

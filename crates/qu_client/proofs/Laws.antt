@@ -1,5 +1,5 @@
 -- What holds of every step of a client.
-use Rattle.std.proofs.Common.{◌≡◌, ℕ, zero, suc, ◌+◌, ◌-◌, ◌^◌, ◌<◌, ◌≤◌, ◌≢◌, eqb, true, false, get_or, List, [], length, Option, None, Some, IfSome, refl, sym, ap, subst, arith}
+use Rattle.std.proofs.Common.{◌≡◌, ℕ, zero, suc, ◌+◌, ◌-◌, ◌^◌, ◌<◌, ◌≤◌, ◌≢◌, eqb, true, false, get_or, List, [], length, Option, None, Some, IfSome, refl, ap, subst, arith}
 use Rattle.std.specs.List.{All, AllPairs, list_any}
 use Rattle.std.proofs.lemmas.Bool.{false≢true, both_ways, not-true, and_parts, eq-eqb}
 use Rattle.std.proofs.lemmas.List.Folds.{list_any_at}
@@ -7,7 +7,6 @@ use Rattle.std.proofs.lemmas.List.Quantifiers.{all_pairs_push}
 use Rattle.std.proofs.lemmas.List.Elements.{All-nil, All-cons}
 use Rattle.qu_base.specs.declared.party.ClientId.{ClientId}
 use Rattle.qu_base.specs.declared.party.ReplicaId.{ReplicaId}
-use Rattle.qu_base.specs.Thresholds.{replicas}
 use Rattle.qu_seal.specs.Keys.{Ring}
 use Rattle.qu_history.specs.declared.sets.SetOf.{SetOf}
 use Rattle.qu_objects.specs.declared.op.Op.{Op}
@@ -16,8 +15,8 @@ use Rattle.qu_client.specs.declared.work.Counted.{Counted}
 use Rattle.qu_client.specs.declared.work.Work.{Work}
 use Rattle.qu_client.specs.State.{ClientState, opening_state}
 use Rattle.qu_client.specs.Rounds.{requests_from}
-use Rattle.qu_client.specs.Step.{client_step, client_invoke, client_tick, next_number, is_asking, counts}
-use Rattle.qu_client.specs.Sound.{NumbersWithin, IsSoundWork, IsSound, last_number, IsFromTo}
+use Rattle.qu_client.specs.Steps.{client_step, client_invoke, client_tick, next_number, is_asking, counts}
+use Rattle.qu_client.specs.Sound.{NumbersWithin, IsSoundWork, IsSound, IsFromTo}
 use Rattle.qu_client.proofs.Cases.{with_verdict, step_cases, invoke_cases}
 
 fits_by : (most : ℕ) (last : Option (ℕ × ℕ)) → IfSome last (λ last. last.0 ≤ most) → most < 2 ^ 64 - 1
@@ -29,26 +28,31 @@ fits_by most (Some last) within few = omega arith
 
 pub client_step-me : (state : ClientState) (text : List ℕ) → (client_step state text).state.me ≡ state.me
 client_step-me state text =
-    step_cases state (λ stepped. stepped.state.me ≡ state.me) refl (λ _. refl) (λ _ _ _ _ _ _ _ _. refl)
+    step_cases state (λ stepped. stepped.state.me ≡ state.me) refl (λ _. refl)
+    (λ _ _ _ _ _ _ _ _. refl)
     (λ _ _. refl) (λ _ _ _ _ _ _ _. refl) (λ _ _ _ _ _ _. refl) text
 
-pub client_step-bounds : (state : ClientState) (text : List ℕ) → (client_step state text).state.bounds ≡ state.bounds
+pub client_step-bounds : (state : ClientState) (text : List ℕ)
+    → (client_step state text).state.keys.bounds ≡ state.keys.bounds
 client_step-bounds state text =
-    step_cases state (λ stepped. stepped.state.bounds ≡ state.bounds) refl (λ _. refl) (λ _ _ _ _ _ _ _ _. refl)
+    step_cases state (λ stepped. stepped.state.keys.bounds ≡ state.keys.bounds) refl (λ _. refl)
+    (λ _ _ _ _ _ _ _ _. refl)
     (λ _ _. refl) (λ _ _ _ _ _ _ _. refl) (λ _ _ _ _ _ _. refl) text
 
 pub client_step-keys : (state : ClientState) (text : List ℕ) → (client_step state text).state.keys ≡ state.keys
 client_step-keys state text =
-    step_cases state (λ stepped. stepped.state.keys ≡ state.keys) refl (λ _. refl) (λ _ _ _ _ _ _ _ _. refl)
+    step_cases state (λ stepped. stepped.state.keys ≡ state.keys) refl (λ _. refl)
+    (λ _ _ _ _ _ _ _ _. refl)
     (λ _ _. refl) (λ _ _ _ _ _ _ _. refl) (λ _ _ _ _ _ _. refl) text
 
 pub client_invoke-me : (state : ClientState) (op : Op) → (client_invoke state op).state.me ≡ state.me
 client_invoke-me state op =
     invoke_cases state op (λ stepped. stepped.state.me ≡ state.me) (λ _. refl) refl
 
-pub client_invoke-bounds : (state : ClientState) (op : Op) → (client_invoke state op).state.bounds ≡ state.bounds
+pub client_invoke-bounds : (state : ClientState) (op : Op)
+    → (client_invoke state op).state.keys.bounds ≡ state.keys.bounds
 client_invoke-bounds state op =
-    invoke_cases state op (λ stepped. stepped.state.bounds ≡ state.bounds) (λ _. refl) refl
+    invoke_cases state op (λ stepped. stepped.state.keys.bounds ≡ state.keys.bounds) (λ _. refl) refl
 
 pub client_invoke-keys : (state : ClientState) (op : Op) → (client_invoke state op).state.keys ≡ state.keys
 client_invoke-keys state op =
@@ -56,8 +60,8 @@ client_invoke-keys state op =
 
 -- numbers are at most the number of invocations so far
 
-pub NumbersWithin-opening : (me : ClientId) (keys : Ring) (bounds : ℕ) → NumbersWithin 0 (opening_state me keys bounds)
-NumbersWithin-opening me keys bounds = record { last = tt; work = tt }
+pub NumbersWithin-opening : (me : ClientId) (keys : Ring) → NumbersWithin 0 (opening_state me keys)
+NumbersWithin-opening me keys = record { last = tt; work = tt }
 
 pub work_within : (most : ℕ) (state : ClientState) (work : Work) → NumbersWithin most state
     → state.work ≡ Some work → work.number ≤ most
@@ -110,8 +114,8 @@ may_invoke most state within few = fits_by most state.last_request within.last f
 
 -- a client stays sound
 
-pub IsSound-opening : (me : ClientId) (keys : Ring) (bounds : ℕ) → IsSound (opening_state me keys bounds)
-IsSound-opening me keys bounds = tt
+pub IsSound-opening : (me : ClientId) (keys : Ring) → IsSound (opening_state me keys)
+IsSound-opening me keys = tt
 
 pub sound_work : (state : ClientState) (work : Work) → IsSound state → state.work ≡ Some work
     → IsSoundWork state.last_request work
@@ -183,25 +187,6 @@ IsSound-invoke state op =
 
 -- the number of the last request changes only in an invocation, and then rises by one at most
 
-pub client_step-last_number : (state : ClientState) (text : List ℕ) → IsSound state
-    → last_number (client_step state text).state.last_request ≡ last_number state.last_request
-client_step-last_number state text sound =
-    step_cases state (λ stepped. last_number stepped.state.last_request ≡ last_number state.last_request)
-    refl (λ _. refl) (λ _ _ _ _ _ _ _ _. refl) (λ _ _. refl)
-    (λ kept work replies acted is asking below. sym (ap last_number ((sound_work state work sound is).asked asking)))
-    (λ _ _ _ _ _ _. refl)
-    text
-
-next_above : (last : Option (ℕ × ℕ)) → next_number last ≤ last_number last + 1
-next_above None = omega arith
-next_above (Some last) = omega arith
-
-pub client_invoke-last_number : (state : ClientState) (op : Op)
-    → last_number (client_invoke state op).state.last_request ≤ last_number state.last_request + 1
-client_invoke-last_number state op =
-    invoke_cases state op (λ stepped. last_number stepped.state.last_request ≤ last_number state.last_request + 1)
-    (λ acted. next_above state.last_request) (omega arith)
-
 -- a step sends at most one letter to each replica, and no other
 
 length-requests_from : (keys : Ring) (count replica : ℕ) (me : ClientId) (work : Work) (sets : List SetOf)
@@ -218,36 +203,3 @@ requests_from-to keys zero replica all me work sets within = All-nil (IsFromTo m
 requests_from-to keys (suc count) replica all me work sets within =
     All-cons (IsFromTo me all) _ _ (record { replica = replica; among = omega arith; from = refl; to = refl })
     (requests_from-to keys count (replica + 1) all me work sets (omega arith))
-
-pub client_step-letters : (state : ClientState) (text : List ℕ) → All (IsFromTo state.me (replicas state.bounds))
-    (client_step state text).letters
-client_step-letters state text =
-    let none = All-nil (IsFromTo state.me (replicas state.bounds)) in
-    step_cases state (λ stepped. All (IsFromTo state.me (replicas state.bounds)) stepped.letters)
-    none (λ _. none) (λ _ _ _ _ _ _ _ _. none) (λ _ _. none)
-    (λ kept work replies acted is asking below. requests_from-to state.keys (replicas state.bounds) 0
-    (replicas state.bounds) state.me _ _ (omega arith))
-    (λ _ _ _ _ _ _. none)
-    text
-
-pub client_step-few : (state : ClientState) (text : List ℕ) → length (client_step state text).letters ≤ replicas
-    state.bounds
-client_step-few state text =
-    step_cases state (λ stepped. length stepped.letters ≤ replicas state.bounds)
-    (omega arith) (λ _. omega arith) (λ _ _ _ _ _ _ _ _. omega arith) (λ _ _. omega arith)
-    (λ kept work replies acted is asking below. omega (arith, length-requests_from))
-    (λ _ _ _ _ _ _. omega arith)
-    text
-
-pub client_invoke-letters : (state : ClientState) (op : Op) → All (IsFromTo state.me (replicas state.bounds))
-    (client_invoke state op).letters
-client_invoke-letters state op =
-    invoke_cases state op (λ stepped. All (IsFromTo state.me (replicas state.bounds)) stepped.letters)
-    (λ acted. requests_from-to state.keys (replicas state.bounds) 0 (replicas state.bounds) state.me _ _ (omega arith))
-    (All-nil (IsFromTo state.me (replicas state.bounds)))
-
-pub client_invoke-few : (state : ClientState) (op : Op) → length (client_invoke state op).letters ≤ replicas
-    state.bounds
-client_invoke-few state op =
-    invoke_cases state op (λ stepped. length stepped.letters ≤ replicas state.bounds)
-    (λ acted. omega (arith, length-requests_from)) (omega arith)

@@ -1,4 +1,4 @@
 pub mod State
 pub mod Rounds
-pub mod Step
+pub mod Steps
 pub mod Sound

@@ -5,7 +5,7 @@ use Rattle.qu_base.specs.declared.limits.TheConstants.{OBJECT_IDS}
 use Rattle.qu_base.specs.declared.party.ClientId.{ClientId}
 use Rattle.qu_base.specs.declared.party.ObjectId.{ObjectId}
 use Rattle.qu_base.specs.declared.party.Party.TheVariants as party
-use Rattle.qu_base.specs.Thresholds.{replicas, quorum}
+use Rattle.qu_base.specs.Bounds.{replicas, quorum}
 use Rattle.qu_seal.specs.Keys.{Ring}
 use Rattle.qu_history.specs.declared.sets.SetOf.{SetOf}
 use Rattle.qu_history.specs.declared.sealed.Sealed.{Sealed}
@@ -17,7 +17,7 @@ use Rattle.qu_frames.specs.declared.frame.Frame.TheVariants as frame
 use Rattle.qu_frames.specs.declared.frame.Letter.{Letter}
 use Rattle.qu_frames.specs.Body.{body_of}
 use Rattle.qu_frames.specs.Blank.{blank_mac}
-use Rattle.qu_frames.specs.Signed.{signed}
+use Rattle.qu_frames.specs.Signing.{signed}
 use Rattle.qu_client.specs.declared.kept.Kept.{Kept}
 use Rattle.qu_client.specs.declared.state.Begun.{Begun}
 use Rattle.qu_client.specs.declared.work.Phase.TheVariants.{Asking, Halted}
@@ -89,7 +89,7 @@ asked state work sets = (
     last_request = Some (work.number, work.round);
     work = Some (record work { phase = Asking; replies = [] });
   },
-  requests_from state.keys 0 (replicas state.bounds) state.me work sets,
+  requests_from state.keys 0 (replicas state.keys.bounds) state.me work sets,
 )
 
 -- nothing is sent, and the operation stays open
@@ -100,12 +100,12 @@ halted state work = (record state { work = Some (record work { phase = Halted; r
 -- act only once
 abbrev pub begin_full : ClientState → Work → List SetOf → ClientState × List Letter
 begin_full state work sets =
-    if are_current state.bounds sets && not (is_act work.op && work.acted)
+    if are_current state.keys.bounds sets && not (is_act work.op && work.acted)
     then asked state (record work { acted = true }) sets
     else halted state work
 
 -- a round begins from what is kept; where that is less than a quorum, the replicas' answers show more
 abbrev pub begin_round : ClientState → Work → ClientState × List Letter
 begin_round state work =
-    let sets = sets_of state.bounds state.kept work.op in
-    if are_full state.bounds sets then begin_full state work sets else asked state work sets
+    let sets = sets_of state.keys.bounds state.kept work.op in
+    if are_full state.keys.bounds sets then begin_full state work sets else asked state work sets

@@ -8,7 +8,7 @@ use Rattle.qu_frames.specs.declared.limits.TheConstants.{LAST_ROUND}
 use Rattle.qu_client.specs.declared.work.Counted.{Counted}
 use Rattle.qu_client.specs.declared.work.Work.{Work}
 use Rattle.qu_client.specs.State.{ClientState}
-use Rattle.qu_client.specs.Step.{is_asking}
+use Rattle.qu_client.specs.Steps.{is_asking}
 
 -- the number of the last request and that of the operation under way are at most this one
 pub record NumbersWithin (most : ℕ) (state : ClientState) : Type 0 where

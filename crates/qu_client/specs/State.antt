@@ -8,9 +8,9 @@ use Rattle.qu_history.specs.declared.sealed.Sealed.{Sealed}
 use Rattle.qu_client.specs.declared.kept.Kept.{Kept}
 pub use Rattle.qu_client.specs.declared.state.ClientState.{ClientState}
 
-abbrev pub opening_state : ClientId → Ring → ℕ → ClientState
-opening_state me keys bounds =
-    record { me = me; keys = keys; bounds = bounds; kept = []; last_request = None; work = None }
+abbrev pub opening_state : ClientId → Ring → ClientState
+opening_state me keys =
+    record { me = me; keys = keys; kept = []; last_request = None; work = None }
 
 -- an answer to this number and round is older than an answer to that one
 abbrev pub is_older : ℕ → ℕ → ℕ → ℕ → Bool

@@ -1,6 +1,6 @@
 ghost use Rattle.std.specs.Prelude.{◌≡◌, ◌<◌, ◌-◌, ◌^◌, ◌↔◌, Err, None, IsTrue, IsSome, IfOk, OnOk, OnErr, IfSome, option_map, []};
 ghost use Rattle.qu_client.specs.State.{opening_state};
-ghost use Rattle.qu_client.specs.Step.{client_invoke, client_step, on_frame, client_tick, next_number};
+ghost use Rattle.qu_client.specs.Steps.{client_invoke, client_step, on_frame, client_tick, next_number};
 
 use super::rounds::begin_round;
 use super::state::shown_to;
@@ -83,15 +83,14 @@ impl Model for Client {
 
 impl Client {
     /// A client that was sent nothing yet.
-    pub fn start(alloc: Global, me: ClientId, keys: KeyRing, bounds: Bounds) -> Client
-        ensures { result ≡ opening_state me keys bounds }
+    pub fn start(alloc: Global, me: ClientId, keys: KeyRing) -> Client
+        ensures { result ≡ opening_state me keys }
     {
         Client {
             alloc,
             state: ClientState {
                 me,
                 keys,
-                bounds,
                 kept: List::new(alloc),
                 last_request: None,
                 work: None,

@@ -1,5 +1,5 @@
 ghost use Rattle.std.specs.Prelude.{◌≡◌, IfOk};
-ghost use Rattle.qu_frames.specs.Forms.{frame_form};
+ghost use Rattle.qu_frames.specs.Formats.{frame_form};
 ghost use Rattle.qu_client.specs.Rounds.{is_act, request_of, requests_from, begun_from, asked, halted, begin_full, begin_round};
 
 use super::sets::{are_current, are_full, sets_of};
@@ -16,8 +16,8 @@ use std::alloc::Global;
 pub fn begin_round(alloc: Global, state: &ClientState, work: Work) -> Result<Begun, NoMemory>
     ensures { IfOk result (λ begun. begun_from state.now begun ≡ begin_round state.now work) }
 {
-    let sets = sets_of(alloc, state.bounds, state.kept.as_slice(), &work.op)?;
-    if are_full(state.bounds, &sets) {
+    let sets = sets_of(alloc, state.keys.bounds(), state.kept.as_slice(), &work.op)?;
+    if are_full(state.keys.bounds(), &sets) {
         begin_full(alloc, state, work, &sets)
     } else {
         asked(alloc, state, work, &sets)
@@ -35,7 +35,7 @@ fn begin_full(
     ensures { IfOk result (λ begun. begun_from state.now begun ≡ begin_full state.now work sets.now) }
 {
     let sent_before = is_act(&work.op) && work.acted;
-    if are_current(state.bounds, sets) && !sent_before {
+    if are_current(state.keys.bounds(), sets) && !sent_before {
         work.acted = true;
         asked(alloc, state, work, sets)
     } else {
@@ -47,7 +47,14 @@ fn begin_full(
 fn asked(alloc: Global, state: &ClientState, mut work: Work, sets: &Sets) -> Result<Begun, NoMemory>
     ensures { IfOk result (λ begun. begun_from state.now begun ≡ asked state.now work sets.now) }
 {
-    let letters = requests(alloc, &state.keys, state.me, state.bounds.n(), &work, sets)?;
+    let letters = requests(
+        alloc,
+        &state.keys,
+        state.me,
+        state.keys.bounds().n(),
+        &work,
+        sets,
+    )?;
     work.phase = Phase::Asking;
     work.replies = List::new(alloc);
     Ok(Begun {

@@ -3,7 +3,7 @@ ghost use Rattle.qu_client.specs.State.{keep_all};
 
 use super::kept::keep_all;
 use super::{Kept, Work};
-use qu_base::{Bounds, ClientId, List, NoMemory};
+use qu_base::{ClientId, List, NoMemory};
 use qu_frames::Letter;
 use qu_history::Sealed;
 use qu_objects::Outcome;
@@ -15,7 +15,6 @@ use std::alloc::Global;
 pub struct ClientState {
     pub me: ClientId,
     pub keys: KeyRing,
-    pub bounds: Bounds,
     /// Of each object and replica the newest history that it was sent.
     pub kept: List<Kept>,
     /// Number and round of the last request.
@@ -59,7 +58,6 @@ pub fn shown_to(
     Ok(ClientState {
         me: state.me,
         keys: state.keys,
-        bounds: state.bounds,
         kept,
         last_request: state.last_request,
         work,

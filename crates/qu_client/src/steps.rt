@@ -1,5 +1,5 @@
 ghost use Rattle.std.specs.Prelude.{◌≡◌, IfOk};
-ghost use Rattle.qu_client.specs.Step.{stays, goes_on, ends, fitting, judged, next_round, counted_in};
+ghost use Rattle.qu_client.specs.Steps.{stays, goes_on, ends, fitting, judged, next_round, counted_in};
 ghost use Rattle.qu_client.specs.Rounds.{begin_round};
 
 use super::rounds::begin_round;
@@ -47,12 +47,12 @@ fn judged(
     ensures { IfOk result (λ stepped. stepped ≡ judged state work verdict.now (fitting work.op verdict.now)) }
 {
     if let Some(answer) = fitting(&work.op, verdict) {
-        if identical(verdict, work.replies.as_slice()) >= usize::from(state.bounds.q()) {
+        if identical(verdict, work.replies.as_slice()) >= usize::from(state.keys.bounds().q()) {
             let answer = answer.copy(alloc)?;
             return Ok(ends(alloc, state, Outcome::Done(answer)));
         }
     }
-    if is_hopeless(state.bounds, &work.op, work.replies.as_slice()) {
+    if is_hopeless(state.keys.bounds(), &work.op, work.replies.as_slice()) {
         next_round(alloc, state, work)
     } else {
         state.work = Some(work);

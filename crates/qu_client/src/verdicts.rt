@@ -1,6 +1,6 @@
 ghost use Rattle.std.specs.Prelude.{◌≡◌, ◌≤◌, length};
 ghost use Rattle.std.specs.Option.{option_copied};
-ghost use Rattle.qu_client.specs.Step.{fitting, fits, identical, best_of, is_hopeless};
+ghost use Rattle.qu_client.specs.Steps.{fitting, fits, identical, best_of, is_hopeless};
 
 use super::Counted;
 use qu_base::Bounds;
@@ -19,7 +19,7 @@ pub fn fitting<'v>(op: &Op, verdict: &'v Verdict) -> Option<&'v Answer>
 }
 
 /// How many verdicts are identical to this one.
-#[tactic(auto, unfolding(crate::specs::Step::identical))]
+#[tactic(auto, unfolding(crate::specs::Steps::identical))]
 pub fn identical(verdict: &Verdict, replies: &[Counted]) -> usize
     ensures value { result ≡ identical verdict.now replies.now }
     ensures most { result ≤ length replies.now }
@@ -40,7 +40,7 @@ pub fn is_hopeless(bounds: Bounds, op: &Op, replies: &[Counted]) -> bool
 }
 
 /// The greatest number of identical verdicts that fit.
-#[tactic(auto, unfolding(crate::specs::Step::best_of))]
+#[tactic(auto, unfolding(crate::specs::Steps::best_of))]
 fn best_of(op: &Op, replies: &[Counted]) -> usize
     ensures value { result ≡ best_of op.now replies.now replies.now }
     ensures most { result ≤ length replies.now }

@@ -50,7 +50,7 @@ impl Counted {
 }
 
 impl Phase {
-    ghost use Rattle.qu_client.specs.Step.{is_asking};
+    ghost use Rattle.qu_client.specs.Steps.{is_asking};
 
     /// Whether verdicts are counted.
     fn is_asking(self) -> bool
@@ -64,7 +64,7 @@ impl Phase {
 }
 
 impl Work {
-    ghost use Rattle.qu_client.specs.Step.{counts, first_work};
+    ghost use Rattle.qu_client.specs.Steps.{counts, first_work};
 
     /// An operation in its first round.
     pub fn new(alloc: Global, op: Op, number: u64) -> Work

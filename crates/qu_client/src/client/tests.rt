@@ -7,7 +7,7 @@ use std::test::Fail;
 fn an_operation_asks_all_replicas(rt: HostRuntime) -> Result<(), Fail> {
     let bounds = Bounds::new(1)?;
     let keys = KeyRing::derive(7, &bounds, 1);
-    let mut client = Client::start(rt.alloc(), ClientId(1), keys, bounds);
+    let mut client = Client::start(rt.alloc(), ClientId(1), keys);
     assert_eq!(rt; (client.busy(), client.working_on()), (false, None));
     let query = Query::new(List::one(rt.alloc(), (ObjectId(0), Ask::Read))?)?;
     let letters = client.invoke(Op::Query(query))?;

@@ -1,5 +1,5 @@
 use Rattle.std.proofs.Common.{ℕ, List, arith, ap, ◌∙◌, ◌++◌}
-use Rattle.qu_frames.specs.Signed.{before_mac, text_digest}
+use Rattle.qu_frames.specs.Signing.{before_mac, text_digest}
 use Rattle.qu_client.proofs.Asking.{requests_from_more, requests_from_end}
 use Rattle.qu_client.proofs.rounds.requests.Goals as goal
 

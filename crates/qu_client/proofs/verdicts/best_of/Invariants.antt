@@ -1,5 +1,5 @@
 use Rattle.std.proofs.Common.{◌≡◌, ◌≤◌, length, drop, max}
-use Rattle.qu_client.specs.Step.{best_of}
+use Rattle.qu_client.specs.Steps.{best_of}
 use Rattle.qu_client.proofs.verdicts.best_of.Given as goal
 
 abbrev pub invariant-loop-counted : goal.invariant-loop-counted

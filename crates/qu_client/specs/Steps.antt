@@ -4,7 +4,7 @@ use Rattle.std.specs.Prelude.{ℕ, Bool, true, false, not, ◌+◌, ◌-◌, ◌
 use Rattle.std.specs.List.{list_any}
 use Rattle.qu_base.specs.declared.party.Party.TheVariants as party
 use Rattle.qu_base.specs.declared.party.ReplicaId.{ReplicaId}
-use Rattle.qu_base.specs.Thresholds.{replicas, quorum}
+use Rattle.qu_base.specs.Bounds.{replicas, quorum}
 use Rattle.qu_objects.specs.declared.answer.Answer.{Answer}
 use Rattle.qu_objects.specs.declared.op.Op.{Op}
 use Rattle.qu_objects.specs.declared.op.Op.TheVariants as op
@@ -16,7 +16,7 @@ use Rattle.qu_frames.specs.declared.frame.Letter.{Letter}
 use Rattle.qu_frames.specs.declared.verdict.Verdict.{Verdict}
 use Rattle.qu_frames.specs.declared.verdict.Verdict.TheVariants as verdict
 use Rattle.qu_frames.specs.Verdict.{same_verdict}
-use Rattle.qu_frames.specs.Signed.{brought}
+use Rattle.qu_frames.specs.Signing.{brought}
 use Rattle.qu_client.specs.declared.work.Counted.{Counted}
 use Rattle.qu_client.specs.declared.work.Phase.{Phase}
 use Rattle.qu_client.specs.declared.work.Phase.TheVariants.{Asking, Halted}
@@ -69,11 +69,11 @@ next_round state work =
 -- the round with a verdict more, which has this answer where it fits
 abbrev pub judged : ClientState → Work → Verdict → Option Answer → Stepped
 judged state work verdict None =
-    if is_hopeless state.bounds work.op work.replies then next_round state work else stays
+    if is_hopeless state.keys.bounds work.op work.replies then next_round state work else stays
     (record state { work = Some work })
 judged state work verdict (Some answer) =
-    if nat_le (quorum state.bounds) (identical verdict work.replies) then ends state (outcome.Done answer)
-    else if is_hopeless state.bounds work.op work.replies then next_round state work
+    if nat_le (quorum state.keys.bounds) (identical verdict work.replies) then ends state (outcome.Done answer)
+    else if is_hopeless state.keys.bounds work.op work.replies then next_round state work
     else stays (record state { work = Some work })
 
 abbrev pub is_asking : Phase → Bool
