@@ -15,7 +15,7 @@ use Rattle.qu_objects.specs.declared.act.Method.{Method}
 use Rattle.qu_objects.specs.declared.query.Ask.{Ask}
 use Rattle.qu_objects.specs.declared.answer.Answer.{Answer}
 use Rattle.qu_objects.specs.declared.kind.Value.{Value}
-use Rattle.qu_objects.specs.declared.state.ObjState.{ObjState}
+use Rattle.qu_objects.specs.declared.version.Version.{Version}
 use Rattle.qu_objects.specs.Performing.{performed_answer, performed_values}
 use Rattle.qu_frames.specs.declared.frame.Body.TheVariants as body
 use Rattle.qu_frames.specs.declared.frame.Frame.{Frame}
@@ -135,7 +135,7 @@ record MakesOne (state : ReplicaState) (asked : Asked) (part : ObjectId × Metho
     (accepted : List Accepted) : Type 0 where
   candidate : Candidate
   grounds : IsGround state asked part.0 candidate
-  version : ObjState
+  version : Version
   performed : IsPerformed state part.0 grounds.base part.1 version
   alone : accepted ≡ record { object = part.0; candidate = candidate; state = version } ∷ []
 
@@ -144,7 +144,7 @@ no_wait true none = absurd (none-some Waits (sym none))
 no_wait false none = refl
 
 makes_one : (state : ReplicaState) (asked : Asked) (part : ObjectId × Method) (base : Candidate)
-    (before : ObjState) (value : Value)
+    (before : Version) (value : Value)
     → base_of state asked part.0 ≡ Some base → base_version state asked part.0 ≡ Some before
     → performed_values (part ∷ []) (before.value ∷ []) ≡ value ∷ []
     → is_below (latest_of (shown_of asked part.0)) (own_latest state part.0) ≡ false
@@ -152,7 +152,7 @@ makes_one : (state : ReplicaState) (asked : Asked) (part : ObjectId × Method) (
 unfolding first_given
 makes_one state asked part base before value is_base is_before is_value is_current =
     let make : Candidate → Candidate = λ it. record { stamp = fresh_stamp asked part.0; prior = it.stamp } in
-    let stored : Candidate → Option ObjState = λ it. version_at part.0 it.stamp state.versions in
+    let stored : Candidate → Option Version = λ it. version_at part.0 it.stamp state.versions in
     let answer : Answer = performed_answer (part ∷ []) (before.value ∷ []) in
     let is_fresh : fresh_on state asked part.0 ≡ Some (make base) = ap (option_map make) is_base in
     record {
@@ -177,7 +177,7 @@ unfolding row_current row_method row_version
 done state asked part is_current is_method is_version =
     let base : (it : Candidate) × (base_of state asked part.0 ≡ Some it) =
     some_of (base_of state asked part.0) (no_first (λ it. NotMethod it Barrier) _ part.0 is_method) in
-    let before : (it : ObjState) × (base_version state asked part.0 ≡ Some it) =
+    let before : (it : Version) × (base_version state asked part.0 ≡ Some it) =
     some_of (base_version state asked part.0) (no_wait _ is_version) in
     let value : (it : Value) × (performed_values (part ∷ []) ((before.0).value ∷ []) ≡ it ∷ []) =
     single (performed_values (part ∷ []) ((before.0).value ∷ [])) (performed_one (part ∷ []) (before.0).value refl) in

@@ -15,7 +15,7 @@ use Rattle.qu_history.specs.History.{holds}
 use Rattle.qu_history.proofs.Rising.{holds_pushed, holds_still}
 use Rattle.qu_objects.specs.declared.answer.Answer.TheVariants as answer
 use Rattle.qu_objects.specs.declared.kind.KindName.{KindName}
-use Rattle.qu_objects.specs.declared.state.ObjState.{ObjState}
+use Rattle.qu_objects.specs.declared.version.Version.{Version}
 use Rattle.qu_objects.specs.Kind.{fresh_value}
 use Rattle.qu_frames.specs.declared.frame.Frame.{Frame}
 use Rattle.qu_frames.specs.declared.frame.Letter.{Letter}
@@ -42,7 +42,7 @@ pub record HoldsUnder (state : ReplicaState) (object : ObjectId) (stamp : Stamp)
   pub under : held.stamp ≡ stamp
 
 pub record AreOfHeld (state : ReplicaState) : Type 0 where
-  pub of_held : (object : ObjectId) (stamp : Stamp) (version : ObjState)
+  pub of_held : (object : ObjectId) (stamp : Stamp) (version : Version)
       → version_at object stamp state.versions ≡ Some version → HoldsUnder state object stamp
 
 -- ---- at the beginning
@@ -54,7 +54,7 @@ record IsOpening (me : ReplicaId) (first : ℕ) (kinds : List KindName) (object 
   under : same_stamp opening_stamp stamp ≡ true
 
 opening_from : (me : ReplicaId) (first : ℕ) (kinds : List KindName) (object : ObjectId) (stamp : Stamp)
-    (version : ObjState) → version_at object stamp (opening_versions first kinds) ≡ Some version
+    (version : Version) → version_at object stamp (opening_versions first kinds) ≡ Some version
     → IsOpening me first kinds object stamp
 unfolding version_at opening_versions opening_histories
 opening_from me first [] object stamp version found = absurd (none-some version found)
@@ -99,7 +99,7 @@ held_still old new received alone object held holding =
     ]
 
 -- what is found with one version more was found before, or is that one
-pushed_cases : (object : ObjectId) (stamp : Stamp) (versions : List Stored) (last : Stored) (version : ObjState)
+pushed_cases : (object : ObjectId) (stamp : Stamp) (versions : List Stored) (last : Stored) (version : Version)
     → version_at object stamp (versions ++ last ∷ []) ≡ Some version
     → (version_at object stamp versions ≡ Some version) ⊎ (is_stored object stamp last ≡ true)
 unfolding version_at
@@ -166,7 +166,7 @@ event_of_held world event place old new is_old is_new parts plain are =
 module _ {old new : ReplicaState} {received : Frame} {object : ObjectId} (are : AreOfHeld old)
     (accepts : AcceptsOne old new received object) where
   -- a fresh candidate is above all that are held, so no version is stored under its stamp
-  none_of : (found : Option ObjState) → version_at object (accepts.candidate).stamp old.versions ≡ found → found ≡ None
+  none_of : (found : Option Version) → version_at object (accepts.candidate).stamp old.versions ≡ found → found ≡ None
   none_of None is_found = refl
   none_of (Some version) is_found =
       let under : HoldsUnder old object (accepts.candidate).stamp =

@@ -5,7 +5,7 @@ use Rattle.std.proofs.lemmas.Option.{none-some}
 use Rattle.qu_base.specs.declared.party.ObjectId.{ObjectId}
 use Rattle.qu_stamp.specs.declared.stamp.Stamp.{Stamp}
 use Rattle.qu_stamp.proofs.Order.{same_stamp-self}
-use Rattle.qu_objects.specs.declared.state.ObjState.{ObjState}
+use Rattle.qu_objects.specs.declared.version.Version.{Version}
 use Rattle.qu_frames.specs.declared.frame.Frame.{Frame}
 use Rattle.qu_replica.specs.declared.versions.Stored.{Stored}
 use Rattle.qu_replica.specs.State.{ReplicaState}
@@ -13,7 +13,7 @@ use Rattle.qu_replica.specs.Versions.{is_stored, version_at}
 use Rattle.qu_grounds.specs.Grounds.{AcceptsOne}
 
 -- a version is found where none was held under its stamp before
-pub version_at-push : (object : ObjectId) (stamp : Stamp) (versions : List Stored) (version : ObjState)
+pub version_at-push : (object : ObjectId) (stamp : Stamp) (versions : List Stored) (version : Version)
     → version_at object stamp versions ≡ None
     → version_at object stamp (versions ++ (record { object = object; stamp = stamp; state = version }) ∷ [])
     ≡ Some version

@@ -8,7 +8,7 @@ use Rattle.qu_stamp.specs.Stamp.{is_below}
 use Rattle.qu_history.specs.declared.sets.SetOf.{SetOf}
 use Rattle.qu_history.specs.Sets.{entries_of, latest_of, method_at}
 use Rattle.qu_objects.specs.declared.act.Method.{Method}
-use Rattle.qu_objects.specs.declared.state.ObjState.{ObjState}
+use Rattle.qu_objects.specs.declared.version.Version.{Version}
 use Rattle.qu_objects.specs.Performing.{performed_answer, performed_values}
 use Rattle.qu_frames.specs.declared.frame.Body.TheVariants as body
 use Rattle.qu_frames.specs.declared.frame.Frame.{Frame}
@@ -32,8 +32,8 @@ pub record IsGround (state : ReplicaState) (asked : Asked) (object : ObjectId) (
 
 -- the version has the value and the answer of the act, performed upon the version of the base
 pub record IsPerformed (state : ReplicaState) (object : ObjectId) (base : Candidate) (method : Method)
-    (version : ObjState) : Type 0 where
-  pub before : ObjState
+    (version : Version) : Type 0 where
+  pub before : Version
   pub of_base : version_at object base.stamp state.versions ≡ Some before
   pub value : performed_values ((object, method) ∷ []) (before.value ∷ []) ≡ version.value ∷ []
   pub answer : performed_answer ((object, method) ∷ []) (before.value ∷ []) ≡ version.answer
@@ -50,7 +50,7 @@ pub record AcceptsOne (old new : ReplicaState) (received : Frame) (object : Obje
   pub candidate : Candidate
   pub added : own_candidates new object ≡ own_candidates old object ++ candidate ∷ []
   pub grounds : IsGround old (asked_of client number sets (body.Act ((object, method) ∷ []))) object candidate
-  pub version : ObjState
+  pub version : Version
   pub performed : IsPerformed old object grounds.base method version
   pub stored : new.versions ≡ old.versions
       ++ (record { object = object; stamp = candidate.stamp; state = version }) ∷ []

@@ -18,7 +18,7 @@ use Rattle.qu_objects.specs.declared.act.Method.{Method}
 use Rattle.qu_objects.specs.declared.query.Ask.{Ask}
 use Rattle.qu_objects.specs.declared.answer.Answer.{Answer}
 use Rattle.qu_objects.specs.declared.kind.Value.{Value}
-use Rattle.qu_objects.specs.declared.state.ObjState.{ObjState}
+use Rattle.qu_objects.specs.declared.version.Version.{Version}
 use Rattle.qu_frames.specs.declared.frame.Body.{Body}
 use Rattle.qu_frames.specs.declared.frame.Body.TheVariants as body
 use Rattle.qu_frames.specs.declared.verdict.Refusal.{Refusal}
@@ -162,7 +162,7 @@ may_accept_fresh : (state : ReplicaState) (asked : Asked) (object : ObjectId)
     → is_below (latest_of (shown_of asked object)) (own_latest state object) ≡ false
     → nat_le LAST_TIME (latest_of (shown_of asked object)).time ≡ false
     → nat_le HISTORY_LIMIT (length (own_candidates state object)) ≡ false
-    → (fresh : Candidate) → fresh_on state asked object ≡ Some fresh → (version : ObjState)
+    → (fresh : Candidate) → fresh_on state asked object ≡ Some fresh → (version : Version)
     → MayAccept state (record { object = object; candidate = fresh; state = version })
 may_accept_fresh state asked object known current in_time room fresh made version =
     let parts : (base_of state asked object ≡ None → ⊥) × (fresh.stamp ≡ fresh_stamp asked object) =
@@ -180,7 +180,7 @@ may_accept_fresh state asked object known current in_time room fresh made versio
 
 may_accept_made : (state : ReplicaState) (asked : Asked) (answer : Answer) (object : ObjectId)
     (values : List Value) (made : Option Candidate) → fresh_on state asked object ≡ made
-    → ((fresh : Candidate) → fresh_on state asked object ≡ Some fresh → (version : ObjState)
+    → ((fresh : Candidate) → fresh_on state asked object ≡ Some fresh → (version : Version)
     → MayAccept state (record { object = object; candidate = fresh; state = version }))
     → MayAcceptAll state (accepted_by state asked answer (object ∷ []) values)
 unfolding accepted_by

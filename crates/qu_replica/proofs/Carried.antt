@@ -7,7 +7,7 @@ use Rattle.qu_objects.specs.declared.act.Method.{Method}
 use Rattle.qu_objects.specs.declared.query.Ask.{Ask}
 use Rattle.qu_objects.specs.declared.answer.Answer.{Answer}
 use Rattle.qu_objects.specs.declared.kind.Value.{Value}
-use Rattle.qu_objects.specs.declared.state.ObjState.{ObjState}
+use Rattle.qu_objects.specs.declared.version.Version.{Version}
 use Rattle.qu_objects.specs.declared.kind.Applied.{Applied}
 use Rattle.qu_objects.specs.declared.kind.Applied.TheVariants.{Changed, Refused}
 use Rattle.qu_objects.specs.Kind.{applied}
@@ -36,7 +36,7 @@ accepted_one : (state : ReplicaState) (asked : Asked) (object : ObjectId) (answe
 unfolding accepted_by
 accepted_one state asked object answer fresh value is_fresh = rw (is_fresh, accepted_by) refl
 
-values_one : (state : ReplicaState) (asked : Asked) (object : ObjectId) (version : ObjState)
+values_one : (state : ReplicaState) (asked : Asked) (object : ObjectId) (version : Version)
     → base_version state asked object ≡ Some version → base_values state asked (object ∷ []) ≡ version.value ∷ []
 values_one state asked object version is_version = rw is_version refl
 
@@ -45,7 +45,7 @@ pub stamps_one : (state : ReplicaState) (asked : Asked) (object : ObjectId) (fre
 stamps_one state asked object fresh is_fresh = rw is_fresh refl
 
 pub done_one : (state : ReplicaState) (asked : Asked) (parts : List (ObjectId × Method)) (object : ObjectId)
-    (fresh : Candidate) (version : ObjState) (value : Value) (answer : Answer)
+    (fresh : Candidate) (version : Version) (value : Value) (answer : Answer)
     → fresh_on state asked object ≡ Some fresh → base_version state asked object ≡ Some version
     → performed_values parts (version.value ∷ []) ≡ value ∷ [] → performed_answer parts (version.value ∷ []) ≡ answer
     → row_done state asked parts (object ∷ []) ≡ Some
@@ -71,7 +71,7 @@ done_one state asked parts object fresh version value answer is_fresh is_version
     (stamps_one state asked object fresh is_fresh)
 
 pub told_one : (state : ReplicaState) (asked : Asked) (parts : List (ObjectId × Ask)) (object : ObjectId)
-    (base : Candidate) (version : ObjState)
+    (base : Candidate) (version : Version)
     → base_of state asked object ≡ Some base → base_version state asked object ≡ Some version
     → row_told state asked parts (object ∷ []) ≡ Some
     (Answers (Told ((object, base.stamp) ∷ []) (told_answer parts (version.value ∷ []))) [])

@@ -24,7 +24,7 @@ use Rattle.qu_history.proofs.Method.{method_at_plain}
 use Rattle.qu_objects.specs.declared.act.Method.{Method}
 use Rattle.qu_objects.specs.declared.query.Ask.{Ask}
 use Rattle.qu_objects.specs.declared.answer.Answer.{Answer}
-use Rattle.qu_objects.specs.declared.state.ObjState.{ObjState}
+use Rattle.qu_objects.specs.declared.version.Version.{Version}
 use Rattle.qu_objects.specs.Formats.{answer_form}
 use Rattle.qu_objects.specs.Performing.{performed_answer, told_answer}
 use Rattle.qu_frames.specs.declared.verdict.Refusal.{Refusal}
@@ -243,10 +243,10 @@ module _ (state : ReplicaState) (asked : Asked) (fits : StateFits state) (asks :
   held_fresh holding = held_from (fresh_on state asked object) refl holding
 
   kept : (fresh : Candidate) → fresh_on state asked object ≡ Some fresh
-      → (latest_of (shown_of asked object)).time + 1 ≤ LAST_TIME → (found : Option ObjState)
+      → (latest_of (shown_of asked object)).time + 1 ≤ LAST_TIME → (found : Option Version)
       → version_at object (fresh_stamp asked object) state.versions ≡ found
       → Gives (option_map (λ (it : Answer). Answers (Done (fresh_stamps state asked (object ∷ [])) it) [])
-      (option_map (λ (it : ObjState). it.answer) found))
+      (option_map (λ (it : Version). it.answer) found))
   kept fresh made in_time None is = λ decision given. absurd (none-some decision given)
   kept fresh made in_time (Some version) is = λ decision given.
       let answered : answer_form.Fits version.answer =
@@ -270,12 +270,12 @@ module _ (state : ReplicaState) (asked : Asked) (fits : StateFits state) (asks :
       (version_at object (fresh_stamp asked object) state.versions) refl)
 
   -- the version upon which an operation rests
-  some_version : (found : Option ObjState) → cond (is_none found || false) (Some Waits) None ≡ None
-      → (version : ObjState) × (found ≡ Some version)
+  some_version : (found : Option Version) → cond (is_none found || false) (Some Waits) None ≡ None
+      → (version : Version) × (found ≡ Some version)
   some_version None none = absurd (none-some Waits (sym none))
   some_version (Some version) none = (version, refl)
 
-  has_version : row_version state asked (object ∷ []) ≡ None → (version : ObjState)
+  has_version : row_version state asked (object ∷ []) ≡ None → (version : Version)
       × (base_version state asked object ≡ Some version)
   unfolding row_version
   has_version none = some_version (base_version state asked object) none
@@ -284,13 +284,13 @@ module _ (state : ReplicaState) (asked : Asked) (fits : StateFits state) (asks :
   unfolding row_time
   has_time none = leb-false _ _ (no_first TimeSpent _ object none)
 
-  version_of : (found : Option Candidate) (version : ObjState)
+  version_of : (found : Option Candidate) (version : Version)
       → option_and_then (λ (it : Candidate). version_at object it.stamp state.versions) found ≡ Some version
       → (base : Candidate) × (found ≡ Some base) × (version_at object base.stamp state.versions ≡ Some version)
   version_of None version is = absurd (none-some version is)
   version_of (Some base) version is = (base, refl, is)
 
-  done : (part : ObjectId × Method) (version : ObjState) → base_version state asked object ≡ Some version
+  done : (part : ObjectId × Method) (version : Version) → base_version state asked object ≡ Some version
       → (latest_of (shown_of asked object)).time < LAST_TIME → Gives (row_done state asked (part ∷ []) (object ∷ []))
   done part version is_version spent = λ decision given.
       let upon = version_of (base_of state asked object) version is_version in
@@ -316,7 +316,7 @@ module _ (state : ReplicaState) (asked : Asked) (fits : StateFits state) (asks :
         (record { stamp = fresh_fit.stamp; prior = fresh_fit.prior; value = after.2; answer = answered }, tt),
       )
 
-  told : (part : ObjectId × Ask) (version : ObjState) → base_version state asked object ≡ Some version
+  told : (part : ObjectId × Ask) (version : Version) → base_version state asked object ≡ Some version
       → Gives (row_told state asked (part ∷ []) (object ∷ []))
   told part version is_version = λ decision given.
       let upon = version_of (base_of state asked object) version is_version in

@@ -21,7 +21,7 @@ use Rattle.qu_history.specs.Formats.{next_candidate, candidates_form}
 use Rattle.qu_history.proofs.Rising.{latest_is_last}
 use Rattle.qu_objects.specs.declared.kind.KindName.{KindName}
 use Rattle.qu_objects.specs.declared.kind.KindName.TheVariants as kind
-use Rattle.qu_objects.specs.declared.state.ObjState.{ObjState}
+use Rattle.qu_objects.specs.declared.version.Version.{Version}
 use Rattle.qu_objects.specs.Kind.{fresh_value}
 use Rattle.qu_objects.specs.Formats.{answer_form}
 use Rattle.qu_replica.specs.declared.decision.Accepted.{Accepted}
@@ -200,7 +200,7 @@ opening-fits me keys kinds within sized few = record {
 
 -- ---- a version that is found
 
-pub version_fits : (object : ObjectId) (stamp : Stamp) (versions : List Stored) (version : ObjState)
+pub version_fits : (object : ObjectId) (stamp : Stamp) (versions : List Stored) (version : Version)
     → VersionsFit versions → version_at object stamp versions ≡ Some version → VersionFits stamp version
 unfolding version_at
 version_fits object stamp [] version fits found = absurd (none-some version found)

@@ -9,7 +9,7 @@ use Rattle.qu_history.specs.History.{ObjectHistory}
 use Rattle.qu_history.specs.Formats.{candidates_form}
 use Rattle.qu_objects.specs.declared.kind.Value.{Value}
 use Rattle.qu_objects.specs.declared.kind.Value.TheVariants.{Counter}
-use Rattle.qu_objects.specs.declared.state.ObjState.{ObjState}
+use Rattle.qu_objects.specs.declared.version.Version.{Version}
 use Rattle.qu_objects.specs.Formats.{answer_form}
 use Rattle.qu_frames.specs.declared.frame.Frame.{Frame}
 use Rattle.qu_frames.specs.declared.frame.Letter.{Letter}
@@ -23,7 +23,7 @@ abbrev pub ValueFits : Value → Type 0
 ValueFits (Counter number) = number ≤ 2 ^ 64 - 1
 
 -- the version of a candidate with this stamp; the opening ones have no answer to tell
-pub record VersionFits (stamp : Stamp) (version : ObjState) : Type 0 where
+pub record VersionFits (stamp : Stamp) (version : Version) : Type 0 where
   pub value : ValueFits version.value
   pub answer : same_stamp opening_stamp stamp ≡ false → answer_form.Fits version.answer
 

@@ -18,7 +18,7 @@ use Rattle.qu_objects.specs.declared.act.Method.{Method}
 use Rattle.qu_objects.specs.declared.query.Ask.{Ask}
 use Rattle.qu_objects.specs.declared.answer.Answer.{Answer}
 use Rattle.qu_objects.specs.declared.kind.Value.{Value}
-use Rattle.qu_objects.specs.declared.state.ObjState.{ObjState}
+use Rattle.qu_objects.specs.declared.version.Version.{Version}
 use Rattle.qu_objects.specs.Performing.{performed_answer, performed_values, told_answer}
 use Rattle.qu_objects.specs.Digesting.{act_digest}
 use Rattle.qu_frames.specs.declared.frame.Body.{Body}
@@ -65,7 +65,7 @@ abbrev pub base_of : ReplicaState → Asked → ObjectId → Option Candidate
 base_of state asked object = method_at state.keys.bounds (shown_of asked object)
 
 -- the version upon which it rests
-abbrev pub base_version : ReplicaState → Asked → ObjectId → Option ObjState
+abbrev pub base_version : ReplicaState → Asked → ObjectId → Option Version
 base_version state asked object =
     option_and_then (λ base. version_at object base.stamp state.versions) (base_of state asked object)
 

@@ -18,7 +18,7 @@ use crate::versions::{self, Stored};
 use qu_base::{Bounds, List, NoMemory, ObjectId, Party, ReplicaId};
 use qu_frames::{Frame, Letter, receive};
 use qu_history::History;
-use qu_objects::{KindName, ObjState};
+use qu_objects::{KindName, Version};
 use qu_seal::KeyRing;
 use qu_stamp::Stamp;
 use std::alloc::Global;
@@ -92,7 +92,7 @@ impl Replica {
     }
 
     /// The version of an object under a stamp, None exactly where it did not accept such a candidate.
-    pub fn version(&self, object: ObjectId, stamp: &Stamp) -> Option<&ObjState>
+    pub fn version(&self, object: ObjectId, stamp: &Stamp) -> Option<&Version>
         ensures { option_copied result ≡ version_at object stamp.now self.now.versions }
     {
         versions::version_at(self.versions.as_slice(), object, stamp)

@@ -3,7 +3,7 @@ ghost use Rattle.std.specs.Option.{option_copied};
 ghost use Rattle.qu_replica.specs.Versions.{is_stored, version_at};
 
 use qu_base::{NoMemory, ObjectId};
-use qu_objects::ObjState;
+use qu_objects::Version;
 use qu_stamp::Stamp;
 use std::alloc::Global;
 
@@ -12,7 +12,7 @@ use std::alloc::Global;
 pub struct Stored {
     pub object: ObjectId,
     pub stamp: Stamp,
-    pub state: ObjState,
+    pub state: Version,
 }
 
 impl Stored {
@@ -34,7 +34,7 @@ pub(crate) fn version_at<'a>(
     versions: &'a [Stored],
     object: ObjectId,
     stamp: &Stamp,
-) -> Option<&'a ObjState>
+) -> Option<&'a Version>
     ensures { option_copied result ≡ version_at object stamp.now versions.now }
 {
     match first_stored(versions, object, stamp) {

@@ -22,7 +22,7 @@ use Rattle.qu_objects.specs.declared.answer.Answer.{Answer}
 use Rattle.qu_objects.specs.declared.op.Op.{Op}
 use Rattle.qu_objects.specs.declared.op.Op.TheVariants as op
 use Rattle.qu_objects.specs.declared.op.Outcome.TheVariants as outcome
-use Rattle.qu_objects.specs.declared.state.ObjState.{ObjState}
+use Rattle.qu_objects.specs.declared.version.Version.{Version}
 use Rattle.qu_frames.specs.declared.verdict.Verdict.{Verdict}
 use Rattle.qu_frames.specs.declared.verdict.Verdict.TheVariants as verdict
 use Rattle.qu_frames.specs.Body.{body_of}
@@ -70,7 +70,7 @@ pub record CompletedAct (trace : Trace) (operation : OpRecord) (reply : ℕ) (an
   pub candidate : Candidate
   pub is_of : IsOf trace (record { client = operation.client; number = operation.number; parts = parts }) object
       candidate
-  pub version : ObjState
+  pub version : Version
   pub has : HasVersion trace object candidate version
   pub answer_is : answer ≡ version.answer
   pub decided : IsDecided (setting trace) (reply - 1) object candidate
@@ -98,7 +98,7 @@ record HasPart (trace : Trace) (operation : OpRecord) (parts : List (ObjectId ×
   is_told : candidate.stamp ≡ told.1
   made : IsMadeFor trace candidate operation.client operation.number parts
   accepted : (setting trace).accepted time told.0 replica candidate ≡ true
-  version : ObjState
+  version : Version
   has : HasVersion trace told.0 candidate version
   answer_is : answer ≡ version.answer
 

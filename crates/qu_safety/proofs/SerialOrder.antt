@@ -17,7 +17,7 @@ use Rattle.qu_objects.specs.declared.kind.Value.{Value}
 use Rattle.qu_objects.specs.declared.op.Op.{Op}
 use Rattle.qu_objects.specs.declared.op.Op.TheVariants as op
 use Rattle.qu_objects.specs.declared.op.Outcome.TheVariants as outcome
-use Rattle.qu_objects.specs.declared.state.ObjState.{ObjState}
+use Rattle.qu_objects.specs.declared.version.Version.{Version}
 use Rattle.qu_objects.specs.Performing.{performed_answer, told_answer}
 use Rattle.qu_machine.specs.declared.record.OpRecord.{OpRecord}
 use Rattle.qu_machine.specs.declared.record.Point.{Point}
@@ -140,7 +140,7 @@ module _ (trace : Trace) (is_run : IsRun trace) (have : ArePlain trace) (one_act
       → IsTurnOf trace laws joint one_act facts time update
       → (object : ObjectId) (candidate : Candidate) → IsOf trace update object candidate
       → IsDecided (setting trace) (setting trace).last object candidate
-      → (version : ObjState) → HasVersion trace object candidate version
+      → (version : Version) → HasVersion trace object candidate version
       → act_answer values update.parts ≡ version.answer
   act_answers_at update time values are here object candidate is_of decided version has =
       let within : time < (setting trace).last = (here.turn).within in
@@ -166,7 +166,7 @@ module _ (trace : Trace) (is_run : IsRun trace) (have : ArePlain trace) (one_act
       (befores_are trace laws joint one_act facts time within values are update here.object here.candidate here.is_of
       here.turn)
       ∙ sym (found.1).answer_is
-      ∙ ap (λ (it : ObjState). it.answer) versions
+      ∙ ap (λ (it : Version). it.answer) versions
 
   act_answers : (operation : OpRecord) (reply : ℕ) (answer : Answer)
       → Contains (operations_of trace.entries) operation → Completes operation reply answer

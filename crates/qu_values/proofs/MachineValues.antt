@@ -23,7 +23,7 @@ use Rattle.qu_objects.specs.declared.answer.Answer.TheVariants as answer
 use Rattle.qu_objects.specs.declared.kind.KindName.{KindName}
 use Rattle.qu_objects.specs.declared.kind.KindName.TheVariants as kind
 use Rattle.qu_objects.specs.declared.kind.Value.{Value}
-use Rattle.qu_objects.specs.declared.state.ObjState.{ObjState}
+use Rattle.qu_objects.specs.declared.version.Version.{Version}
 use Rattle.qu_objects.specs.Kind.{fresh_value}
 use Rattle.qu_objects.specs.Performing.{performed_answer, performed_values}
 use Rattle.qu_machine.specs.Machine.{act_values, with_values, values_at}
@@ -124,7 +124,7 @@ module _ (trace : Trace) (laws : Laws (setting trace)) (joint : Joint (setting t
       → HasValue trace object candidate first → HasValue trace object candidate second → first ≡ second
   one_value object candidate first second one two =
       sym one.value_is
-      ∙ ap (λ (it : ObjState). it.value) (facts.one_version object candidate one.version two.version one.has two.has)
+      ∙ ap (λ (it : Version). it.value) (facts.one_version object candidate one.version two.version one.has two.has)
       ∙ two.value_is
 
   -- ---- the values at a time

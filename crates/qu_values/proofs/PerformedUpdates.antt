@@ -9,7 +9,7 @@ use Rattle.qu_chain.specs.Joint.{Joint, IsOneAct}
 use Rattle.qu_objects.specs.declared.act.Method.{Method}
 use Rattle.qu_objects.specs.declared.answer.Answer.{Answer}
 use Rattle.qu_objects.specs.declared.kind.Value.{Value}
-use Rattle.qu_objects.specs.declared.state.ObjState.{ObjState}
+use Rattle.qu_objects.specs.declared.version.Version.{Version}
 use Rattle.qu_objects.specs.Performing.{performed_answer, performed_values}
 use Rattle.qu_trace.specs.declared.trace.Trace.{Trace}
 use Rattle.qu_runs.specs.Setting.{setting}
@@ -52,7 +52,7 @@ module _ (trace : Trace) (laws : Laws (setting trace)) (joint : Joint (setting t
   -- ---- a candidate and what is made of its update on the other objects
 
   module _ (object : ObjectId) (candidate : Candidate) (accepted : IsEverAccepted trace object candidate)
-      (version : ObjState) (made : IsUpdated trace object candidate version) where
+      (version : Version) (made : IsUpdated trace object candidate version) where
     abbrev parts : List (ObjectId × Method)
     parts = (made.update).parts
 
@@ -74,7 +74,7 @@ module _ (trace : Trace) (laws : Laws (setting trace)) (joint : Joint (setting t
     -- the companion's version is made of the same
     module _ (other : ObjectId) (companion : Candidate)
         (one : IsOneAct (setting trace) object other candidate companion) (also : IsEverAccepted trace other companion)
-        (its : ObjState) (mine : IsUpdated trace other companion its) where
+        (its : Version) (mine : IsUpdated trace other companion its) where
       is_of : IsOf trace made.update other companion
       is_of = of_companion other companion one also
 
@@ -106,7 +106,7 @@ module _ (trace : Trace) (laws : Laws (setting trace)) (joint : Joint (setting t
       same_before : (third : ObjectId) → Names parts third → besides third ≡ before third
       unfolding besides
       same_before third names =
-          ap (λ (it : ObjState). it.value)
+          ap (λ (it : Version). it.value)
           (facts.one_version third (made.bases third) (mine.befores third) (made.befores third)
           (subst (λ (it : Candidate). HasVersion trace third it (mine.befores third)) (same_base third names)
           (mine.has third (names_too third names))) (made.has third names))
@@ -140,7 +140,7 @@ module _ (trace : Trace) (laws : Laws (setting trace)) (joint : Joint (setting t
         let is_of : IsOf trace made.update other companion =
         of_companion other companion rest.is_companion rest.accepted in
         let is_act : (setting trace).is_act companion ≡ true = acts trace made.update other companion is_of in
-        let stored : (it : ObjState) × HasVersion trace other companion it =
+        let stored : (it : Version) × HasVersion trace other companion it =
         facts.stored other companion rest.accepted is_act in
         let mine : IsUpdated trace other companion stored.0 =
         elim (version_cases trace other companion stored.0 stored.1) [
@@ -177,7 +177,7 @@ module _ (trace : Trace) (laws : Laws (setting trace)) (joint : Joint (setting t
       → IsEverAccepted trace object candidate → IsPerformed trace update object candidate
   performed update object candidate is_of accepted =
       let is_act : (setting trace).is_act candidate ≡ true = acts trace update object candidate is_of in
-      let stored : (it : ObjState) × HasVersion trace object candidate it =
+      let stored : (it : Version) × HasVersion trace object candidate it =
       facts.stored object candidate accepted is_act in
       elim (version_cases trace object candidate stored.0 stored.1) [
         | inl fresh ↦ absurd (opening_no_act trace candidate fresh.is_opening is_act)

@@ -15,7 +15,7 @@ use Rattle.qu_history.specs.Sets.{entries_of, method_at}
 use Rattle.qu_history.proofs.Rising.{holds_push, holds_pushed}
 use Rattle.qu_objects.specs.declared.answer.Answer.TheVariants as answer
 use Rattle.qu_objects.specs.declared.kind.KindName.{KindName}
-use Rattle.qu_objects.specs.declared.state.ObjState.{ObjState}
+use Rattle.qu_objects.specs.declared.version.Version.{Version}
 use Rattle.qu_objects.specs.Kind.{fresh_value}
 use Rattle.qu_frames.specs.declared.frame.Body.TheVariants as body
 use Rattle.qu_frames.specs.declared.frame.Letter.{Letter}
@@ -63,7 +63,7 @@ use Rattle.qu_frames.specs.declared.frame.Frame.{Frame}
 -- the replica stores the version of the candidate
 abbrev pub Stores : Trace → ObjectId → ReplicaState → Candidate → Type 0
 Stores trace object state candidate =
-    (version : ObjState) × (version_at object candidate.stamp state.versions ≡ Some version) × HasVersion trace object
+    (version : Version) × (version_at object candidate.stamp state.versions ≡ Some version) × HasVersion trace object
     candidate version
 
 -- a replica that stores the versions of all candidates that it holds, and no others
@@ -75,7 +75,7 @@ record IsVersioned (trace : Trace) (state : ReplicaState) : Type 0 where
 
 -- ---- at the beginning
 
-abbrev fresh_version : KindName → ObjState
+abbrev fresh_version : KindName → Version
 fresh_version kind = record { value = fresh_value kind; answer = answer.Ok [] }
 
 -- an object begins with the opening candidate and its version
@@ -348,7 +348,7 @@ pub version_held : (trace : Trace) → Laws (setting trace) → Joint (setting t
     (count : ℕ) → count ≤ length trace.entries
     → (place : ℕ) (state : ReplicaState) → slice_get (world_after trace count).replicas place ≡ Some state
     → (object : ObjectId) (candidate : Candidate) → holds candidate (own_candidates state object) ≡ true
-    → (version : ObjState) × (version_at object candidate.stamp state.versions ≡ Some version) × HasVersion trace object
+    → (version : Version) × (version_at object candidate.stamp state.versions ≡ Some version) × HasVersion trace object
     candidate version
 version_held trace laws joint is_run have count within place state is_state object candidate held =
     (versioned trace laws joint is_run have count within place state is_state).stores object candidate held
@@ -358,7 +358,7 @@ pub version_is : (trace : Trace) → Laws (setting trace) → Joint (setting tra
     (count : ℕ) → count ≤ length trace.entries
     → (place : ℕ) (state : ReplicaState) → slice_get (world_after trace count).replicas place ≡ Some state
     → (object : ObjectId) (candidate : Candidate) → holds candidate (own_candidates state object) ≡ true
-    → (version : ObjState) → version_at object candidate.stamp state.versions ≡ Some version → HasVersion trace object
+    → (version : Version) → version_at object candidate.stamp state.versions ≡ Some version → HasVersion trace object
     candidate version
 version_is trace laws joint is_run have count within place state is_state object candidate held version found =
     let stored : Stores trace object state candidate =

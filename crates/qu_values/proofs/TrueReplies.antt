@@ -20,7 +20,7 @@ use Rattle.qu_objects.specs.declared.act.Method.{Method}
 use Rattle.qu_objects.specs.declared.query.Ask.{Ask}
 use Rattle.qu_objects.specs.declared.answer.Answer.{Answer}
 use Rattle.qu_objects.specs.declared.kind.Value.{Value}
-use Rattle.qu_objects.specs.declared.state.ObjState.{ObjState}
+use Rattle.qu_objects.specs.declared.version.Version.{Version}
 use Rattle.qu_objects.specs.Digesting.{act_digest}
 use Rattle.qu_objects.specs.Performing.{performed_answer, performed_values}
 use Rattle.qu_frames.specs.declared.frame.Body.TheVariants as body
@@ -168,16 +168,16 @@ module _ (state : ReplicaState) (asked : Asked) (object : ObjectId) where
   unfolding row_method
   passed_method none = some_of (base_of state asked object) (no_first (λ it. NotMethod it Barrier) _ object none)
 
-  passed_version : row_version state asked (object ∷ []) ≡ None → (it : ObjState)
+  passed_version : row_version state asked (object ∷ []) ≡ None → (it : Version)
       × (base_version state asked object ≡ Some it)
   unfolding row_version
   passed_version none = some_of (base_version state asked object) (no_wait _ none)
 
   -- the version is that of the base
-  version_of_base : (base : Candidate) (version : ObjState) → base_of state asked object ≡ Some base
+  version_of_base : (base : Candidate) (version : Version) → base_of state asked object ≡ Some base
       → base_version state asked object ≡ Some version → version_at object base.stamp state.versions ≡ Some version
   version_of_base base version is_base is_version =
-      let stored : Candidate → Option ObjState = λ it. version_at object it.stamp state.versions in
+      let stored : Candidate → Option Version = λ it. version_at object it.stamp state.versions in
       sym (ap (option_and_then stored) is_base) ∙ is_version
 
 -- ---- a query
@@ -200,9 +200,9 @@ told_tells state asked object ask is_current is_method is_version decision given
     let found : (it : Candidate) × (base_of state asked object ≡ Some it) =
     passed_method state asked object is_method in
     let base : Candidate = found.0 in
-    let stored : (it : ObjState) × (base_version state asked object ≡ Some it) =
+    let stored : (it : Version) × (base_version state asked object ≡ Some it) =
     passed_version state asked object is_version in
-    let version : ObjState = stored.0 in
+    let version : Version = stored.0 in
     let latest : Stamp = latest_of (shown_of asked object) in
     let is_latest : base.stamp ≡ latest = (is_base state.keys.bounds (shown_of asked object) base found.1).latest in
     subst (QueryTells state asked.sets object ask)
@@ -290,9 +290,9 @@ module _ (state : ReplicaState) (asked : Asked) (object : ObjectId) where
   abbrev stamps_of : List (ObjectId × Stamp)
   stamps_of = (object, fresh_stamp asked object) ∷ []
 
-  abbrev kept_by : Option ObjState → Option Decision
+  abbrev kept_by : Option Version → Option Decision
   kept_by stored = option_map (λ (kept : Answer). Answers (verdict.Done stamps_of kept) [])
-      (option_map (λ (version : ObjState). version.answer) stored)
+      (option_map (λ (version : Version). version.answer) stored)
 
   not_held : base_of state asked object ≡ None → is_held state asked object ≡ false
   unfolding is_held
@@ -333,7 +333,7 @@ module _ (state : ReplicaState) (asked : Asked) (object : ObjectId) where
       (kept_answer state asked (object ∷ []))) None) (stamps_where base is)
 
   kept_tells : (act : Digest) → asked.act ≡ Some act → (base : Candidate) (holding : Bool)
-      (stored : Option ObjState) → holds (fresh_of asked object base) (own_candidates state object) ≡ holding
+      (stored : Option Version) → holds (fresh_of asked object base) (own_candidates state object) ≡ holding
       → version_at object (fresh_stamp asked object) state.versions ≡ stored
       → Gives (ActTells state asked.client act object) (cond (holding && true) (kept_by stored) None)
   unfolding accept_all
@@ -367,7 +367,7 @@ module _ (state : ReplicaState) (asked : Asked) (object : ObjectId) where
 -- a fresh candidate is above all that are held, so no version is stored under its stamp
 module _ {state : ReplicaState} {asked : Asked} {object : ObjectId} {candidate : Candidate}
     (are : AreOfHeld state) (grounds : IsGround state asked object candidate) where
-  none_of : (found : Option ObjState) → version_at object candidate.stamp state.versions ≡ found → found ≡ None
+  none_of : (found : Option Version) → version_at object candidate.stamp state.versions ≡ found → found ≡ None
   none_of None is_found = refl
   none_of (Some version) is_found =
       let under : HoldsUnder state object candidate.stamp = are.of_held object candidate.stamp version is_found in
@@ -380,7 +380,7 @@ module _ {state : ReplicaState} {asked : Asked} {object : ObjectId} {candidate :
 
 -- the replica holds what it accepted, and finds the version that it stored
 accepted_tells : (state : ReplicaState) (asked : Asked) (act : Digest) → asked.act ≡ Some act
-    → (object : ObjectId) (base : Candidate) (version : ObjState)
+    → (object : ObjectId) (base : Candidate) (version : Version)
     → object.0 < length state.histories → version_at object (fresh_stamp asked object) state.versions ≡ None
     → DoneOnOne (accept_all state
     (record { object = object; candidate = fresh_of asked object base; state = version } ∷ [])) asked.client act
@@ -414,7 +414,7 @@ done_tells state asked act is_act object method are is_known is_current is_metho
     let found : (it : Candidate) × (base_of state asked object ≡ Some it) =
     passed_method state asked object is_method in
     let base : Candidate = found.0 in
-    let before : (it : ObjState) × (base_version state asked object ≡ Some it) =
+    let before : (it : Version) × (base_version state asked object ≡ Some it) =
     passed_version state asked object is_version in
     let value : (it : Value) × (performed_values parts ((before.0).value ∷ []) ≡ it ∷ []) =
     single (performed_values parts ((before.0).value ∷ [])) (performed_one parts (before.0).value refl) in

@@ -13,7 +13,7 @@ use Rattle.qu_objects.specs.declared.act.Method.{Method}
 use Rattle.qu_objects.specs.declared.answer.Answer.{Answer}
 use Rattle.qu_objects.specs.declared.kind.Value.{Value}
 use Rattle.qu_objects.specs.declared.op.Op.TheVariants as op
-use Rattle.qu_objects.specs.declared.state.ObjState.{ObjState}
+use Rattle.qu_objects.specs.declared.version.Version.{Version}
 use Rattle.qu_objects.specs.Performing.{performed_answer, performed_values}
 use Rattle.qu_machine.specs.declared.record.OpRecord.{OpRecord}
 use Rattle.qu_trace.specs.declared.trace.Trace.{Trace}
@@ -24,7 +24,7 @@ use Rattle.qu_values.specs.Values.{HasVersion}
 
 -- the candidate's version has this value
 pub record HasValue (trace : Trace) (object : ObjectId) (candidate : Candidate) (value : Value) : Type 0 where
-  pub version : ObjState
+  pub version : Version
   pub has : HasVersion trace object candidate version
   pub value_is : version.value ≡ value
 
@@ -63,7 +63,7 @@ pub record IsStep (trace : Trace) (object : ObjectId) (candidate : Candidate) (a
   pub prior : companion.prior ≡ base.stamp
   pub base_accepted : IsEverAccepted trace other base
   pub before : HasValue trace other base step.before
-  pub version : ObjState
+  pub version : Version
   pub has : HasVersion trace other companion version
   pub after_is : version.value ≡ step.after
   pub answer_is : version.answer ≡ answer
@@ -104,7 +104,7 @@ pub record UpdateFacts (trace : Trace) : Type 0 where
       → IsOf trace update object second → IsEverAccepted trace object second
       → IsAncestor (setting trace) (setting trace).last object first second → ⊥
   -- a candidate has one version
-  pub one_version : (object : ObjectId) (candidate : Candidate) (first second : ObjState)
+  pub one_version : (object : ObjectId) (candidate : Candidate) (first second : Version)
       → HasVersion trace object candidate first → HasVersion trace object candidate second → first ≡ second
   -- a copy has its base's value
   pub copied : (object : ObjectId) (candidate base : Candidate) (value : Value)
@@ -114,4 +114,4 @@ pub record UpdateFacts (trace : Trace) : Type 0 where
       → HasValue trace object base value → HasValue trace object candidate value
   -- a candidate of an update has a version
   pub stored : (object : ObjectId) (candidate : Candidate) → IsEverAccepted trace object candidate
-      → (setting trace).is_act candidate ≡ true → (version : ObjState) × HasVersion trace object candidate version
+      → (setting trace).is_act candidate ≡ true → (version : Version) × HasVersion trace object candidate version

@@ -18,7 +18,7 @@ use Rattle.qu_chain.proofs.Counting.{Found, found_at}
 use Rattle.qu_chain.proofs.Parents.{ancestor-not_above}
 use Rattle.qu_objects.specs.declared.act.Method.{Method}
 use Rattle.qu_objects.specs.declared.kind.Value.{Value}
-use Rattle.qu_objects.specs.declared.state.ObjState.{ObjState}
+use Rattle.qu_objects.specs.declared.version.Version.{Version}
 use Rattle.qu_frames.specs.declared.frame.Body.TheVariants as body
 use Rattle.qu_trace.specs.declared.trace.Trace.{Trace}
 use Rattle.qu_world.specs.State.{WorldState}
@@ -174,7 +174,7 @@ module _ (trace : Trace) (is_run : IsRun trace) (have : ArePlain trace) where
 
     -- every accepted candidate has a version
     stored : (object : ObjectId) (candidate : Candidate) → IsEverAccepted trace object candidate
-        → (version : ObjState) × HasVersion trace object candidate version
+        → (version : Version) × HasVersion trace object candidate version
     stored object candidate accepted =
         let found : AcceptedAt object candidate (last_world trace).replicas =
         accepted_somewhere object candidate (last_world trace).replicas (in_world trace object candidate accepted) in

@@ -15,7 +15,7 @@ use Rattle.qu_objects.specs.declared.answer.Answer.{Answer}
 use Rattle.qu_objects.specs.declared.answer.Answer.TheVariants as answer
 use Rattle.qu_objects.specs.declared.kind.KindName.{KindName}
 use Rattle.qu_objects.specs.declared.kind.Value.{Value}
-use Rattle.qu_objects.specs.declared.state.ObjState.{ObjState}
+use Rattle.qu_objects.specs.declared.version.Version.{Version}
 use Rattle.qu_objects.specs.Kind.{fresh_value}
 use Rattle.qu_objects.specs.Performing.{performed_answer, performed_values}
 use Rattle.qu_trace.specs.declared.trace.Trace.{Trace}
@@ -27,10 +27,10 @@ use Rattle.qu_values.proofs.Updates.{one_of, same_accepted, one_companion}
 
 -- ---- parts of equal wholes
 
-same_version : (first second : ObjState) → first.value ≡ second.value → first.answer ≡ second.answer → first ≡ second
+same_version : (first second : Version) → first.value ≡ second.value → first.answer ≡ second.answer → first ≡ second
 same_version first second values answers =
-    let by_value : Value → ObjState = λ it. record { value = it; answer = first.answer } in
-    let by_answer : Answer → ObjState = λ it. record { value = second.value; answer = it } in
+    let by_value : Value → Version = λ it. record { value = it; answer = first.answer } in
+    let by_answer : Answer → Version = λ it. record { value = second.value; answer = it } in
     ap by_value values ∙ ap by_answer answers
 
 -- values of objects that agree where the parts name them
@@ -63,17 +63,17 @@ values_same first second (part ∷ parts) same object (inr later) =
 
 -- ---- the two ways to have a version
 
-pub record IsFresh (trace : Trace) (object : ObjectId) (candidate : Candidate) (version : ObjState) : Type 0 where
+pub record IsFresh (trace : Trace) (object : ObjectId) (candidate : Candidate) (version : Version) : Type 0 where
   pub kind : KindName
   pub is_kind : slice_get trace.setup.kinds object.0 ≡ Some kind
   pub is_opening : candidate ≡ opening
   pub fresh : version ≡ record { value = fresh_value kind; answer = answer.Ok [] }
 
 -- how a candidate other than the opening one has its version
-pub record IsUpdated (trace : Trace) (object : ObjectId) (candidate : Candidate) (version : ObjState) : Type 0 where
+pub record IsUpdated (trace : Trace) (object : ObjectId) (candidate : Candidate) (version : Version) : Type 0 where
   pub update : Update
   pub bases : ObjectId → Candidate
-  pub befores : ObjectId → ObjState
+  pub befores : ObjectId → Version
   pub afters : ObjectId → Value
   pub below : is_below candidate.prior candidate.stamp ≡ true
   pub is_of : IsOf trace update object candidate
@@ -85,7 +85,7 @@ pub record IsUpdated (trace : Trace) (object : ObjectId) (candidate : Candidate)
   pub answers : performed_answer update.parts (values_of (λ (other : ObjectId). (befores other).value) update.parts)
       ≡ version.answer
 
-pub version_cases : (trace : Trace) (object : ObjectId) (candidate : Candidate) (version : ObjState)
+pub version_cases : (trace : Trace) (object : ObjectId) (candidate : Candidate) (version : Version)
     → HasVersion trace object candidate version
     → IsFresh trace object candidate version ⊎ IsUpdated trace object candidate version
 version_cases trace object candidate version (HasVersion.of_opening _ kind is_kind) =
@@ -107,7 +107,7 @@ version_cases trace object candidate version
     })
 
 -- nothing is below the opening candidate
-made_not_opening : (trace : Trace) (object : ObjectId) (candidate : Candidate) (version : ObjState)
+made_not_opening : (trace : Trace) (object : ObjectId) (candidate : Candidate) (version : Version)
     → IsUpdated trace object candidate version → candidate ≡ opening → ⊥
 made_not_opening trace object candidate version made is_opening =
     false≢true (sym (is_below-opening candidate.prior)
@@ -127,16 +127,16 @@ module _ (trace : Trace) (laws : Laws (setting trace)) (joint : Joint (setting t
         same_accepted trace laws joint other first second one.base_accepted two.base_accepted
         (sym one.prior ∙ ap (λ (it : Candidate). it.prior) companions ∙ two.prior)
 
-    fresh_same : (object : ObjectId) (candidate : Candidate) (first second : ObjState)
+    fresh_same : (object : ObjectId) (candidate : Candidate) (first second : Version)
         → IsFresh trace object candidate first → IsFresh trace object candidate second → first ≡ second
     fresh_same object candidate first second one other =
         let kinds : one.kind ≡ other.kind = same_Some one.kind other.kind (sym one.is_kind ∙ other.is_kind) in
-        let version : KindName → ObjState = λ kind. record { value = fresh_value kind; answer = answer.Ok [] } in
+        let version : KindName → Version = λ kind. record { value = fresh_value kind; answer = answer.Ok [] } in
         one.fresh ∙ ap version kinds ∙ sym other.fresh
 
-    made_same : (object : ObjectId) (candidate : Candidate) (first second : ObjState)
+    made_same : (object : ObjectId) (candidate : Candidate) (first second : Version)
         (one : IsUpdated trace object candidate first) (two : IsUpdated trace object candidate second)
-        → ((other : ObjectId) → Names (one.update).parts other → (it : ObjState)
+        → ((other : ObjectId) → Names (one.update).parts other → (it : Version)
         → HasVersion trace other (one.bases other) it → one.befores other ≡ it) → first ≡ second
     made_same object candidate first second one two only =
         let parts : List (ObjectId × Method) = (one.update).parts in
@@ -147,7 +147,7 @@ module _ (trace : Trace) (laws : Laws (setting trace)) (joint : Joint (setting t
         let besides : ObjectId → Value = λ other. (two.befores other).value in
         let befores : values_of before parts ≡ values_of besides parts =
         same_values before besides parts (λ other names.
-        ap (λ (it : ObjState). it.value) (only other names (two.befores other)
+        ap (λ (it : Version). it.value) (only other names (two.befores other)
         (subst (λ (it : Candidate). HasVersion trace other it (two.befores other))
         (one_base object other candidate (two.bases other) (one.bases other)
         (two.rests other (subst (λ (all : List (ObjectId × Method)). Names all other) (sym same_parts) names))
@@ -167,7 +167,7 @@ module _ (trace : Trace) (laws : Laws (setting trace)) (joint : Joint (setting t
         ∙ two.value_is)
         (sym one.answers ∙ ap (performed_answer parts) befores ∙ answers)
 
-    fresh_only : (object : ObjectId) (candidate : Candidate) (first second : ObjState)
+    fresh_only : (object : ObjectId) (candidate : Candidate) (first second : Version)
         → IsFresh trace object candidate first → HasVersion trace object candidate second → first ≡ second
     fresh_only object candidate first second one held =
         elim (version_cases trace object candidate second held) [
@@ -175,9 +175,9 @@ module _ (trace : Trace) (laws : Laws (setting trace)) (joint : Joint (setting t
           | inr other ↦ absurd (made_not_opening trace object candidate second other one.is_opening)
         ]
 
-    made_only : (object : ObjectId) (candidate : Candidate) (first second : ObjState)
+    made_only : (object : ObjectId) (candidate : Candidate) (first second : Version)
         (one : IsUpdated trace object candidate first)
-        → ((other : ObjectId) → Names (one.update).parts other → (it : ObjState)
+        → ((other : ObjectId) → Names (one.update).parts other → (it : Version)
         → HasVersion trace other (one.bases other) it → one.befores other ≡ it)
         → HasVersion trace object candidate second → first ≡ second
     made_only object candidate first second one only held =
@@ -187,7 +187,7 @@ module _ (trace : Trace) (laws : Laws (setting trace)) (joint : Joint (setting t
         ]
 
     -- by what a version is made of
-    pub one_version : (object : ObjectId) (candidate : Candidate) (first second : ObjState)
+    pub one_version : (object : ObjectId) (candidate : Candidate) (first second : Version)
         → HasVersion trace object candidate first → HasVersion trace object candidate second → first ≡ second
     one_version object candidate first second (HasVersion.of_opening _ kind is_kind) held =
         fresh_only object candidate first second

@@ -15,7 +15,7 @@ use Rattle.qu_objects.specs.declared.act.Method.{Method}
 use Rattle.qu_objects.specs.declared.answer.Answer.{Answer}
 use Rattle.qu_objects.specs.declared.kind.Value.{Value}
 use Rattle.qu_objects.specs.declared.query.Ask.{Ask}
-use Rattle.qu_objects.specs.declared.state.ObjState.{ObjState}
+use Rattle.qu_objects.specs.declared.version.Version.{Version}
 use Rattle.qu_objects.specs.Performing.{told_answer}
 use Rattle.qu_frames.specs.declared.frame.Body.{Body}
 use Rattle.qu_frames.specs.declared.frame.Frame.TheVariants as frame
@@ -42,7 +42,7 @@ pub record HasDone (state : ReplicaState) (client : ClientId) (act : Digest) (an
   pub held : holds candidate (own_candidates state told.0) ≡ true
   pub of_client : candidate.stamp.client ≡ client
   pub of_act : candidate.stamp.act ≡ Some act
-  pub version : ObjState
+  pub version : Version
   pub of_candidate : version_at told.0 candidate.stamp state.versions ≡ Some version
   pub answer_is : answer ≡ version.answer
 
@@ -59,7 +59,7 @@ pub record HasTold (state : ReplicaState) (sets : List SetOf) (told : ObjectId �
   pub base : Candidate
   pub is_told : base.stamp ≡ told.1
   pub method : method_at state.keys.bounds (entries_of told.0 sets) ≡ Some base
-  pub version : ObjState
+  pub version : Version
   pub of_base : version_at told.0 base.stamp state.versions ≡ Some version
   pub value_is : version.value ≡ value
   pub nothing_above : (held : Candidate) → holds held (own_candidates state told.0) ≡ true

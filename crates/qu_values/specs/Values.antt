@@ -9,7 +9,7 @@ use Rattle.qu_objects.specs.declared.act.Method.{Method}
 use Rattle.qu_objects.specs.declared.answer.Answer.TheVariants as answer
 use Rattle.qu_objects.specs.declared.kind.KindName.{KindName}
 use Rattle.qu_objects.specs.declared.kind.Value.{Value}
-use Rattle.qu_objects.specs.declared.state.ObjState.{ObjState}
+use Rattle.qu_objects.specs.declared.version.Version.{Version}
 use Rattle.qu_objects.specs.Kind.{fresh_value}
 use Rattle.qu_objects.specs.Performing.{performed_answer, performed_values}
 use Rattle.qu_trace.specs.declared.trace.Trace.{Trace}
@@ -31,11 +31,11 @@ values_of value parts = map (λ (part : ObjectId × Method). value part.0) parts
 
 -- the version of a candidate of an object: the opening one's is fresh; another's is what its update makes of the
 -- versions of its bases, one on each of its objects
-pub data HasVersion (trace : Trace) : ObjectId → Candidate → ObjState → Type 0 where
+pub data HasVersion (trace : Trace) : ObjectId → Candidate → Version → Type 0 where
   of_opening : (object : ObjectId) (kind : KindName) → slice_get trace.setup.kinds object.0 ≡ Some kind
       → HasVersion trace object opening (record { value = fresh_value kind; answer = answer.Ok [] })
   of_update : (object : ObjectId) (candidate : Candidate) (update : Update) (bases : ObjectId → Candidate)
-      (befores : ObjectId → ObjState) (afters : ObjectId → Value) (version : ObjState)
+      (befores : ObjectId → Version) (afters : ObjectId → Value) (version : Version)
       → is_below candidate.prior candidate.stamp ≡ true
       → IsOf trace update object candidate
       → ((other : ObjectId) → Names update.parts other → RestsOn trace object candidate other (bases other))

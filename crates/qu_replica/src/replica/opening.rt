@@ -5,7 +5,7 @@ ghost use Rattle.qu_replica.specs.State.{opening_histories, opening_versions};
 use super::Stored;
 use qu_base::{List, NoMemory, ObjectId, ReplicaId};
 use qu_history::History;
-use qu_objects::{Answer, KindName, ObjState, Value};
+use qu_objects::{Answer, KindName, Version, Value};
 use qu_stamp::Stamp;
 use std::alloc::Global;
 
@@ -34,7 +34,7 @@ pub(super) fn versions(alloc: Global, kinds: &[KindName]) -> Result<Vec<Stored>,
 {
     let mut versions = Vec::new(alloc);
     for (number, kind) in kinds.iter().enumerate() {
-        let state = ObjState {
+        let state = Version {
             value: Value::fresh(*kind),
             answer: Answer::Ok(List::new(alloc)),
         };

@@ -13,7 +13,7 @@ use crate::decision::{Accepted, Decision, refuse};
 use qu_base::{List, NoMemory, ObjectId};
 use qu_frames::{Body, ClassCode, Refusal, Verdict};
 use qu_history::HISTORY_LIMIT;
-use qu_objects::{Act, ObjState, Performed, Query, perform, tell_all};
+use qu_objects::{Act, Version, Performed, Query, perform, tell_all};
 use qu_stamp::{Candidate, LAST_TIME, Stamp};
 use std::alloc::Global;
 
@@ -252,7 +252,7 @@ impl Replica {
         let accepted = Accepted {
             object,
             candidate,
-            state: ObjState { value, answer },
+            state: Version { value, answer },
         };
         done(self.alloc, accepted)
     }
@@ -284,7 +284,7 @@ impl Replica {
     }
 
     /// The version of that candidate, where the replica has it.
-    fn base_version(&self, asked: &Asked, object: ObjectId) -> Option<&ObjState>
+    fn base_version(&self, asked: &Asked, object: ObjectId) -> Option<&Version>
         ensures { option_copied result ≡ base_version self.now asked.now object }
     {
         match self.base(asked, object) {

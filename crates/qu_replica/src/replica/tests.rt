@@ -68,7 +68,7 @@ fn time_can_be_spent(rt: HostRuntime) -> Result<(), Fail> {
         act: None,
         set: Digest([2; 32]),
     };
-    let state = ObjState {
+    let state = Version {
         value: Value::Counter(5),
         answer: Answer::Refused { at: 0, why: 4 },
     };

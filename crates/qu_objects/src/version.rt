@@ -8,17 +8,17 @@ use std::alloc::Global;
 ///
 /// The version with which an object begins has the answer without items, which is never told.
 #[derive(Debug, Drop)]
-pub struct ObjState {
+pub struct Version {
     pub value: Value,
     pub answer: Answer,
 }
 
-impl ObjState {
+impl Version {
     /// An equal version.
-    pub fn copy(&self, alloc: Global) -> Result<ObjState, NoMemory>
+    pub fn copy(&self, alloc: Global) -> Result<Version, NoMemory>
         ensures { IfOk result (λ state. state ≡ self.now) }
     {
-        Ok(ObjState {
+        Ok(Version {
             value: self.value,
             answer: self.answer.copy(alloc)?,
         })
