@@ -1,7 +1,7 @@
--- What a replica accepts upon a frame, and why: nothing, or one candidate on the object of an act.
+-- What a replica accepts upon a frame, and why: nothing, or one candidate on each object of an act.
 use Rattle.std.proofs.Common.{◌≡◌, ◌⊎◌, ℕ, zero, suc, ◌<◌, Bool, true, false, ◌||◌, cond, List, [], ◌∷◌, ◌++◌, length, Option, None, Some, inl, inr, refl, sym, subst, ap, ◌∙◌, arith}
 use Rattle.std.specs.Prelude.{slice_get, option_map, option_and_then}
-use Rattle.std.proofs.lemmas.Bool.{false≢true, cases_eq}
+use Rattle.std.proofs.lemmas.Bool.{false≢true}
 use Rattle.std.proofs.lemmas.Option.{none-some, same_Some}
 use Rattle.qu_base.specs.declared.party.ClientId.{ClientId}
 use Rattle.qu_base.specs.declared.party.ObjectId.{ObjectId}
@@ -35,7 +35,8 @@ use Rattle.qu_replica.specs.Growth.{MayAccept, MayAcceptAll, MayDecide, HasParts
 use Rattle.qu_replica.proofs.Accepting.{other_history}
 use Rattle.qu_replica.proofs.Allowed.{decision_on-may, no_first}
 use Rattle.qu_replica.proofs.Carried.{performed_one, done_one}
-use Rattle.qu_grounds.specs.Grounds.{IsGround, IsPerformed, AcceptsOne, AcceptsAlone}
+use Rattle.qu_grounds.specs.Grounds.{IsGround, Accepts}
+use Rattle.qu_grounds.proofs.Parts.{one_named}
 use Rattle.qu_runs.proofs.Small.{some_of, single}
 
 -- ---- the rows that accept nothing
@@ -130,13 +131,17 @@ ask_accepts state asked parts objects =
 
 -- ---- the row that accepts
 
--- an act accepts one candidate, for which there are grounds
+-- an act of one part accepts one candidate, for which there are grounds
 record MakesOne (state : ReplicaState) (asked : Asked) (part : ObjectId × Method)
     (accepted : List Accepted) : Type 0 where
   candidate : Candidate
-  grounds : IsGround state asked part.0 candidate
+  base : Candidate
+  grounds : IsGround state asked part.0 candidate base
+  before : Version
+  of_base : version_at part.0 base.stamp state.versions ≡ Some before
   version : Version
-  performed : IsPerformed state part.0 grounds.base part.1 version
+  value : performed_values (part ∷ []) (before.value ∷ []) ≡ version.value ∷ []
+  answer : performed_answer (part ∷ []) (before.value ∷ []) ≡ version.answer
   alone : accepted ≡ record { object = part.0; candidate = candidate; state = version } ∷ []
 
 pub no_wait : (missing : Bool) → cond (missing || false) (Some Waits) None ≡ None → missing ≡ false
@@ -157,14 +162,13 @@ makes_one state asked part base before value is_base is_before is_value is_curre
     let is_fresh : fresh_on state asked part.0 ≡ Some (make base) = ap (option_map make) is_base in
     record {
       candidate = make base;
-      grounds = record { base = base; method = is_base; prior = refl; stamp = refl; current = is_current };
+      base = base;
+      grounds = record { method = is_base; prior = refl; stamp = refl; current = is_current };
+      before = before;
+      of_base = sym (ap (option_and_then stored) is_base) ∙ is_before;
       version = record { value = value; answer = answer };
-      performed = record {
-        before = before;
-        of_base = sym (ap (option_and_then stored) is_base) ∙ is_before;
-        value = is_value;
-        answer = refl;
-      };
+      value = is_value;
+      answer = refl;
       alone = ap (λ (row : Option Decision). accepted_in (first_given (row ∷ [])))
           (done_one state asked (part ∷ []) part.0 (make base) before value answer is_fresh is_before is_value refl);
     }
@@ -238,39 +242,50 @@ moves : (state new : ReplicaState) (client : ClientId) (number round : ℕ) (set
     (part : ObjectId × Method) (accepted : List Accepted)
     → MayAcceptAll state accepted → MakesOne state (asked_of client number sets (body.Act (part ∷ []))) part
     accepted → new ≡ accept_all state accepted
-    → AcceptsAlone state new (frame.Request client number round sets (body.Act (part ∷ [])) mac)
+    → Accepts state new (frame.Request client number round sets (body.Act (part ∷ [])) mac)
 unfolding accept_all
 moves state new client number round sets mac part accepted may made is_new =
     let one : Accepted = record { object = part.0; candidate = made.candidate; state = made.version } in
     let is_one : new ≡ accept state one = is_new ∙ ap (accept_all state) made.alone in
     let may_one : MayAccept state one = subst (MayAcceptAll state) made.alone may in
+    let asked : Asked = asked_of client number sets (body.Act (part ∷ [])) in
     record {
-      object = part.0;
-      one = record {
-        client = client;
-        number = number;
-        round = round;
-        sets = sets;
-        method = part.1;
-        mac = mac;
-        is_request = refl;
-        candidate = made.candidate;
-        added = ap (λ (it : ReplicaState). own_candidates it part.0) is_one
-            ∙ candidates_after (part.0).0 made.candidate state.histories may_one.known;
-        grounds = made.grounds;
-        version = made.version;
-        performed = made.performed;
-        stored = ap (λ (it : ReplicaState). it.versions) is_one;
-      };
+      client = client;
+      number = number;
+      round = round;
+      sets = sets;
+      parts = part ∷ [];
+      mac = mac;
+      is_request = refl;
+      candidates = λ object. made.candidate;
+      added = λ object names. subst
+          (λ (it : ObjectId). own_candidates new it ≡ own_candidates state it ++ made.candidate ∷ [])
+          (one_named part object names)
+          (ap (λ (it : ReplicaState). own_candidates it part.0) is_one
+          ∙ candidates_after (part.0).0 made.candidate state.histories may_one.known);
       others = λ other apart.
           ap (λ (it : ReplicaState). own_candidates it other) is_one ∙
-          ap candidates_in (other_history (part.0).0 other.0 made.candidate state.histories apart);
+          ap candidates_in (other_history (part.0).0 other.0 made.candidate state.histories
+          (λ same. apart (inl (ap (λ (it : ℕ). record { 0 = it }) (sym same)))));
+      bases = λ object. made.base;
+      grounds = λ object names. subst (λ (it : ObjectId). IsGround state asked it made.candidate made.base)
+          (one_named part object names) made.grounds;
+      versions = λ object. made.version;
+      performed = record {
+        befores = λ object. made.before;
+        of_bases = λ object names. subst
+            (λ (it : ObjectId). version_at it (made.base).stamp state.versions ≡ Some made.before)
+            (one_named part object names) made.of_base;
+        values = made.value;
+        answer = λ object names. made.answer;
+      };
+      stored = ap (λ (it : ReplicaState). it.versions) is_one;
     }
 
 act_moves : (state : ReplicaState) (client : ClientId) (number round : ℕ) (sets : List SetOf) (mac : List ℕ)
     (part : ObjectId × Method) → HasParts (frame.Request client number round sets (body.Act (part ∷ [])) mac)
     → ((on_frame state (frame.Request client number round sets (body.Act (part ∷ [])) mac)).0 ≡ state)
-    ⊎ AcceptsAlone state (on_frame state (frame.Request client number round sets (body.Act (part ∷ [])) mac)).0
+    ⊎ Accepts state (on_frame state (frame.Request client number round sets (body.Act (part ∷ [])) mac)).0
     (frame.Request client number round sets (body.Act (part ∷ [])) mac)
 act_moves state client number round sets mac part parts =
     let asked : Asked = asked_of client number sets (body.Act (part ∷ [])) in
@@ -284,9 +299,9 @@ act_moves state client number round sets mac part parts =
           (may_accept state decision (decision_on-may state asked (body.Act (part ∷ [])) parts)) made is_new)
     ]
 
--- a step leaves a replica as it is, or adds one candidate for which there are grounds
+-- a step leaves a replica as it is, or adds candidates for which there are grounds
 pub step_moves : (state : ReplicaState) (received : Frame) → HasParts received
-    → ((on_frame state received).0 ≡ state) ⊎ AcceptsAlone state (on_frame state received).0 received
+    → ((on_frame state received).0 ≡ state) ⊎ Accepts state (on_frame state received).0 received
 step_moves state (frame.Request client number round sets (body.Act []) mac) parts = absurd (false≢true parts)
 step_moves state (frame.Request client number round sets (body.Act (part ∷ [])) mac) parts =
     act_moves state client number round sets mac part parts
@@ -298,15 +313,3 @@ step_moves state (frame.Request client number round sets (body.Ask asks) mac) pa
     inl (stays state (carried_out state client number round sets decision).0 (accepted_in decision)
     (carried state client number round sets decision) (ask_accepts state asked asks _))
 step_moves state (frame.Reply replica client number round verdict culled shown mac) parts = inl refl
-
--- the same of one object
-pub accepts_on : (old new : ReplicaState) (received : Frame) → AcceptsAlone old new received → (object : ObjectId)
-    → (own_candidates new object ≡ own_candidates old object) ⊎ AcceptsOne old new received object
-accepts_on old new received alone object =
-    let numbered : ℕ → ObjectId = λ it. record { 0 = it } in
-    elim (cases_eq object.0 (alone.object).0) [
-      | inl here ↦
-          let same : alone.object ≡ object = ap numbered (sym here) in
-          inr (subst (AcceptsOne old new received) same alone.one)
-      | inr apart ↦ inl (alone.others object apart)
-    ]

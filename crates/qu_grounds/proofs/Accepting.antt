@@ -97,7 +97,7 @@ pub record Acceptance (trace : Trace) (at : ℕ) (object : ObjectId) (place : �
   pub is_old : slice_get (world_after trace at).replicas place ≡ Some old
   pub is_new : slice_get (world_after trace (suc at)).replicas place ≡ Some new
   pub delivered : IsDelivered (world_after trace at) event place old new object
-  pub candidate_is : (delivered.accepts).candidate ≡ candidate
+  pub candidate_is : (delivered.accepts).candidates object ≡ candidate
 
 pub acceptance : (trace : Trace) → IsRun trace → ArePlain trace → (at : ℕ) → at < length trace.entries
     → (object : ObjectId) (place : ℕ) (candidate : Candidate)
@@ -122,7 +122,7 @@ acceptance trace is_run have at within object place candidate after before =
         is_old = step.is_old;
         is_new = found.is_at;
         delivered = delivered;
-        candidate_is = added_is step.old found.item object (delivered.accepts).candidate candidate
-            (delivered.accepts).added found.passed not_before;
+        candidate_is = added_is step.old found.item object ((delivered.accepts).candidates object) candidate
+            ((delivered.accepts).added object delivered.names) found.passed not_before;
       }
     ]

@@ -26,7 +26,8 @@ use Rattle.qu_trace.specs.declared.event.Event.{Event}
 use Rattle.qu_trace.specs.declared.trace.Trace.{Trace}
 use Rattle.qu_world.specs.State.{WorldState}
 use Rattle.qu_world.specs.Step.{world_step, at_replica, received}
-use Rattle.qu_grounds.specs.Grounds.{AcceptsOne, IsDelivered}
+use Rattle.qu_grounds.specs.Grounds.{Accepts, IsDelivered}
+use Rattle.qu_grounds.specs.Parts.{Names}
 use Rattle.qu_runs.specs.Times.{world_after}
 use Rattle.qu_grounds.specs.Origins.{Origin}
 use Rattle.qu_runs.proofs.OpeningReplicas.{bounds_are}
@@ -114,13 +115,13 @@ act_step_upon state client number round sets parts mac object candidate added =
       | inr upon ↦ upon
     ]
 
-upon_by : (old new : ReplicaState) (taken : Frame) (object : ObjectId) (accepts : AcceptsOne old new taken object)
-    → (on_frame old taken).0 ≡ new → IsUpon old accepts.sets
-upon_by old new taken object accepts is =
-    act_step_upon old accepts.client accepts.number accepts.round accepts.sets ((object, accepts.method) ∷ [])
-    accepts.mac object accepts.candidate
+upon_by : (old new : ReplicaState) (taken : Frame) (object : ObjectId) (accepts : Accepts old new taken)
+    → Names accepts.parts object → (on_frame old taken).0 ≡ new → IsUpon old accepts.sets
+upon_by old new taken object accepts names is =
+    act_step_upon old accepts.client accepts.number accepts.round accepts.sets accepts.parts
+    accepts.mac object (accepts.candidates object)
     (ap (λ (it : Frame). own_candidates (on_frame old it).0 object) (sym accepts.is_request)
-    ∙ ap (λ (it : ReplicaState). own_candidates it object) is ∙ accepts.added)
+    ∙ ap (λ (it : ReplicaState). own_candidates it object) is ∙ accepts.added object names)
 
 -- ---- the same in a run
 
@@ -144,7 +145,7 @@ pub delivered_upon : (world : WorldState) (event : Event) (place : ℕ) (old new
     (happened : IsDelivered world event place old new object) → slice_get world.replicas place ≡ Some old
     → slice_get (world_step world event).replicas place ≡ Some new → IsUpon old (happened.accepts).sets
 delivered_upon world event place old new object happened is_old is_new =
-    upon_by old new happened.carried object happened.accepts
+    upon_by old new happened.carried object happened.accepts happened.names
     (delivered_to world event place old new object happened is_old is_new)
 
 pub accepted_upon_full : (trace : Trace) (count : ℕ) (object : ObjectId) (candidate : Candidate)

@@ -57,14 +57,14 @@ below_by_latest held latest fresh not_above later =
       | inr not_below ↦ absurd (false≢true (sym (is_below-not_chain latest held fresh not_above not_below) ∙ later))
     ]
 
-module _ {state : ReplicaState} {asked : Asked} {object : ObjectId} {candidate : Candidate}
-    (grounds : IsGround state asked object candidate) where
+module _ {state : ReplicaState} {asked : Asked} {object : ObjectId} {candidate base : Candidate}
+    (grounds : IsGround state asked object candidate base) where
   -- the base is the latest of what is shown
-  pub base_latest : (grounds.base).stamp ≡ latest_of (entries_of object asked.sets)
-  base_latest = (is_base state.keys.bounds (entries_of object asked.sets) grounds.base grounds.method).latest
+  pub base_latest : base.stamp ≡ latest_of (entries_of object asked.sets)
+  base_latest = (is_base state.keys.bounds (entries_of object asked.sets) base grounds.method).latest
 
   -- the candidate comes after its base
-  pub above_base : is_below (grounds.base).stamp candidate.stamp ≡ true
+  pub above_base : is_below base.stamp candidate.stamp ≡ true
   above_base =
       let latest : Stamp = latest_of (entries_of object asked.sets) in
       ap (λ (stamp : Stamp). is_below stamp candidate.stamp) base_latest ∙
@@ -86,7 +86,7 @@ module _ {state : ReplicaState} {asked : Asked} {object : ObjectId} {candidate :
 
   -- the replica holds nothing above the base
   pub base_not_below : (held : Candidate) → holds held (own_candidates state object) ≡ true
-      → is_below (grounds.base).stamp held.stamp ≡ false
+      → is_below base.stamp held.stamp ≡ false
   base_not_below held holding =
       ap (λ (stamp : Stamp). is_below stamp held.stamp) base_latest ∙
       is_below-not_chain (latest_of (entries_of object asked.sets)) (own_latest state object) held.stamp

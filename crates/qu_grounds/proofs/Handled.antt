@@ -30,7 +30,8 @@ use Rattle.qu_world.specs.State.{WorldState, letter_of, ring_of}
 use Rattle.qu_world.specs.Step.{world_step}
 use Rattle.qu_world.specs.Run.{IsRun}
 use Rattle.qu_runs.specs.Digested.{Request, is_known, request_to, request_by, handled_by, IsHandled, IsMadeFor, request_brought}
-use Rattle.qu_grounds.specs.Grounds.{AcceptsOne, IsDelivered}
+use Rattle.qu_grounds.specs.Grounds.{Accepts, IsDelivered}
+use Rattle.qu_grounds.specs.Parts.{Names}
 use Rattle.qu_runs.specs.Times.{world_after}
 use Rattle.qu_grounds.proofs.Accepting.{some_entry, Acceptance}
 use Rattle.qu_runs.proofs.OpeningReplicas.{all_replicas, keys_are, me_is}
@@ -129,10 +130,9 @@ handled_upon trace is_run time within entry of_trace place old is_old letter han
     }
 
 -- the request upon which a replica accepts a candidate
-abbrev pub request_upon : (old new : ReplicaState) (received : Frame) (object : ObjectId)
-    → AcceptsOne old new received object → Request
-request_upon old new received object one =
-    record { client = one.client; number = one.number; sets = one.sets; body = body.Act ((object, one.method) ∷ []) }
+abbrev pub request_upon : (old new : ReplicaState) (received : Frame) → Accepts old new received → Request
+request_upon old new received one =
+    record { client = one.client; number = one.number; sets = one.sets; body = body.Act one.parts }
 
 -- a replica handled it
 pub upon_handled : (trace : Trace) → IsRun trace → (time : ℕ) → time < length trace.entries → (event : Event)
@@ -140,13 +140,13 @@ pub upon_handled : (trace : Trace) → IsRun trace → (time : ℕ) → time < l
     → slice_get (world_after trace time).replicas place ≡ Some old
     → slice_get (world_step (world_after trace time) event).replicas place ≡ Some new
     → (object : ObjectId) (delivered : IsDelivered (world_after trace time) event place old new object)
-    → handled_by trace event ≡ Some (request_upon old new delivered.carried object delivered.accepts)
+    → handled_by trace event ≡ Some (request_upon old new delivered.carried delivered.accepts)
 upon_handled trace is_run time within event place old new is_old is_new object delivered =
-    let one : AcceptsOne old new delivered.carried object = delivered.accepts in
+    let one : Accepts old new delivered.carried = delivered.accepts in
     let upon : IsUpon old one.sets = delivered_upon (world_after trace time) event place old new object delivered
     is_old is_new in
     request_handled trace is_run time within event place old is_old delivered.letter delivered.is_handed delivered.to
-    (request_upon old new delivered.carried object one) one.round one.mac
+    (request_upon old new delivered.carried one) one.round one.mac
     (delivered.brings ∙ ap (λ (it : Frame). Some it) one.is_request) upon.had
 
 pub handled : (trace : Trace) → IsRun trace → (time : ℕ) → time < length trace.entries → (entry : Entry)
@@ -154,7 +154,7 @@ pub handled : (trace : Trace) → IsRun trace → (time : ℕ) → time < length
     → slice_get (world_after trace time).replicas place ≡ Some old
     → slice_get (world_step (world_after trace time) event).replicas place ≡ Some new
     → (object : ObjectId) (delivered : IsDelivered (world_after trace time) event place old new object)
-    → IsHandled trace (delivered.accepts).client (delivered.accepts).number ((object, (delivered.accepts).method) ∷ [])
+    → IsHandled trace (delivered.accepts).client (delivered.accepts).number (delivered.accepts).parts
 handled trace is_run time within entry of_trace event event_is place old new is_old is_new object delivered = record {
   entry = entry;
   of_trace = of_trace;
@@ -167,13 +167,12 @@ handled trace is_run time within entry of_trace event event_is place old new is_
 
 -- the stamp is that of the act
 pub made_for : (trace : Trace) (old new : ReplicaState) (taken : Frame) (object : ObjectId)
-    (one : AcceptsOne old new taken object) (candidate : Candidate) → one.candidate ≡ candidate
-    → IsHandled trace one.client one.number ((object, one.method) ∷ [])
-    → IsMadeFor trace candidate one.client one.number ((object, one.method) ∷ [])
-made_for trace old new taken object one candidate is was =
+    (one : Accepts old new taken) → Names one.parts object → (candidate : Candidate) → one.candidates object ≡ candidate
+    → IsHandled trace one.client one.number one.parts → IsMadeFor trace candidate one.client one.number one.parts
+made_for trace old new taken object one names candidate is was =
     let stamp : candidate.stamp ≡ fresh_stamp
-    (asked_of one.client one.number one.sets (body.Act ((object, one.method) ∷ []))) object =
-    ap (λ (it : Candidate). it.stamp) (sym is) ∙ (one.grounds).stamp in
+    (asked_of one.client one.number one.sets (body.Act one.parts)) object =
+    ap (λ (it : Candidate). it.stamp) (sym is) ∙ (one.grounds object names).stamp in
     record {
       handled = was;
       of_client = ap (λ (it : Stamp). it.client) stamp;
@@ -185,7 +184,7 @@ made_for trace old new taken object one candidate is was =
 pub accepted_made : (trace : Trace) → IsRun trace → (time : ℕ) → time < length trace.entries
     → (object : ObjectId) (place : ℕ) (candidate : Candidate) (accepted : Acceptance trace time object place candidate)
     → IsMadeFor trace candidate ((accepted.delivered).accepts).client ((accepted.delivered).accepts).number
-    ((object, ((accepted.delivered).accepts).method) ∷ [])
+    ((accepted.delivered).accepts).parts
 accepted_made trace is_run time within object place candidate accepted =
     let entry : Entry = get_or trace.entries time some_entry in
     let next : world_step (world_after trace time) accepted.event ≡ world_after trace (suc time) =
@@ -194,6 +193,6 @@ accepted_made trace is_run time within object place candidate accepted =
     let is_new : slice_get (world_step (world_after trace time) accepted.event).replicas place ≡ Some accepted.new =
     ap (λ (it : WorldState). slice_get it.replicas place) next ∙ accepted.is_new in
     made_for trace accepted.old accepted.new (accepted.delivered).carried object (accepted.delivered).accepts
-    candidate accepted.candidate_is
+    (accepted.delivered).names candidate accepted.candidate_is
     (handled trace is_run time within entry (Contains-get_or trace.entries time some_entry within) accepted.event
     accepted.event_is place accepted.old accepted.new accepted.is_old is_new object accepted.delivered)

@@ -20,8 +20,9 @@ use Rattle.qu_trace.specs.declared.event.Event.{Event}
 use Rattle.qu_trace.specs.declared.event.Event.TheVariants.{Invoke, Deliver, Tick, Inject}
 use Rattle.qu_world.specs.State.{WorldState, numbered, letter_of}
 use Rattle.qu_world.specs.Step.{world_step, at_replica, at_client, received, delivered}
-use Rattle.qu_grounds.specs.Grounds.{AcceptsAlone, IsMoved, IsDelivered}
-use Rattle.qu_grounds.proofs.Acceptance.{step_moves, accepts_on}
+use Rattle.qu_grounds.specs.Grounds.{Accepts, IsMoved, IsDelivered}
+use Rattle.qu_grounds.proofs.Acceptance.{step_moves}
+use Rattle.qu_grounds.proofs.Parts.{named_or_not}
 use Rattle.qu_world.proofs.Each.{set_here, set_other}
 use Rattle.qu_runs.specs.Carried.{Carries, handed}
 use Rattle.qu_frames.specs.Decoding.{decoded}
@@ -56,18 +57,18 @@ client_stays world event me move found place old new is_old is_new =
 
 -- ---- a letter to a replica
 
--- the replica at this place is the one that takes the frame, and accepts one candidate
+-- the replica at this place is the one that takes the frame, and accepts candidates
 record IsTaken (me : ReplicaId) (text : List ℕ) (place : ℕ) (old new : ReplicaState) : Type 0 where
   here : me.0 ≡ place
   frame : Frame
   is_frame : brought old.keys (party.Replica old.me) text ≡ Some frame
-  accepts : AcceptsAlone old new frame
+  accepts : Accepts old new frame
 
 -- what a text makes of a replica that brings it a frame
 record IsAccepted (read : Option Frame) (old new : ReplicaState) : Type 0 where
   frame : Frame
   is_frame : read ≡ Some frame
-  accepts : AcceptsAlone old new frame
+  accepts : Accepts old new frame
 
 text_moves : (old : ReplicaState) (read : Option Frame) → ((frame : Frame) → read ≡ Some frame → HasParts frame)
     → ((on_received old read).0 ≡ old) ⊎ IsAccepted read old (on_received old read).0
@@ -105,7 +106,7 @@ replica_takes world event me text (Some state) place old new is_found parts is_o
                   here = sym here;
                   frame = alone.frame;
                   is_frame = alone.is_frame;
-                  accepts = subst (λ (it : ReplicaState). AcceptsAlone old it alone.frame) is_step alone.accepts;
+                  accepts = subst (λ (it : ReplicaState). Accepts old it alone.frame) is_step alone.accepts;
                 })
           ]
       | inr apart ↦ inl (stays world.replicas (slice_set world.replicas me.0 moved) place old new
@@ -151,7 +152,7 @@ letter_delivered world number (Some letter) place old new is_found parts is_old 
     letter_taken world (Deliver number) number letter letter.to place old new is_found
     (letter_handed world number letter is_found) refl (parts letter refl) is_old is_new
 
--- an event leaves a replica as it is, or delivers to it what adds one candidate
+-- an event leaves a replica as it is, or delivers to it what adds candidates
 pub event_moves : (world : WorldState) (event : Event) (place : ℕ) (old new : ReplicaState)
     → slice_get world.replicas place ≡ Some old → slice_get (world_step world event).replicas place ≡ Some new
     → ((number : ℕ) (letter : Letter) → letter_of world number ≡ Some letter → (carried : Frame)
@@ -183,9 +184,9 @@ pub event_accepts : (world : WorldState) (event : Event) (place : ℕ) (old new 
 event_accepts world event place old new is_old is_new parts plain object =
     elim (event_moves world event place old new is_old is_new parts plain) [
       | inl same ↦ inl (ap (λ (it : ReplicaState). own_candidates it object) same)
-      | inr moved ↦ elim (accepts_on old new moved.carried moved.accepts object) [
-        | inl same ↦ inl same
-        | inr one ↦ inr (record {
+      | inr moved ↦ elim (named_or_not (moved.accepts).parts object) [
+        | inr not_named ↦ inl ((moved.accepts).others object not_named)
+        | inl names ↦ inr (record {
           number = moved.number;
           letter = moved.letter;
           is_letter = moved.is_letter;
@@ -193,7 +194,8 @@ event_accepts world event place old new is_old is_new parts plain object =
           to = moved.to;
           carried = moved.carried;
           brings = moved.brings;
-          accepts = one;
+          accepts = moved.accepts;
+          names = names;
         })
       ]
     ]

@@ -1,9 +1,9 @@
 -- Each version that a replica stores is that of a candidate that it holds, so none is stored twice, and the
 -- version of an accepted candidate is the act performed upon the version of its base.
-use Rattle.std.proofs.Common.{◌≡◌, ◌⊎◌, ℕ, suc, ◌+◌, Bool, true, false, ◌&&◌, cond, List, [], ◌∷◌, ◌++◌, Option, None, Some, inl, inr, refl, sym, subst, ap, ◌∙◌, arith, zero-add}
+use Rattle.std.proofs.Common.{◌≡◌, ℕ, suc, ◌+◌, Bool, true, false, ◌&&◌, cond, List, [], ◌∷◌, Option, None, Some, inl, inr, refl, sym, subst, ap, ◌∙◌, arith, zero-add}
 use Rattle.std.specs.Prelude.{◌==◌, slice_get}
 use Rattle.std.proofs.lemmas.Bool.{false≢true, cases_Bool, or_left, and_parts, eqb-true}
-use Rattle.std.proofs.lemmas.Option.{none-some, cond_some}
+use Rattle.std.proofs.lemmas.Option.{none-some}
 use Rattle.qu_base.specs.declared.party.ObjectId.{ObjectId}
 use Rattle.qu_base.specs.declared.party.ReplicaId.{ReplicaId}
 use Rattle.qu_stamp.specs.declared.stamp.Stamp.{Stamp}
@@ -19,18 +19,19 @@ use Rattle.qu_objects.specs.declared.version.Version.{Version}
 use Rattle.qu_objects.specs.Kind.{fresh_value}
 use Rattle.qu_frames.specs.declared.frame.Frame.{Frame}
 use Rattle.qu_frames.specs.declared.frame.Letter.{Letter}
-use Rattle.qu_replica.specs.declared.versions.Stored.{Stored}
 use Rattle.qu_replica.specs.State.{ReplicaState, candidates_in, own_candidates, opening_histories, opening_versions, opening_state}
 use Rattle.qu_replica.specs.Growth.{HasParts}
-use Rattle.qu_replica.specs.Versions.{is_stored, version_at}
+use Rattle.qu_replica.specs.Versions.{version_at}
 use Rattle.qu_trace.specs.declared.event.Event.{Event}
 use Rattle.qu_world.specs.State.{WorldState, letter_of}
 use Rattle.qu_world.specs.Step.{world_step}
-use Rattle.qu_grounds.specs.Grounds.{AcceptsOne, AcceptsAlone}
-use Rattle.qu_grounds.proofs.Acceptance.{accepts_on}
+use Rattle.qu_grounds.specs.Parts.{Names}
+use Rattle.qu_grounds.specs.Grounds.{IsGround, Accepts}
+use Rattle.qu_replica.specs.Rows.{Asked}
+use Rattle.qu_grounds.proofs.Parts.{named_or_not}
 use Rattle.qu_grounds.proofs.Grounds.{above_held}
 use Rattle.qu_grounds.proofs.Happenings.{event_moves}
-use Rattle.qu_grounds.proofs.Performed.{version_of_accepted}
+use Rattle.qu_grounds.proofs.Performed.{stored_cases, among_stored, version_of_accepted}
 use Rattle.qu_runs.specs.Carried.{Carries}
 use Rattle.qu_runs.specs.Plain.{IsPlain}
 use Rattle.qu_seal.specs.Keys.{Ring}
@@ -89,63 +90,39 @@ opening_of_held me keys kinds = record {
 
 -- ---- at a step
 
-held_still : (old new : ReplicaState) (received : Frame) → AcceptsAlone old new received
+held_still : (old new : ReplicaState) (received : Frame) → Accepts old new received
     → (object : ObjectId) (held : Candidate) → holds held (own_candidates old object) ≡ true
     → holds held (own_candidates new object) ≡ true
-held_still old new received alone object held holding =
-    elim (accepts_on old new received alone object) [
-      | inl same ↦ ap (holds held) same ∙ holding
-      | inr one ↦ ap (holds held) one.added ∙ holds_still held one.candidate (own_candidates old object) holding
+held_still old new received accepts object held holding =
+    elim (named_or_not accepts.parts object) [
+      | inr not_named ↦ ap (holds held) (accepts.others object not_named) ∙ holding
+      | inl names ↦
+          ap (holds held) (accepts.added object names)
+          ∙ holds_still held (accepts.candidates object) (own_candidates old object) holding
     ]
 
--- what is found with one version more was found before, or is that one
-pushed_cases : (object : ObjectId) (stamp : Stamp) (versions : List Stored) (last : Stored) (version : Version)
-    → version_at object stamp (versions ++ last ∷ []) ≡ Some version
-    → (version_at object stamp versions ≡ Some version) ⊎ (is_stored object stamp last ≡ true)
-unfolding version_at
-pushed_cases object stamp [] last version found = inr (cond_some _ last.state version found).0
-pushed_cases object stamp (held ∷ later) last version found =
-    elim (is_stored object stamp held)
-    as (λ (test : Bool). cond test (Some held.state) (version_at object stamp (later ++ last ∷ [])) ≡ Some
-    version → (cond test (Some held.state) (version_at object stamp later) ≡ Some version)
-    ⊎ (is_stored object stamp last ≡ true)) [
-      | true ↦ λ here. inl here
-      | false ↦ λ there. pushed_cases object stamp later last version there
-    ] found
-
--- the stored version is that of the candidate
-newest_of_held : (old new : ReplicaState) (received : Frame) (alone : AcceptsAlone old new received)
-    (object : ObjectId) (stamp : Stamp)
-    → ((alone.object).0 == object.0 && same_stamp ((alone.one).candidate).stamp stamp) ≡ true
-    → HoldsUnder new object stamp
-newest_of_held old new received alone object stamp stored =
-    let parts : (((alone.object).0 == object.0) ≡ true)
-    × (same_stamp ((alone.one).candidate).stamp stamp ≡ true) = and_parts _ _ stored in
-    let place : (alone.object).0 ≡ object.0 = eqb-true _ _ parts.0 in
-    let candidate : Candidate = (alone.one).candidate in
-    record {
-      held = candidate;
-      is_held = ap (λ (it : ℕ). holds candidate (candidates_in (slice_get new.histories it))) (sym place) ∙
-          ap (holds candidate) (alone.one).added ∙
-          holds_pushed candidate (own_candidates old alone.object);
-      under = equal_by_same_stamp candidate.stamp stamp parts.1;
-    }
-
-pub still_of_held : (old new : ReplicaState) (received : Frame) → AcceptsAlone old new received → AreOfHeld old
+pub still_of_held : (old new : ReplicaState) (received : Frame) → Accepts old new received → AreOfHeld old
     → AreOfHeld new
-still_of_held old new received alone are = record {
+still_of_held old new received accepts are = record {
   of_held = λ object stamp version found.
-      elim (pushed_cases object stamp old.versions _ version
-      (ap (version_at object stamp) (sym (alone.one).stored) ∙ found)) [
+      elim (stored_cases object stamp old.versions _ version
+      (ap (version_at object stamp) (sym accepts.stored) ∙ found)) [
         | inl before ↦
             let under : HoldsUnder old object stamp = are.of_held object stamp version before in
             record {
               held = under.held;
-              is_held = held_still old new received alone object under.held
-                  under.is_held;
+              is_held = held_still old new received accepts object under.held under.is_held;
               under = under.under;
             }
-        | inr newest ↦ newest_of_held old new received alone object stamp newest
+        | inr newest ↦
+            let among : Names accepts.parts object × ((accepts.candidates object).stamp ≡ stamp) =
+            among_stored accepts.candidates accepts.versions accepts.parts object stamp version newest in
+            record {
+              held = accepts.candidates object;
+              is_held = ap (holds (accepts.candidates object)) (accepts.added object among.0)
+                  ∙ holds_pushed (accepts.candidates object) (own_candidates old object);
+              under = among.1;
+            }
       ];
 }
 
@@ -163,20 +140,22 @@ event_of_held world event place old new is_old is_new parts plain are =
 
 -- ---- what follows
 
-module _ {old new : ReplicaState} {received : Frame} {object : ObjectId} (are : AreOfHeld old)
-    (accepts : AcceptsOne old new received object) where
-  -- a fresh candidate is above all that are held, so no version is stored under its stamp
-  none_of : (found : Option Version) → version_at object (accepts.candidate).stamp old.versions ≡ found → found ≡ None
+-- a candidate with grounds is above all that are held, so no version is stored under its stamp
+module _ {state : ReplicaState} {asked : Asked} {object : ObjectId} {candidate base : Candidate}
+    (are : AreOfHeld state) (grounds : IsGround state asked object candidate base) where
+  none_of : (found : Option Version) → version_at object candidate.stamp state.versions ≡ found → found ≡ None
   none_of None is_found = refl
   none_of (Some version) is_found =
-      let under : HoldsUnder old object (accepts.candidate).stamp =
-      are.of_held object (accepts.candidate).stamp version is_found in
-      absurd (false≢true (sym (is_below-self (accepts.candidate).stamp) ∙
-      ap (λ (stamp : Stamp). is_below stamp (accepts.candidate).stamp) (sym under.under) ∙
-      above_held accepts.grounds under.held under.is_held))
+      let under : HoldsUnder state object candidate.stamp = are.of_held object candidate.stamp version is_found in
+      absurd (false≢true (sym (is_below-self candidate.stamp)
+      ∙ ap (λ (stamp : Stamp). is_below stamp candidate.stamp) (sym under.under)
+      ∙ above_held grounds under.held under.is_held))
 
-  pub no_version_before : version_at object (accepts.candidate).stamp old.versions ≡ None
-  no_version_before = none_of (version_at object (accepts.candidate).stamp old.versions) refl
+  pub none_under : version_at object candidate.stamp state.versions ≡ None
+  none_under = none_of (version_at object candidate.stamp state.versions) refl
 
-  pub version_of_fresh : version_at object (accepts.candidate).stamp new.versions ≡ Some accepts.version
-  version_of_fresh = version_of_accepted accepts no_version_before
+pub version_of_fresh : {old new : ReplicaState} {received : Frame} → AreOfHeld old
+    → (accepts : Accepts old new received) (object : ObjectId) → Names accepts.parts object
+    → version_at object (accepts.candidates object).stamp new.versions ≡ Some (accepts.versions object)
+version_of_fresh are accepts object names =
+    version_of_accepted accepts object names (none_under are (accepts.grounds object names))

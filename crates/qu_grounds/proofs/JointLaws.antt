@@ -1,6 +1,6 @@
 -- A run meets what is asked of all objects together, where no two digested texts have one digest.
 use Rattle.std.proofs.Common.{◌≡◌, ap, inl, inr, length, sym, true, ◌∙◌}
-use Rattle.qu_grounds.specs.Grounds.{AcceptsOne}
+use Rattle.qu_grounds.specs.Grounds.{Accepts}
 use Rattle.qu_runs.specs.Plain.{ArePlain}
 use Rattle.qu_stamp.specs.declared.candidate.Candidate.{Candidate}
 use Rattle.qu_world.specs.Run.{IsRun}
@@ -28,9 +28,9 @@ module _ (trace : Trace) (is_run : IsRun trace) (have : ArePlain trace) where
   came_by_act : (object : ObjectId) (candidate : Candidate) → Origin trace (length trace.entries) object candidate
       → is_some candidate.stamp.act ≡ true
   came_by_act object candidate came =
-      let one : AcceptsOne came.old came.new (came.delivered).carried object = (came.delivered).accepts in
+      let one : Accepts came.old came.new (came.delivered).carried = (came.delivered).accepts in
       ap (λ (it : Candidate). is_some it.stamp.act) (sym came.is_candidate)
-      ∙ ap (λ (it : Stamp). is_some it.act) (one.grounds).stamp
+      ∙ ap (λ (it : Stamp). is_some it.act) (one.grounds object (came.delivered).names).stamp
 
   not_opening : (object : ObjectId) (candidate other : Candidate) → candidate ≡ opening
       → Origin trace (length trace.entries) object other → candidate.stamp ≡ other.stamp → ⊥

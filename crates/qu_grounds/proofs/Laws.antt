@@ -3,7 +3,7 @@ use Rattle.std.proofs.Common.{◌≡◌, Bool, List, Some, ap, arith, false, inl
 use Rattle.qu_grounds.proofs.Accepting.{opening_alone, StepAt, step_at, Acceptance, acceptance, added_is}
 use Rattle.qu_chain.proofs.Ancestry.{Acceptor, acceptor}
 use Rattle.qu_runs.proofs.WorldGrowth.{AcceptsMore, has_more, world_after-grows}
-use Rattle.qu_grounds.specs.Grounds.{AcceptsOne, IsDelivered}
+use Rattle.qu_grounds.specs.Grounds.{IsGround, Accepts, IsDelivered}
 use Rattle.std.specs.List.{AllZip}
 use Rattle.qu_runs.specs.Plain.{ArePlain}
 use Rattle.qu_base.specs.Bounds.{AreThresholds, quorum, replicas}
@@ -29,22 +29,26 @@ use Rattle.qu_runs.proofs.OpeningReplicas.{all_begin, all_replicas, bounds_are}
 use Rattle.qu_base.proofs.ThresholdFacts.{are_thresholds}
 use Rattle.qu_replica.specs.Rows.{asked_of, fresh_stamp}
 use Rattle.qu_runs.proofs.Carrying.{asks_so, brings_carries, one_carried}
-use Rattle.std.proofs.lemmas.Bool.{cases_Bool, cases_lt, false≢true, lt-ltb, ltb-true, or_left, or_right}
+use Rattle.std.proofs.lemmas.Bool.{cases_Bool, cases_lt, false≢true, lt-ltb, ltb-true}
 use Rattle.qu_chain.specs.Count.{count, test_at}
 use Rattle.std.specs.Prelude.{count_by, is_some, slice_get}
 use Rattle.qu_frames.specs.Decoding.{decoded}
 use Rattle.qu_history.specs.Sets.{entries_of, method_at}
-use Rattle.qu_history.proofs.Rising.{holds_push}
+use Rattle.qu_history.proofs.Rising.{holds_pushed}
 use Rattle.qu_stamp.specs.Stamp.{is_below}
-use Rattle.qu_stamp.proofs.Order.{is_below-self, same-self}
+use Rattle.qu_stamp.proofs.Order.{is_below-self}
 use Rattle.qu_grounds.proofs.Acceptors.{method_is_shown}
 use Rattle.qu_runs.proofs.Handing.{one_hand}
-use Rattle.qu_stamp.specs.Candidate.{opening, same}
+use Rattle.qu_stamp.specs.Candidate.{opening}
 use Rattle.qu_history.specs.History.{holds}
 use Rattle.qu_runs.specs.Carried.{handed}
 use Rattle.qu_runs.specs.Setting.{setting}
-use Rattle.std.proofs.lemmas.Option.{slice_get_cases}
-use Rattle.qu_grounds.proofs.Views.{view_of_request}
+use Rattle.std.proofs.lemmas.Option.{slice_get_cases, slice_get_within}
+use Rattle.qu_grounds.proofs.Views.{sent_has_parts, view_of_request}
+use Rattle.qu_grounds.specs.Parts.{Names}
+use Rattle.qu_grounds.proofs.Parts.{same_named}
+use Rattle.qu_replica.specs.Growth.{HasParts}
+use Rattle.qu_objects.specs.declared.act.Method.{Method}
 use Rattle.qu_runs.specs.Times.{world_after}
 use Rattle.qu_base.specs.declared.party.Party.TheVariants as party
 use Rattle.qu_frames.specs.declared.frame.Frame.TheVariants as frame
@@ -78,11 +82,10 @@ same_place : (first second : ℕ)
     → party.Replica (record { 0 = first }) ≡ party.Replica (record { 0 = second }) → first ≡ second
 same_place first second same = ap place_of same
 
-abbrev act_object : Frame → ObjectId → ObjectId
-act_object (frame.Request client number round sets (body.Act []) mac) none = none
-act_object (frame.Request client number round sets (body.Act (part ∷ later)) mac) none = part.0
-act_object (frame.Request client number round sets (body.Ask parts) mac) none = none
-act_object (frame.Reply replica client number round verdict culled shown mac) none = none
+abbrev parts_in : Frame → List (ObjectId × Method)
+parts_in (frame.Request client number round sets (body.Act parts) mac) = parts
+parts_in (frame.Request client number round sets (body.Ask parts) mac) = []
+parts_in (frame.Reply replica client number round verdict culled shown mac) = []
 
 module _ (trace : Trace) (is_run : IsRun trace) (have : ArePlain trace) where
   sizes : Sizes (setting trace)
@@ -110,12 +113,12 @@ module _ (trace : Trace) (is_run : IsRun trace) (have : ArePlain trace) where
   base_shown : (time : ℕ) (object : ObjectId) (place : ℕ) (candidate : Candidate) → time < length trace.entries
       → (accepted : Acceptance trace time object place candidate)
       → quorum trace.setup.bounds
-      ≤ acceptors (setting trace) time object ((accepted.delivered).accepts).grounds.base
+      ≤ acceptors (setting trace) time object (((accepted.delivered).accepts).bases object)
   base_shown time object place candidate within accepted =
       let delivered : IsDelivered (world_after trace time) accepted.event place accepted.old accepted.new object =
       accepted.delivered in
-      let one : AcceptsOne accepted.old accepted.new delivered.carried object = delivered.accepts in
-      let act : Body = body.Act ((object, one.method) ∷ []) in
+      let one : Accepts accepted.old accepted.new delivered.carried = delivered.accepts in
+      let act : Body = body.Act one.parts in
       let below : time ≤ length trace.entries = omega arith in
       let view : IsOfKept trace time one.sets act =
       view_of_request trace is_run have time below delivered.number delivered.letter delivered.is_letter one.client
@@ -123,13 +126,13 @@ module _ (trace : Trace) (is_run : IsRun trace) (have : ArePlain trace) where
       (asks_so delivered.letter delivered.carried one.client one.number one.round one.sets act one.mac
       (brings_carries accepted.old delivered.letter delivered.carried delivered.brings) one.is_request) in
       let shown : quorum trace.setup.bounds
-      ≤ count_by (accepts object (one.grounds).base) (world_after trace time).replicas =
-      method_is_shown trace is_run time below one.sets act view object (one.grounds).base
+      ≤ count_by (accepts object (one.bases object)) (world_after trace time).replicas =
+      method_is_shown trace is_run time below one.sets act view object (one.bases object)
       (ap (λ (bounds : ℕ). method_at bounds (entries_of object one.sets))
-      (sym (bounds_are trace time place accepted.old accepted.is_old)) ∙ (one.grounds).method) in
-      let counted : acceptors (setting trace) time object (one.grounds).base
-      ≡ count_by (accepts object (one.grounds).base) (world_after trace time).replicas =
-      acceptors_are trace time object (one.grounds).base in
+      (sym (bounds_are trace time place accepted.old accepted.is_old)) ∙ (one.grounds object delivered.names).method) in
+      let counted : acceptors (setting trace) time object (one.bases object)
+      ≡ count_by (accepts object (one.bases object)) (world_after trace time).replicas =
+      acceptors_are trace time object (one.bases object) in
       omega (arith, shown, counted)
 
   start : (object : ObjectId) (place : ℕ) (candidate : Candidate)
@@ -165,7 +168,7 @@ module _ (trace : Trace) (is_run : IsRun trace) (have : ArePlain trace) where
   rising time object place candidate earlier new before =
       let accepted : Acceptance trace time object place candidate = acceptance_of time object place candidate new in
       subst (λ (it : Candidate). is_below earlier.stamp it.stamp ≡ true) accepted.candidate_is
-      (above_held ((accepted.delivered).accepts).grounds earlier
+      (above_held (((accepted.delivered).accepts).grounds object (accepted.delivered).names) earlier
       (held_before time object place candidate earlier accepted before))
 
   alone : (time : ℕ) (object : ObjectId) (place : ℕ) (candidate other : Candidate)
@@ -174,8 +177,7 @@ module _ (trace : Trace) (is_run : IsRun trace) (have : ArePlain trace) where
   unfolding setting
   alone time object place candidate other new second =
       let accepted : Acceptance trace time object place candidate = acceptance_of time object place candidate new in
-      let one : AcceptsOne accepted.old accepted.new (accepted.delivered).carried object =
-      (accepted.delivered).accepts in
+      let one : Accepts accepted.old accepted.new (accepted.delivered).carried = (accepted.delivered).accepts in
       let after : accepts object other accepted.new ≡ true =
       sym (test_at-here (accepts object other) (world_after trace (suc time)).replicas place accepted.new
       accepted.is_new) ∙ second.after in
@@ -183,7 +185,8 @@ module _ (trace : Trace) (is_run : IsRun trace) (have : ArePlain trace) where
       sym (test_at-here (accepts object other) (world_after trace time).replicas place accepted.old accepted.is_old)
       ∙ second.before in
       sym accepted.candidate_is
-      ∙ added_is accepted.old accepted.new object one.candidate other one.added after before
+      ∙ added_is accepted.old accepted.new object (one.candidates object) other
+      (one.added object (accepted.delivered).names) after before
 
   -- it is made by an act, and is no barrier
   pub record IsFresh (candidate : Candidate) : Type 0 where
@@ -195,11 +198,10 @@ module _ (trace : Trace) (is_run : IsRun trace) (have : ArePlain trace) where
   unfolding setting
   new_is_fresh time object place candidate new =
       let accepted : Acceptance trace time object place candidate = acceptance_of time object place candidate new in
-      let one : AcceptsOne accepted.old accepted.new (accepted.delivered).carried object =
-      (accepted.delivered).accepts in
+      let one : Accepts accepted.old accepted.new (accepted.delivered).carried = (accepted.delivered).accepts in
       let stamp : candidate.stamp ≡ fresh_stamp
-      (asked_of one.client one.number one.sets (body.Act ((object, one.method) ∷ []))) object =
-      ap (λ (it : Candidate). it.stamp) (sym accepted.candidate_is) ∙ (one.grounds).stamp in
+      (asked_of one.client one.number one.sets (body.Act one.parts)) object =
+      ap (λ (it : Candidate). it.stamp) (sym accepted.candidate_is) ∙ (one.grounds object (accepted.delivered).names).stamp in
       record {
         plain = ap (λ (it : Stamp). not it.barrier) stamp;
         is_act = ap (λ (it : Stamp). is_some it.act) stamp;
@@ -232,9 +234,10 @@ module _ (trace : Trace) (is_run : IsRun trace) (have : ArePlain trace) where
   unfolding setting
   linked time object place candidate new =
       let accepted : Acceptance trace time object place candidate = acceptance_of time object place candidate new in
-      let one : AcceptsOne accepted.old accepted.new (accepted.delivered).carried object =
-      (accepted.delivered).accepts in
-      let base : Candidate = (one.grounds).base in
+      let one : Accepts accepted.old accepted.new (accepted.delivered).carried = (accepted.delivered).accepts in
+      let base : Candidate = one.bases object in
+      let why : IsGround accepted.old (asked_of one.client one.number one.sets (body.Act one.parts)) object
+          (one.candidates object) base = one.grounds object (accepted.delivered).names in
       let within : time < length trace.entries = new.step in
       let shown : quorum trace.setup.bounds ≤ acceptors (setting trace) time object base =
       base_shown time object place candidate within accepted in
@@ -245,16 +248,47 @@ module _ (trace : Trace) (is_run : IsRun trace) (have : ArePlain trace) where
       record {
         base = base;
         plain_base = accepted_plain time order object who.replica base who.within who.accepted;
-        prior = ap (λ (it : Candidate). it.prior) (sym accepted.candidate_is) ∙ (one.grounds).prior;
+        prior = ap (λ (it : Candidate). it.prior) (sym accepted.candidate_is) ∙ why.prior;
         below = subst (λ (it : Candidate). is_below base.stamp it.stamp ≡ true) accepted.candidate_is
-            (above_base one.grounds);
+            (above_base why);
         attested = omega arith;
         settled = λ is_act. omega arith;
         not_below = λ other plain established before.
-            base_not_below one.grounds other (held_before time object place candidate other accepted before);
+            base_not_below why other (held_before time object place candidate other accepted before);
       }
 
   -- ---- who accepts at a step
+
+  -- what a replica accepts is new to it
+  pub new_accepted : (time : ℕ) → time < length trace.entries → (place : ℕ) (old new : ReplicaState)
+      → slice_get (world_after trace time).replicas place ≡ Some old
+      → slice_get (world_after trace (suc time)).replicas place ≡ Some new
+      → (received : Frame) (accepts_so : Accepts old new received) (object : ObjectId)
+      → Names accepts_so.parts object
+      → IsNew (setting trace) time object place (accepts_so.candidates object)
+  unfolding setting
+  new_accepted time within place old new is_old is_new received accepts_so object names =
+      let candidate : Candidate = accepts_so.candidates object in
+      let among : place < length (world_after trace time).replicas =
+      slice_get_within (world_after trace time).replicas place old is_old in
+      let all : length (world_after trace time).replicas ≡ replicas trace.setup.bounds = all_replicas trace time in
+      record {
+        step = within;
+        within = omega (arith, among, all);
+        good = refl;
+        after =
+            test_at-here (accepts object candidate) (world_after trace (suc time)).replicas place new is_new
+            ∙ ap (holds candidate) (accepts_so.added object names)
+            ∙ holds_pushed candidate (own_candidates old object);
+        before =
+            test_at-here (accepts object candidate) (world_after trace time).replicas place old is_old
+            ∙ elim (cases_Bool (accepts object candidate old)) [
+              | inr not_held ↦ not_held
+              | inl held ↦
+                  absurd (false≢true (sym (is_below-self candidate.stamp)
+                  ∙ above_held (accepts_so.grounds object names) candidate held))
+            ];
+      }
 
   moves_here : (time : ℕ) → time < length trace.entries → (object : ObjectId) (place : ℕ) → place < (setting trace).n
       → Given (setting trace) time object
@@ -278,30 +312,11 @@ module _ (trace : Trace) (is_run : IsRun trace) (have : ArePlain trace) where
               ∙ sym (test_at-here (accepts object candidate) (world_after trace (suc time)).replicas place new is_new)
               ∙ it.after))
           | inr delivered ↦
-              let one : AcceptsOne step.old new delivered.carried object = delivered.accepts in
-              let candidate : Candidate = one.candidate in
               inl (record {
                 replica = place;
-                candidate = candidate;
-                new = record {
-                  step = within;
-                  within = among;
-                  good = refl;
-                  after =
-                      test_at-here (accepts object candidate) (world_after trace (suc time)).replicas place new is_new
-                      ∙ ap (holds candidate) one.added
-                      ∙ holds_push candidate candidate (own_candidates step.old object)
-                      ∙ or_right (holds candidate (own_candidates step.old object)) (holds candidate (candidate ∷ []))
-                      (or_left (same candidate candidate) false (same-self candidate));
-                  before =
-                      test_at-here (accepts object candidate) olds place step.old step.is_old
-                      ∙ elim (cases_Bool (accepts object candidate step.old)) [
-                        | inr not_held ↦ not_held
-                        | inl held ↦
-                            absurd (false≢true (sym (is_below-self candidate.stamp)
-                            ∙ above_held one.grounds candidate held))
-                      ];
-                };
+                candidate = (delivered.accepts).candidates object;
+                new = new_accepted time within place step.old new step.is_old is_new delivered.carried
+                    delivered.accepts object delivered.names;
               })
         ]
   ]
@@ -346,9 +361,11 @@ module _ (trace : Trace) (is_run : IsRun trace) (have : ArePlain trace) where
   pub one_accepted : (time : ℕ) (object other : ObjectId) (place elsewhere : ℕ) (first second : Candidate)
       → IsNew (setting trace) time object place first → IsNew (setting trace) time other elsewhere second
       → AreOne object other place elsewhere first second
+  unfolding setting
   one_accepted time object other place elsewhere first second new again =
       let one : Acceptance trace time object place first = acceptance_of time object place first new in
       let two : Acceptance trace time other elsewhere second = acceptance_of time other elsewhere second again in
+      let within : time < length trace.entries = new.step in
       let here : IsDelivered (world_after trace time) one.event place one.old one.new object = one.delivered in
       let there : IsDelivered (world_after trace time) two.event elsewhere two.old two.new other = two.delivered in
       let hand = one_hand here.letter there.letter (handed (world_after trace time) one.event)
@@ -359,10 +376,14 @@ module _ (trace : Trace) (is_run : IsRun trace) (have : ArePlain trace) where
       one_carried here.letter here.carried there.carried
       (brings_carries one.old here.letter here.carried here.brings)
       (ap decoded hand.1 ∙ brings_carries two.old there.letter there.carried there.brings) in
+      let parts : (here.accepts).parts ≡ (there.accepts).parts =
+      ap parts_in (sym (here.accepts).is_request ∙ carried ∙ (there.accepts).is_request) in
+      let some : HasParts here.carried =
+      sent_has_parts trace is_run have time (omega (arith, within)) here.number here.letter here.is_letter here.carried
+      (brings_carries one.old here.letter here.carried here.brings) in
       let objects : object ≡ other =
-      sym (ap (λ (it : Frame). act_object it object) (here.accepts).is_request)
-      ∙ ap (λ (it : Frame). act_object it object) carried
-      ∙ ap (λ (it : Frame). act_object it object) (there.accepts).is_request in
+      same_named (here.accepts).parts object other (subst HasParts (here.accepts).is_request some) here.names
+      (subst (λ (it : List (ObjectId × Method)). Names it other) (sym parts) there.names) in
       record {
         places = places;
         objects = objects;

@@ -1,3 +1,4 @@
+pub mod Parts
 pub mod Grounds
 pub mod Acceptance
 pub mod Happenings

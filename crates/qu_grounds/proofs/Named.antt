@@ -1,5 +1,5 @@
 -- Where no two texts have one digest, a stamp names the histories upon which its candidate was accepted.
-use Rattle.std.proofs.Common.{◌≡◌, ℕ, ◌<◌, List, [], ◌∷◌, length, Some, refl, sym, ap, subst, ◌∙◌, arith}
+use Rattle.std.proofs.Common.{◌≡◌, ℕ, ◌<◌, List, length, Some, refl, sym, ap, subst, ◌∙◌, arith}
 use Rattle.std.specs.Prelude.{slice_get, Contains}
 use Rattle.std.proofs.lemmas.Option.{same_Some}
 use Rattle.qu_base.specs.declared.party.ObjectId.{ObjectId}
@@ -23,7 +23,7 @@ use Rattle.qu_world.specs.State.{WorldState}
 use Rattle.qu_world.specs.Step.{world_step}
 use Rattle.qu_world.specs.Run.{IsRun}
 use Rattle.qu_runs.specs.Digested.{Request, handled_by, Text, texts_of, digested, NoCollision}
-use Rattle.qu_grounds.specs.Grounds.{AcceptsOne}
+use Rattle.qu_grounds.specs.Grounds.{Accepts}
 use Rattle.qu_grounds.specs.Named.{shown_to, StampsNameHistories}
 use Rattle.qu_runs.specs.Times.{world_after}
 use Rattle.qu_grounds.specs.Origins.{Origin}
@@ -49,12 +49,12 @@ module _ (trace : Trace) (is_run : IsRun trace) (plain : ArePlain trace) where
       (it : Origin trace (length trace.entries) object candidate) → sets_form.Fits (sets_upon object candidate it)
   sets_fit object candidate it =
       let earlier : it.past < length trace.entries = it.earlier in
-      let one : AcceptsOne it.old it.new (it.delivered).carried object = (it.delivered).accepts in
+      let one : Accepts it.old it.new (it.delivered).carried = (it.delivered).accepts in
       let fits : frame_form.Fits (it.delivered).carried =
       carried_in_run trace is_run plain it.past (omega arith) (it.delivered).number (it.delivered).letter
       (it.delivered).is_letter (it.delivered).carried
       (brings_carries it.old (it.delivered).letter (it.delivered).carried (it.delivered).brings) in
-      (request-fits one.client one.number one.round one.sets (body.Act ((object, one.method) ∷ [])) one.mac
+      (request-fits one.client one.number one.round one.sets (body.Act one.parts) one.mac
       (subst (λ (sent : Frame). frame_form.Fits sent) one.is_request fits)).shown
 
   sets_digested : (object : ObjectId) (candidate : Candidate)
@@ -64,7 +64,7 @@ module _ (trace : Trace) (is_run : IsRun trace) (plain : ArePlain trace) where
   sets_digested object candidate it =
       let texts : Entry → List Text = λ entry. texts_of (handled_by trace entry.event) in
       let sets : List SetOf = sets_upon object candidate it in
-      let request : Request = request_upon it.old it.new (it.delivered).carried object (it.delivered).accepts in
+      let request : Request = request_upon it.old it.new (it.delivered).carried (it.delivered).accepts in
       let is_new : slice_get (world_step (world_after trace it.past) it.event).replicas it.place ≡ Some it.new =
       ap (λ (world : WorldState). slice_get world.replicas it.place) (sym it.is_step) ∙ it.is_new in
       let handled : handled_by trace (it.entry).event ≡ Some request =
@@ -80,10 +80,10 @@ module _ (trace : Trace) (is_run : IsRun trace) (plain : ArePlain trace) where
       (sets_text (sets_upon object candidate it))
   unfolding sets_digest
   digest_named object candidate it =
-      let one : AcceptsOne it.old it.new (it.delivered).carried object = (it.delivered).accepts in
+      let one : Accepts it.old it.new (it.delivered).carried = (it.delivered).accepts in
       let stamp : candidate.stamp ≡ fresh_stamp
-      (asked_of one.client one.number one.sets (body.Act ((object, one.method) ∷ []))) object =
-      ap (λ (made : Candidate). made.stamp) (sym it.is_candidate) ∙ (one.grounds).stamp in
+      (asked_of one.client one.number one.sets (body.Act one.parts)) object =
+      ap (λ (made : Candidate). made.stamp) (sym it.is_candidate) ∙ (one.grounds object (it.delivered).names).stamp in
       ap (λ (made : Stamp). (made.set).0) stamp
 
   -- ---- what it names
@@ -108,23 +108,23 @@ module _ (trace : Trace) (is_run : IsRun trace) (plain : ArePlain trace) where
   -- the base that the sets show
   base_named : (object : ObjectId) (candidate : Candidate) (it : Origin trace (length trace.entries) object candidate)
       → method_at trace.setup.bounds (shown_to trace (length trace.entries) object candidate it) ≡ Some
-      ((((it.delivered).accepts).grounds).base)
+      (((it.delivered).accepts).bases object)
   base_named object candidate it =
       ap (λ (bounds : ℕ). method_at bounds (shown_to trace (length trace.entries) object candidate it))
       (sym (bounds_are trace it.past it.place it.old it.is_old)) ∙
-      (((it.delivered).accepts).grounds).method
+      (((it.delivered).accepts).grounds object (it.delivered).names).method
 
   prior_named : (object : ObjectId) (candidate : Candidate)
       (it : Origin trace (length trace.entries) object candidate)
-      → candidate.prior ≡ ((((it.delivered).accepts).grounds).base).stamp
+      → candidate.prior ≡ (((it.delivered).accepts).bases object).stamp
   prior_named object candidate it = ap (λ (made : Candidate). made.prior) (sym it.is_candidate)
-      ∙ (((it.delivered).accepts).grounds).prior
+      ∙ (((it.delivered).accepts).grounds object (it.delivered).names).prior
 
   same_prior : NoCollision trace → (object : ObjectId) (first second : Candidate)
       → Origin trace (length trace.entries) object first → Origin trace (length trace.entries) object second
       → first.stamp ≡ second.stamp → first.prior ≡ second.prior
   same_prior no_collision object first second one other same =
-      let bases : Some ((((one.delivered).accepts).grounds).base) ≡ Some ((((other.delivered).accepts).grounds).base) =
+      let bases : Some (((one.delivered).accepts).bases object) ≡ Some (((other.delivered).accepts).bases object) =
       sym (base_named object first one) ∙ ap (method_at trace.setup.bounds)
       (same_histories no_collision object first second one other same) ∙ base_named object second other in
       prior_named object first one ∙ ap (λ (base : Candidate). base.stamp) (same_Some _ _ bases)

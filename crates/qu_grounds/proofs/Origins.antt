@@ -79,9 +79,9 @@ module _ (trace : Trace) (is_run : IsRun trace) (have : ArePlain trace) where
             came_before trace count object candidate
             (before place was.old was.is_old object candidate (sym (ap (holds candidate) same) ∙ held))
         | inr delivered ↦
-            let added : Candidate = (delivered.accepts).candidate in
+            let added : Candidate = (delivered.accepts).candidates object in
             let pushed : (holds candidate (own_candidates was.old object) || (same added candidate || false)) ≡ true =
-            sym (ap (holds candidate) (delivered.accepts).added ∙ holds_push candidate added
+            sym (ap (holds candidate) ((delivered.accepts).added object delivered.names) ∙ holds_push candidate added
             (own_candidates was.old object)) ∙ held in
             elim (or_cases (holds candidate (own_candidates was.old object)) _ pushed) [
               | inl earlier ↦ came_before trace count object candidate

@@ -10,7 +10,6 @@ use Rattle.qu_base.specs.declared.party.ReplicaId.{ReplicaId}
 use Rattle.qu_base.specs.Bounds.{replicas}
 use Rattle.qu_history.specs.declared.sets.SetOf.{SetOf}
 use Rattle.qu_history.specs.History.{ObjectHistory}
-use Rattle.qu_history.specs.Sets.{histories}
 use Rattle.qu_objects.specs.declared.op.Op.{Op}
 use Rattle.qu_objects.specs.declared.op.Op.TheVariants as op
 use Rattle.qu_frames.specs.declared.frame.Body.{Body}

@@ -1,5 +1,5 @@
 -- Why a replica accepts a candidate, and what an event of a world adds to a replica.
-use Rattle.std.specs.Prelude.{◌≡◌, ℕ, false, List, [], ◌∷◌, ◌++◌, Some}
+use Rattle.std.specs.Prelude.{◌≡◌, ℕ, false, List, [], ◌∷◌, ◌++◌, map, Some}
 use Rattle.qu_base.specs.declared.party.ClientId.{ClientId}
 use Rattle.qu_base.specs.declared.party.ObjectId.{ObjectId}
 use Rattle.qu_base.specs.declared.party.Party.TheVariants as party
@@ -14,54 +14,65 @@ use Rattle.qu_frames.specs.declared.frame.Body.TheVariants as body
 use Rattle.qu_frames.specs.declared.frame.Frame.{Frame}
 use Rattle.qu_frames.specs.declared.frame.Frame.TheVariants as frame
 use Rattle.qu_frames.specs.declared.frame.Letter.{Letter}
+use Rattle.qu_replica.specs.declared.versions.Stored.{Stored}
 use Rattle.qu_replica.specs.Rows.{Asked, asked_of, fresh_stamp}
 use Rattle.qu_replica.specs.State.{ReplicaState, own_candidates, own_latest}
 use Rattle.qu_replica.specs.Versions.{version_at}
 use Rattle.qu_trace.specs.declared.event.Event.{Event}
 use Rattle.qu_world.specs.State.{WorldState, letter_of}
 use Rattle.qu_runs.specs.Carried.{handed, Brings}
+use Rattle.qu_grounds.specs.Parts.{Names, values_of}
 
 -- why a replica in this state accepts a candidate on an object upon a request: the sets show a base that
 -- a quorum holds and that nothing shown is above, and the replica itself has nothing above what is shown
-pub record IsGround (state : ReplicaState) (asked : Asked) (object : ObjectId) (candidate : Candidate) : Type 0 where
-  pub base : Candidate
+pub record IsGround (state : ReplicaState) (asked : Asked) (object : ObjectId) (candidate base : Candidate)
+    : Type 0 where
   pub method : method_at state.keys.bounds (entries_of object asked.sets) ≡ Some base
   pub prior : candidate.prior ≡ base.stamp
   pub stamp : candidate.stamp ≡ fresh_stamp asked object
   pub current : is_below (latest_of (entries_of object asked.sets)) (own_latest state object) ≡ false
 
--- the version has the value and the answer of the act, performed upon the version of the base
-pub record IsPerformed (state : ReplicaState) (object : ObjectId) (base : Candidate) (method : Method)
-    (version : Version) : Type 0 where
-  pub before : Version
-  pub of_base : version_at object base.stamp state.versions ≡ Some before
-  pub value : performed_values ((object, method) ∷ []) (before.value ∷ []) ≡ version.value ∷ []
-  pub answer : performed_answer ((object, method) ∷ []) (before.value ∷ []) ≡ version.answer
+-- the versions have the values and the answer of the parts, performed upon the versions of the bases
+pub record ArePerformed (state : ReplicaState) (parts : List (ObjectId × Method)) (bases : ObjectId → Candidate)
+    (versions : ObjectId → Version) : Type 0 where
+  pub befores : ObjectId → Version
+  pub of_bases : (object : ObjectId) → Names parts object
+      → version_at object (bases object).stamp state.versions ≡ Some (befores object)
+  pub values : performed_values parts (values_of (λ (object : ObjectId). (befores object).value) parts)
+      ≡ values_of (λ (object : ObjectId). (versions object).value) parts
+  pub answer : (object : ObjectId) → Names parts object
+      → performed_answer parts (values_of (λ (it : ObjectId). (befores it).value) parts) ≡ (versions object).answer
 
--- one candidate more on this object, with its version, upon a request of an act on it
-pub record AcceptsOne (old new : ReplicaState) (received : Frame) (object : ObjectId) : Type 0 where
+-- the versions that are stored with the candidates of the parts
+abbrev pub stored_of : (ObjectId → Candidate) → (ObjectId → Version) → List (ObjectId × Method) → List Stored
+stored_of candidates versions parts = map (λ (part : ObjectId × Method). record {
+  object = part.0;
+  stamp = (candidates part.0).stamp;
+  state = versions part.0;
+}) parts
+
+-- upon a request of an act, one candidate more on each object that its parts name, with its version, and the other
+-- objects as they were
+pub record Accepts (old new : ReplicaState) (received : Frame) : Type 0 where
   pub client : ClientId
   pub number : ℕ
   pub round : ℕ
   pub sets : List SetOf
-  pub method : Method
+  pub parts : List (ObjectId × Method)
   pub mac : List ℕ
-  pub is_request : received ≡ frame.Request client number round sets (body.Act ((object, method) ∷ [])) mac
-  pub candidate : Candidate
-  pub added : own_candidates new object ≡ own_candidates old object ++ candidate ∷ []
-  pub grounds : IsGround old (asked_of client number sets (body.Act ((object, method) ∷ []))) object candidate
-  pub version : Version
-  pub performed : IsPerformed old object grounds.base method version
-  pub stored : new.versions ≡ old.versions
-      ++ (record { object = object; stamp = candidate.stamp; state = version }) ∷ []
+  pub is_request : received ≡ frame.Request client number round sets (body.Act parts) mac
+  pub candidates : ObjectId → Candidate
+  pub added : (object : ObjectId) → Names parts object
+      → own_candidates new object ≡ own_candidates old object ++ candidates object ∷ []
+  pub others : (object : ObjectId) → (Names parts object → ⊥) → own_candidates new object ≡ own_candidates old object
+  pub bases : ObjectId → Candidate
+  pub grounds : (object : ObjectId) → Names parts object
+      → IsGround old (asked_of client number sets (body.Act parts)) object (candidates object) (bases object)
+  pub versions : ObjectId → Version
+  pub performed : ArePerformed old parts bases versions
+  pub stored : new.versions ≡ old.versions ++ stored_of candidates versions parts
 
--- one candidate more on one object, and the other objects as they were
-pub record AcceptsAlone (old new : ReplicaState) (received : Frame) : Type 0 where
-  pub object : ObjectId
-  pub one : AcceptsOne old new received object
-  pub others : (other : ObjectId) → (other.0 ≡ object.0 → ⊥) → own_candidates new other ≡ own_candidates old other
-
--- the event hands a letter that was sent to the replica at this place, which accepts one candidate
+-- the event hands a letter that was sent to the replica at this place, which accepts candidates
 pub record IsMoved (world : WorldState) (event : Event) (place : ℕ) (old new : ReplicaState) : Type 0 where
   pub number : ℕ
   pub letter : Letter
@@ -70,9 +81,9 @@ pub record IsMoved (world : WorldState) (event : Event) (place : ℕ) (old new :
   pub to : letter.to ≡ party.Replica (record { 0 = place })
   pub carried : Frame
   pub brings : Brings old letter carried
-  pub accepts : AcceptsAlone old new carried
+  pub accepts : Accepts old new carried
 
--- the same, of an object on which it accepts the candidate
+-- the same, of an object on which it accepts a candidate
 pub record IsDelivered (world : WorldState) (event : Event) (place : ℕ) (old new : ReplicaState)
     (object : ObjectId) : Type 0 where
   pub number : ℕ
@@ -82,4 +93,5 @@ pub record IsDelivered (world : WorldState) (event : Event) (place : ℕ) (old n
   pub to : letter.to ≡ party.Replica (record { 0 = place })
   pub carried : Frame
   pub brings : Brings old letter carried
-  pub accepts : AcceptsOne old new carried object
+  pub accepts : Accepts old new carried
+  pub names : Names accepts.parts object

@@ -1,4 +1,5 @@
 pub mod Views
+pub mod Parts
 pub mod Grounds
 pub mod Chained
 pub mod Origins

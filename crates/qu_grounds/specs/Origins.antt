@@ -25,4 +25,4 @@ pub record Origin (trace : Trace) (count : ℕ) (object : ObjectId) (candidate :
   pub new : ReplicaState
   pub is_new : slice_get (world_after trace (past + 1)).replicas place ≡ Some new
   pub delivered : IsDelivered (world_after trace past) event place old new object
-  pub is_candidate : (delivered.accepts).candidate ≡ candidate
+  pub is_candidate : (delivered.accepts).candidates object ≡ candidate

@@ -28,7 +28,8 @@ use Rattle.qu_runs.specs.Digested.{IsHandled, IsMadeFor}
 use Rattle.qu_runs.specs.Setting.{setting}
 use Rattle.qu_points.specs.Order.{DecidesAt, effect_of, IsPoint, IsPrintedOrder}
 use Rattle.qu_points.specs.Points.{point_at}
-use Rattle.qu_values.specs.Updates.{Update, Names, IsOf, IsEverAccepted}
+use Rattle.qu_values.specs.Updates.{Update, IsOf, IsEverAccepted}
+use Rattle.qu_grounds.specs.Parts.{Names}
 use Rattle.qu_points.proofs.Folding.{IsQuestion}
 use Rattle.qu_values.proofs.MachineValues.{IsValues, object_known, known_object, stay, change}
 use Rattle.qu_values.proofs.OneAct.{ActsAreOne, one_made_for}

@@ -1,5 +1,5 @@
 -- Points are at different events, each after its operation began.
-use Rattle.std.proofs.Common.{◌≡◌, ℕ, zero, suc, ◌<◌, ◌≤◌, true, List, [], ◌∷◌, length, get_or, Option, None, Some, refl, sym, ap, subst, ◌∙◌, arith, Result, Ok, Err, inl, inr}
+use Rattle.std.proofs.Common.{◌≡◌, ℕ, zero, suc, ◌<◌, ◌≤◌, true, List, length, get_or, Option, None, Some, refl, sym, ap, subst, ◌∙◌, arith, Result, Ok, Err, inl, inr}
 use Rattle.std.specs.Prelude.{◌==◌, ◌&&◌, slice_get, Contains}
 use Rattle.std.proofs.lemmas.Bool.{false≢true, and_parts, eqb-true}
 use Rattle.std.proofs.lemmas.Option.{slice_get_within, get_or_from_slice_get}
@@ -44,7 +44,7 @@ use Rattle.qu_values.proofs.UpdateFacts.{UpdateFacts}
 use Rattle.qu_values.proofs.OneAct.{ActsAreOne, one_made_for}
 use Rattle.qu_grounds.proofs.Handled.{accepted_made}
 use Rattle.qu_runs.specs.Digested.{IsMadeFor}
-use Rattle.qu_grounds.specs.Grounds.{AcceptsOne, IsDelivered}
+use Rattle.qu_grounds.specs.Grounds.{Accepts, IsDelivered}
 use Rattle.qu_rounds.specs.Invocations.{IsRequestOf}
 use Rattle.qu_runs.specs.Times.{world_after}
 use Rattle.qu_points.specs.Order.{AnswersFirst, query_effect, effect_of, IsPoint}
@@ -221,7 +221,7 @@ module _ (trace : Trace) (is_run : IsRun trace) (have : ArePlain trace) where
   -- ---- updates
 
   -- where a replica accepts a candidate it is handed the request of an act for which the candidate was made
-  record Accepts (time : ℕ) (object : ObjectId) (candidate : Candidate) : Type 0 where
+  record TakesAct (time : ℕ) (object : ObjectId) (candidate : Candidate) : Type 0 where
     client : ClientId
     number : ℕ
     parts : List (ObjectId × Method)
@@ -231,17 +231,17 @@ module _ (trace : Trace) (is_run : IsRun trace) (have : ArePlain trace) where
 
   accepts_asked : (time : ℕ) (object : ObjectId) (place : ℕ) (candidate : Candidate)
       → IsNew (setting trace) time object place candidate → time < length trace.entries
-      → Accepts time object candidate
+      → TakesAct time object candidate
   accepts_asked time object place candidate new within =
       let accepted : Acceptance trace time object place candidate =
       acceptance_of trace is_run have time object place candidate new in
       let delivered : IsDelivered (world_after trace time) accepted.event place accepted.old accepted.new object =
       accepted.delivered in
-      let one : AcceptsOne accepted.old accepted.new delivered.carried object = delivered.accepts in
+      let one : Accepts accepted.old accepted.new delivered.carried = delivered.accepts in
       record {
         client = one.client;
         number = one.number;
-        parts = (object, one.method) ∷ [];
+        parts = one.parts;
         asked = record {
           within = within;
           asked = delivered.number;
@@ -250,9 +250,9 @@ module _ (trace : Trace) (is_run : IsRun trace) (have : ArePlain trace) where
           is_handed = ap (handed (world_after trace time)) (sym accepted.event_is) ∙ delivered.is_handed;
           round = one.round;
           sets = one.sets;
-          asks = body.Act ((object, one.method) ∷ []);
+          asks = body.Act one.parts;
           is_request = asks_so delivered.letter delivered.carried one.client one.number one.round one.sets
-              (body.Act ((object, one.method) ∷ [])) one.mac
+              (body.Act one.parts) one.mac
               (brings_carries accepted.old delivered.letter delivered.carried delivered.brings) one.is_request;
         };
         is_act = refl;
@@ -266,7 +266,7 @@ module _ (trace : Trace) (is_run : IsRun trace) (have : ArePlain trace) where
 
     -- the event of such a step hands over the request of an act
     turn_asked : (time : ℕ) (update : Update) → (turn : IsTurnOf trace laws joint one_act facts time update)
-        → (object : ObjectId) × (candidate : Candidate) × Accepts time object candidate
+        → (object : ObjectId) × (candidate : Candidate) × TakesAct time object candidate
     turn_asked time update it =
         let within : time < (setting trace).last = (it.turn).within in
         elim (newly (setting trace) laws joint time within it.object it.candidate (it.turn).after) [
@@ -291,7 +291,7 @@ module _ (trace : Trace) (is_run : IsRun trace) (have : ArePlain trace) where
               (acts trace (update_of operation parts) it.object it.candidate it.is_of))
           | inr first ↦
               let earlier : first.time < suc time = first.within in
-              let upon : Accepts first.time it.object it.candidate =
+              let upon : TakesAct first.time it.object it.candidate =
               accepts_asked first.time it.object first.replica it.candidate first.new
               (omega (arith, last_is trace, within, earlier)) in
               let asked : IsAskedAt trace first.time upon.client upon.number = upon.asked in
@@ -383,7 +383,7 @@ module _ (trace : Trace) (is_run : IsRun trace) (have : ArePlain trace) where
         → IsAskedAt trace time operation.client operation.number → ⊥
     not_both time update turn operation among query is asked =
         let found = turn_asked time update turn in
-        let upon : Accepts time found.0 found.1 = found.2 in
+        let upon : TakesAct time found.0 found.1 = found.2 in
         different upon.parts query
         (sym upon.is_act
         ∙ (one_asked trace time upon.client operation.client upon.number operation.number upon.asked asked).2

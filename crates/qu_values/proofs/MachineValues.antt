@@ -31,7 +31,8 @@ use Rattle.qu_machine.proofs.Equalities.{object_is}
 use Rattle.qu_trace.specs.declared.trace.Trace.{Trace}
 use Rattle.qu_world.proofs.Each.{set_other}
 use Rattle.qu_runs.specs.Setting.{setting}
-use Rattle.qu_values.specs.Updates.{Update, Names, IsOf, IsEverAccepted}
+use Rattle.qu_values.specs.Updates.{Update, IsOf, IsEverAccepted}
+use Rattle.qu_grounds.specs.Parts.{Names}
 use Rattle.qu_values.specs.Values.{HasVersion}
 use Rattle.qu_values.proofs.OneAct.{ActsAreOne}
 use Rattle.qu_values.proofs.PerformedUpdates.{performed}

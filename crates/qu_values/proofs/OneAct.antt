@@ -42,16 +42,16 @@ text_digested trace client number parts it =
 
 -- ---- its numbers fit
 
-record IsFit (who : ClientId) (turn : ℕ) (these : List (ObjectId × Method)) : Type 0 where
-  client : who.0 < 2 ^ 16
-  number : turn < 2 ^ 64
-  parts : HasOpParts (op.Act these)
+pub record IsFit (who : ClientId) (turn : ℕ) (these : List (ObjectId × Method)) : Type 0 where
+  pub client : who.0 < 2 ^ 16
+  pub number : turn < 2 ^ 64
+  pub parts : HasOpParts (op.Act these)
 
 pub act_by : (parts : List (ObjectId × Method)) (what : Op) → body.Act parts ≡ body_of what → what ≡ op.Act parts
 act_by parts (op.Act act) same = cc
 act_by parts (op.Query query) same = absurd (cc)
 
-fit : (trace : Trace) → IsRun trace → ArePlain trace → (client : ClientId) (number : ℕ)
+pub fit : (trace : Trace) → IsRun trace → ArePlain trace → (client : ClientId) (number : ℕ)
     (parts : List (ObjectId × Method)) → IsHandled trace client number parts → IsFit client number parts
 fit trace is_run have client number parts it =
     let request : IsRequestOf trace (length trace.entries) client number (body.Act parts) =

@@ -1,7 +1,7 @@
 -- Every replica that accepted a candidate stores the version of the candidate with it.
 use Rattle.std.proofs.Common.{◌≡◌, ℕ, zero, suc, ◌+◌, ◌<◌, ◌≤◌, Bool, true, false, ◌&&◌, cond, List, [], ◌∷◌, length, get_or, Some, inl, inr, refl, sym, ap, subst, ◌∙◌, arith, add-one}
 use Rattle.std.specs.Prelude.{◌==◌, slice_get, Contains}
-use Rattle.std.proofs.lemmas.Bool.{false≢true, cases_Bool, or_cases, and_from, and_parts, eq-eqb, eqb-true}
+use Rattle.std.proofs.lemmas.Bool.{false≢true, cases_Bool, cases_eq, or_cases, and_from, and_parts, eq-eqb, eqb-true}
 use Rattle.std.proofs.lemmas.Option.{same_Some}
 use Rattle.qu_base.specs.declared.party.ObjectId.{ObjectId}
 use Rattle.qu_base.specs.declared.party.ReplicaId.{ReplicaId}
@@ -32,19 +32,21 @@ use Rattle.qu_world.specs.Run.{IsRun}
 use Rattle.qu_replica.specs.Rows.{asked_of}
 use Rattle.std.proofs.lemmas.List.Elements.{Contains-get_or}
 use Rattle.qu_chain.specs.Laws.{Laws}
-use Rattle.qu_chain.specs.Joint.{Joint}
-use Rattle.qu_objects.specs.declared.act.Method.{Method}
+use Rattle.qu_chain.specs.Setting.{IsNew}
+use Rattle.qu_chain.specs.Joint.{Joint, IsOneAct}
 use Rattle.qu_stamp.specs.declared.stamp.Stamp.{Stamp}
 use Rattle.qu_grounds.proofs.Handled.{handled, made_for}
 use Rattle.qu_runs.specs.Digested.{IsHandled}
-use Rattle.qu_grounds.specs.Grounds.{IsGround, IsPerformed, AcceptsOne, IsMoved}
+use Rattle.qu_grounds.specs.Parts.{Names}
+use Rattle.qu_grounds.specs.Grounds.{IsGround, Accepts, IsMoved}
 use Rattle.qu_runs.specs.Times.{world_after}
-use Rattle.qu_values.specs.Updates.{Names, IsEverAccepted}
-use Rattle.qu_values.specs.Values.{RestsOn, HasVersion}
+use Rattle.qu_values.specs.Updates.{IsEverAccepted}
+use Rattle.qu_values.specs.Values.{HasVersion}
 use Rattle.qu_runs.specs.Setting.{setting}
 use Rattle.qu_runs.specs.Plain.{ArePlain, IsPlain}
 use Rattle.qu_grounds.specs.Views.{IsOfKept}
-use Rattle.qu_grounds.proofs.Acceptance.{accepts_on}
+use Rattle.qu_grounds.proofs.Parts.{named_or_not}
+use Rattle.qu_grounds.proofs.Laws.{new_accepted}
 use Rattle.qu_grounds.proofs.Acceptors.{method_is_shown}
 use Rattle.qu_grounds.proofs.Grounds.{above_base}
 use Rattle.qu_runs.proofs.Befores.{WasBefore, was_before}
@@ -151,83 +153,75 @@ opening-versioned trace me = record {
       (begun_from me 0 trace.setup.kinds object object.0 candidate (omega arith) held);
 }
 
--- ---- what an accepted candidate is made of
+-- ---- what accepted candidates are made of
 
 module _ (trace : Trace) (laws : Laws (setting trace)) (joint : Joint (setting trace)) (is_run : IsRun trace)
     (have : ArePlain trace) (count : ℕ) (within : count ≤ length trace.entries) where
   module _ (number : ℕ) (letter : Letter) (sent : letter_of (world_after trace count) number ≡ Some letter)
       (carried : Frame) (place : ℕ) (old new : ReplicaState) (brings : Brings old letter carried)
       (is_old : slice_get (world_after trace count).replicas place ≡ Some old) (before : IsVersioned trace old)
-      (object : ObjectId) (one : AcceptsOne old new carried object) where
-    abbrev parts : List (ObjectId × Method)
-    parts = (object, one.method) ∷ []
-
-    abbrev base : Candidate
-    base = (one.grounds).base
-
-    asks : Asks letter one.client one.number one.round one.sets (body.Act parts)
-    asks = asks_so letter carried one.client one.number one.round one.sets (body.Act parts) one.mac
+      (one : Accepts old new carried) where
+    asks : Asks letter one.client one.number one.round one.sets (body.Act one.parts)
+    asks = asks_so letter carried one.client one.number one.round one.sets (body.Act one.parts) one.mac
         (brings_carries old letter carried brings) one.is_request
 
-    view : IsOfKept trace count one.sets (body.Act parts)
+    view : IsOfKept trace count one.sets (body.Act one.parts)
     view = view_of_request trace is_run have count within number letter sent one.client one.number one.round one.sets
-        (body.Act parts) asks
+        (body.Act one.parts) asks
 
     -- a quorum showed the base, so it was accepted
-    base_accepted : IsEverAccepted trace object base
-    base_accepted =
-        quorum_ever trace laws count within object base (is_run.setup).some_faults
-        (method_is_shown trace is_run count within one.sets (body.Act parts) view object base
-        (ap (λ (bounds : ℕ). method_at bounds (entries_of object one.sets)) (sym before.bounds) ∙ (one.grounds).method))
+    base_accepted : (object : ObjectId) → Names one.parts object → IsEverAccepted trace object (one.bases object)
+    base_accepted object names =
+        quorum_ever trace laws count within object (one.bases object) (is_run.setup).some_faults
+        (method_is_shown trace is_run count within one.sets (body.Act one.parts) view object (one.bases object)
+        (ap (λ (bounds : ℕ). method_at bounds (entries_of object one.sets)) (sym before.bounds)
+        ∙ (one.grounds object names).method))
 
     -- the version that the replica stores under the stamp of the base is that of the base
-    base_version : HasVersion trace object base (one.performed).before
-    base_version =
-        let performed : IsPerformed old object base one.method one.version = one.performed in
-        let under : HoldsUnder old object base.stamp =
-        before.of_held.of_held object base.stamp performed.before performed.of_base in
+    base_version : (object : ObjectId) → Names one.parts object
+        → HasVersion trace object (one.bases object) ((one.performed).befores object)
+    base_version object names =
+        let base : Candidate = one.bases object in
+        let version : Version = (one.performed).befores object in
+        let found : version_at object base.stamp old.versions ≡ Some version =
+        (one.performed).of_bases object names in
+        let under : HoldsUnder old object base.stamp = before.of_held.of_held object base.stamp version found in
         let held : Candidate = under.held in
         let is_base : held ≡ base =
         same_accepted trace laws joint object held base (held_ever trace laws count within place old is_old object held
-        under.is_held) base_accepted
-        under.under in
+        under.is_held) (base_accepted object names) under.under in
         let stored : Stores trace object old base =
         subst (Stores trace object old) is_base (before.stores object held under.is_held) in
-        let is_before : stored.0 ≡ performed.before =
-        same_Some stored.0 performed.before (sym stored.1 ∙ performed.of_base) in
+        let is_before : stored.0 ≡ version = same_Some stored.0 version (sym stored.1 ∙ found) in
         subst (HasVersion trace object base) is_before stored.2
 
-    here : (other : ObjectId) → Names parts other → object ≡ other
-    here other (inl same) = same
-    here other (inr none) = absurd none
-
-    accepted_stores : IsHandled trace one.client one.number parts → IsEverAccepted trace object one.candidate
-        → Stores trace object new one.candidate
-    accepted_stores was accepted =
-        let grounds : IsGround old (asked_of one.client one.number one.sets (body.Act parts)) object one.candidate =
-        one.grounds in (
-          one.version,
-          version_of_fresh before.of_held one,
-          HasVersion.of_update object one.candidate
-              (record { client = one.client; number = one.number; parts = parts }) (λ other. base)
-              (λ other. (one.performed).before) (λ other. (one.version).value) one.version
-              (ap (λ (it : Stamp). is_below it (one.candidate).stamp) grounds.prior ∙ above_base grounds)
+    accepted_stores : IsHandled trace one.client one.number one.parts
+        → ((object : ObjectId) → Names one.parts object → IsEverAccepted trace object (one.candidates object))
+        → ((object other : ObjectId) → Names one.parts object → Names one.parts other
+        → IsOneAct (setting trace) object other (one.candidates object) (one.candidates other))
+        → (object : ObjectId) → Names one.parts object → Stores trace object new (one.candidates object)
+    accepted_stores was accepted companions object names =
+        let candidate : Candidate = one.candidates object in
+        let grounds : IsGround old (asked_of one.client one.number one.sets (body.Act one.parts)) object candidate
+            (one.bases object) = one.grounds object names in (
+          one.versions object,
+          version_of_fresh before.of_held one object names,
+          HasVersion.of_update object candidate
+              (record { client = one.client; number = one.number; parts = one.parts }) one.bases
+              (one.performed).befores (λ other. (one.versions other).value) (one.versions object)
+              (ap (λ (it : Stamp). is_below it candidate.stamp) grounds.prior ∙ above_base grounds)
               (record {
-                made = made_for trace old new carried object one one.candidate refl was;
-                names = inl refl;
+                made = made_for trace old new carried object one names candidate refl was;
+                names = names;
               })
-              (λ other names.
-              subst (λ (it : ObjectId). RestsOn trace object one.candidate it base) (here other names) (record {
-                companion = one.candidate;
-                is_companion = inl (refl, refl);
-                accepted = accepted;
-                prior = grounds.prior;
-                base_accepted = base_accepted;
-              }))
-              (λ other names.
-              subst (λ (it : ObjectId). HasVersion trace it base (one.performed).before) (here other names)
-              base_version)
-              (one.performed).value refl (one.performed).answer,
+              (λ other besides. record {
+                companion = one.candidates other;
+                is_companion = companions object other names besides;
+                accepted = accepted other besides;
+                prior = (one.grounds other besides).prior;
+                base_accepted = base_accepted other besides;
+              })
+              base_version (one.performed).values refl ((one.performed).answer object names),
         )
 
 -- ---- an event
@@ -246,53 +240,79 @@ module _ (trace : Trace) (laws : Laws (setting trace)) (joint : Joint (setting t
     (is_new : slice_get (world_step (world_after trace count) event).replicas place ≡ Some new)
     (is_next : slice_get (world_after trace (count + 1)).replicas place ≡ Some new) (grows : Grows old new)
     (before : IsVersioned trace old) where
-  one_handled : (moved : IsMoved (world_after trace count) event place old new) (object : ObjectId)
-      (one : AcceptsOne old new moved.carried object) → IsHandled trace one.client one.number
-      ((object, one.method) ∷ [])
-  one_handled moved object one =
-      handled trace is_run count below entry of_trace event event_is place old new is_old is_new object
-      (record {
-        number = moved.number;
-        letter = moved.letter;
-        is_letter = moved.is_letter;
-        is_handed = moved.is_handed;
-        to = moved.to;
-        carried = moved.carried;
-        brings = moved.brings;
-        accepts = one;
-      })
+  module _ (moved : IsMoved (world_after trace count) event place old new) where
+    abbrev one : Accepts old new moved.carried
+    one = moved.accepts
 
-  now_accepted : (moved : IsMoved (world_after trace count) event place old new) (object : ObjectId)
-      (one : AcceptsOne old new moved.carried object) → IsEverAccepted trace object one.candidate
-  now_accepted moved object one =
-      held_ever trace laws (count + 1) (omega arith) place new (is_next) object one.candidate
-      (ap (holds one.candidate) one.added ∙ holds_pushed one.candidate (own_candidates old object))
+    one_handled : (object : ObjectId) → Names one.parts object → IsHandled trace one.client one.number one.parts
+    one_handled object names =
+        handled trace is_run count below entry of_trace event event_is place old new is_old is_new object
+        (record {
+          number = moved.number;
+          letter = moved.letter;
+          is_letter = moved.is_letter;
+          is_handed = moved.is_handed;
+          to = moved.to;
+          carried = moved.carried;
+          brings = moved.brings;
+          accepts = one;
+          names = names;
+        })
 
-  one_stores : (moved : IsMoved (world_after trace count) event place old new) (object : ObjectId)
-      → AcceptsOne old new moved.carried object
-      → (candidate : Candidate) → holds candidate (own_candidates new object) ≡ true → Stores trace object new candidate
-  one_stores moved object one candidate held =
-      elim (or_cases _ _ (sym (holds_push candidate one.candidate (own_candidates old object)) ∙ ap (holds candidate)
-      (sym one.added) ∙ held)) [
-        | inl earlier ↦ still_stores trace old new grows object candidate (before.stores object candidate earlier)
-        | inr last ↦ elim (or_cases (same one.candidate candidate) false last) [
-          | inl is ↦
-              subst (Stores trace object new) (equal_by_same one.candidate candidate is)
-              (accepted_stores trace laws joint is_run have count within moved.number moved.letter moved.is_letter
-              moved.carried place old new moved.brings is_old before object one (one_handled moved object one)
-              (now_accepted moved object one))
-          | inr never ↦ absurd (false≢true never)
+    now_new : (object : ObjectId) → Names one.parts object
+        → IsNew (setting trace) count object place (one.candidates object)
+    now_new object names =
+        new_accepted trace is_run have count below place old new is_old
+        (ap (λ (it : ℕ). slice_get (world_after trace it).replicas place) (sym (add-one count)) ∙ is_next)
+        moved.carried one object names
+
+    now_accepted : (object : ObjectId) → Names one.parts object → IsEverAccepted trace object (one.candidates object)
+    now_accepted object names =
+        held_ever trace laws (count + 1) (omega arith) place new is_next object (one.candidates object)
+        (ap (holds (one.candidates object)) (one.added object names)
+        ∙ holds_pushed (one.candidates object) (own_candidates old object))
+
+    -- what one event adds is one act
+    companions : (object other : ObjectId) → Names one.parts object → Names one.parts other
+        → IsOneAct (setting trace) object other (one.candidates object) (one.candidates other)
+    companions object other names besides =
+        elim (cases_eq object.0 other.0) [
+          | inl same ↦
+              let objects : object ≡ other = λ i. record { 0 = same i } in
+              inl (objects, ap one.candidates objects)
+          | inr apart ↦ inr (record {
+            apart = apart;
+            is_member = joint.together count object other place place (one.candidates object) (one.candidates other)
+                apart (now_new object names) (now_new other besides);
+          })
         ]
-      ]
 
-  moved_stores : IsMoved (world_after trace count) event place old new → (object : ObjectId) (candidate : Candidate)
-      → holds candidate (own_candidates new object) ≡ true → Stores trace object new candidate
-  moved_stores moved object candidate held =
-      elim (accepts_on old new moved.carried moved.accepts object) [
-        | inl alike ↦ still_stores trace old new grows object candidate
-            (before.stores object candidate (ap (holds candidate) (sym alike) ∙ held))
-        | inr one ↦ one_stores moved object one candidate held
-      ]
+    one_stores : (object : ObjectId) → Names one.parts object
+        → (candidate : Candidate) → holds candidate (own_candidates new object) ≡ true
+        → Stores trace object new candidate
+    one_stores object names candidate held =
+        let fresh : Candidate = one.candidates object in
+        elim (or_cases _ _ (sym (holds_push candidate fresh (own_candidates old object)) ∙ ap (holds candidate)
+        (sym (one.added object names)) ∙ held)) [
+          | inl earlier ↦ still_stores trace old new grows object candidate (before.stores object candidate earlier)
+          | inr last ↦ elim (or_cases (same fresh candidate) false last) [
+            | inl is ↦
+                subst (Stores trace object new) (equal_by_same fresh candidate is)
+                (accepted_stores trace laws joint is_run have count within moved.number moved.letter moved.is_letter
+                moved.carried place old new moved.brings is_old before one (one_handled object names) now_accepted
+                companions object names)
+            | inr never ↦ absurd (false≢true never)
+          ]
+        ]
+
+    moved_stores : (object : ObjectId) (candidate : Candidate)
+        → holds candidate (own_candidates new object) ≡ true → Stores trace object new candidate
+    moved_stores object candidate held =
+        elim (named_or_not one.parts object) [
+          | inr not_named ↦ still_stores trace old new grows object candidate
+              (before.stores object candidate (ap (holds candidate) (sym (one.others object not_named)) ∙ held))
+          | inl names ↦ one_stores object names candidate held
+        ]
 
   event-versioned : IsVersioned trace new
   event-versioned =

@@ -1,7 +1,7 @@
 -- What a verdict says is true of the replica that gives it.
 use Rattle.std.proofs.Common.{◌≡◌, ℕ, ◌<◌, Bool, true, false, ◌&&◌, cond, List, [], ◌∷◌, length, Option, None, Some, inl, inr, refl, sym, subst, ap, ◌∙◌, arith}
 use Rattle.std.specs.Prelude.{option_map, option_and_then, find, nat_le, ◌==◌}
-use Rattle.std.proofs.lemmas.Bool.{false≢true, cases_Bool, leb-false, eqb-true}
+use Rattle.std.proofs.lemmas.Bool.{cases_Bool, leb-false, eqb-true}
 use Rattle.std.proofs.lemmas.List.Elements.{All-nil, All-cons}
 use Rattle.std.proofs.lemmas.Option.{none-some, same_Some}
 use Rattle.qu_base.specs.declared.party.ClientId.{ClientId}
@@ -10,7 +10,7 @@ use Rattle.qu_base.specs.declared.party.ObjectId.{ObjectId}
 use Rattle.qu_stamp.specs.declared.stamp.Stamp.{Stamp}
 use Rattle.qu_stamp.specs.declared.candidate.Candidate.{Candidate}
 use Rattle.qu_stamp.specs.Stamp.{is_below}
-use Rattle.qu_stamp.proofs.Order.{is_below-self, is_below-not_chain}
+use Rattle.qu_stamp.proofs.Order.{is_below-not_chain}
 use Rattle.qu_history.specs.declared.sets.SetOf.{SetOf}
 use Rattle.qu_history.specs.History.{holds}
 use Rattle.qu_history.specs.Sets.{histories, entries_of, latest_of, method_at}
@@ -37,8 +37,8 @@ use Rattle.qu_replica.specs.Versions.{is_stored, version_at}
 use Rattle.qu_replica.proofs.Carried.{performed_one, done_one, told_one}
 use Rattle.qu_grounds.specs.Grounds.{IsGround}
 use Rattle.qu_values.specs.Replies.{HasDone, TellsDone, TellsQuery}
-use Rattle.qu_grounds.proofs.Grounds.{is_base, above_held}
-use Rattle.qu_grounds.proofs.HeldVersions.{AreOfHeld, HoldsUnder}
+use Rattle.qu_grounds.proofs.Grounds.{is_base}
+use Rattle.qu_grounds.proofs.HeldVersions.{AreOfHeld, none_under}
 use Rattle.qu_runs.proofs.Small.{some_of, single}
 use Rattle.qu_grounds.proofs.Acceptance.{no_wait, candidates_after}
 use Rattle.qu_grounds.proofs.Performed.{version_at-push}
@@ -364,20 +364,6 @@ module _ (state : ReplicaState) (asked : Asked) (object : ObjectId) where
   retry_tells act is_act (Some base) is decision given =
       kept_tells act is_act base _ _ refl refl decision (sym (retry_some base is) ∙ given)
 
--- a fresh candidate is above all that are held, so no version is stored under its stamp
-module _ {state : ReplicaState} {asked : Asked} {object : ObjectId} {candidate : Candidate}
-    (are : AreOfHeld state) (grounds : IsGround state asked object candidate) where
-  none_of : (found : Option Version) → version_at object candidate.stamp state.versions ≡ found → found ≡ None
-  none_of None is_found = refl
-  none_of (Some version) is_found =
-      let under : HoldsUnder state object candidate.stamp = are.of_held object candidate.stamp version is_found in
-      absurd (false≢true (sym (is_below-self candidate.stamp) ∙
-      ap (λ (stamp : Stamp). is_below stamp candidate.stamp) (sym under.under) ∙
-      above_held grounds under.held under.is_held))
-
-  none_under : version_at object candidate.stamp state.versions ≡ None
-  none_under = none_of (version_at object candidate.stamp state.versions) refl
-
 -- the replica holds what it accepted, and finds the version that it stored
 accepted_tells : (state : ReplicaState) (asked : Asked) (act : Digest) → asked.act ≡ Some act
     → (object : ObjectId) (base : Candidate) (version : Version)
@@ -421,15 +407,8 @@ done_tells state asked act is_act object method are is_known is_current is_metho
     let answer : Answer = performed_answer parts ((before.0).value ∷ []) in
     let fresh : Candidate = fresh_of asked object base in
     let is_fresh : fresh_on state asked object ≡ Some fresh = ap (option_map (fresh_of asked object)) found.1 in
-    let grounds : IsGround state asked object fresh =
-    record {
-      base = base;
-      method = found.1;
-      prior = refl;
-      stamp = refl;
-      current = passed_current state asked
-          object is_current;
-    } in
+    let grounds : IsGround state asked object fresh base =
+    record { method = found.1; prior = refl; stamp = refl; current = passed_current state asked object is_current } in
     let known : object.0 < length state.histories =
     known_by_base (length state.histories) state.keys.bounds asked.sets object base
     (passed_unknown state asked object is_known) found.1 in

@@ -1,5 +1,5 @@
 -- The updates of a run are as the values along the order ask: no copies, no groups, and one candidate each.
-use Rattle.std.proofs.Common.{◌≡◌, ◌⊎◌, true, false, not, List, [], ◌∷◌, length, None, Some, refl, sym, ap, subst, ◌∙◌, arith, inl, inr}
+use Rattle.std.proofs.Common.{◌≡◌, ◌⊎◌, true, false, not, length, None, Some, refl, sym, ap, subst, ◌∙◌, arith, inl, inr}
 use Rattle.std.specs.Prelude.{slice_get, is_some, Option}
 use Rattle.std.proofs.lemmas.Bool.{false≢true}
 use Rattle.std.proofs.lemmas.Option.{none-some}
@@ -16,7 +16,6 @@ use Rattle.qu_chain.specs.Joint.{Joint}
 use Rattle.qu_chain.proofs.Ancestry.{accepted_by_attested}
 use Rattle.qu_chain.proofs.Counting.{Found, found_at}
 use Rattle.qu_chain.proofs.Parents.{ancestor-not_above}
-use Rattle.qu_objects.specs.declared.act.Method.{Method}
 use Rattle.qu_objects.specs.declared.kind.Value.{Value}
 use Rattle.qu_objects.specs.declared.version.Version.{Version}
 use Rattle.qu_frames.specs.declared.frame.Body.TheVariants as body
@@ -29,7 +28,8 @@ use Rattle.qu_runs.specs.Plain.{ArePlain}
 use Rattle.qu_runs.specs.Setting.{setting}
 use Rattle.qu_rounds.specs.Invocations.{IsRequestOf}
 use Rattle.qu_grounds.specs.Chained.{last_world}
-use Rattle.qu_grounds.specs.Grounds.{AcceptsOne}
+use Rattle.qu_grounds.specs.Grounds.{IsGround, Accepts}
+use Rattle.qu_replica.specs.Rows.{asked_of}
 use Rattle.qu_grounds.specs.Origins.{Origin}
 use Rattle.qu_runs.proofs.Settings.{AcceptedAt, accepted_somewhere, is_accepted_by}
 use Rattle.qu_grounds.proofs.Grounds.{above_base}
@@ -69,36 +69,38 @@ module _ (trace : Trace) (is_run : IsRun trace) (have : ArePlain trace) where
 
   module _ (object : ObjectId) (candidate : Candidate) (came : Origin trace
       (length trace.entries) object candidate) where
-    abbrev one : AcceptsOne came.old came.new (came.delivered).carried object
+    abbrev one : Accepts came.old came.new (came.delivered).carried
     one = (came.delivered).accepts
 
-    abbrev parts : List (ObjectId × Method)
-    parts = (object, one.method) ∷ []
+    abbrev why : IsGround came.old (asked_of one.client one.number one.sets (body.Act one.parts)) object
+        (one.candidates object) (one.bases object)
+    why = one.grounds object (came.delivered).names
 
-    was_handled : IsHandled trace one.client one.number parts
+    was_handled : IsHandled trace one.client one.number one.parts
     was_handled =
         handled trace is_run came.past came.earlier came.entry came.of_trace came.event came.event_is came.place
         came.old came.new came.is_old
         (ap (λ (it : WorldState). slice_get it.replicas came.place) (sym came.is_step) ∙ came.is_new) object
         came.delivered
 
-    request : IsRequestOf trace (length trace.entries) one.client one.number (body.Act parts)
-    request = asked_by_handled trace is_run have one.client one.number parts was_handled
+    request : IsRequestOf trace (length trace.entries) one.client one.number (body.Act one.parts)
+    request = asked_by_handled trace is_run have one.client one.number one.parts was_handled
 
-    made_for_one : IsMadeFor trace candidate one.client one.number parts
+    made_for_one : IsMadeFor trace candidate one.client one.number one.parts
     made_for_one =
-        made_for trace came.old came.new (came.delivered).carried object one candidate came.is_candidate was_handled
+        made_for trace came.old came.new (came.delivered).carried object one (came.delivered).names candidate
+        came.is_candidate was_handled
 
     made_by : MadeFor trace object candidate
     made_by = record {
       operation = request.operation;
       of_trace = request.of_trace;
-      parts = parts;
-      is_act = act_by parts (request.operation).op request.asks;
+      parts = one.parts;
+      is_act = act_by one.parts (request.operation).op request.asks;
       is_of = record {
-        made = made_for_operation trace (length trace.entries) candidate one.client one.number parts (body.Act parts)
-            request made_for_one;
-        names = inl refl;
+        made = made_for_operation trace (length trace.entries) candidate one.client one.number one.parts
+            (body.Act one.parts) request made_for_one;
+        names = (came.delivered).names;
       };
     }
 
@@ -106,13 +108,13 @@ module _ (trace : Trace) (is_run : IsRun trace) (have : ArePlain trace) where
     unfolding setting
     no_barrier =
         ap (λ (it : Candidate). not it.stamp.barrier) (sym came.is_candidate)
-        ∙ ap (λ (it : Stamp). not it.barrier) (one.grounds).stamp
+        ∙ ap (λ (it : Stamp). not it.barrier) why.stamp
 
     -- its prior is strictly below it
     prior_below : is_below candidate.prior candidate.stamp ≡ true
     prior_below =
         subst (λ (it : Candidate). is_below it.prior it.stamp ≡ true) came.is_candidate
-        (ap (λ (it : Stamp). is_below it (one.candidate).stamp) (one.grounds).prior ∙ above_base one.grounds)
+        (ap (λ (it : Stamp). is_below it (one.candidates object).stamp) why.prior ∙ above_base why)
 
   all_plain : (object : ObjectId) (candidate : Candidate) → IsEverAccepted trace object candidate
       → (setting trace).plain candidate ≡ true

@@ -20,8 +20,9 @@ use Rattle.qu_objects.specs.Kind.{fresh_value}
 use Rattle.qu_objects.specs.Performing.{performed_answer, performed_values}
 use Rattle.qu_trace.specs.declared.trace.Trace.{Trace}
 use Rattle.qu_runs.specs.Setting.{setting}
-use Rattle.qu_values.specs.Updates.{Update, Names, IsOf}
-use Rattle.qu_values.specs.Values.{RestsOn, values_of, HasVersion}
+use Rattle.qu_values.specs.Updates.{Update, IsOf}
+use Rattle.qu_values.specs.Values.{RestsOn, HasVersion}
+use Rattle.qu_grounds.specs.Parts.{Names, values_of}
 use Rattle.qu_values.proofs.OneAct.{ActsAreOne}
 use Rattle.qu_values.proofs.Updates.{one_of, same_accepted, one_companion}
 

@@ -1,6 +1,6 @@
 -- The updates of a run, and the candidates that are made for them.
 -- Definitions whose comment names no source are this project's own; Query/Update is the paper of SOSP 2005.
-use Rattle.std.specs.Prelude.{◌≡◌, ◌⊎◌, ℕ, List, [], ◌∷◌}
+use Rattle.std.specs.Prelude.{◌≡◌, ℕ, List}
 use Rattle.qu_base.specs.declared.party.ClientId.{ClientId}
 use Rattle.qu_base.specs.declared.party.ObjectId.{ObjectId}
 use Rattle.qu_stamp.specs.declared.candidate.Candidate.{Candidate}
@@ -11,17 +11,13 @@ use Rattle.qu_objects.specs.declared.act.Method.{Method}
 use Rattle.qu_trace.specs.declared.trace.Trace.{Trace}
 use Rattle.qu_runs.specs.Digested.{IsMadeFor}
 use Rattle.qu_runs.specs.Setting.{setting}
+use Rattle.qu_grounds.specs.Parts.{Names}
 
 -- what a client asks for under one of its numbers
 pub record Update : Type 0 where
   pub client : ClientId
   pub number : ℕ
   pub parts : List (ObjectId × Method)
-
--- some part is on this object
-abbrev pub Names : {X : Type 0} → List (ObjectId × X) → ObjectId → Type 0
-Names [] object = ⊥
-Names (part ∷ parts) object = (part.0 ≡ object) ⊎ Names parts object
 
 -- the candidate was made for the update, on one of its objects
 pub record IsOf (trace : Trace) (update : Update) (object : ObjectId) (candidate : Candidate) : Type 0 where

@@ -1,11 +1,10 @@
 -- The version of a candidate: the one that its update makes of the versions of its bases.
-use Rattle.std.specs.Prelude.{◌≡◌, true, List, [], map, slice_get, Some}
+use Rattle.std.specs.Prelude.{◌≡◌, true, [], slice_get, Some}
 use Rattle.qu_chain.specs.Joint.{IsOneAct}
 use Rattle.qu_base.specs.declared.party.ObjectId.{ObjectId}
 use Rattle.qu_stamp.specs.declared.candidate.Candidate.{Candidate}
 use Rattle.qu_stamp.specs.Stamp.{is_below}
 use Rattle.qu_stamp.specs.Candidate.{opening}
-use Rattle.qu_objects.specs.declared.act.Method.{Method}
 use Rattle.qu_objects.specs.declared.answer.Answer.TheVariants as answer
 use Rattle.qu_objects.specs.declared.kind.KindName.{KindName}
 use Rattle.qu_objects.specs.declared.kind.Value.{Value}
@@ -14,7 +13,8 @@ use Rattle.qu_objects.specs.Kind.{fresh_value}
 use Rattle.qu_objects.specs.Performing.{performed_answer, performed_values}
 use Rattle.qu_trace.specs.declared.trace.Trace.{Trace}
 use Rattle.qu_runs.specs.Setting.{setting}
-use Rattle.qu_values.specs.Updates.{Update, Names, IsOf, IsEverAccepted}
+use Rattle.qu_values.specs.Updates.{Update, IsOf, IsEverAccepted}
+use Rattle.qu_grounds.specs.Parts.{Names, values_of}
 
 -- on this object the candidate's update is performed upon this base
 pub record RestsOn (trace : Trace) (object : ObjectId) (candidate : Candidate) (other : ObjectId) (base : Candidate)
@@ -24,10 +24,6 @@ pub record RestsOn (trace : Trace) (object : ObjectId) (candidate : Candidate) (
   pub accepted : IsEverAccepted trace other companion
   pub prior : companion.prior ≡ base.stamp
   pub base_accepted : IsEverAccepted trace other base
-
--- the values of the objects that the parts name
-abbrev pub values_of : (ObjectId → Value) → List (ObjectId × Method) → List Value
-values_of value parts = map (λ (part : ObjectId × Method). value part.0) parts
 
 -- the version of a candidate of an object: the opening one's is fresh; another's is what its update makes of the
 -- versions of its bases, one on each of its objects
