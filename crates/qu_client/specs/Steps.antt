@@ -114,6 +114,11 @@ on_received state (Some frame) = on_frame state frame
 abbrev pub client_step : ClientState → List ℕ → Stepped
 client_step state text = on_received state (brought state.keys (party.Client state.me) text)
 
+-- the state after a step that was planned; none is planned where nothing changes
+abbrev pub state_after : ClientState → Option ClientState → ClientState
+state_after old None = old
+state_after old (Some new) = new
+
 -- a tick changes nothing
 abbrev pub client_tick : ClientState → Stepped
 client_tick state = stays state

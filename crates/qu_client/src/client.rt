@@ -1,6 +1,6 @@
 ghost use Rattle.std.specs.Prelude.{◌≡◌, ◌<◌, ◌-◌, ◌^◌, ◌↔◌, Err, None, IsTrue, IsSome, IfOk, OnOk, OnErr, IfSome, option_map, []};
 ghost use Rattle.qu_client.specs.State.{opening_state};
-ghost use Rattle.qu_client.specs.Steps.{client_invoke, client_step, on_frame, client_tick, next_number};
+ghost use Rattle.qu_client.specs.Steps.{client_invoke, client_step, on_frame, client_tick, next_number, state_after};
 
 use super::rounds::begin_round;
 use super::state::shown_to;
@@ -66,11 +66,33 @@ impl Moved {
     }
 }
 
+/// What a step of a client will make. To carry it out takes no memory.
+#[derive(Debug, Drop)]
+pub struct Planned {
+    /// The client's state after the step, or none where the step changes nothing.
+    pub state: Option<ClientState>,
+    pub moved: Moved,
+}
+
 /// One client. Its operations run one at a time.
 #[derive(Debug, Drop)]
 pub struct Client {
     alloc: Global,
     state: ClientState,
+}
+
+impl Planned {
+    /// The plan of a step in which nothing happens.
+    fn nothing(alloc: Global) -> Planned
+        ensures state { result.state ≡ None }
+        ensures letters { result.moved.letters ≡ [] }
+        ensures ended { result.moved.ended ≡ None }
+    {
+        Planned {
+            state: None,
+            moved: Moved::nothing(alloc),
+        }
+    }
 }
 
 impl Model for Client {
@@ -158,19 +180,30 @@ impl Client {
         ensures ended { IfOk result (λ moved. moved.ended ≡ (client_step self.old text.now).ended) }
         ensures err { OnErr result (self.new ≡ self.old) }
     {
+        let planned = self.plan(text)?;
+        Ok(self.carry_out(planned))
+    }
+
+    /// What `step` will make of these bytes. All that the step takes of memory is taken here.
+    pub fn plan(&self, text: &[u8]) -> Result<Planned, NoMemory>
+        ensures state { IfOk result (λ planned. state_after self.now planned.state
+            ≡ (client_step self.now text.now).state) }
+        ensures letters { IfOk result (λ planned. planned.moved.letters ≡ (client_step self.now text.now).letters) }
+        ensures ended { IfOk result (λ planned. planned.moved.ended ≡ (client_step self.now text.now).ended) }
+    {
         let me = Party::Client(self.state.me);
         match receive(self.alloc, &self.state.keys, me, text)? {
-            Some(frame) => self.on_frame(&frame),
-            None => Ok(Moved::nothing(self.alloc)),
+            Some(frame) => self.plan_frame(&frame),
+            None => Ok(Planned::nothing(self.alloc)),
         }
     }
 
-    /// Takes a frame. One that is no reply to this client is ignored.
-    fn on_frame(&mut self, frame: &Frame) -> Result<Moved, NoMemory>
-        ensures state { OnOk result (self.new ≡ (on_frame self.old frame.now).state) }
-        ensures letters { IfOk result (λ moved. moved.letters ≡ (on_frame self.old frame.now).letters) }
-        ensures ended { IfOk result (λ moved. moved.ended ≡ (on_frame self.old frame.now).ended) }
-        ensures err { OnErr result (self.new ≡ self.old) }
+    /// What a frame will make. One that is no reply to this client is ignored.
+    fn plan_frame(&self, frame: &Frame) -> Result<Planned, NoMemory>
+        ensures state { IfOk result (λ planned. state_after self.now planned.state
+            ≡ (on_frame self.now frame.now).state) }
+        ensures letters { IfOk result (λ planned. planned.moved.letters ≡ (on_frame self.now frame.now).letters) }
+        ensures ended { IfOk result (λ planned. planned.moved.ended ≡ (on_frame self.now frame.now).ended) }
     {
         match frame {
             Frame::Reply {
@@ -188,11 +221,25 @@ impl Client {
                     letters,
                     ended,
                 } = counted_in(self.alloc, state, *replica, *number, *round, verdict)?;
-                self.state = state;
-                Ok(Moved { letters, ended })
+                Ok(Planned {
+                    state: Some(state),
+                    moved: Moved { letters, ended },
+                })
             }
-            _ => Ok(Moved::nothing(self.alloc)),
+            _ => Ok(Planned::nothing(self.alloc)),
         }
+    }
+
+    /// Makes what was planned, which takes no memory.
+    pub fn carry_out(&mut self, planned: Planned) -> Moved
+        ensures state { self.new ≡ state_after self.old planned.state }
+        ensures moved { result ≡ planned.moved }
+    {
+        let Planned { state, moved } = planned;
+        if let Some(state) = state {
+            self.state = state;
+        }
+        moved
     }
 
     /// Takes a tick of the clock, upon which nothing happens.

@@ -10,7 +10,7 @@ mod steps;
 mod verdicts;
 mod work;
 
-pub use client::{Client, InvokeFail, Moved};
+pub use client::{Client, InvokeFail, Moved, Planned};
 pub use kept::Kept;
 pub use state::{Begun, ClientState, Stepped};
 pub use work::{Counted, Phase, Work};
