@@ -15,6 +15,7 @@ use Rattle.qu_objects.specs.Formats.{method_form, ask_form, item_form, parts_for
 use Rattle.qu_objects.specs.Digesting.{act_text_form}
 use Rattle.qu_objects.proofs.Forms.{method-exact, ask-exact, item-exact, act-exact, query-exact, answer-exact}
 use Rattle.qu_objects.proofs.Text.{act_text-exact}
+use Rattle.qu_objects.proofs.StateLaws.{state-code}
 
 object_below : (object : ObjectId) → object_form.Fits object → object.0 < OBJECT_IDS
 object_below object fits = omega (arith, fits.1)
@@ -67,4 +68,4 @@ answer-code = prefix_code answer_form answer-exact
 pub text-code : IsPrefixCode act_text_form
 text-code = prefix_code act_text_form act_text-exact
 
-pub ruleset code_laws = (method-code, ask-code, item-code, act-code, query-code, answer-code, text-code)
+pub ruleset code_laws = (method-code, ask-code, item-code, act-code, query-code, answer-code, text-code, state-code)

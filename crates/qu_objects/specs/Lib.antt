@@ -5,3 +5,4 @@ pub mod Performing
 pub mod Formats
 pub mod Digesting
 pub mod Alike
+pub mod States

@@ -3,6 +3,7 @@ ghost use Rattle.qu_base.specs.declared.party.ObjectId.{ObjectId};
 ghost use Rattle.qu_base.specs.Format.{IsPrefixCode};
 ghost use Rattle.qu_objects.specs.Formats.{method_form, ask_form, item_form, act_form, query_form, answer_form};
 ghost use Rattle.qu_objects.specs.Digesting.{act_text_form};
+ghost use Rattle.qu_objects.specs.States.{state_form};
 
 /// By each format of this crate, what is read is spelled so, what is spelled so is read, and no
 /// spelling begins another.
@@ -15,4 +16,5 @@ pub fn formats_are_codes()
     ensures query { (known : ObjectId → Bool) → IsPrefixCode (query_form known) }
     ensures answer { IsPrefixCode answer_form }
     ensures text { IsPrefixCode act_text_form }
+    ensures state { IsPrefixCode state_form }
 {}

@@ -13,25 +13,34 @@ mod query;
 mod reading;
 mod reading_answer;
 mod reading_parts;
+mod reading_state;
 mod refusal_number;
+mod state;
 mod version;
 mod writing;
 mod writing_answer;
 mod writing_parts;
+mod writing_state;
 
 pub use act::{Act, BadParts, Method};
 pub use answer::{Answer, Item};
 pub use digesting::act_digest;
 pub use formats::formats_are_codes;
 pub use kind::{Applied, KindName, Value};
-pub use limits::{LAST_ASK, LAST_ITEM, LAST_METHOD, MOST_PARTS, PARTS_LIMIT, limits_are_these};
+pub use limits::{
+    KEPT_LIMIT, LAST_ASK, LAST_ITEM, LAST_KIND, LAST_METHOD, LINKS_LIMIT, MOST_PARTS, PARTS_LIMIT,
+    limits_are_these,
+};
 pub use op::{Op, Outcome};
 pub use performing::{Performed, perform, tell_all};
 pub use query::{Ask, Query};
 pub use reading_answer::read_answer;
 pub use reading_parts::{read_act, read_query};
+pub use reading_state::read_state;
 pub use refusal_number::{OVER, UNDER, refusal_numbers_are_these};
+pub use state::{KeptRow, Link, ObjState};
 pub use version::Version;
 pub use writing::{write_ask, write_method};
 pub use writing_answer::write_answer;
 pub use writing_parts::{write_act, write_query};
+pub use writing_state::write_state;

@@ -15,6 +15,15 @@ pub const LAST_ASK: u8 = 1;
 /// The last code of an item.
 pub const LAST_ITEM: u8 = 1;
 
+/// The last code of a kind of objects.
+pub const LAST_KIND: u8 = 1;
+
+/// The most clients of which a state keeps something.
+pub const KEPT_LIMIT: u8 = 64;
+
+/// The most objects to which a state has a link.
+pub const LINKS_LIMIT: u8 = 64;
+
 /// The limits of this crate, by their numbers.
 pub fn limits_are_these()
     ensures most_parts { MOST_PARTS ≡ 1 }
@@ -22,4 +31,7 @@ pub fn limits_are_these()
     ensures last_method { LAST_METHOD ≡ 2 }
     ensures last_ask { LAST_ASK ≡ 1 }
     ensures last_item { LAST_ITEM ≡ 1 }
+    ensures last_kind { LAST_KIND ≡ 1 }
+    ensures kept_limit { KEPT_LIMIT ≡ 64 }
+    ensures links_limit { LINKS_LIMIT ≡ 64 }
 {}

@@ -66,7 +66,7 @@ pub(crate) fn read_object(
 }
 
 /// Whether an object is above the one before it, if there is one.
-fn is_after(before: Option<ObjectId>, object: ObjectId) -> bool
+pub(crate) fn is_after(before: Option<ObjectId>, object: ObjectId) -> bool
     ensures { result ≡ is_after before object }
 {
     match before {

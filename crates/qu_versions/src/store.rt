@@ -1,0 +1,142 @@
+ghost use Rattle.std.specs.Prelude.{◌≡◌, ◌≤◌, false, not, length, filter, find, Option, Some, IfOk, OnOk, OnErr};
+ghost use Rattle.std.specs.Option.{option_copied, option_or};
+ghost use Rattle.qu_base.specs.declared.limits.TheConstants.{OBJECT_IDS};
+ghost use Rattle.qu_base.specs.declared.party.ObjectId.{ObjectId as Object};
+ghost use Rattle.qu_stamp.specs.declared.stamp.Stamp.{Stamp as AStamp};
+ghost use Rattle.qu_versions.specs.Versions.{is_stored, is_same_key, state_at, is_held, with_state, opening_versions, opening_at, Grows};
+
+use qu_base::{List, NoMemory, ObjectId};
+use qu_objects::{KindName, ObjState, Value};
+use qu_stamp::Stamp;
+use std::alloc::Global;
+use std::marker::Model;
+
+/// A version of an object, under the stamp of its candidate.
+#[derive(Debug, Drop)]
+pub struct Stored {
+    pub object: ObjectId,
+    pub stamp: Stamp,
+    pub state: ObjState,
+}
+
+/// The versions of objects, each under its stamp. It only grows: a version that is held is never replaced.
+#[derive(Drop)]
+pub struct VersionStore {
+    alloc: Global,
+    versions: List<Stored>,
+}
+
+impl Model for VersionStore {
+    ghost use Rattle.std.specs.Prelude.{List as Sequence};
+    ghost use Rattle.qu_versions.specs.declared.store.Stored.{Stored as AVersion};
+
+    ghost Value = { Sequence AVersion };
+
+    ghost view = { λ store. store.versions };
+}
+
+impl VersionStore {
+    /// The versions with which objects of these kinds begin, in their order: each has its kind's fresh value,
+    /// and neither rows nor links.
+    #[tactic(auto, using(crate::proofs::Lookup::opened))]
+    pub fn fresh(alloc: Global, kinds: &[KindName]) -> Result<VersionStore, NoMemory>
+        requires { length kinds.now ≤ OBJECT_IDS }
+        ensures value { IfOk result (λ store. store ≡ opening_versions 0 kinds.now) }
+        ensures opening { (object : Object) (stamp : AStamp)
+            → IfOk result (λ store. state_at object stamp store ≡ opening_at kinds.now object stamp) }
+    {
+        let versions = opening(alloc, kinds)?;
+        Ok(VersionStore { alloc, versions })
+    }
+
+    /// Holds a version of the object under this stamp; where there is one, that one stays. Without memory
+    /// nothing changes.
+    pub fn put(&mut self, object: ObjectId, stamp: Stamp, state: ObjState) -> Result<(), NoMemory>
+        ensures value { OnOk result (self.new ≡ with_state object stamp state self.old) }
+        ensures held { OnOk result (state_at object stamp self.new ≡ option_or (state_at object stamp self.old) (Some state)) }
+        ensures others { (other : Object) (at : AStamp) → is_same_key object stamp other at ≡ false
+            → OnOk result (state_at other at self.new ≡ state_at other at self.old) }
+        ensures grows { OnOk result (Grows self.old self.new) }
+        ensures err { OnErr result (self.new ≡ self.old) }
+    {
+        self.hold(object, stamp, state)
+    }
+
+    /// The same.
+    fn hold(&mut self, object: ObjectId, stamp: Stamp, state: ObjState) -> Result<(), NoMemory>
+        ensures value { OnOk result (self.new ≡ with_state object stamp state self.old) }
+        ensures err { OnErr result (self.new ≡ self.old) }
+    {
+        if self.get(object, &stamp).is_some() {
+            return Ok(());
+        }
+        self.versions.push(Stored {
+            object,
+            stamp,
+            state,
+        })
+    }
+
+    /// The version of the object under this stamp, None exactly where it is not held.
+    pub fn get(&self, object: ObjectId, stamp: &Stamp) -> Option<&ObjState>
+        ensures { option_copied result ≡ state_at object stamp.now self.now }
+    {
+        state_at(self.versions.as_slice(), object, stamp)
+    }
+
+    /// Those of the keys under which no version is held, in their order.
+    pub fn missing(&self, keys: &[(ObjectId, Stamp)]) -> Result<List<(ObjectId, Stamp)>, NoMemory>
+        ensures { IfOk result (λ missing. missing ≡ filter (λ key. not (is_held key.0 key.1 self.now)) keys.now) }
+    {
+        let mut missing = List::new(self.alloc);
+        for key in keys {
+            if self.get(key.0, &key.1).is_none() {
+                missing.push(*key)?;
+            }
+        }
+        Ok(missing)
+    }
+}
+
+/// The versions with which the objects of these kinds begin, in their order.
+#[tactic(auto, using(crate::proofs::Opening::opening_laws))]
+fn opening(alloc: Global, kinds: &[KindName]) -> Result<List<Stored>, NoMemory>
+    requires { length kinds.now ≤ OBJECT_IDS }
+    ensures { IfOk result (λ versions. versions ≡ opening_versions 0 kinds.now) }
+{
+    let mut versions = List::new(alloc);
+    for (number, kind) in kinds.iter().enumerate() {
+        let state = ObjState {
+            value: Value::fresh(*kind),
+            kept: List::new(alloc),
+            links: List::new(alloc),
+        };
+        versions.push(Stored {
+            object: ObjectId(number as u16),
+            stamp: Stamp::opening(),
+            state,
+        })?;
+    }
+    Ok(versions)
+}
+
+/// The version of an object under this stamp.
+#[tactic(auto, using(crate::proofs::Lookup::finds))]
+fn state_at<'a>(versions: &'a [Stored], object: ObjectId, stamp: &Stamp) -> Option<&'a ObjState>
+    ensures { option_copied result ≡ state_at object stamp.now versions.now }
+{
+    match first_stored(versions, object, stamp) {
+        Some(held) => Some(&held.state),
+        None => None,
+    }
+}
+
+/// The first entry of an object under this stamp.
+#[tactic(auto, unfolding(qu_stamp::specs::Stamp::same_stamp))]
+fn first_stored<'a>(versions: &'a [Stored], object: ObjectId, stamp: &Stamp) -> Option<&'a Stored>
+    ensures { option_copied result ≡ find (is_stored object stamp.now) versions.now }
+{
+    versions
+        .iter()
+        .find(|held| held.object == object && held.stamp == *stamp)
+}
