@@ -38,7 +38,7 @@ entries_lower object least lower (entry ∷ later) order are =
     let parts = and_parts (is_entry object least entry) (are_entries object ((entry.replica).0 + 1) later) are in
     and_from _ _ (entry_lower object least lower entry order parts.0) parts.1
 
-entries_filtered : (test : Sealed → Bool) (object : ObjectId) (least : ℕ) (entries : List Sealed)
+pub entries_filtered : (test : Sealed → Bool) (object : ObjectId) (least : ℕ) (entries : List Sealed)
     → are_entries object least (histories entries) ≡ true
     → are_entries object least (histories (filter test entries)) ≡ true
 unfolding are_entries

@@ -7,3 +7,5 @@ pub mod Forms
 pub mod Histories
 pub mod Unsealed
 pub mod CulledSets
+pub mod Shown
+pub mod TrimmedSets

@@ -4,3 +4,4 @@ pub mod Entries
 pub mod Formats
 pub mod Text
 pub mod Culling
+pub mod Trimming

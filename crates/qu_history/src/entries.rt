@@ -97,7 +97,7 @@ fn greatest_last(entries: &[Sealed], stamp: Stamp, least: usize) -> Option<Candi
 }
 
 /// The greater of a candidate and the best so far.
-fn greater_of(best: Option<Candidate>, candidate: Candidate) -> Candidate
+pub(crate) fn greater_of(best: Option<Candidate>, candidate: Candidate) -> Candidate
     ensures { result ≡ greater_of best candidate }
 {
     match best {

@@ -12,6 +12,7 @@ mod reading_sets;
 mod sealed;
 mod sets;
 mod text;
+mod trimming;
 mod writing;
 mod writing_sets;
 

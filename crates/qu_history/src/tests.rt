@@ -1,5 +1,5 @@
 use super::*;
-use qu_base::{ClientId, Digest, List, ObjectId, ReplicaId};
+use qu_base::{Bounds, ClientId, Digest, List, ObjectId, ReplicaId};
 use qu_stamp::{Candidate, Stamp};
 use std::alloc::Global;
 use std::test::Fail;
@@ -80,6 +80,17 @@ fn sets_tell_what_their_histories_hold(rt: HostRuntime) -> Result<(), Fail> {
     let other = ObjectId(6);
     assert_eq!(rt; sets.entries(other), 0);
     assert_eq!(rt; sets.latest(other), None);
+    Ok(())
+}
+
+#[test]
+fn sets_are_trimmed_where_a_quorum_is_left(rt: HostRuntime) -> Result<(), Fail> {
+    let bounds = Bounds::new(1).ok().ok_or("bounds")?;
+    for (first, second, left) in [(5, 1, 5), (4, 2, 6), (3, 3, 6)] {
+        let sets = sets_of(rt.alloc(), first, second, 0)?;
+        let trimmed = sets.trim(rt.alloc(), &bounds)?;
+        assert_eq!(rt; trimmed.entries(OBJECT), left, "{first} {second}");
+    }
     Ok(())
 }
 
