@@ -3,7 +3,7 @@
 use qu_base::{Digest, ObjectId, Party, ReplicaId};
 use qu_frames::{Body, Frame, Refusal, Verdict};
 use qu_history::{Sealed, SetOf, Sets};
-use qu_objects::{Act, Answer, Item, Method, Outcome, Query};
+use qu_objects::{Act, Answer, Item, KeptRow, Method, ObjState, Outcome, Query, Value};
 use qu_stamp::{Candidate, Stamp};
 use sha2::{Digest as Hasher, Sha256};
 use std::alloc::AllocError;
@@ -102,6 +102,28 @@ fn put_items(items: &[Item], out: &mut String) -> Result<(), AllocError> {
         write!(out, " {number}")?;
     }
     Ok(())
+}
+
+/// The value, what is kept of each client, and each link.
+pub fn put_state(state: &ObjState, out: &mut String) -> Result<(), AllocError> {
+    let Value::Counter(number) = &state.value;
+    write!(out, "counter {number}")?;
+    for row in &state.kept {
+        put_row(row, out)?;
+    }
+    for link in &state.links {
+        write!(out, " link {} at ", link.object.0)?;
+        put_stamp(&link.stamp, out)?;
+    }
+    Ok(())
+}
+
+/// The client, its number, the digest of the act, and the answer.
+fn put_row(row: &KeptRow, out: &mut String) -> Result<(), AllocError> {
+    write!(out, " kept c{} {} ", row.client.0, row.number)?;
+    put_hex(&row.act.0, out)?;
+    out.push_str(" ")?;
+    put_answer(&row.answer, out)
 }
 
 pub fn put_outcome(outcome: &Outcome, out: &mut String) -> Result<(), AllocError> {

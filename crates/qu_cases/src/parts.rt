@@ -1,13 +1,16 @@
 //! What the readers of the crates make of bytes: a line for people, and the bytes as they are written again.
 
-use super::forms::{put_act, put_answer, put_candidate, put_frame, put_query, put_sets, put_stamp};
+use super::forms::{
+    put_act, put_answer, put_candidate, put_frame, put_query, put_sets, put_stamp, put_state,
+};
 use super::reading::{
-    one_act, one_answer, one_candidate, one_frame, one_history, one_query, one_stamp, some_sets,
+    one_act, one_answer, one_candidate, one_frame, one_history, one_query, one_stamp, one_state,
+    some_sets,
 };
 use qu_base::{NoMemory, ObjectId, Outbytes, ReadFail};
 use qu_frames::{Frame, encode};
 use qu_history::{History, write_sets};
-use qu_objects::{write_act, write_answer, write_query};
+use qu_objects::{write_act, write_answer, write_query, write_state};
 use qu_stamp::{write_candidate, write_stamp};
 use std::alloc::{AllocError, Global};
 
@@ -25,6 +28,7 @@ pub enum Part {
     Act,
     Query,
     Answer,
+    State,
 }
 
 impl Part {
@@ -45,6 +49,7 @@ impl Part {
             "act" => Some(Part::Act),
             "query" => Some(Part::Query),
             "answer" => Some(Part::Answer),
+            "state" => Some(Part::State),
             _ => None,
         }
     }
@@ -66,6 +71,7 @@ impl Part {
             Part::Act => tell_act(alloc, text, form, spelled),
             Part::Query => tell_query(alloc, text, form, spelled),
             Part::Answer => tell_answer(alloc, text, form, spelled),
+            Part::State => tell_state(alloc, text, form, spelled),
         }
     }
 }
@@ -158,4 +164,15 @@ fn tell_answer(
     let answer = one_answer(alloc, text)?;
     put_answer(&answer, form)?;
     Ok(write_answer(&answer, spelled)?)
+}
+
+fn tell_state(
+    alloc: Global,
+    text: &[u8],
+    form: &mut String,
+    spelled: &mut Outbytes,
+) -> Result<(), ReadFail> {
+    let state = one_state(alloc, text)?;
+    put_state(&state, form)?;
+    Ok(write_state(&state, spelled)?)
 }

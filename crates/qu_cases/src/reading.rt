@@ -4,7 +4,9 @@
 use qu_base::{BadText, Cursor, NoMemory, ObjectId, Party, ReadFail};
 use qu_frames::{Frame, decode, receive};
 use qu_history::{History, Sets, read_sets};
-use qu_objects::{Act, Answer, Query, read_act, read_answer, read_query};
+use qu_objects::{
+    Act, Answer, ObjState, Query, read_act, read_answer, read_query, read_state,
+};
 use qu_seal::KeyRing;
 use qu_stamp::{Candidate, Stamp, read_candidate, read_stamp};
 use std::alloc::Global;
@@ -50,4 +52,8 @@ pub fn one_query(alloc: Global, known: &[ObjectId], text: &[u8]) -> Result<Query
 
 pub fn one_answer(alloc: Global, text: &[u8]) -> Result<Answer, ReadFail> {
     read_answer(alloc, &mut Cursor::new(text))
+}
+
+pub fn one_state(alloc: Global, text: &[u8]) -> Result<ObjState, ReadFail> {
+    read_state(alloc, &mut Cursor::new(text))
 }
