@@ -26,7 +26,7 @@ fn the_first_version_under_a_stamp_stays(rt: HostRuntime) -> Result<(), Fail> {
     let opening = (ObjectId(0), Stamp::opening());
     let key = (ObjectId(0), later);
     let missing = store.missing(&[opening, key])?;
-    assert_eq!(rt; missing.as_slice(), &[key]);
+    assert_eq!(rt; missing.as_slice(), [key].as_slice());
     for number in [5, 7] {
         store.put(key.0, key.1, state_of(rt.alloc(), number))?;
     }
