@@ -9,3 +9,4 @@ pub mod Unsealed
 pub mod CulledSets
 pub mod Shown
 pub mod TrimmedSets
+pub mod RightSeals

@@ -5,3 +5,4 @@ pub mod Formats
 pub mod Text
 pub mod Culling
 pub mod Trimming
+pub mod Sealing

@@ -1,7 +1,8 @@
-ghost use Rattle.std.specs.Prelude.{◌≡◌, ◌++◌, [], ◌∷◌, not, filter, map, IfOk, OnOk};
+ghost use Rattle.std.specs.Prelude.{◌≡◌, ◌++◌, [], ◌∷◌, not, filter, map, IfOk, OnOk, IsTrue};
 ghost use Rattle.std.specs.List.{flat_map};
 ghost use Rattle.std.specs.Option.{option_copied};
 ghost use Rattle.qu_history.specs.Culling.{history_digest, mac_is_right, is_right, culled_set, culled, left_of, left_out};
+ghost use Rattle.qu_history.specs.Sealing.{are_right};
 
 use super::{History, Sealed, SetOf, Sets};
 use qu_base::{Digest, List, NoMemory, ObjectId, Outbytes, Party, ReplicaId};
@@ -77,10 +78,14 @@ fn mac_is_right(
 }
 
 impl Sets {
-    /// The sets without the entries whose HMAC for this reader is wrong, and which entries these are.
+    /// The sets without the entries whose HMAC for this reader is wrong, and which entries these are. Sets
+    /// whose entries are all right stay as they are, and none is left out.
+    #[tactic(auto, using(crate::proofs::RightSeals::culled_whole, crate::proofs::RightSeals::none_left_out))]
     pub fn cull(&self, alloc: Global, me: ReplicaId, keys: &KeyRing) -> Result<Culled, NoMemory>
         ensures sets { IfOk result (λ found. found.sets ≡ culled keys.now me self.now) }
         ensures left { IfOk result (λ found. found.left ≡ left_out keys.now me self.now) }
+        ensures whole { IsTrue (are_right keys.now me self.now)
+            → IfOk result (λ found. (found.sets ≡ self.now) × (found.left ≡ [])) }
     {
         let mut left = List::new(alloc);
         let objects = cull_all(alloc, self.objects().as_slice(), me, keys, &mut left)?;

@@ -10,6 +10,7 @@ mod reading;
 mod reading_entries;
 mod reading_sets;
 mod sealed;
+mod sealing;
 mod sets;
 mod text;
 mod trimming;
