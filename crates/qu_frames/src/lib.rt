@@ -14,7 +14,7 @@ mod verdict;
 mod writing_frame;
 mod writing_verdict;
 
-pub use blank::{blank_mac, seal};
+pub use blank::blank_mac;
 pub use decoding::{decode, encode};
 pub use formats::formats_are_codes;
 pub use frame::{Body, Frame, Letter};

@@ -1,6 +1,6 @@
 -- A replica accepts only upon full sets of objects that it has: it refuses a request with an object that it does not
 -- have, or with fewer entries of an object than a quorum.
-use Rattle.std.proofs.Common.{◌≡◌, ◌⊎◌, ℕ, ◌+◌, Bool, true, false, not, ◌&&◌, cond, List, [], ◌∷◌, ◌++◌, length, Option, None, Some, refl, sym, ap, ◌∙◌, arith, inl, inr, length-append}
+use Rattle.std.proofs.Common.{◌≡◌, ◌⊎◌, ℕ, ◌+◌, Bool, true, false, not, ◌&&◌, cond, List, [], ◌∷◌, ◌++◌, length, Option, None, Some, refl, sym, ap, ◌∙◌, arith, inl, inr, subst, length-append}
 use Rattle.std.specs.Prelude.{slice_get, nat_le, nat_lt, find, option_map}
 use Rattle.std.specs.List.{list_all}
 use Rattle.std.proofs.lemmas.Option.{none-some, same_Some}
@@ -10,6 +10,7 @@ use Rattle.qu_base.specs.declared.party.Party.{Party}
 use Rattle.qu_base.specs.Bounds.{quorum}
 use Rattle.qu_stamp.specs.declared.candidate.Candidate.{Candidate}
 use Rattle.qu_history.specs.declared.sets.SetOf.{SetOf}
+use Rattle.qu_history.specs.Culling.{culled}
 use Rattle.qu_objects.specs.declared.act.Method.{Method}
 use Rattle.qu_frames.specs.declared.frame.Body.TheVariants as body
 use Rattle.qu_frames.specs.declared.frame.Frame.{Frame}
@@ -19,7 +20,7 @@ use Rattle.qu_frames.specs.declared.verdict.Refusal.{Refusal}
 use Rattle.qu_frames.specs.declared.verdict.Refusal.TheVariants as refusal
 use Rattle.qu_replica.specs.declared.decision.Decision.{Decision}
 use Rattle.qu_replica.specs.State.{ReplicaState, own_candidates}
-use Rattle.qu_replica.specs.Rows.{Asked, asked_of, refuse, row_unknown, row_thin, first_given, objects_of, decide_act}
+use Rattle.qu_replica.specs.Rows.{Asked, asked_at, refuse, row_unknown, row_thin, first_given, objects_of, decide_act}
 use Rattle.qu_replica.specs.Step.{carried_out, on_frame, on_received, replica_step}
 use Rattle.qu_client.specs.Rounds.{are_full}
 use Rattle.qu_trace.specs.declared.event.Event.{Event}
@@ -102,9 +103,9 @@ not_added candidates candidate same =
 act_step_upon : (state : ReplicaState) (client : ClientId) (number round : ℕ) (sets : List SetOf)
     (parts : List (ObjectId × Method)) (mac : List ℕ) (object : ObjectId) (candidate : Candidate)
     → own_candidates (on_frame state (frame.Request client number round sets (body.Act parts) mac)).0
-    object ≡ own_candidates state object ++ candidate ∷ [] → IsUpon state sets
+    object ≡ own_candidates state object ++ candidate ∷ [] → IsUpon state (culled state.keys state.me sets)
 act_step_upon state client number round sets parts mac object candidate added =
-    let asked : Asked = asked_of client number sets (body.Act parts) in
+    let asked : Asked = asked_at state client number sets (body.Act parts) in
     let decision : Decision = decide_act state asked parts (objects_of parts) in
     elim (act_upon state asked parts (objects_of parts)) [
       | inl none ↦
@@ -118,10 +119,11 @@ act_step_upon state client number round sets parts mac object candidate added =
 upon_by : (old new : ReplicaState) (taken : Frame) (object : ObjectId) (accepts : Accepts old new taken)
     → Names accepts.parts object → (on_frame old taken).0 ≡ new → IsUpon old accepts.sets
 upon_by old new taken object accepts names is =
-    act_step_upon old accepts.client accepts.number accepts.round accepts.sets accepts.parts
+    subst (IsUpon old) accepts.whole
+    (act_step_upon old accepts.client accepts.number accepts.round accepts.sets accepts.parts
     accepts.mac object (accepts.candidates object)
     (ap (λ (it : Frame). own_candidates (on_frame old it).0 object) (sym accepts.is_request)
-    ∙ ap (λ (it : ReplicaState). own_candidates it object) is ∙ accepts.added object names)
+    ∙ ap (λ (it : ReplicaState). own_candidates it object) is ∙ accepts.added object names))
 
 -- ---- the same in a run
 

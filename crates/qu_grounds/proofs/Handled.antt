@@ -14,6 +14,7 @@ use Rattle.qu_base.specs.Bounds.{replicas}
 use Rattle.qu_stamp.specs.declared.candidate.Candidate.{Candidate}
 use Rattle.qu_stamp.specs.declared.stamp.Stamp.{Stamp}
 use Rattle.qu_history.specs.declared.sets.SetOf.{SetOf}
+use Rattle.qu_history.specs.Culling.{culled}
 use Rattle.qu_objects.specs.declared.act.Method.{Method}
 use Rattle.qu_frames.specs.declared.frame.Body.TheVariants as body
 use Rattle.qu_frames.specs.declared.frame.Frame.{Frame}
@@ -32,6 +33,7 @@ use Rattle.qu_world.specs.Run.{IsRun}
 use Rattle.qu_runs.specs.Digested.{Request, is_known, request_to, request_by, handled_by, IsHandled, IsMadeFor, request_brought}
 use Rattle.qu_grounds.specs.Grounds.{Accepts, IsDelivered}
 use Rattle.qu_grounds.specs.Parts.{Names}
+use Rattle.qu_grounds.specs.Whole.{IsWhole}
 use Rattle.qu_runs.specs.Times.{world_after}
 use Rattle.qu_grounds.proofs.Accepting.{some_entry, Acceptance}
 use Rattle.qu_runs.proofs.OpeningReplicas.{all_replicas, keys_are, me_is}
@@ -86,9 +88,9 @@ pub request_handled : (trace : Trace) → IsRun trace → (time : ℕ) → time 
     → letter.to ≡ party.Replica (record { 0 = place })
     → (request : Request) (round : ℕ) (mac : List ℕ)
     → Brings old letter (frame.Request request.client request.number round request.sets request.body mac)
-    → are_had old request.sets ≡ true
+    → are_had old request.sets ≡ true → IsWhole old request.sets
     → handled_by trace event ≡ Some request
-request_handled trace is_run time within event place old is_old letter hands to request round mac brings had =
+request_handled trace is_run time within event place old is_old letter hands to request round mac brings had whole =
     let few : length old.histories ≤ length trace.setup.kinds =
     found_within (length trace.setup.kinds) (world_after trace time).replicas place old (run_has trace time)
     is_old in
@@ -101,15 +103,19 @@ request_handled trace is_run time within event place old is_old letter hands to 
     request_handed trace is_run time (omega arith) event letter.to letter.text hands ∙
     ap (request_to trace.setup letter.text) to ∙
     ap (λ (test : Bool). cond test
-    (request_brought trace.setup
+    (request_brought trace.setup (record { 0 = place })
     (brought (ring_of trace.setup) (party.Replica (record { 0 = place })) letter.text)) None) among ∙
-    ap (λ (keys : Ring). request_brought trace.setup
+    ap (λ (keys : Ring). request_brought trace.setup (record { 0 = place })
     (brought keys (party.Replica (record { 0 = place })) letter.text))
     (sym (keys_are trace time place old is_old)) ∙
-    ap (λ (me : ReplicaId). request_brought trace.setup (brought old.keys (party.Replica me) letter.text))
+    ap (λ (me : ReplicaId). request_brought trace.setup me (brought old.keys (party.Replica me) letter.text))
     (sym (me_is trace time place old is_old)) ∙
-    ap (request_brought trace.setup) brings ∙
-    ap (λ (test : Bool). cond test (Some request) None) known
+    ap (request_brought trace.setup old.me) brings ∙
+    ap (λ (test : Bool). cond test
+    (Some (record request { sets = culled (ring_of trace.setup) old.me request.sets })) None) known ∙
+    ap (λ (keys : Ring). Some (record request { sets = culled keys old.me request.sets }))
+    (sym (keys_are trace time place old is_old)) ∙
+    ap (λ (sets : List SetOf). Some (record request { sets = sets })) whole
 
 pub handled_upon : (trace : Trace) → IsRun trace → (time : ℕ) → time < length trace.entries → (entry : Entry)
     → Contains trace.entries entry
@@ -118,15 +124,16 @@ pub handled_upon : (trace : Trace) → IsRun trace → (time : ℕ) → time < l
     → letter.to ≡ party.Replica (record { 0 = place })
     → (client : ClientId) (number round : ℕ) (sets : List SetOf) (parts : List (ObjectId × Method)) (mac : List ℕ)
     → Brings old letter (frame.Request client number round sets (body.Act parts) mac) → are_had old sets ≡ true
-    → IsHandled trace client number parts
+    → IsWhole old sets → IsHandled trace client number parts
 handled_upon trace is_run time within entry of_trace place old is_old letter hands to client number round sets
-    parts mac brings had = record {
+    parts mac brings had whole = record {
       entry = entry;
       of_trace = of_trace;
       sets = sets;
       handled =
           request_handled trace is_run time within entry.event place old is_old letter hands to
-          (record { client = client; number = number; sets = sets; body = body.Act parts }) round mac brings had;
+          (record { client = client; number = number; sets = sets; body = body.Act parts }) round mac brings had
+          whole;
     }
 
 -- the request upon which a replica accepts a candidate
@@ -147,7 +154,7 @@ upon_handled trace is_run time within event place old new is_old is_new object d
     is_old is_new in
     request_handled trace is_run time within event place old is_old delivered.letter delivered.is_handed delivered.to
     (request_upon old new delivered.carried one) one.round one.mac
-    (delivered.brings ∙ ap (λ (it : Frame). Some it) one.is_request) upon.had
+    (delivered.brings ∙ ap (λ (it : Frame). Some it) one.is_request) upon.had one.whole
 
 pub handled : (trace : Trace) → IsRun trace → (time : ℕ) → time < length trace.entries → (entry : Entry)
     → Contains trace.entries entry → (event : Event) → event ≡ entry.event → (place : ℕ) (old new : ReplicaState)

@@ -11,7 +11,7 @@ use Rattle.qu_base.specs.declared.party.ReplicaId.{ReplicaId}
 use Rattle.qu_frames.specs.declared.frame.Frame.{Frame}
 use Rattle.qu_frames.specs.declared.frame.Letter.{Letter}
 use Rattle.qu_replica.specs.State.{ReplicaState, own_candidates}
-use Rattle.qu_replica.specs.Growth.{HasParts}
+use Rattle.qu_grounds.specs.Whole.{TakesWhole}
 use Rattle.qu_replica.specs.Step.{on_received, replica_step}
 use Rattle.qu_client.specs.declared.state.ClientState.{ClientState}
 use Rattle.qu_client.specs.declared.state.Stepped.{Stepped}
@@ -70,7 +70,7 @@ record IsAccepted (read : Option Frame) (old new : ReplicaState) : Type 0 where
   is_frame : read ≡ Some frame
   accepts : Accepts old new frame
 
-text_moves : (old : ReplicaState) (read : Option Frame) → ((frame : Frame) → read ≡ Some frame → HasParts frame)
+text_moves : (old : ReplicaState) (read : Option Frame) → ((frame : Frame) → read ≡ Some frame → TakesWhole old frame)
     → ((on_received old read).0 ≡ old) ⊎ IsAccepted read old (on_received old read).0
 text_moves old (Some frame) parts =
     elim (step_moves old frame (parts frame refl)) [
@@ -81,7 +81,7 @@ text_moves old None parts = inl refl
 
 replica_takes : (world : WorldState) (event : Event) (me : ReplicaId) (text : List ℕ)
     (found : Option ReplicaState) (place : ℕ) (old new : ReplicaState)
-    → slice_get world.replicas me.0 ≡ found → ((frame : Frame) → decoded text ≡ Ok frame → HasParts frame)
+    → slice_get world.replicas me.0 ≡ found → ((frame : Frame) → decoded text ≡ Ok frame → TakesWhole old frame)
     → slice_get world.replicas place ≡ Some old → slice_get (at_replica world event me text found).replicas
     place ≡ Some new
     → (new ≡ old) ⊎ IsTaken me text place old new
@@ -116,7 +116,7 @@ replica_takes world event me text (Some state) place old new is_found parts is_o
 letter_taken : (world : WorldState) (event : Event) (number : ℕ) (letter : Letter) (to : Party) (place : ℕ)
     (old new : ReplicaState)
     → letter_of world number ≡ Some letter → handed world event ≡ Some (letter.to, letter.text) → letter.to ≡ to
-    → ((carried : Frame) → Carries letter carried → HasParts carried)
+    → ((carried : Frame) → Carries letter carried → TakesWhole old carried)
     → slice_get world.replicas place ≡ Some old → slice_get (received world event to letter.text).replicas
     place ≡ Some new
     → (new ≡ old) ⊎ IsMoved world event place old new
@@ -142,7 +142,7 @@ letter_taken world event number letter (party.Replica me) place old new is_lette
 
 letter_delivered : (world : WorldState) (number : ℕ) (found : Option Letter) (place : ℕ) (old new : ReplicaState)
     → letter_of world number ≡ found
-    → ((letter : Letter) → found ≡ Some letter → (carried : Frame) → Carries letter carried → HasParts carried)
+    → ((letter : Letter) → found ≡ Some letter → (carried : Frame) → Carries letter carried → TakesWhole old carried)
     → slice_get world.replicas place ≡ Some old → slice_get (delivered world (Deliver number) found).replicas
     place ≡ Some new
     → (new ≡ old) ⊎ IsMoved world (Deliver number) place old new
@@ -156,7 +156,7 @@ letter_delivered world number (Some letter) place old new is_found parts is_old 
 pub event_moves : (world : WorldState) (event : Event) (place : ℕ) (old new : ReplicaState)
     → slice_get world.replicas place ≡ Some old → slice_get (world_step world event).replicas place ≡ Some new
     → ((number : ℕ) (letter : Letter) → letter_of world number ≡ Some letter → (carried : Frame)
-    → Carries letter carried → HasParts carried)
+    → Carries letter carried → TakesWhole old carried)
     → IsPlain world event → (new ≡ old) ⊎ IsMoved world event place old new
 event_moves world (Invoke client op) place old new is_old is_new parts plain =
     inl (client_stays world (Invoke client op) client (λ (state : ClientState). client_invoke state op)
@@ -178,7 +178,7 @@ event_moves world (Tick client) place old new is_old is_new parts plain =
 pub event_accepts : (world : WorldState) (event : Event) (place : ℕ) (old new : ReplicaState)
     → slice_get world.replicas place ≡ Some old → slice_get (world_step world event).replicas place ≡ Some new
     → ((number : ℕ) (letter : Letter) → letter_of world number ≡ Some letter → (carried : Frame)
-    → Carries letter carried → HasParts carried)
+    → Carries letter carried → TakesWhole old carried)
     → IsPlain world event → (object : ObjectId) → (own_candidates new object ≡ own_candidates old object)
     ⊎ IsDelivered world event place old new object
 event_accepts world event place old new is_old is_new parts plain object =

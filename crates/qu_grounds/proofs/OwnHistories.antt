@@ -17,7 +17,7 @@ use Rattle.qu_replica.specs.declared.decision.Accepted.{Accepted}
 use Rattle.qu_replica.specs.declared.decision.Decision.{Decision}
 use Rattle.qu_replica.specs.declared.decision.Decision.TheVariants.{Answers, Waits}
 use Rattle.qu_replica.specs.State.{ReplicaState, with_candidate, accept, accept_all, opening_state}
-use Rattle.qu_replica.specs.Rows.{asked_of, decision_on}
+use Rattle.qu_replica.specs.Rows.{asked_at, decision_on}
 use Rattle.qu_replica.specs.Step.{carried_out, on_frame, on_received, replica_step}
 use Rattle.qu_replica.proofs.Own.{IsOwn, own_history, opening-histories}
 use Rattle.qu_world.specs.State.{WorldState, opening_replicas, history_at}
@@ -102,7 +102,7 @@ frame-in_place : (place : ℕ) (state : ReplicaState) (received : Frame) → IsI
     → IsInPlace place (on_frame state received).0
 frame-in_place place state (frame.Request client number round sets body mac) in_place =
     carried_out-in_place place state client number round sets
-    (decision_on state (asked_of client number sets body) body) in_place
+    (decision_on state (asked_at state client number sets body) body) in_place
 frame-in_place place state (frame.Reply replica client number round verdict culled shown mac) in_place = in_place
 
 brought-in_place : (place : ℕ) (state : ReplicaState) (found : Option Frame) → IsInPlace place state

@@ -1,5 +1,5 @@
--- A client that keeps only histories that were held sends only those; so does a replica that shows
--- its own.
+-- A client that keeps only histories that were held, as their replicas sealed them, sends only those; so does a
+-- replica that shows its own.
 use Rattle.std.proofs.Common.{◌≡◌, ℕ, zero, suc, ◌+◌, List, [], ◌∷◌, map, Option, None, Some, IfSome, Ok, refl, sym, ap, subst}
 use Rattle.std.specs.Prelude.{slice_get}
 use Rattle.std.specs.List.{AllByRecursion, cons_option}
@@ -11,7 +11,6 @@ use Rattle.qu_base.specs.Bounds.{replicas}
 use Rattle.qu_history.specs.declared.sets.SetOf.{SetOf}
 use Rattle.qu_history.specs.declared.sealed.Sealed.{Sealed}
 use Rattle.qu_history.specs.History.{ObjectHistory}
-use Rattle.qu_history.specs.Sets.{histories}
 use Rattle.qu_objects.specs.declared.op.Op.{Op}
 use Rattle.qu_frames.specs.declared.frame.Body.{Body}
 use Rattle.qu_frames.specs.declared.frame.Frame.{Frame}
@@ -19,14 +18,14 @@ use Rattle.qu_frames.specs.declared.frame.Frame.TheVariants as frame
 use Rattle.qu_frames.specs.declared.frame.Letter.{Letter}
 use Rattle.qu_frames.specs.declared.verdict.Verdict.{Verdict}
 use Rattle.qu_frames.specs.Body.{body_of}
-use Rattle.qu_frames.specs.Blank as seal
+use Rattle.qu_history.specs.Sealing.{sealed_by}
 use Rattle.qu_frames.specs.Formats.{frame_form}
 use Rattle.qu_frames.specs.Decoding.{decoded}
 use Rattle.qu_replica.specs.declared.decision.Accepted.{Accepted}
 use Rattle.qu_replica.specs.declared.decision.Decision.{Decision}
 use Rattle.qu_replica.specs.declared.decision.Decision.TheVariants.{Answers, Waits}
 use Rattle.qu_replica.specs.State.{ReplicaState, accept_all}
-use Rattle.qu_replica.specs.Rows.{asked_of, decision_on}
+use Rattle.qu_replica.specs.Rows.{asked_at, decision_on}
 use Rattle.qu_replica.specs.Step.{shown, answer_frame, reply, carried_out, replica_step}
 use Rattle.qu_replica.specs.Step as replica
 use Rattle.qu_client.specs.declared.kept.Kept.{Kept}
@@ -47,44 +46,43 @@ use Rattle.qu_frames.proofs.Signed.{brought_is_decoded}
 use Rattle.qu_base.specs.declared.party.Party.{Party}
 
 -- the sets and the body of a request: made of kept histories that were held
-pub record IsMadeOf (Held : ObjectHistory → Type 0) (bounds : ℕ) (sets : List SetOf) (body : Body) : Type 0 where
+pub record IsMadeOf (Held : Sealed → Type 0) (bounds : ℕ) (sets : List SetOf) (body : Body) : Type 0 where
   pub kept : List Kept
   pub op : Op
   pub parts : HasOpParts op
-  pub held : AllByRecursion (λ (it : Kept). Held (it.sealed).history) kept
+  pub held : AllByRecursion (λ (it : Kept). Held it.sealed) kept
   pub sets_are : sets ≡ sets_of bounds kept op
   pub body_is : body ≡ body_of op
 
 -- each history in the frame was held
-abbrev pub IsTrueFrame : (ObjectHistory → Type 0) → ℕ → Frame → Type 0
+abbrev pub IsTrueFrame : (Sealed → Type 0) → ℕ → Frame → Type 0
 IsTrueFrame Held bounds (frame.Request client number round sets body mac) = IsMadeOf Held bounds sets body
 IsTrueFrame Held bounds (frame.Reply replica client number round verdict culled shown mac) =
-    AllByRecursion Held (histories shown)
+    AllByRecursion Held shown
 
-abbrev pub IsTrueLetter : (ObjectHistory → Type 0) → ℕ → Letter → Type 0
+abbrev pub IsTrueLetter : (Sealed → Type 0) → ℕ → Letter → Type 0
 IsTrueLetter Held bounds letter = (sent : Frame) → Carries letter sent → IsTrueFrame Held bounds sent
 
 -- each history that the client keeps was held
-pub record IsTrueClient (Held : ObjectHistory → Type 0) (bounds : ℕ) (state : ClientState) : Type 0 where
+pub record IsTrueClient (Held : Sealed → Type 0) (bounds : ℕ) (state : ClientState) : Type 0 where
   pub bounds_are : state.keys.bounds ≡ bounds
-  pub kept : AllByRecursion (λ (it : Kept). Held (it.sealed).history) state.kept
+  pub kept : AllByRecursion (λ (it : Kept). Held it.sealed) state.kept
   pub work : IfSome state.work (λ (work : Work). HasOpParts work.op)
 
-pub record IsTrueStep (Held : ObjectHistory → Type 0) (bounds : ℕ) (stepped : Stepped) : Type 0 where
+pub record IsTrueStep (Held : Sealed → Type 0) (bounds : ℕ) (stepped : Stepped) : Type 0 where
   pub state : IsTrueClient Held bounds stepped.state
   pub letters : AllByRecursion (IsTrueLetter Held bounds) stepped.letters
 
 -- ---- what was held stays so
 
-module _ (Old New : ObjectHistory → Type 0) (bounds : ℕ) (more : (history : ObjectHistory) → Old history
-    → New history) where
+module _ (Old New : Sealed → Type 0) (bounds : ℕ) (more : (sealed : Sealed) → Old sealed → New sealed) where
   made_of-more : (sets : List SetOf) (body : Body) → IsMadeOf Old bounds sets body → IsMadeOf New bounds sets body
   made_of-more sets body made = record {
     kept = made.kept;
     op = made.op;
     parts = made.parts;
-    held = each_weaker (λ (it : Kept). Old (it.sealed).history) (λ (it : Kept). New (it.sealed).history) made.kept
-        (λ it. more (it.sealed).history) made.held;
+    held = each_weaker (λ (it : Kept). Old it.sealed) (λ (it : Kept). New it.sealed) made.kept
+        (λ it. more it.sealed) made.held;
     sets_are = made.sets_are;
     body_is = made.body_is;
   }
@@ -92,7 +90,7 @@ module _ (Old New : ObjectHistory → Type 0) (bounds : ℕ) (more : (history : 
   frame-more : (sent : Frame) → IsTrueFrame Old bounds sent → IsTrueFrame New bounds sent
   frame-more (frame.Request client number round sets body mac) true_frame = made_of-more sets body true_frame
   frame-more (frame.Reply replica client number round verdict culled shown mac) true_frame =
-      each_weaker Old New (histories shown) more true_frame
+      each_weaker Old New shown more true_frame
 
   pub letters-more : (letters : List Letter) → AllByRecursion (IsTrueLetter Old bounds) letters
       → AllByRecursion (IsTrueLetter New bounds) letters
@@ -103,8 +101,8 @@ module _ (Old New : ObjectHistory → Type 0) (bounds : ℕ) (more : (history : 
   client-more : (state : ClientState) → IsTrueClient Old bounds state → IsTrueClient New bounds state
   client-more state client = record {
     bounds_are = client.bounds_are;
-    kept = each_weaker (λ (it : Kept). Old (it.sealed).history) (λ (it : Kept). New (it.sealed).history)
-        state.kept (λ it. more (it.sealed).history) client.kept;
+    kept = each_weaker (λ (it : Kept). Old it.sealed) (λ (it : Kept). New it.sealed)
+        state.kept (λ it. more it.sealed) client.kept;
     work = client.work;
   }
 
@@ -114,11 +112,11 @@ module _ (Old New : ObjectHistory → Type 0) (bounds : ℕ) (more : (history : 
 
 -- ---- the steps of a client
 
-module _ (Held : ObjectHistory → Type 0) (bounds : ℕ) where
+module _ (Held : Sealed → Type 0) (bounds : ℕ) where
   abbrev IsHeld : Kept → Type 0
-  IsHeld it = Held (it.sealed).history
+  IsHeld it = Held it.sealed
 
-  keep-held : (new : Kept) (kept : List Kept) → Held (new.sealed).history → AllByRecursion IsHeld kept
+  keep-held : (new : Kept) (kept : List Kept) → Held new.sealed → AllByRecursion IsHeld kept
       → AllByRecursion IsHeld (keep new kept)
   unfolding keep
   keep-held new [] here each = (here, tt)
@@ -129,7 +127,7 @@ module _ (Held : ObjectHistory → Type 0) (bounds : ℕ) where
       (λ _. (each.0, keep-held new later here each.1))
 
   keep_all-held : (number round : ℕ) (shown : List Sealed) (kept : List Kept)
-      → AllByRecursion Held (histories shown) → AllByRecursion IsHeld kept
+      → AllByRecursion Held shown → AllByRecursion IsHeld kept
       → AllByRecursion IsHeld (keep_all number round shown kept)
   unfolding keep_all
   keep_all-held number round [] kept held each = each
@@ -251,67 +249,73 @@ module _ (Held : ObjectHistory → Type 0) (bounds : ℕ) where
 
 -- ---- the steps of a replica
 
-module _ (Held : ObjectHistory → Type 0) (bounds : ℕ) where
+module _ (Has : ObjectHistory → Type 0) where
   found-held : (found : Option ObjectHistory) (later : List ObjectHistory)
-      → ((history : ObjectHistory) → found ≡ Some history → Held history) → AllByRecursion Held later
-      → AllByRecursion Held (cons_option found later)
+      → ((history : ObjectHistory) → found ≡ Some history → Has history) → AllByRecursion Has later
+      → AllByRecursion Has (cons_option found later)
   found-held None later here each = each
   found-held (Some history) later here each = (here history refl, each)
 
   shown-held : (state : ReplicaState) (sets : List SetOf)
-      → ((place : ℕ) (history : ObjectHistory) → slice_get state.histories place ≡ Some history → Held history)
-      → AllByRecursion Held (shown state sets)
+      → ((place : ℕ) (history : ObjectHistory) → slice_get state.histories place ≡ Some history → Has history)
+      → AllByRecursion Has (shown state sets)
   unfolding shown
   shown-held state [] has = tt
   shown-held state (set ∷ later) has =
       found-held (slice_get state.histories (set.object).0) (shown state later) (has (set.object).0)
       (shown-held state later has)
 
-  sealed-held : (size : ℕ) (each : List ObjectHistory) → AllByRecursion Held each
-      → AllByRecursion Held (histories (map (seal.sealed size) each))
-  sealed-held size [] held = tt
-  sealed-held size (history ∷ later) held = (held.0, sealed-held size later held.1)
+module _ (Held : Sealed → Type 0) (bounds : ℕ) where
+  sealed-held : (keys : Ring) (each : List ObjectHistory)
+      → AllByRecursion (λ (history : ObjectHistory). Held (sealed_by keys history)) each
+      → AllByRecursion Held (map (sealed_by keys) each)
+  sealed-held keys [] held = tt
+  sealed-held keys (history ∷ later) held = (held.0, sealed-held keys later held.1)
+
+  -- the histories of a replica, as it seals them, were held
+  abbrev HasHeld : ReplicaState → Type 0
+  HasHeld state =
+      (place : ℕ) (history : ObjectHistory) → slice_get state.histories place ≡ Some history
+      → Held (sealed_by state.keys history)
 
   carried_out-true : (state : ReplicaState) (client : ClientId) (number round : ℕ) (sets : List SetOf)
       (decision : Decision)
       → ((verdict : Verdict) (accepted : List Accepted) → decision ≡ Answers verdict accepted
       → frame_form.Fits (answer_frame (accept_all state accepted) client number round sets verdict))
-      → ((place : ℕ) (history : ObjectHistory)
-      → slice_get (carried_out state client number round sets decision).0.histories place ≡ Some history
-      → Held history) → AllByRecursion (IsTrueLetter Held bounds)
-      (carried_out state client number round sets decision).1
+      → HasHeld (carried_out state client number round sets decision).0
+      → AllByRecursion (IsTrueLetter Held bounds) (carried_out state client number round sets decision).1
   carried_out-true state client number round sets (Answers verdict accepted) fits has =
       let new : ReplicaState = accept_all state accepted in (
         λ sent carries. subst (IsTrueFrame Held bounds)
             (sym (signed_carries (reply new client number round sets verdict) new.keys (party.Client client)
             (answer_frame new client number round sets verdict) sent (fits verdict accepted refl) refl carries))
-            (sealed-held new.keys.bounds (shown new sets) (shown-held new sets has)),
+            (sealed-held new.keys (shown new sets)
+            (shown-held (λ (history : ObjectHistory). Held (sealed_by new.keys history)) new sets has)),
         tt,
       )
   carried_out-true state client number round sets Waits fits has = tt
 
   -- a replica answers with histories that it has after its step
   replica_frame-true : (state : ReplicaState) (received : Frame) → AnswersFit state received
-      → ((place : ℕ) (history : ObjectHistory) → slice_get (replica.on_frame state received).0.histories
-      place ≡ Some history → Held history) → AllByRecursion (IsTrueLetter Held bounds)
-      (replica.on_frame state received).1
+      → HasHeld (replica.on_frame state received).0
+      → AllByRecursion (IsTrueLetter Held bounds) (replica.on_frame state received).1
   replica_frame-true state (frame.Request client number round sets body mac) fits has =
-      carried_out-true state client number round sets (decision_on state (asked_of client number sets body) body)
+      carried_out-true state client number round sets (decision_on state (asked_at state client number sets body) body)
       fits has
   replica_frame-true state (frame.Reply replica client number round verdict culled shown mac) fits has = tt
 
   replica_brought-true : (state : ReplicaState) (found : Option Frame)
       → ((sent : Frame) → found ≡ Some sent → AnswersFit state sent)
-      → ((place : ℕ) (history : ObjectHistory) → slice_get (replica.on_received state found).0.histories
-      place ≡ Some history → Held history) → AllByRecursion (IsTrueLetter Held bounds)
-      (replica.on_received state found).1
+      → HasHeld (replica.on_received state found).0
+      → AllByRecursion (IsTrueLetter Held bounds) (replica.on_received state found).1
   replica_brought-true state (Some taken) fits has = replica_frame-true state taken (fits taken refl) has
   replica_brought-true state None fits has = tt
 
   pub replica_step-true : (state : ReplicaState) (text : List ℕ)
       → ((sent : Frame) → decoded text ≡ Ok sent → AnswersFit state sent)
       → ((place : ℕ) (history : ObjectHistory) → slice_get (replica_step state text).0.histories place ≡ Some
-      history → Held history) → AllByRecursion (IsTrueLetter Held bounds) (replica_step state text).1
+      history → Held (sealed_by (replica_step state text).0.keys history))
+      → AllByRecursion (IsTrueLetter Held bounds) (replica_step state text).1
   replica_step-true state text fits =
       replica_brought-true state (brought state.keys (party.Replica state.me) text)
       (λ sent brings. fits sent (brought_is_decoded state.keys (party.Replica state.me) text sent brings))

@@ -1,4 +1,5 @@
--- In every run each history that stands in a letter or with a client was held by its replica before.
+-- In every run each history that stands in a letter or with a client was held by its replica before, which sealed
+-- it; so that nothing of a request is culled.
 use Rattle.std.proofs.Common.{◌≡◌, ℕ, zero, suc, ◌+◌, ◌<◌, ◌≤◌, IsTrue, List, [], ◌∷◌, ◌++◌, length, get_or, Option, None, Some, Ok, refl, sym, ap, subst, ◌∙◌, arith, add-one}
 use Rattle.std.specs.Prelude.{slice_get}
 use Rattle.std.specs.List.{AllByRecursion}
@@ -10,6 +11,8 @@ use Rattle.qu_base.specs.declared.party.ReplicaId.{ReplicaId}
 use Rattle.qu_base.specs.Bounds.{replicas}
 use Rattle.qu_history.specs.declared.sets.SetOf.{SetOf}
 use Rattle.qu_history.specs.History.{ObjectHistory}
+use Rattle.qu_history.specs.declared.sealed.Sealed.{Sealed}
+use Rattle.qu_history.specs.Sealing.{sealed_by, IsSealedBy}
 use Rattle.qu_objects.specs.declared.op.Op.{Op}
 use Rattle.qu_objects.specs.declared.op.Op.TheVariants as op
 use Rattle.qu_frames.specs.declared.frame.Body.{Body}
@@ -38,7 +41,9 @@ use Rattle.qu_runs.specs.Times.{world_after}
 use Rattle.qu_grounds.specs.Views.{WasHeld, IsOfKept}
 use Rattle.qu_runs.specs.Plain.{HasOpParts, IsPlain, ArePlain}
 use Rattle.qu_runs.proofs.WorldGrowth.{world_after-none, world_after-next}
-use Rattle.qu_world.proofs.Each.{each_append, each_numbered, each_with_numbered, set_here}
+use Rattle.qu_world.proofs.Each.{each_append, each_numbered, each_with_numbered, each_weaker, set_here}
+use Rattle.qu_client.specs.declared.kept.Kept.{Kept}
+use Rattle.qu_runs.proofs.OpeningReplicas.{keys_are}
 use Rattle.qu_grounds.proofs.OwnHistories.{IsInPlace, AreInPlace, step-in_place, opening-all_in_place, set-in_place, found_where_named}
 use Rattle.qu_grounds.proofs.TrueLetters.{IsMadeOf, IsTrueFrame, IsTrueLetter, IsTrueClient, IsTrueStep, letters-more, clients-more, client_step-true, client_invoke-true, opening-true, replica_step-true}
 use Rattle.qu_runs.proofs.Small.{some_entry}
@@ -48,13 +53,13 @@ use Rattle.qu_seal.specs.Keys.{Ring}
 use Rattle.qu_runs.proofs.Handing.{injected_cases}
 
 -- each history in a letter or with a client was held, and what the replicas have is in its place
-pub record IsTrueWorld (Held : ObjectHistory → Type 0) (bounds : ℕ) (world : WorldState) : Type 0 where
+pub record IsTrueWorld (Held : Sealed → Type 0) (bounds : ℕ) (world : WorldState) : Type 0 where
   pub replicas : AreInPlace world.replicas
   pub clients : AllByRecursion (IsTrueClient Held bounds) world.clients
   pub letters : AllByRecursion (IsTrueLetter Held bounds) (letters_of world.entries)
 
-world-more : (Old New : ObjectHistory → Type 0) (bounds : ℕ) (world : WorldState)
-    → ((history : ObjectHistory) → Old history → New history) → IsTrueWorld Old bounds world
+world-more : (Old New : Sealed → Type 0) (bounds : ℕ) (world : WorldState)
+    → ((sealed : Sealed) → Old sealed → New sealed) → IsTrueWorld Old bounds world
     → IsTrueWorld New bounds world
 world-more Old New bounds world more before = record {
   replicas = before.replicas;
@@ -73,7 +78,13 @@ letters_of-push P entries entry each here =
     subst (AllByRecursion P) (sym (flat_map-append (λ (it : Entry). it.letters) entries (entry ∷ [])))
     (each_append P (letters_of entries) (entry.letters ++ []) each (each_append P entry.letters [] here tt))
 
-module _ (Held : ObjectHistory → Type 0) (bounds : ℕ) where
+module _ (Held : Sealed → Type 0) (bounds : ℕ) where
+  -- what the replicas have, as they seal it, counts as held
+  abbrev HasHeld : WorldState → Type 0
+  HasHeld world =
+      (place : ℕ) (state : ReplicaState) (history : ObjectHistory) → slice_get world.replicas place ≡ Some state
+      → history_at world history.replica history.object ≡ Some history → Held (sealed_by state.keys history)
+
   unchanged-true : (world : WorldState) (event : Event) → IsTrueWorld Held bounds world
       → IsTrueWorld Held bounds (unchanged world event)
   unchanged-true world event before = record {
@@ -105,16 +116,17 @@ module _ (Held : ObjectHistory → Type 0) (bounds : ℕ) where
       (found : Option ReplicaState) → slice_get world.replicas me.0 ≡ found
       → ((state : ReplicaState) (sent : Frame) → found ≡ Some state → decoded text ≡ Ok sent
       → AnswersFit state sent) → IsTrueWorld Held bounds world
-      → ((history : ObjectHistory) → history_at (at_replica world event me text found) history.replica
-      history.object ≡ Some history → Held history) → IsTrueWorld Held bounds (at_replica world event me text found)
+      → HasHeld (at_replica world event me text found) → IsTrueWorld Held bounds (at_replica world event me text found)
   at_replica-true world event me text None is fits before now = unchanged-true world event before
   at_replica-true world event me text (Some state) is fits before now =
       let new : ReplicaState = (replica_step state text).0 in
       let in_place : IsInPlace me.0 new = step-in_place me.0 state text (before.replicas me.0 state is) in
-      let has : (place : ℕ) (history : ObjectHistory) → slice_get new.histories place ≡ Some history → Held history =
-      λ place history found. now history
-      (found_where_named (at_replica world event me text (Some state)) me.0 new place history
-      (set_here world.replicas me.0 state new is) in_place found) in
+      let here : slice_get (at_replica world event me text (Some state)).replicas me.0 ≡ Some new =
+      set_here world.replicas me.0 state new is in
+      let has : (place : ℕ) (history : ObjectHistory) → slice_get new.histories place ≡ Some history
+      → Held (sealed_by new.keys history) =
+      λ place history found. now me.0 new history here
+      (found_where_named (at_replica world event me text (Some state)) me.0 new place history here in_place found) in
       record {
         replicas = set-in_place world.replicas me.0 new before.replicas in_place;
         clients = before.clients;
@@ -127,8 +139,7 @@ module _ (Held : ObjectHistory → Type 0) (bounds : ℕ) where
       → ((me : ReplicaId) (state : ReplicaState) (sent : Frame) → slice_get world.replicas me.0 ≡ Some state
       → decoded text ≡ Ok sent → AnswersFit state sent)
       → IsFitStep world (received world event to text) → IsTrueWorld Held bounds world
-      → ((history : ObjectHistory) → history_at (received world event to text) history.replica
-      history.object ≡ Some history → Held history) → IsTrueWorld Held bounds (received world event to text)
+      → HasHeld (received world event to text) → IsTrueWorld Held bounds (received world event to text)
   received-true world event (party.Replica me) text true_frame answers fits before now =
       at_replica-true world event me text (slice_get world.replicas me.0) refl
       (λ state sent found. answers me state sent found) before now
@@ -139,8 +150,7 @@ module _ (Held : ObjectHistory → Type 0) (bounds : ℕ) where
   delivered-true : (world : WorldState) (event : Event) (number : ℕ) (letter : Option Letter)
       → letter_of world number ≡ letter → IsFitStep world (delivered world event letter)
       → IsTrueWorld Held bounds world
-      → ((history : ObjectHistory) → history_at (delivered world event letter) history.replica
-      history.object ≡ Some history → Held history) → IsTrueWorld Held bounds (delivered world event letter)
+      → HasHeld (delivered world event letter) → IsTrueWorld Held bounds (delivered world event letter)
   delivered-true world event number None is fits before now = unchanged-true world event before
   delivered-true world event number (Some letter) is fits before now =
       received-true world event letter.to letter.text
@@ -150,8 +160,7 @@ module _ (Held : ObjectHistory → Type 0) (bounds : ℕ) where
   -- `now` says that what the replicas have after the step counts as held
   world_step-true : (world : WorldState) (event : Event) → IsPlain world event
       → IsFitStep world (world_step world event) → IsTrueWorld Held bounds world
-      → ((history : ObjectHistory) → history_at (world_step world event) history.replica history.object ≡ Some
-      history → Held history) → IsTrueWorld Held bounds (world_step world event)
+      → HasHeld (world_step world event) → IsTrueWorld Held bounds (world_step world event)
   world_step-true world (Invoke client op) parts fits before now =
       at_client-true world (Invoke client op) client (λ (state : ClientState). client_invoke state op)
       (numbered world.clients client.0) refl
@@ -163,9 +172,7 @@ module _ (Held : ObjectHistory → Type 0) (bounds : ℕ) where
       (λ state is fit. record { state = is; letters = tt }) fits before
   world_step-true world (Inject to text) plain fits before now =
       injected_cases world to text
-      (λ (event : Event) (new : WorldState). IsFitStep world new
-      → ((history : ObjectHistory) → history_at new history.replica history.object ≡ Some history
-      → Held history) → IsTrueWorld Held bounds new)
+      (λ (event : Event) (new : WorldState). IsFitStep world new → HasHeld new → IsTrueWorld Held bounds new)
       (λ fit has. unchanged-true world (Inject to text) before)
       (λ number letter sent fit has.
       received-true world (Inject letter.to letter.text) letter.to letter.text
@@ -181,7 +188,7 @@ module _ (Held : ObjectHistory → Type 0) (bounds : ℕ) where
   opening_clients-true keys same number (suc count) =
       (opening-true Held bounds (record { 0 = number }) keys same, opening_clients-true keys same (number + 1) count)
 
-opening_world-true : (Held : ObjectHistory → Type 0) (setup : Setup) → IsTrueWorld Held setup.bounds
+opening_world-true : (Held : Sealed → Type 0) (setup : Setup) → IsTrueWorld Held setup.bounds
     (opening_world setup)
 unfolding letters_of
 opening_world-true Held setup = record {
@@ -192,39 +199,54 @@ opening_world-true Held setup = record {
 
 -- ---- all worlds of a run
 
+-- a sealed history that its replica had by then, and sealed
+pub record WasShown (trace : Trace) (count : ℕ) (sealed : Sealed) : Type 0 where
+  pub held : WasHeld trace count sealed.history
+  pub is_sealed : IsSealedBy (ring_of trace.setup) sealed
+
 pub held-later : (trace : Trace) (count later : ℕ) (history : ObjectHistory) → count ≤ later
     → WasHeld trace count history → WasHeld trace later history
 held-later trace count later history order was =
     let earlier : was.past ≤ count = was.earlier in
     record { past = was.past; earlier = omega arith; held = was.held }
 
+shown-later : (trace : Trace) (count later : ℕ) (sealed : Sealed) → count ≤ later
+    → WasShown trace count sealed → WasShown trace later sealed
+shown-later trace count later sealed order was =
+    record { held = held-later trace count later sealed.history order was.held; is_sealed = was.is_sealed }
+
 true_next : (trace : Trace) (count : ℕ) → IsRun trace → ArePlain trace → count < length trace.entries
-    → IsTrueWorld (WasHeld trace count) trace.setup.bounds (world_after trace count)
-    → IsTrueWorld (WasHeld trace (count + 1)) trace.setup.bounds (world_after trace (count + 1))
+    → IsTrueWorld (WasShown trace count) trace.setup.bounds (world_after trace count)
+    → IsTrueWorld (WasShown trace (count + 1)) trace.setup.bounds (world_after trace (count + 1))
 true_next trace count is_run parts below before =
     let default : Entry = some_entry trace.entries (omega arith) in
     let event : Event = (get_or trace.entries count default).event in
     let next : world_after trace (count + 1) ≡ world_step (world_after trace count) event =
     world_after-next trace count default below in
-    subst (IsTrueWorld (WasHeld trace (count + 1)) trace.setup.bounds) (sym next)
-    (world_step-true (WasHeld trace (count + 1)) trace.setup.bounds (world_after trace count) event
+    subst (IsTrueWorld (WasShown trace (count + 1)) trace.setup.bounds) (sym next)
+    (world_step-true (WasShown trace (count + 1)) trace.setup.bounds (world_after trace count) event
     (parts.plain_at count default below)
     (subst (IsFitStep (world_after trace count)) next (fit_step trace is_run parts count below))
-    (world-more (WasHeld trace count) (WasHeld trace (count + 1)) trace.setup.bounds (world_after trace count)
-    (λ history was. held-later trace count (count + 1) history (omega arith) was) before)
-    (λ history found. record {
-      past = count + 1;
-      earlier = omega arith;
-      held = ap (λ (world : WorldState). history_at world history.replica history.object) next ∙ found;
+    (world-more (WasShown trace count) (WasShown trace (count + 1)) trace.setup.bounds (world_after trace count)
+    (λ sealed was. shown-later trace count (count + 1) sealed (omega arith) was) before)
+    (λ place state history is_state found. record {
+      held = record {
+        past = count + 1;
+        earlier = omega arith;
+        held = ap (λ (world : WorldState). history_at world history.replica history.object) next ∙ found;
+      };
+      is_sealed = ap (λ (keys : Ring). sealed_by keys history)
+          (keys_are trace (count + 1) place state
+          (ap (λ (world : WorldState). slice_get world.replicas place) next ∙ is_state));
     }))
 
 pub true_world : (trace : Trace) → IsRun trace → ArePlain trace → (count : ℕ) → count ≤ length trace.entries
-    → IsTrueWorld (WasHeld trace count) trace.setup.bounds (world_after trace count)
+    → IsTrueWorld (WasShown trace count) trace.setup.bounds (world_after trace count)
 true_world trace is_run parts zero within =
-    subst (IsTrueWorld (WasHeld trace 0) trace.setup.bounds) (sym (world_after-none trace))
-    (opening_world-true (WasHeld trace 0) trace.setup)
+    subst (IsTrueWorld (WasShown trace 0) trace.setup.bounds) (sym (world_after-none trace))
+    (opening_world-true (WasShown trace 0) trace.setup)
 true_world trace is_run parts (suc count) within =
-    subst (λ (at : ℕ). IsTrueWorld (WasHeld trace at) trace.setup.bounds (world_after trace at)) (add-one count)
+    subst (λ (at : ℕ). IsTrueWorld (WasShown trace at) trace.setup.bounds (world_after trace at)) (add-one count)
     (true_next trace count is_run parts (omega arith) (true_world trace is_run parts count (omega arith)))
 
 -- ---- what letters show
@@ -233,7 +255,7 @@ body_parts : (what : Op) → HasOpParts what → IsTrue (has_parts (body_of what
 body_parts (op.Act act) parts = parts.0
 body_parts (op.Query query) parts = parts
 
-made_parts : (Held : ObjectHistory → Type 0) (bounds : ℕ) (sent : Frame) → IsTrueFrame Held bounds sent → HasParts sent
+made_parts : (Held : Sealed → Type 0) (bounds : ℕ) (sent : Frame) → IsTrueFrame Held bounds sent → HasParts sent
 made_parts Held bounds (frame.Request client number round sets body mac) made =
     subst (λ (it : Body). IsTrue (has_parts it)) (sym made.body_is) (body_parts made.op made.parts)
 made_parts Held bounds (frame.Reply replica client number round verdict culled shown mac) made = tt
@@ -241,15 +263,16 @@ made_parts Held bounds (frame.Reply replica client number round verdict culled s
 module _ (trace : Trace) (is_run : IsRun trace) (have : ArePlain trace) (count : ℕ)
     (within : count ≤ length trace.entries) (number : ℕ) (letter : Letter)
     (sent : letter_of (world_after trace count) number ≡ Some letter) where
-  true_frame : (carried : Frame) → Carries letter carried → IsTrueFrame (WasHeld trace count) trace.setup.bounds carried
+  true_frame : (carried : Frame) → Carries letter carried
+      → IsTrueFrame (WasShown trace count) trace.setup.bounds carried
   true_frame =
-      each_numbered (IsTrueLetter (WasHeld trace count) trace.setup.bounds)
+      each_numbered (IsTrueLetter (WasShown trace count) trace.setup.bounds)
       (letters_of (world_after trace count).entries) number letter
       (true_world trace is_run have count within).letters sent
 
   -- the parts of each frame that is sent are those of an act or a query
   pub sent_has_parts : (carried : Frame) → Carries letter carried → HasParts carried
-  sent_has_parts carried carries = made_parts (WasHeld trace count) trace.setup.bounds carried
+  sent_has_parts carried carries = made_parts (WasShown trace count) trace.setup.bounds carried
       (true_frame carried carries)
 
   module _ (client : ClientId) (asked round : ℕ) (sets : List SetOf) (body : Body)
@@ -257,13 +280,16 @@ module _ (trace : Trace) (is_run : IsRun trace) (have : ArePlain trace) (count :
     -- the sets of a request show what its client kept, and all of that was held
     pub view_of_request : IsOfKept trace count sets body
     view_of_request =
-        let made : IsMadeOf (WasHeld trace count) trace.setup.bounds sets body =
+        let made : IsMadeOf (WasShown trace count) trace.setup.bounds sets body =
         true_frame (frame.Request client asked round sets body is.mac) is.carries in
         record {
           kept = made.kept;
           op = made.op;
           parts = made.parts;
-          held = made.held;
+          held = each_weaker (λ (it : Kept). WasShown trace count it.sealed)
+              (λ (it : Kept). WasHeld trace count (it.sealed).history) made.kept (λ it was. was.held) made.held;
+          sealed = each_weaker (λ (it : Kept). WasShown trace count it.sealed)
+              (λ (it : Kept). IsSealedBy (ring_of trace.setup) it.sealed) made.kept (λ it was. was.is_sealed) made.held;
           sets_are = made.sets_are;
           body_is = made.body_is;
         }

@@ -22,6 +22,7 @@ use Rattle.qu_trace.specs.declared.event.Event.{Event}
 use Rattle.qu_world.specs.State.{WorldState, letter_of}
 use Rattle.qu_runs.specs.Carried.{handed, Brings}
 use Rattle.qu_grounds.specs.Parts.{Names, values_of}
+use Rattle.qu_grounds.specs.Whole.{IsWhole}
 
 -- why a replica in this state accepts a candidate on an object upon a request: the sets show a base that
 -- a quorum holds and that nothing shown is above, and the replica itself has nothing above what is shown
@@ -61,6 +62,7 @@ pub record Accepts (old new : ReplicaState) (received : Frame) : Type 0 where
   pub parts : List (ObjectId × Method)
   pub mac : List ℕ
   pub is_request : received ≡ frame.Request client number round sets (body.Act parts) mac
+  pub whole : IsWhole old sets
   pub candidates : ObjectId → Candidate
   pub added : (object : ObjectId) → Names parts object
       → own_candidates new object ≡ own_candidates old object ++ candidates object ∷ []

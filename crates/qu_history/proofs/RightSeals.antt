@@ -85,8 +85,8 @@ module _ (ring : Ring) (me : ReplicaId) where
   sets_whole (set ∷ later) all =
       let parts = and_parts (list_all (is_right ring me) set.entries)
       (list_all (λ (it : SetOf). list_all (is_right ring me) it.entries) later) all in
-      ap (λ (entries : List Sealed). (record { object = set.object; entries = entries }) ∷ map (culled_set ring me) later)
-      (kept_whole (is_right ring me) set.entries parts.0)
+      ap (λ (entries : List Sealed). (record { object = set.object; entries = entries })
+      ∷ map (culled_set ring me) later) (kept_whole (is_right ring me) set.entries parts.0)
       ∙ ap (λ (rest : List SetOf). set ∷ rest) (sets_whole later parts.1)
 
   sets_named : (sets : List SetOf) → list_all (λ (set : SetOf). list_all (is_right ring me) set.entries) sets ≡ true

@@ -1,5 +1,7 @@
 ghost use Rattle.std.specs.Prelude.{◌≡◌, [], ◌++◌, IfOk, OnOk};
 ghost use Rattle.std.specs.List.{list_all, list_any, cons_option};
+ghost use Rattle.qu_base.specs.declared.party.Party.TheVariants as party;
+ghost use Rattle.qu_base.specs.declared.party.ReplicaId.{ReplicaId};
 ghost use Rattle.qu_frames.specs.Signing.{brought};
 ghost use Rattle.qu_world.specs.State.{ring_of};
 ghost use Rattle.qu_world.specs.Run.{IsSetup};
@@ -8,7 +10,7 @@ ghost use Rattle.qu_objects.specs.declared.op.Op.TheVariants as op;
 ghost use Rattle.qu_machine.specs.PointTests.{same_op};
 ghost use Rattle.qu_points.specs.Points.{act_in, handled_acts, is_act};
 
-use qu_base::{ClientId, List, NoMemory, Party};
+use qu_base::{ClientId, List, NoMemory, Party, ReplicaId};
 use qu_frames::{Body, Frame, receive};
 use qu_history::Sets;
 use qu_objects::Act;
@@ -76,35 +78,36 @@ fn act_to(
     ensures { IfOk result (λ act. act ≡ act_in (request_to setup.now text.now to)) }
 {
     match to {
-        Party::Replica(me) if me.0 < setup.bounds.n() => act_brought(alloc, setup, text, to),
+        Party::Replica(me) if me.0 < setup.bounds.n() => act_brought(alloc, setup, text, me),
         Party::Replica(_) | Party::Client(_) => Ok(None),
     }
 }
 
-/// The same of a text that reaches a party which handles it.
+/// The same of a text that reaches a replica.
 fn act_brought(
     alloc: Global,
     setup: &Setup,
     text: &[u8],
-    to: Party,
+    me: ReplicaId,
 ) -> Result<Option<(ClientId, u64, Act)>, NoMemory>
     requires { IsSetup setup.now }
-    ensures { IfOk result (λ act. act ≡ act_in (request_brought setup.now (brought (ring_of setup.now) to text.now))) }
+    ensures { IfOk result (λ act. act ≡ act_in (request_brought setup.now me
+        (brought (ring_of setup.now) (party.Replica me) text.now))) }
 {
     let keys = KeyRing::derive(setup.seed, &setup.bounds, setup.clients);
-    match receive(alloc, &keys, to, text)? {
+    match receive(alloc, &keys, Party::Replica(me), text)? {
         Some(frame) => act_in(alloc, setup, &frame),
         None => Ok(None),
     }
 }
 
-/// The same of its frame.
+/// The same of its frame, whichever replica handles it: an act does not depend on what is culled of the sets.
 fn act_in(
     alloc: Global,
     setup: &Setup,
     frame: &Frame,
 ) -> Result<Option<(ClientId, u64, Act)>, NoMemory>
-    ensures { IfOk result (λ act. act ≡ act_in (request_in setup.now frame.now)) }
+    ensures { (me : ReplicaId) → IfOk result (λ act. act ≡ act_in (request_in setup.now me frame.now)) }
 {
     match frame {
         Frame::Request {

@@ -9,6 +9,7 @@ use Rattle.qu_stamp.specs.declared.candidate.Candidate.{Candidate}
 use Rattle.qu_history.specs.History.{ObjectHistory, latest}
 use Rattle.qu_replica.specs.State.{candidates_in, with_candidate}
 use Rattle.qu_replica.specs.Growth.{are_own}
+use Rattle.qu_replica.proofs.CulledRequests.{accept_all-named}
 use Rattle.qu_replica.proofs.Growth.{accept_all-me, accept_all-keys, accept_all-bounds}
 use Rattle.qu_replica.proofs.Own.{are_own-with_candidate}
 
@@ -70,4 +71,4 @@ own_put me number candidate histories history own later in_time found =
 
 pub ruleset puts = (put_history, own_put)
 
-pub ruleset answers = (accept_all-me, accept_all-keys, accept_all-bounds)
+pub ruleset answers = (accept_all-me, accept_all-keys, accept_all-bounds, accept_all-named)

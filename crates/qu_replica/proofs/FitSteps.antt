@@ -1,9 +1,8 @@
 -- The letters that answer a text carry frames that fit, and what the replica holds fits after each step.
-use Rattle.std.proofs.Common.{◌≡◌, ℕ, zero, suc, ◌-◌, ◌^◌, ◌≤◌, List, [], ◌∷◌, length, map, replicate, Option, None, Some, Result, Ok, Err, refl, sym, subst, arith}
-use Rattle.std.specs.Prelude.{IfOk, OnOk, OnErr, IsTrue, slice_get}
+use Rattle.std.proofs.Common.{◌≡◌, ℕ, ◌-◌, ◌^◌, ◌≤◌, Bool, true, false, cond, List, [], ◌∷◌, length, map, Option, None, Some, Result, Ok, Err, refl, sym, subst, arith}
+use Rattle.std.specs.Prelude.{IfOk, OnOk, OnErr, is_none, slice_get}
 use Rattle.std.specs.List.{cons_option, AllByRecursion}
 use Rattle.std.proofs.lemmas.Bool.{le-leb, eq-eqb}
-use Rattle.std.proofs.lemmas.List.{length-replicate}
 use Rattle.std.proofs.lemmas.Option.{same_Some}
 use Rattle.qu_frames.specs.declared.limits.TheConstants.{LAST_ROUND}
 use Rattle.qu_base.specs.declared.limits.TheConstants.{REPLICA_IDS, OBJECT_IDS, LAST_CLIENT}
@@ -11,14 +10,14 @@ use Rattle.qu_base.specs.declared.party.Party.TheVariants as party
 use Rattle.qu_base.specs.declared.party.ClientId.{ClientId}
 use Rattle.qu_base.specs.declared.party.Digest.{Digest}
 use Rattle.qu_base.specs.declared.party.ObjectId.{ObjectId}
-use Rattle.qu_base.specs.Bounds.{replicas, is_replica_count}
-use Rattle.qu_base.specs.Format.{FitsFrom, AreBytes, bytes}
-use Rattle.qu_base.proofs.ThresholdFacts.{count_is_few}
+use Rattle.qu_base.specs.Format.{AreBytes}
 use Rattle.qu_seal.proofs.Lengths.{length-digest}
 use Rattle.qu_history.specs.declared.sets.SetOf.{SetOf}
 use Rattle.qu_history.specs.History.{ObjectHistory}
-use Rattle.qu_history.specs.Formats.{macs_form, set_form, sets_form, shown_by, shown_form}
+use Rattle.qu_history.specs.Formats.{set_form, sets_form, shown_by, shown_form}
 use Rattle.qu_history.specs.Text.{sets_digest}
+use Rattle.qu_history.specs.Culling.{history_digest, culled, left_out}
+use Rattle.qu_history.specs.Sealing.{sealed_by}
 use Rattle.qu_objects.specs.declared.act.Method.{Method}
 use Rattle.qu_objects.specs.Digesting.{act_digest}
 use Rattle.qu_objects.specs.Formats.{act_form, query_form}
@@ -29,7 +28,7 @@ use Rattle.qu_frames.specs.declared.frame.Frame.{Frame}
 use Rattle.qu_frames.specs.declared.frame.Letter.{Letter}
 use Rattle.qu_frames.specs.declared.frame.Frame.TheVariants as frame
 use Rattle.qu_frames.specs.declared.verdict.Verdict.{Verdict}
-use Rattle.qu_frames.specs.Blank.{blank_mac, sealed}
+use Rattle.qu_frames.specs.Blank.{blank_mac}
 use Rattle.qu_frames.specs.Formats.{objects_in_sets, culled_form, verdict_form, body_form, request_frame, reply_frame, kind_form, frame_form}
 use Rattle.qu_frames.specs.Signing.{with_mac, signature, brought}
 use Rattle.qu_frames.proofs.Signed.{signed_is_spelled, brought_is_decoded}
@@ -37,13 +36,14 @@ use Rattle.qu_frames.proofs.Decoded.{decoded_is_spelled}
 use Rattle.qu_replica.specs.declared.decision.Decision.{Decision}
 use Rattle.qu_replica.specs.declared.decision.Decision.TheVariants.{Answers, Waits}
 use Rattle.qu_replica.specs.State.{ReplicaState, accept_all}
-use Rattle.qu_replica.specs.Rows.{Asked, act_asked, asked_of, decision_on}
-use Rattle.qu_replica.specs.Step.{shown, answer_frame, carried_out, on_frame, on_received}
+use Rattle.qu_replica.specs.Rows.{Asked, act_asked, asked_at, unknown_in, decision_on}
+use Rattle.qu_replica.specs.Step.{shown, named, answer_frame, carried_out, on_frame, on_received}
 use Rattle.qu_replica.specs.Growth.{MayDecide}
 use Rattle.qu_replica.specs.Fits.{StateFits, LetterFits, StepFits}
 use Rattle.qu_replica.proofs.Own.{IsOwn, own_history}
 use Rattle.qu_replica.proofs.Allowed.{decision_on-may}
 use Rattle.qu_replica.proofs.Decoded.{body_has_parts}
+use Rattle.qu_replica.proofs.FitCulled.{seals_fit, culled-fits, left_out-fits, none_named-fit}
 use Rattle.qu_replica.proofs.FitState.{accept_all-fits}
 use Rattle.qu_replica.proofs.FitDecisions.{AskedFits, DecisionFits, act_decision-fits, ask_decision-fits}
 
@@ -53,25 +53,10 @@ pub blank_sized : length blank_mac ≡ 32
 unfolding blank_mac
 blank_sized = refl
 
-each_blank : (count : ℕ) → FitsFrom {K = Unit {0}} (λ before. bytes 32) (λ mac. tt) tt (replicate count blank_mac)
-each_blank zero = tt
-each_blank (suc count) = (blank_sized, each_blank count)
-
-blanks_fit : (count : ℕ) → IsTrue (is_replica_count count) → macs_form.Fits (replicate count blank_mac)
-blanks_fit count sized =
-    let many : length (replicate count blank_mac) ≡ count = length-replicate count blank_mac in (
-      (
-        (omega arith, let few : count ≤ REPLICA_IDS = count_is_few count sized in omega (arith, many, few)),
-        subst
-            (λ (it : ℕ). IsTrue (is_replica_count it)) (sym many) sized,
-      ),
-      (refl, each_blank count),
-    )
-
 module _ (state : ReplicaState) (fits : StateFits state) where
   one_shown : (object : ObjectId) → object.0 ≤ OBJECT_IDS - 1 → (found : Option ObjectHistory)
       → slice_get state.histories object.0 ≡ found → (shown_form state.me).Fits
-      (map (sealed state.keys.bounds) (cons_option found []))
+      (map (sealed_by state.keys) (cons_option found []))
   unfolding shown_form shown_by
   one_shown object within None is = ((omega arith, omega arith), (refl, tt))
   one_shown object within (Some history) is =
@@ -89,8 +74,7 @@ module _ (state : ReplicaState) (fits : StateFits state) where
                 ((omega arith, low), le-leb _ _ (omega arith)),
                 (((omega arith, few), eq-eqb _ _ mine), fits.histories object.0 history is),
               ),
-              blanks_fit
-                  (replicas state.keys.bounds) fits.bounds,
+              seals_fit state.keys history.replica (history_digest history) fits.bounds,
             ),
             tt,
           ),
@@ -98,18 +82,27 @@ module _ (state : ReplicaState) (fits : StateFits state) where
       )
 
   shown_fits : (sets : List SetOf) → sets_form.Fits sets → (shown_form state.me).Fits
-      (map (sealed state.keys.bounds) (shown state sets))
+      (map (sealed_by state.keys) (shown state sets))
   unfolding shown sets_form set_form
   shown_fits [] within = absurd (omega (arith, (within.0).0))
   shown_fits (set ∷ []) within =
       one_shown set.object (((((within.1).1).0).0).0).1 (slice_get state.histories (set.object).0) refl
   shown_fits (first ∷ second ∷ later) within = absurd (omega (arith, (within.0).1))
 
+  named_fits : (sets : List SetOf) → sets_form.Fits sets → culled_form.Fits (named state sets)
+  unfolding named
+  named_fits sets within =
+      elim (is_none (unknown_in state sets)) as (λ (known : Bool). culled_form.Fits
+      (cond known (left_out state.keys state.me sets) [])) [
+        | true ↦ left_out-fits state.keys state.me sets within
+        | false ↦ none_named-fit
+      ]
+
   pub answer-fits : (client : ClientId) (number round : ℕ) (sets : List SetOf) (verdict : Verdict) → 1 ≤ client.0
       → client.0 ≤ LAST_CLIENT → number ≤ 2 ^ 64 - 1 → 1 ≤ round → round ≤ LAST_ROUND
       → sets_form.Fits sets → verdict_form.Fits verdict
       → frame_form.Fits (answer_frame state client number round sets verdict)
-  unfolding frame_form kind_form reply_frame culled_form
+  unfolding frame_form kind_form reply_frame
   answer-fits client number round sets verdict low high word from_one few within told = (
     ((omega arith, omega arith), refl),
     (
@@ -122,7 +115,7 @@ module _ (state : ReplicaState) (fits : StateFits state) where
             (omega arith, word),
             (
               (from_one, few),
-              (told, (((omega arith, omega arith), (refl, tt)), (shown_fits sets within, blank_sized))),
+              (told, (named_fits sets within, (shown_fits sets within, blank_sized))),
             ),
           ),
         ),
@@ -175,17 +168,17 @@ acted_sized client number (body.Ask parts) digest is = absurd cc
 
 pub decision-fits : (state : ReplicaState) (client : ClientId) (number round : ℕ) (sets : List SetOf)
     (asks : Body) → StateFits state → RequestFits client number round sets asks
-    → DecisionFits (decision_on state (asked_of client number sets asks) asks)
+    → DecisionFits (decision_on state (asked_at state client number sets asks) asks)
 unfolding body_form act_form query_form
 decision-fits state client number round sets asks fits request =
-    let asked : Asked = asked_of client number sets asks in
+    let asked : Asked = asked_at state client number sets asks in
     let asked_fits : AskedFits asked =
     record {
       low = request.low;
       high = request.high;
-      sets = request.shown;
+      sets = culled-fits state.keys state.me sets request.shown;
       act = acted_sized client number asks;
-      set = sets_sized sets;
+      set = sets_sized (culled state.keys state.me sets);
     } in
     decided asks asked asked_fits request.asked
   where
@@ -229,7 +222,7 @@ pub on_frame-fits : (state : ReplicaState) (received : Frame) → StateFits stat
     → StepFits (on_frame state received)
 on_frame-fits state (frame.Request client number round sets asks mac) fits within =
     let request : RequestFits client number round sets asks = request-fits client number round sets asks mac within in
-    let asked : Asked = asked_of client number sets asks in
+    let asked : Asked = asked_at state client number sets asks in
     carried_out-fits state client number round sets asks (decision_on state asked asks) fits request
     (decision_on-may state asked asks (body_has_parts (objects_in_sets sets) asks request.asked))
     (decision-fits state client number round sets asks fits request)

@@ -21,7 +21,7 @@ use Rattle.qu_replica.specs.declared.decision.Accepted.{Accepted}
 use Rattle.qu_replica.specs.declared.decision.Decision.{Decision}
 use Rattle.qu_replica.specs.declared.decision.Decision.TheVariants.{Answers, Waits}
 use Rattle.qu_replica.specs.State.{ReplicaState, candidates_in, own_candidates, with_candidate, accept, accept_all}
-use Rattle.qu_replica.specs.Rows.{asked_of, decision_on}
+use Rattle.qu_replica.specs.Rows.{asked_at, decision_on}
 use Rattle.qu_replica.specs.Step.{carried_out, on_frame, on_received, replica_step}
 use Rattle.qu_replica.specs.Versions.{version_at}
 use Rattle.qu_replica.specs.Growth.{Grows}
@@ -109,7 +109,7 @@ carried_out-grows state client number round sets Waits = grows-self state
 -- a step forgets nothing
 pub on_frame-grows : (state : ReplicaState) (frame : Frame) → Grows state (on_frame state frame).0
 on_frame-grows state (frame.Request client number round sets body mac) =
-    carried_out-grows state client number round sets (decision_on state (asked_of client number sets body) body)
+    carried_out-grows state client number round sets (decision_on state (asked_at state client number sets body) body)
 on_frame-grows state (frame.Reply replica client number round verdict culled shown mac) = grows-self state
 
 on_received-grows : (state : ReplicaState) (found : Option Frame) → Grows state (on_received state found).0

@@ -5,10 +5,12 @@ pub mod Opening
 pub mod Finding
 pub mod Held
 pub mod Carried
+pub mod CulledRequests
 pub mod Accepting
 pub mod Showing
 pub mod Stepped
 pub mod Decoded
+pub mod FitCulled
 pub mod FitStamps
 pub mod FitVerdicts
 pub mod FitState

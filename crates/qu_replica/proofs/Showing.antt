@@ -5,7 +5,8 @@ use Rattle.std.proofs.lemmas.List.{map-append}
 use Rattle.std.specs.Prelude.{slice_get}
 use Rattle.qu_history.specs.declared.sets.SetOf.{SetOf}
 use Rattle.qu_history.specs.History.{ObjectHistory}
-use Rattle.qu_frames.specs.Blank.{sealed}
+use Rattle.qu_history.specs.Sealing.{sealed_by}
+use Rattle.qu_seal.specs.Keys.{Ring}
 use Rattle.qu_replica.specs.State.{ReplicaState}
 use Rattle.qu_replica.specs.Step.{shown}
 
@@ -53,21 +54,21 @@ shown_none state sets index set within here found =
 
 -- the sealed histories
 
-pub sealed_some : (bounds : ℕ) (state : ReplicaState) (sets : List SetOf) (index : ℕ) (set : SetOf)
+pub sealed_some : (keys : Ring) (state : ReplicaState) (sets : List SetOf) (index : ℕ) (set : SetOf)
     (history : ObjectHistory) → index < length sets → set ≡ get_or sets index set
     → Some history ≡ slice_get state.histories (set.object).0
-    → map (sealed bounds) (shown state (take (index + 1) sets)) ≡ map (sealed bounds)
-    (shown state (take index sets)) ++ sealed bounds history ∷ []
-sealed_some bounds state sets index set history within here found =
-    ap (map (sealed bounds)) (shown_some state sets index set history within here found)
-    ∙ map-append (sealed bounds) (shown state (take index sets)) (history ∷ [])
+    → map (sealed_by keys) (shown state (take (index + 1) sets)) ≡ map (sealed_by keys)
+    (shown state (take index sets)) ++ sealed_by keys history ∷ []
+sealed_some keys state sets index set history within here found =
+    ap (map (sealed_by keys)) (shown_some state sets index set history within here found)
+    ∙ map-append (sealed_by keys) (shown state (take index sets)) (history ∷ [])
 
-pub sealed_none : (bounds : ℕ) (state : ReplicaState) (sets : List SetOf) (index : ℕ) (set : SetOf)
+pub sealed_none : (keys : Ring) (state : ReplicaState) (sets : List SetOf) (index : ℕ) (set : SetOf)
     → index < length sets → set ≡ get_or sets index set → None ≡ slice_get state.histories (set.object).0
-    → map (sealed bounds) (shown state (take (index + 1) sets)) ≡ map (sealed bounds) (shown state (take index sets))
-sealed_none bounds state sets index set within here found =
-    ap (map (sealed bounds)) (shown_none state sets index set within here found)
+    → map (sealed_by keys) (shown state (take (index + 1) sets)) ≡ map (sealed_by keys) (shown state (take index sets))
+sealed_none keys state sets index set within here found =
+    ap (map (sealed_by keys)) (shown_none state sets index set within here found)
 
-pub sealed_first : (bounds : ℕ) (state : ReplicaState) → map (sealed bounds) (shown state []) ≡ []
+pub sealed_first : (keys : Ring) (state : ReplicaState) → map (sealed_by keys) (shown state []) ≡ []
 unfolding shown
-sealed_first bounds state = refl
+sealed_first keys state = refl

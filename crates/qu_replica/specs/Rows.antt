@@ -14,6 +14,7 @@ use Rattle.qu_history.specs.declared.sets.SetOf.{SetOf}
 use Rattle.qu_history.specs.History.{ObjectHistory, holds}
 use Rattle.qu_history.specs.Sets.{entries_of, latest_of, method_at}
 use Rattle.qu_history.specs.Text.{sets_digest}
+use Rattle.qu_history.specs.Culling.{culled}
 use Rattle.qu_objects.specs.declared.act.Method.{Method}
 use Rattle.qu_objects.specs.declared.query.Ask.{Ask}
 use Rattle.qu_objects.specs.declared.answer.Answer.{Answer}
@@ -37,10 +38,11 @@ use Rattle.qu_replica.specs.Versions.{version_at}
 pub record Asked : Type 0 where
   pub client : ClientId
   pub number : ℕ
+  -- the sets, culled
   pub sets : List SetOf
   -- the digest of the act that is asked for, none of a query
   pub act : Option Digest
-  -- the digest of the sets
+  -- the digest of the culled sets
   pub set : Digest
 
 abbrev pub act_asked : ClientId → ℕ → Body → Option Digest
@@ -51,6 +53,10 @@ act_asked client number (body.Ask parts) = None
 abbrev pub asked_of : ClientId → ℕ → List SetOf → Body → Asked
 asked_of client number sets body =
     record { client = client; number = number; sets = sets; act = act_asked client number body; set = sets_digest sets }
+
+-- the request as a replica takes it, which culls the sets
+abbrev pub asked_at : ReplicaState → ClientId → ℕ → List SetOf → Body → Asked
+asked_at state client number sets body = asked_of client number (culled state.keys state.me sets) body
 
 -- nothing is accepted
 abbrev pub refuse : Refusal → Decision
@@ -105,11 +111,17 @@ base_values state asked objects =
 abbrev pub refuse_first : (ObjectId → Bool) → (ObjectId → Refusal) → List ObjectId → Option Decision
 refuse_first bad why objects = option_map (λ object. refuse (why object)) (find bad objects)
 
--- an object of the sets is not the replica's
+-- the first object of the sets that the replica does not have
+abbrev pub unknown_in : ReplicaState → List SetOf → Option SetOf
+unknown_in state sets = find (λ set. nat_le (length state.histories) (set.object).0) sets
+
+-- sets with such an object are refused
+abbrev pub unknown_refused : Option SetOf → Option Decision
+unknown_refused found = option_map (λ (set : SetOf). refuse (refusal.UnknownObject set.object)) found
+
+-- culled sets are of the same objects, so that this can be asked before they are culled
 unfoldable pub row_unknown : ReplicaState → Asked → Option Decision
-row_unknown state asked =
-    option_map (λ set. refuse (refusal.UnknownObject set.object))
-    (find (λ set. nat_le (length state.histories) (set.object).0) asked.sets)
+row_unknown state asked = unknown_refused (unknown_in state asked.sets)
 
 -- fewer entries than a quorum
 unfoldable pub row_thin : ReplicaState → Asked → Option Decision

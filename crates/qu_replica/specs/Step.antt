@@ -1,29 +1,38 @@
 -- The replica's step: a function from its state and a text to a state and letters.
-use Rattle.std.specs.Prelude.{ℕ, List, [], ◌∷◌, map, slice_get, Option, None, Some}
+use Rattle.std.specs.Prelude.{ℕ, if◌then◌else◌, List, [], ◌∷◌, map, slice_get, Option, None, Some, is_none}
 use Rattle.std.specs.List.{filter_map}
 use Rattle.qu_base.specs.declared.party.Party.TheVariants as party
 use Rattle.qu_base.specs.declared.party.ClientId.{ClientId}
+use Rattle.qu_base.specs.declared.party.ObjectId.{ObjectId}
+use Rattle.qu_base.specs.declared.party.ReplicaId.{ReplicaId}
 use Rattle.qu_history.specs.declared.sets.SetOf.{SetOf}
 use Rattle.qu_history.specs.History.{ObjectHistory}
+use Rattle.qu_history.specs.Culling.{left_out}
+use Rattle.qu_history.specs.Sealing.{sealed_by}
 use Rattle.qu_frames.specs.declared.frame.Frame.{Frame}
 use Rattle.qu_frames.specs.declared.frame.Frame.TheVariants as frame
 use Rattle.qu_frames.specs.declared.frame.Letter.{Letter}
 use Rattle.qu_frames.specs.declared.verdict.Verdict.{Verdict}
-use Rattle.qu_frames.specs.Blank.{blank_mac, sealed}
+use Rattle.qu_frames.specs.Blank.{blank_mac}
 use Rattle.qu_frames.specs.Signing.{signed, brought}
 use Rattle.qu_replica.specs.declared.decision.Decision.{Decision}
 use Rattle.qu_replica.specs.declared.decision.Decision.TheVariants.{Answers, Waits}
 use Rattle.qu_replica.specs.State.{ReplicaState, accept_all}
-use Rattle.qu_replica.specs.Rows.{asked_of, decision_on}
+use Rattle.qu_replica.specs.Rows.{asked_at, unknown_in, decision_on}
 
 -- the histories of those objects of the sets that the replica has, as they stand
 unfoldable pub shown : ReplicaState → List SetOf → List ObjectHistory
 shown state sets = filter_map (λ set. slice_get state.histories (set.object).0) sets
 
--- the frame that answers a request, before its HMAC is made: no entry is culled
+-- the entries that a reply names: those that are culled, none where the replica does not have an object of the sets
+unfoldable pub named : ReplicaState → List SetOf → List (ObjectId × ReplicaId)
+named state sets = if is_none (unknown_in state sets) then left_out state.keys state.me sets else []
+
+-- the frame that answers a request with these sets, before its HMAC is made
 abbrev pub answer_frame : ReplicaState → ClientId → ℕ → ℕ → List SetOf → Verdict → Frame
 answer_frame state client number round sets verdict =
-    frame.Reply state.me client number round verdict [] (map (sealed state.keys.bounds) (shown state sets)) blank_mac
+    frame.Reply state.me client number round verdict (named state sets) (map (sealed_by state.keys) (shown state sets))
+    blank_mac
 
 -- the letter that carries it, signed for the client
 abbrev pub reply : ReplicaState → ClientId → ℕ → ℕ → List SetOf → Verdict → Letter
@@ -41,7 +50,7 @@ carried_out state client number round sets Waits = (state, [])
 -- a frame that is no request is ignored
 abbrev pub on_frame : ReplicaState → Frame → ReplicaState × List Letter
 on_frame state (frame.Request client number round sets body mac) =
-    carried_out state client number round sets (decision_on state (asked_of client number sets body) body)
+    carried_out state client number round sets (decision_on state (asked_at state client number sets body) body)
 on_frame state (frame.Reply replica client number round verdict culled shown mac) = (state, [])
 
 abbrev pub on_received : ReplicaState → Option Frame → ReplicaState × List Letter

@@ -10,7 +10,16 @@ use qu_stamp::Stamp;
 use std::alloc::Global;
 use std::marker::Model;
 
-/// A request, as a replica is handed it, with the digests that a stamp carries.
+/// To what a reply answers: the client, number and round of a request, and the sets as they came.
+#[derive(Drop)]
+pub(crate) struct Heading<'a> {
+    pub(crate) client: ClientId,
+    pub(crate) number: u64,
+    pub(crate) round: u8,
+    pub(crate) sets: &'a Sets,
+}
+
+/// A request with its culled sets, and with the digests that a stamp carries.
 #[derive(Drop)]
 pub(crate) struct Asked<'a> {
     pub(crate) client: ClientId,
@@ -18,7 +27,7 @@ pub(crate) struct Asked<'a> {
     pub(crate) sets: &'a Sets,
     /// The digest of the act that is asked for, none of a query.
     pub(crate) act: Option<Digest>,
-    /// The digest of the sets.
+    /// The digest of the culled sets.
     pub(crate) set: Digest,
 }
 
@@ -37,7 +46,7 @@ impl<'a> Model for Asked<'a> {
 }
 
 impl<'a> Asked<'a> {
-    /// The request with its digests, for whose texts it takes memory.
+    /// The request with these culled sets and its digests, for whose texts it takes memory.
     pub(crate) fn new(
         alloc: Global,
         client: ClientId,

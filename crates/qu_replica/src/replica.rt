@@ -5,19 +5,21 @@ ghost use Rattle.qu_base.specs.Format.{AreBytes};
 ghost use Rattle.qu_base.specs.declared.limits.TheConstants.{OBJECT_IDS, REPLICA_IDS};
 ghost use Rattle.qu_replica.specs.State.{opening_state};
 ghost use Rattle.qu_replica.specs.Versions.{version_at};
-ghost use Rattle.qu_replica.specs.Step.{on_frame, replica_step};
-ghost use Rattle.qu_replica.specs.Growth.{AreHistories, HasParts, Grows};
+ghost use Rattle.qu_replica.specs.Rows.{asked_at, decision_on};
+ghost use Rattle.qu_replica.specs.Step.{named, on_frame, replica_step};
+ghost use Rattle.qu_replica.specs.Growth.{AreHistories, HasParts, Grows, MayDecide};
 ghost use Rattle.qu_replica.specs.Fits.{StateFits, LetterFits};
 
 mod opening;
 mod reply;
 mod rows;
 
-use crate::asked::Asked;
+use crate::asked::{Asked, Heading};
+use crate::decision::Decision;
 use crate::versions::{self, Stored};
 use qu_base::{Bounds, List, NoMemory, ObjectId, Party, ReplicaId};
-use qu_frames::{Frame, Letter, receive};
-use qu_history::History;
+use qu_frames::{Body, Frame, Letter, receive};
+use qu_history::{Culled, History};
 use qu_objects::{KindName, Version};
 use qu_seal::KeyRing;
 use qu_stamp::Stamp;
@@ -49,6 +51,13 @@ impl Model for Replica {
     } };
 
     ghost invariant = { λ replica. IsTrue (are_own replica.me 0 replica.histories.items) };
+}
+
+/// What a replica makes of a request: the entries that its reply names, and its decision.
+#[derive(Drop)]
+struct Handled {
+    named: List<(ObjectId, ReplicaId)>,
+    decision: Decision,
 }
 
 impl Replica {
@@ -135,12 +144,41 @@ impl Replica {
                 body,
                 ..
             } => {
-                let asked = Asked::new(self.alloc, *client, *number, sets, body)?;
-                let decision = self.decide(&asked, body)?;
-                self.carry_out(&asked, *round, decision)
+                let heading = Heading {
+                    client: *client,
+                    number: *number,
+                    round: *round,
+                    sets,
+                };
+                let handled = self.handle(&heading, body)?;
+                self.carry_out(&heading, handled.named, handled.decision)
             }
             Frame::Reply { .. } => Ok(List::new(self.alloc)),
         }
+    }
+
+    /// What the replica makes of a request. Objects that it does not have are asked for before the sets are
+    /// culled.
+    #[tactic(auto, using(crate::proofs::CulledRequests::handling))]
+    fn handle(&self, heading: &Heading, body: &Body) -> Result<Handled, NoMemory>
+        ensures named { IfOk result (λ handled. handled.named ≡ named self.now heading.now.sets.now) }
+        ensures decision { IfOk result (λ handled. handled.decision ≡ decision_on self.now
+            (asked_at self.now heading.now.client heading.now.number heading.now.sets.now body.now) body.now) }
+        ensures may { IfOk result (λ handled. MayDecide self.now handled.decision) }
+        ensures histories { AreHistories self.now }
+    {
+        if let Some(refusal) = self.row_unknown(heading.sets) {
+            return Ok(Handled {
+                named: List::new(self.alloc),
+                decision: refusal,
+            });
+        }
+        let Culled { sets, left } = heading.sets.cull(self.alloc, self.me, &self.keys)?;
+        let asked = Asked::new(self.alloc, heading.client, heading.number, &sets, body)?;
+        Ok(Handled {
+            named: left,
+            decision: self.decide(&asked, body)?,
+        })
     }
 }
 

@@ -17,10 +17,10 @@ use Rattle.qu_frames.specs.declared.frame.Letter.{Letter}
 use Rattle.qu_replica.specs.declared.decision.Decision.{Decision}
 use Rattle.qu_replica.specs.declared.decision.Decision.TheVariants.{Answers, Waits}
 use Rattle.qu_replica.specs.State.{ReplicaState, accept_all}
-use Rattle.qu_replica.specs.Rows.{asked_of, decision_on}
-use Rattle.qu_frames.specs.Blank.{sealed}
+use Rattle.qu_replica.specs.Rows.{asked_at, decision_on}
+use Rattle.qu_history.specs.Sealing.{sealed_by}
 use Rattle.qu_replica.specs.Step as replica
-use Rattle.qu_replica.specs.Step.{shown, reply, carried_out, replica_step, answer_frame}
+use Rattle.qu_replica.specs.Step.{shown, named, reply, carried_out, replica_step, answer_frame}
 use Rattle.qu_client.specs.declared.state.ClientState.{ClientState}
 use Rattle.qu_client.specs.declared.state.Stepped.{Stepped}
 use Rattle.qu_client.specs.State.{opening_state}
@@ -181,15 +181,16 @@ answered state client number round sets (Answers verdict accepted) letter stands
     (let new : ReplicaState = accept_all state accepted in
     let frame : Frame = answer_frame new client number round sets verdict in
     let to : Party = party.Client client in
-    no_request (reply new client number round sets verdict) new.me client number round verdict []
-    (map (sealed new.keys.bounds) (shown new sets)) (signature new.keys to frame)
+    no_request (reply new client number round sets verdict) new.me client number round verdict (named new sets)
+    (map (sealed_by new.keys) (shown new sets)) (signature new.keys to frame)
     (signed_spelled new.keys to frame blank_sized))
 
 frame_asks : (state : ReplicaState) (sent : Frame) (letter : Letter) → StandsIn (replica.on_frame state sent).1
     letter → (client : ClientId) (number round : ℕ) (sets : List SetOf) (asks : Body)
     → Asks letter client number round sets asks → ⊥
 frame_asks state (frame.Request client number round sets asks mac) letter stands =
-    answered state client number round sets (decision_on state (asked_of client number sets asks) asks) letter stands
+    answered state client number round sets (decision_on state (asked_at state client number sets asks) asks) letter
+    stands
 frame_asks state (frame.Reply replica client number round verdict culled shown mac) letter stands =
     absurd (none_stands letter stands)
 

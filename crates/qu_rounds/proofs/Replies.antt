@@ -21,7 +21,7 @@ use Rattle.qu_replica.specs.declared.decision.Decision.{Decision}
 use Rattle.qu_replica.specs.declared.decision.Decision.TheVariants.{Answers, Waits}
 use Rattle.qu_replica.specs.State.{ReplicaState, accept_all}
 use Rattle.qu_replica.specs.Growth.{Grows}
-use Rattle.qu_replica.specs.Rows.{asked_of, decision_on}
+use Rattle.qu_replica.specs.Rows.{asked_at, decision_on}
 use Rattle.qu_replica.specs.Step.{answer_frame, reply, carried_out, on_frame, on_received}
 use Rattle.qu_replica.proofs.Growth.{accept_all-me}
 use Rattle.qu_client.specs.declared.state.ClientState.{ClientState}
@@ -111,7 +111,7 @@ by_replica bound state client number round sets Waits fits below = All-nil (Repl
 frame_replies : (bound : ℕ) (state : ReplicaState) (received : Frame) → AnswersFit state received
     → (state.me).0 < bound → All (RepliesWithin bound) (on_frame state received).1
 frame_replies bound state (frame.Request client number round sets body mac) fits below =
-    by_replica bound state client number round sets (decision_on state (asked_of client number sets body) body)
+    by_replica bound state client number round sets (decision_on state (asked_at state client number sets body) body)
     fits below
 frame_replies bound state (frame.Reply replica client number round verdict culled shown mac) fits below =
     All-nil (RepliesWithin bound)

@@ -16,12 +16,12 @@ use Rattle.qu_frames.specs.declared.frame.Frame.TheVariants as frame
 use Rattle.qu_frames.specs.declared.frame.Letter.{Letter}
 use Rattle.qu_frames.specs.declared.verdict.Verdict.{Verdict}
 use Rattle.qu_frames.specs.Body.{body_of}
-use Rattle.qu_frames.specs.Blank.{sealed}
+use Rattle.qu_history.specs.Sealing.{sealed_by}
 use Rattle.qu_replica.specs.declared.decision.Decision.{Decision}
 use Rattle.qu_replica.specs.declared.decision.Decision.TheVariants.{Answers, Waits}
 use Rattle.qu_replica.specs.State.{ReplicaState, accept_all}
-use Rattle.qu_replica.specs.Rows.{asked_of, decision_on}
-use Rattle.qu_replica.specs.Step.{shown, reply, carried_out, replica_step, answer_frame}
+use Rattle.qu_replica.specs.Rows.{asked_at, decision_on}
+use Rattle.qu_replica.specs.Step.{shown, named, reply, carried_out, replica_step, answer_frame}
 use Rattle.qu_replica.specs.Step as replica
 use Rattle.qu_client.specs.declared.state.Stepped.{Stepped}
 use Rattle.qu_client.specs.declared.work.Work.{Work}
@@ -114,7 +114,7 @@ carried_asked trace count state client number round sets (Answers verdict accept
     let to : Party = party.Client client in
     record {
       asked = reply_asked trace count (reply new client number round sets verdict) new.me client number round
-          verdict [] (map (sealed new.keys.bounds) (shown new sets)) (signature new.keys to frame)
+          verdict (named new sets) (map (sealed_by new.keys) (shown new sets)) (signature new.keys to frame)
           (signed_spelled new.keys to frame blank_sized);
     })
     (All-nil (IsAsked trace count))
@@ -124,7 +124,8 @@ carried_asked trace count state client number round sets Waits = All-nil (IsAske
 frame_asked : (trace : Trace) (count : ℕ) (state : ReplicaState) (sent : Frame) → All (IsAsked trace count)
     (replica.on_frame state sent).1
 frame_asked trace count state (frame.Request client number round sets body mac) =
-    carried_asked trace count state client number round sets (decision_on state (asked_of client number sets body) body)
+    carried_asked trace count state client number round sets
+    (decision_on state (asked_at state client number sets body) body)
 frame_asked trace count state (frame.Reply replica client number round verdict culled shown mac) =
     All-nil (IsAsked trace count)
 

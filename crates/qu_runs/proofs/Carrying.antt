@@ -28,7 +28,7 @@ use Rattle.qu_frames.proofs.Decoded.{decoded_is_read, one_frame}
 use Rattle.qu_frames.proofs.Signed.{text_with, signed_is_spelled, brought_is_decoded}
 use Rattle.qu_replica.specs.declared.decision.Accepted.{Accepted}
 use Rattle.qu_replica.specs.declared.decision.Decision.TheVariants.{Answers}
-use Rattle.qu_replica.specs.Rows.{asked_of, decision_on}
+use Rattle.qu_replica.specs.Rows.{asked_at, decision_on}
 use Rattle.qu_replica.specs.State.{ReplicaState, accept_all}
 use Rattle.qu_replica.specs.Step.{answer_frame}
 use Rattle.qu_client.specs.declared.state.ClientState.{ClientState}
@@ -112,7 +112,7 @@ AsksFit state =
 -- what the replica answers to a frame fits
 abbrev pub AnswersFit : ReplicaState → Frame → Type 0
 AnswersFit state (frame.Request client number round sets body mac) =
-    (verdict : Verdict) (accepted : List Accepted) → decision_on state (asked_of client number sets body)
+    (verdict : Verdict) (accepted : List Accepted) → decision_on state (asked_at state client number sets body)
     body ≡ Answers verdict accepted
     → frame_form.Fits (answer_frame (accept_all state accepted) client number round sets verdict)
 AnswersFit state (frame.Reply replica client number round verdict culled shown mac) = Unit {0}

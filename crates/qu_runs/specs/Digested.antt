@@ -6,12 +6,14 @@ use Rattle.qu_base.specs.declared.party.ClientId.{ClientId}
 use Rattle.qu_base.specs.declared.party.ObjectId.{ObjectId}
 use Rattle.qu_base.specs.declared.party.Party.{Party}
 use Rattle.qu_base.specs.declared.party.Party.TheVariants as party
+use Rattle.qu_base.specs.declared.party.ReplicaId.{ReplicaId}
 use Rattle.qu_base.specs.Bounds.{replicas}
 use Rattle.qu_seal.specs.declared.constants.TheConstants.{ACT_TAG, SETS_TAG}
 use Rattle.qu_seal.specs.Digesting.{digest_of}
 use Rattle.qu_stamp.specs.declared.candidate.Candidate.{Candidate}
 use Rattle.qu_history.specs.declared.sets.SetOf.{SetOf}
 use Rattle.qu_history.specs.Text.{sets_text}
+use Rattle.qu_history.specs.Culling.{culled}
 use Rattle.qu_objects.specs.declared.act.Method.{Method}
 use Rattle.qu_objects.specs.Digesting.{act_text, act_digest}
 use Rattle.qu_frames.specs.declared.frame.Body.{Body}
@@ -30,7 +32,7 @@ use Rattle.qu_world.specs.State.{ring_of, numbered}
 
 -- ---- which request an event hands to a replica
 
--- a request, whatever the round in which it was sent
+-- a request as a replica takes it, its sets culled, whatever the round in which it was sent
 pub record Request : Type 0 where
   pub client : ClientId
   pub number : ℕ
@@ -41,22 +43,22 @@ pub record Request : Type 0 where
 abbrev pub is_known : Setup → SetOf → Bool
 is_known setup set = nat_lt (set.object).0 (length setup.kinds)
 
--- the request that a frame carries, where no object of its sets is unknown
-abbrev pub request_in : Setup → Frame → Option Request
-request_in setup (frame.Request client number round sets body mac) =
+-- the request that a frame carries to this replica, where no object of its sets is unknown
+abbrev pub request_in : Setup → ReplicaId → Frame → Option Request
+request_in setup me (frame.Request client number round sets body mac) =
     if list_all (is_known setup) sets then Some
-    (record { client = client; number = number; sets = sets; body = body }) else None
-request_in setup (frame.Reply replica client number round verdict culled shown mac) = None
+    (record { client = client; number = number; sets = culled (ring_of setup) me sets; body = body }) else None
+request_in setup me (frame.Reply replica client number round verdict left shown mac) = None
 
 -- the same of a frame that was brought, if there is one
-abbrev pub request_brought : Setup → Option Frame → Option Request
-request_brought setup None = None
-request_brought setup (Some sent) = request_in setup sent
+abbrev pub request_brought : Setup → ReplicaId → Option Frame → Option Request
+request_brought setup me None = None
+request_brought setup me (Some sent) = request_in setup me sent
 
 -- the request that a text brings to a replica of the setup
 abbrev pub request_to : Setup → List ℕ → Party → Option Request
 request_to setup text (party.Replica me) =
-    if nat_lt me.0 (replicas setup.bounds) then request_brought setup
+    if nat_lt me.0 (replicas setup.bounds) then request_brought setup me
     (brought (ring_of setup) (party.Replica me) text) else None
 request_to setup text (party.Client me) = None
 
@@ -98,13 +100,13 @@ abbrev pub body_texts : ClientId → ℕ → Body → List Text
 body_texts client number (body.Act parts) = record { tag = ACT_TAG; bytes = act_text client number parts } ∷ []
 body_texts client number (body.Ask parts) = []
 
--- the text of the sets has its tag
+-- the text of the culled sets has its tag: it is their digest that a stamp holds
 abbrev pub texts_of : Option Request → List Text
 texts_of None = []
 texts_of (Some request) = record { tag = SETS_TAG; bytes = sets_text request.sets } ∷ body_texts request.client
     request.number request.body
 
--- the texts that are digested in a run
+-- the texts whose digests stand in stamps; those of frames and histories are digested for their HMACs alone
 unfoldable pub digested : Trace → List Text
 digested trace = flat_map (λ entry. texts_of (handled_by trace entry.event)) trace.entries
 

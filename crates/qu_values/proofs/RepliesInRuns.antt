@@ -18,7 +18,7 @@ use Rattle.qu_replica.specs.declared.decision.Decision.{Decision}
 use Rattle.qu_replica.specs.declared.decision.Decision.TheVariants.{Answers}
 use Rattle.qu_replica.specs.State.{ReplicaState, accept_all}
 use Rattle.qu_replica.specs.Growth.{has_parts}
-use Rattle.qu_replica.specs.Rows.{asked_of, row_unknown, objects_of, decision_on}
+use Rattle.qu_replica.specs.Rows.{asked_of, asked_at, row_unknown, objects_of, decision_on}
 use Rattle.qu_replica.specs.Step.{on_received, carried_out, replica_step}
 use Rattle.qu_trace.specs.declared.trace.Trace.{Trace}
 use Rattle.qu_world.specs.Run.{IsRun}
@@ -32,7 +32,9 @@ use Rattle.qu_runs.specs.Plain.{ArePlain}
 use Rattle.qu_grounds.proofs.HeldInRuns.{held_versions}
 use Rattle.qu_grounds.proofs.HeldVersions.{AreOfHeld}
 use Rattle.qu_values.proofs.TrueReplies.{done_is_true, act_is_not_told, told_is_true, query_is_not_done, done_is_known}
-use Rattle.qu_grounds.proofs.Views.{request_has_parts}
+use Rattle.qu_grounds.proofs.Views.{view_of_request, request_has_parts}
+use Rattle.qu_grounds.specs.Whole.{IsWhole}
+use Rattle.qu_grounds.proofs.WholeSets.{view_whole}
 use Rattle.qu_runs.specs.Carried.{Brings}
 use Rattle.qu_frames.specs.declared.frame.Frame.TheVariants as frame
 use Rattle.qu_frames.specs.declared.frame.Letter.{Letter}
@@ -106,7 +108,8 @@ after_decision : (old new : ReplicaState) (letter : Letter) (client : ClientId) 
     (sets : List SetOf) (asks : Body) (given : Verdict) (accepted : List Accepted)
     → new ≡ (replica_step old letter.text).0 → (mac : List ℕ)
     → Brings old letter (frame.Request client number round sets asks mac)
-    → decision_on old (asked_of client number sets asks) asks ≡ Answers given accepted → new ≡ accept_all old accepted
+    → decision_on old (asked_at old client number sets asks) asks ≡ Answers given accepted
+    → new ≡ accept_all old accepted
 after_decision old new letter client number round sets asks given accepted step mac brings decided =
     step ∙ ap (λ it. (on_received old it).0) brings
     ∙ ap (λ (it : Decision). (carried_out old client number round sets it).0) decided
@@ -122,6 +125,20 @@ module _ (trace : Trace) (is_run : IsRun trace) (have : ArePlain trace) (at : �
   old_of_held : (given : Verdict) (reply : IsReplyTo trace at replica client number round given) → AreOfHeld reply.old
   old_of_held given reply = held_versions trace is_run have at (omega arith) replica reply.old reply.is_old
 
+  -- nothing of its request is culled
+  reply_whole : (given : Verdict) (reply : IsReplyTo trace at replica client number round given)
+      → IsWhole reply.old reply.sets
+  reply_whole given reply =
+      view_whole trace is_run have at (omega arith) replica reply.old reply.is_old reply.sets reply.body
+      (view_of_request trace is_run have at (omega arith) reply.asked reply.letter reply.is_letter client number
+      round reply.sets reply.body (reply_asks trace at replica client number round given reply))
+
+  decided_whole : (given : Verdict) (reply : IsReplyTo trace at replica client number round given)
+      → decision_on reply.old (asked_of client number reply.sets reply.body) reply.body ≡ Answers given reply.accepted
+  decided_whole given reply =
+      ap (λ (sets : List SetOf). decision_on reply.old (asked_of client number sets reply.body) reply.body)
+      (sym (reply_whole given reply)) ∙ reply.decided
+
   module _ (stamps : List (ObjectId × Stamp)) (answer : Answer) where
     -- Done is told to an act, and the replica has its candidates afterwards
     pub act_of_done : (reply : IsReplyTo trace at replica client number round (verdict.Done stamps answer))
@@ -129,7 +146,7 @@ module _ (trace : Trace) (is_run : IsRun trace) (have : ArePlain trace) (at : �
     act_of_done reply =
         done_to_act reply.old client number reply.sets reply.accepted stamps answer
         (old_of_held (verdict.Done stamps answer) reply) reply.body
-        (body_has_parts (verdict.Done stamps answer) reply) reply.decided
+        (body_has_parts (verdict.Done stamps answer) reply) (decided_whole (verdict.Done stamps answer) reply)
 
     decided_act : (reply : IsReplyTo trace at replica client number round (verdict.Done stamps answer))
         → Decides reply.old client number reply.sets reply.accepted stamps answer
@@ -137,7 +154,7 @@ module _ (trace : Trace) (is_run : IsRun trace) (have : ArePlain trace) (at : �
         (verdict.Done stamps answer)
     decided_act reply =
         ap (λ (it : Body). decision_on reply.old (asked_of client number reply.sets it) it)
-        (sym (act_of_done reply).is_act) ∙ reply.decided
+        (sym (act_of_done reply).is_act) ∙ decided_whole (verdict.Done stamps answer) reply
 
     pub done_in_run : (reply : IsReplyTo trace at replica client number round (verdict.Done stamps answer))
         → TellsDone reply.new client (act_digest client number (act_of_done reply).parts) (act_of_done reply).parts
@@ -169,6 +186,7 @@ module _ (trace : Trace) (is_run : IsRun trace) (have : ArePlain trace) (at : �
         (reply.brings ∙ ap (λ (it : Body). Some (frame.Request client number round reply.sets it reply.mac))
         act.is_act)
         (not_unknown reply.old (asked_of client number reply.sets (body.Act parts)) known)
+        (reply_whole (verdict.Done stamps answer) reply)
 
     -- an answer is told to a query, from what the replica has
     pub ask_of_told : (reply : IsReplyTo trace at replica client number round (verdict.Told stamps answer))
@@ -176,7 +194,7 @@ module _ (trace : Trace) (is_run : IsRun trace) (have : ArePlain trace) (at : �
     ask_of_told reply =
         told_to_ask reply.old client number reply.sets reply.accepted stamps answer
         (old_of_held (verdict.Told stamps answer) reply) reply.body
-        (body_has_parts (verdict.Told stamps answer) reply) reply.decided
+        (body_has_parts (verdict.Told stamps answer) reply) (decided_whole (verdict.Told stamps answer) reply)
 
     pub told_in_run : (reply : IsReplyTo trace at replica client number round (verdict.Told stamps answer))
         → TellsQuery reply.old reply.sets (ask_of_told reply).query stamps answer
@@ -186,4 +204,4 @@ module _ (trace : Trace) (is_run : IsRun trace) (have : ArePlain trace) (at : �
         (old_of_held (verdict.Told stamps answer) reply) asked.query
         (subst (λ (it : Body). IsTrue (has_parts it)) asked.is_ask (body_has_parts (verdict.Told stamps answer) reply))
         (ap (λ (it : Body). decision_on reply.old (asked_of client number reply.sets it) it) (sym asked.is_ask)
-        ∙ reply.decided)
+        ∙ decided_whole (verdict.Told stamps answer) reply)

@@ -17,12 +17,12 @@ use Rattle.qu_frames.specs.declared.frame.Frame.TheVariants as frame
 use Rattle.qu_frames.specs.declared.frame.Letter.{Letter}
 use Rattle.qu_frames.specs.declared.verdict.Verdict.{Verdict}
 use Rattle.qu_frames.specs.Body.{body_of}
-use Rattle.qu_frames.specs.Blank.{sealed}
+use Rattle.qu_history.specs.Sealing.{sealed_by}
 use Rattle.qu_replica.specs.declared.decision.Accepted.{Accepted}
 use Rattle.qu_replica.specs.declared.decision.Decision.{Decision}
 use Rattle.qu_replica.specs.declared.decision.Decision.TheVariants.{Answers, Waits}
 use Rattle.qu_replica.specs.State.{ReplicaState, accept_all}
-use Rattle.qu_replica.specs.Rows.{asked_of, decision_on}
+use Rattle.qu_replica.specs.Rows.{asked_at, decision_on}
 use Rattle.qu_replica.specs.Step.{answer_frame, reply, carried_out, on_frame, on_received, replica_step}
 use Rattle.qu_replica.specs.Step as own
 use Rattle.qu_client.specs.declared.state.ClientState.{ClientState}
@@ -207,7 +207,7 @@ record IsDecidedOn (state : ReplicaState) (taken : Frame) (replica : ReplicaId) 
   mac : List ℕ
   is_request : taken ≡ frame.Request client number round sets body mac
   accepted : List Accepted
-  decided : decision_on state (asked_of client number sets body) body ≡ Answers verdict accepted
+  decided : decision_on state (asked_at state client number sets body) body ≡ Answers verdict accepted
   from : replica ≡ ((on_frame state taken).0).me
 
 module _ (replica : ReplicaId) (client : ClientId) (number round : ℕ) (verdict : Verdict)
@@ -222,7 +222,7 @@ module _ (replica : ReplicaId) (client : ClientId) (number round : ℕ) (verdict
 
   decided_by : (state : ReplicaState) (other : ClientId) (asked turn : ℕ) (sets : List SetOf) (body : Body)
       (mac : List ℕ) (accepted : List Accepted) (given : Verdict)
-      → decision_on state (asked_of other asked sets body) body ≡ Answers given accepted
+      → decision_on state (asked_at state other asked sets body) body ≡ Answers given accepted
       → (accept_all state accepted).me ≡ replica → other ≡ client → asked ≡ number → turn ≡ round → given ≡ verdict
       → ((on_frame state (frame.Request other asked turn sets body mac)).0).me ≡ replica
       → IsDecidedOn state (frame.Request other asked turn sets body mac) replica client number round verdict
@@ -234,8 +234,8 @@ module _ (replica : ReplicaId) (client : ClientId) (number round : ℕ) (verdict
         is_request = cc;
         accepted = accepted;
         decided =
-            ap (λ (it : ClientId). decision_on state (asked_of it number sets body) body) (sym is_client) ∙
-            ap (λ (it : ℕ). decision_on state (asked_of other it sets body) body) (sym is_number) ∙
+            ap (λ (it : ClientId). decision_on state (asked_at state it number sets body) body) (sym is_client) ∙
+            ap (λ (it : ℕ). decision_on state (asked_at state other it sets body) body) (sym is_number) ∙
             is ∙
             ap (λ (it : Verdict). Answers it accepted) is_verdict;
         from = sym me;
@@ -245,7 +245,7 @@ module _ (replica : ReplicaId) (client : ClientId) (number round : ℕ) (verdict
       (mac : List ℕ) (decision : Decision)
       → ((given : Verdict) (accepted : List Accepted) → decision ≡ Answers given accepted
       → frame_form.Fits (answer_frame (accept_all state accepted) other asked turn sets given))
-      → decision_on state (asked_of other asked sets body) body ≡ decision
+      → decision_on state (asked_at state other asked sets body) body ≡ decision
       → (place : ℕ) (sent : Letter) → slice_get (carried_out state other asked turn sets decision).1 place ≡ Some
       sent → Carries sent (frame.Reply replica client number round verdict culled shown seal)
       → IsDecidedOn state (frame.Request other asked turn sets body mac) replica client number round verdict
@@ -259,7 +259,8 @@ module _ (replica : ReplicaId) (client : ClientId) (number round : ℕ) (verdict
       let made : Frame = answer_frame new other asked turn sets given in
       let is_sent : sent.text ≡ signed new.keys to made =
       ap (λ (it : Letter). it.text) (sym (same_Some (reply new other asked turn sets given) sent found)) in
-      let same = same_reply new.me other asked turn given [] (map (sealed new.keys.bounds) (own.shown new sets))
+      let same = same_reply new.me other asked turn given (own.named new sets)
+      (map (sealed_by new.keys) (own.shown new sets))
       (signature new.keys to made)
       (sym (signed_carries sent new.keys to made
       (frame.Reply replica client number round verdict culled shown seal) (fits given accepted refl) is_sent
@@ -272,7 +273,7 @@ module _ (replica : ReplicaId) (client : ClientId) (number round : ℕ) (verdict
       → Carries sent (frame.Reply replica client number round verdict culled shown seal)
       → IsDecidedOn state taken replica client number round verdict
   reply_decided state (frame.Request other asked turn sets body mac) fits place sent found is_reply =
-      carried_reply state other asked turn sets body mac (decision_on state (asked_of other asked sets body) body)
+      carried_reply state other asked turn sets body mac (decision_on state (asked_at state other asked sets body) body)
       fits refl place sent found is_reply
   reply_decided state (frame.Reply me other asked turn given none histories mac) fits place sent found is_reply =
       absurd (none-some sent found)
@@ -285,7 +286,7 @@ record IsDecidedUpon (state : ReplicaState) (letter : Letter) (replica : Replica
   mac : List ℕ
   brings : Brings state letter (frame.Request client number round sets body mac)
   accepted : List Accepted
-  decided : decision_on state (asked_of client number sets body) body ≡ Answers verdict accepted
+  decided : decision_on state (asked_at state client number sets body) body ≡ Answers verdict accepted
   from : replica ≡ ((replica_step state letter.text).0).me
 
 decided_upon : (state : ReplicaState) (letter : Letter) (replica : ReplicaId) (client : ClientId)

@@ -8,8 +8,11 @@ use Rattle.qu_base.specs.declared.party.ClientId.{ClientId}
 use Rattle.qu_base.specs.declared.party.ObjectId.{ObjectId}
 use Rattle.qu_base.specs.declared.party.Party.{Party}
 use Rattle.qu_base.specs.declared.party.Party.TheVariants as party
+use Rattle.qu_base.specs.declared.party.ReplicaId.{ReplicaId}
 use Rattle.qu_base.specs.Bounds.{replicas}
 use Rattle.qu_stamp.specs.declared.candidate.Candidate.{Candidate}
+use Rattle.qu_history.specs.declared.sets.SetOf.{SetOf}
+use Rattle.qu_history.specs.Culling.{culled}
 use Rattle.qu_objects.specs.declared.act.Method.{Method}
 use Rattle.qu_frames.specs.declared.frame.Body.{Body}
 use Rattle.qu_frames.specs.declared.frame.Body.TheVariants as body
@@ -49,50 +52,58 @@ cond_given : {X : Type 0} (test : Bool) (found : Option X) (it : X) → cond tes
 cond_given true found it given = given
 cond_given false found it given = absurd (none-some it given)
 
--- a letter of the trace with the request
+-- a letter of the trace with the request, before its sets are culled
 pub record IsSent (trace : Trace) (request : Request) : Type 0 where
   pub number : ℕ
   pub letter : Letter
   pub is_letter : numbered (letters_of trace.entries) number ≡ Some letter
   pub round : ℕ
-  pub is_request : Asks letter request.client request.number round request.sets request.body
+  pub sets : List SetOf
+  pub is_request : Asks letter request.client request.number round sets request.body
 
-carried : (setup : Setup) (sent : Frame) (request : Request) → request_in setup sent ≡ Some request → (round : ℕ)
-    × (mac : List ℕ) × (sent ≡ frame.Request request.client request.number round request.sets request.body mac)
-carried setup (frame.Request client number round sets asked mac) request is =
-    let it : Request = record { client = client; number = number; sets = sets; body = asked } in
+carried : (setup : Setup) (me : ReplicaId) (sent : Frame) (request : Request) → request_in setup me sent ≡ Some request
+    → (round : ℕ) × (sets : List SetOf) × (mac : List ℕ)
+    × (sent ≡ frame.Request request.client request.number round sets request.body mac)
+carried setup me (frame.Request client number round sets asked mac) request is =
+    let it : Request =
+    record { client = client; number = number; sets = culled (ring_of setup) me sets; body = asked } in
     let same : it ≡ request = (cond_some (list_all (is_known setup) sets) it request is).1 in
-    (round, mac, ap (λ (one : Request). frame.Request one.client one.number round one.sets one.body mac) same)
-carried setup (frame.Reply replica client number round verdict culled shown mac) request is =
+    (round, sets, mac, ap (λ (one : Request). frame.Request one.client one.number round sets one.body mac) same)
+carried setup me (frame.Reply replica client number round verdict left shown mac) request is =
     absurd (none-some request is)
 
 carried_to : (setup : Setup) (text : List ℕ) (to : Party) (request : Request)
-    → request_to setup text to ≡ Some request → request_brought setup (brought (ring_of setup) to text) ≡ Some request
-carried_to setup text (party.Replica me) request is =
-    cond_given (nat_lt me.0 (replicas setup.bounds))
-    (request_brought setup (brought (ring_of setup) (party.Replica me) text)) request is
+    → request_to setup text to ≡ Some request
+    → (me : ReplicaId) × (request_brought setup me (brought (ring_of setup) to text) ≡ Some request)
+carried_to setup text (party.Replica me) request is = (
+  me,
+  cond_given (nat_lt me.0 (replicas setup.bounds))
+      (request_brought setup me (brought (ring_of setup) (party.Replica me) text)) request is,
+)
 carried_to setup text (party.Client me) request is = absurd (none-some request is)
 
 -- a frame was brought that is this request
-carried_so : (setup : Setup) (letter : Letter) (read : Option Frame) (request : Request)
-    → brought (ring_of setup) letter.to letter.text ≡ read → request_brought setup read ≡ Some request
-    → (round : ℕ) × Asks letter request.client request.number round request.sets request.body
-carried_so setup letter (Some sent) request brings is =
-    let it = carried setup sent request is in (
+carried_so : (setup : Setup) (me : ReplicaId) (letter : Letter) (read : Option Frame) (request : Request)
+    → brought (ring_of setup) letter.to letter.text ≡ read → request_brought setup me read ≡ Some request
+    → (round : ℕ) × (sets : List SetOf) × Asks letter request.client request.number round sets request.body
+carried_so setup me letter (Some sent) request brings is =
+    let it = carried setup me sent request is in (
       it.0,
-      asks_so letter sent request.client request.number it.0 request.sets request.body it.1
-          (brought_is_decoded (ring_of setup) letter.to letter.text sent brings) it.2,
+      it.1,
+      asks_so letter sent request.client request.number it.0 it.1 request.body it.2
+          (brought_is_decoded (ring_of setup) letter.to letter.text sent brings) it.3,
     )
-carried_so setup letter None request brings is = absurd (none-some request is)
+carried_so setup me letter None request brings is = absurd (none-some request is)
 
 sent_by : (trace : Trace) (number : ℕ) (found : Option Letter) (request : Request)
     → numbered (letters_of trace.entries) number ≡ found → request_by trace.setup found ≡ Some request
     → IsSent trace request
 sent_by trace number None request found is = absurd (none-some request is)
 sent_by trace number (Some letter) request found is =
-    let it = carried_so trace.setup letter (brought (ring_of trace.setup) letter.to letter.text) request refl
-    (carried_to trace.setup letter.text letter.to request is) in
-    record { number = number; letter = letter; is_letter = found; round = it.0; is_request = it.1 }
+    let to = carried_to trace.setup letter.text letter.to request is in
+    let it = carried_so trace.setup to.0 letter (brought (ring_of trace.setup) letter.to letter.text) request refl
+    to.1 in
+    record { number = number; letter = letter; is_letter = found; round = it.0; sets = it.1; is_request = it.2 }
 
 -- injected bytes that are handled were sent
 sent_before : (trace : Trace) → IsRun trace → (time : ℕ) → time ≤ length trace.entries
@@ -101,7 +112,8 @@ sent_before : (trace : Trace) → IsRun trace → (time : ℕ) → time ≤ leng
 sent_before trace is_run time within to text (inl ignored) request is =
     let none : brought (ring_of trace.setup) to text ≡ None =
     ap (λ (setup : Setup). brought (ring_of setup) to text) (sym (setup_after trace time)) ∙ ignored.nothing in
-    absurd (none-some request (ap (request_brought trace.setup) (sym none) ∙ carried_to trace.setup text to request is))
+    let given = carried_to trace.setup text to request is in
+    absurd (none-some request (ap (request_brought trace.setup given.0) (sym none) ∙ given.1))
 sent_before trace is_run time within to text (inr sent) request is =
     let letter : Letter = sent.letter in
     let given : request_to trace.setup letter.text letter.to ≡ Some request =
@@ -135,7 +147,7 @@ asked_by trace is_run have request it =
     ∙ take_all last trace.entries (omega arith) in
     request_of trace is_run have last (omega arith) it.number it.letter
     (ap (λ (entries : List Entry). numbered (letters_of entries) it.number) all ∙ it.is_letter)
-    request.client request.number it.round request.sets request.body it.is_request
+    request.client request.number it.round it.sets request.body it.is_request
 
 pub asked_by_handled : (trace : Trace) → IsRun trace → ArePlain trace → (client : ClientId) (number : ℕ)
     (parts : List (ObjectId × Method)) → IsHandled trace client number parts

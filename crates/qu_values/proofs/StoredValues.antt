@@ -20,7 +20,7 @@ use Rattle.qu_objects.specs.Kind.{fresh_value}
 use Rattle.qu_frames.specs.declared.frame.Body.TheVariants as body
 use Rattle.qu_frames.specs.declared.frame.Letter.{Letter}
 use Rattle.qu_replica.specs.State.{ReplicaState, candidates_in, own_candidates, opening_histories, opening_versions, opening_state}
-use Rattle.qu_replica.specs.Growth.{HasParts, Grows}
+use Rattle.qu_replica.specs.Growth.{Grows}
 use Rattle.qu_replica.specs.Versions.{version_at}
 use Rattle.qu_replica.proofs.Growth.{version_at-grows}
 use Rattle.qu_trace.specs.declared.event.Event.{Event}
@@ -54,7 +54,9 @@ use Rattle.qu_grounds.proofs.Happenings.{event_moves}
 use Rattle.qu_grounds.proofs.HeldVersions.{HoldsUnder, AreOfHeld, opening_of_held, still_of_held, version_of_fresh}
 use Rattle.qu_values.proofs.Updates.{same_accepted}
 use Rattle.qu_values.proofs.EverAccepted.{held_ever, quorum_ever}
-use Rattle.qu_grounds.proofs.Views.{sent_has_parts, view_of_request}
+use Rattle.qu_grounds.specs.Whole.{TakesWhole}
+use Rattle.qu_grounds.proofs.Views.{view_of_request}
+use Rattle.qu_grounds.proofs.WholeSets.{sent_is_whole}
 use Rattle.qu_runs.proofs.WorldGrowth.{world_after-next}
 use Rattle.qu_runs.proofs.Small.{some_entry}
 use Rattle.qu_runs.proofs.OpeningReplicas.{opening_at}
@@ -317,8 +319,8 @@ module _ (trace : Trace) (laws : Laws (setting trace)) (joint : Joint (setting t
   event-versioned : IsVersioned trace new
   event-versioned =
       let parts : (number : ℕ) (letter : Letter) → letter_of (world_after trace count) number ≡ Some letter →
-      (carried : Frame) → Carries letter carried → HasParts carried =
-      λ number letter sent. sent_has_parts trace is_run have count within number letter sent in
+      (carried : Frame) → Carries letter carried → TakesWhole old carried =
+      λ number letter sent. sent_is_whole trace is_run have count within place old is_old number letter sent in
       elim (event_moves (world_after trace count) event place old new is_old is_new parts plain) [
         | inl alike ↦ subst (IsVersioned trace) (sym alike) before
         | inr moved ↦ record {

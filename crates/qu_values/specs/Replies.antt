@@ -24,7 +24,7 @@ use Rattle.qu_frames.specs.declared.verdict.Verdict.{Verdict}
 use Rattle.qu_replica.specs.declared.decision.Accepted.{Accepted}
 use Rattle.qu_replica.specs.declared.decision.Decision.TheVariants.{Answers}
 use Rattle.qu_replica.specs.State.{ReplicaState, own_candidates}
-use Rattle.qu_replica.specs.Rows.{asked_of, decision_on}
+use Rattle.qu_replica.specs.Rows.{asked_at, decision_on}
 use Rattle.qu_replica.specs.Step.{replica_step}
 use Rattle.qu_replica.specs.Versions.{version_at}
 use Rattle.qu_trace.specs.declared.trace.Entry.{Entry}
@@ -94,4 +94,4 @@ pub record IsReplyTo (trace : Trace) (at : ℕ) (replica : ℕ) (client : Client
   pub brings : Brings old letter (frame.Request client number round sets body mac)
   pub step : new ≡ (replica_step old letter.text).0
   pub accepted : List Accepted
-  pub decided : decision_on old (asked_of client number sets body) body ≡ Answers verdict accepted
+  pub decided : decision_on old (asked_at old client number sets body) body ≡ Answers verdict accepted

@@ -5,7 +5,7 @@ ghost use Rattle.qu_replica.specs.State.{opening_histories, opening_versions};
 use super::Stored;
 use qu_base::{List, NoMemory, ObjectId, ReplicaId};
 use qu_history::History;
-use qu_objects::{Answer, KindName, Version, Value};
+use qu_objects::{Answer, KindName, Value, Version};
 use qu_stamp::Stamp;
 use std::alloc::Global;
 

@@ -1,36 +1,38 @@
 ghost use Rattle.std.specs.Prelude.{◌≡◌, [], ◌∷◌, length, map, slice_get, IfOk, OnOk, OnErr};
-ghost use Rattle.qu_frames.specs.Blank.{sealed};
+ghost use Rattle.qu_history.specs.Sealing.{sealed_by};
 ghost use Rattle.qu_replica.specs.State.{accept, accept_all};
-ghost use Rattle.qu_replica.specs.Step.{shown, reply, carried_out};
+ghost use Rattle.qu_replica.specs.Step.{shown, named, reply, carried_out};
 ghost use Rattle.qu_replica.specs.Growth.{MayAccept, MayAcceptAll, MayDecide};
 
 use super::Replica;
 use crate::Stored;
-use crate::asked::Asked;
+use crate::asked::Heading;
 use crate::decision::{Accepted, Decision};
-use qu_base::{List, NoMemory, ObjectId, Party};
-use qu_frames::{Frame, Letter, Verdict, blank_mac, seal};
-use qu_history::{AddFail, History, Sealed};
+use qu_base::{List, NoMemory, ObjectId, Party, ReplicaId};
+use qu_frames::{Frame, Letter, Verdict, blank_mac};
+use qu_history::{AddFail, History, Sealed, Sets};
 
 impl Replica {
     /// Carries a decision out, and gives its letter. Without memory the replica stays as it is.
     pub(super) fn carry_out(
         &mut self,
-        asked: &Asked,
-        round: u8,
+        heading: &Heading,
+        culled: List<(ObjectId, ReplicaId)>,
         decision: Decision,
     ) -> Result<List<Letter>, NoMemory>
-        requires { MayDecide self.old decision }
+        requires may { MayDecide self.old decision }
+        requires named { culled ≡ named self.old heading.now.sets.now }
         ensures state { OnOk result
-            (self.new ≡ (carried_out self.old asked.now.client asked.now.number round asked.now.sets decision).0) }
+            (self.new ≡ (carried_out self.old heading.now.client heading.now.number heading.now.round
+            heading.now.sets.now decision).0) }
         ensures letters { IfOk result
-            (λ letters. letters ≡ (carried_out self.old asked.now.client asked.now.number round asked.now.sets
-            decision).1) }
+            (λ letters. letters ≡ (carried_out self.old heading.now.client heading.now.number heading.now.round
+            heading.now.sets.now decision).1) }
         ensures err { OnErr result (self.new ≡ self.old) }
     {
         match decision {
             Decision::Answers { verdict, accepted } => {
-                let letters = self.reply(asked, round, verdict, accepted.as_slice())?;
+                let letters = self.reply(heading, culled, verdict, accepted.as_slice())?;
                 self.accept_all(accepted.as_slice())?;
                 Ok(letters)
             }
@@ -56,26 +58,27 @@ impl Replica {
     #[tactic(auto, using(crate::proofs::Accepting::answers))]
     fn reply(
         &self,
-        asked: &Asked,
-        round: u8,
+        heading: &Heading,
+        culled: List<(ObjectId, ReplicaId)>,
         verdict: Verdict,
         accepted: &[Accepted],
     ) -> Result<List<Letter>, NoMemory>
-        requires { MayAcceptAll self.now accepted.now }
-        ensures { IfOk result (λ letters. letters ≡ reply (accept_all self.now accepted.now) asked.now.client
-            asked.now.number round asked.now.sets verdict ∷ []) }
+        requires may { MayAcceptAll self.now accepted.now }
+        requires named { culled ≡ named self.now heading.now.sets.now }
+        ensures { IfOk result (λ letters. letters ≡ reply (accept_all self.now accepted.now) heading.now.client
+            heading.now.number heading.now.round heading.now.sets.now verdict ∷ []) }
     {
         let frame = Frame::Reply {
             replica: self.me,
-            client: asked.client,
-            number: asked.number,
-            round,
+            client: heading.client,
+            number: heading.number,
+            round: heading.round,
             verdict,
-            culled: List::new(self.alloc),
-            shown: self.shown(asked, accepted)?,
+            culled,
+            shown: self.shown(heading.sets, accepted)?,
             mac: blank_mac(),
         };
-        let to = Party::Client(asked.client);
+        let to = Party::Client(heading.client);
         List::one(
             self.alloc,
             Letter {
@@ -88,16 +91,16 @@ impl Replica {
 
     /// The sealed histories of the request's objects as they stand once these candidates are accepted.
     #[tactic(auto, using(crate::proofs::Showing::sealed_some, crate::proofs::Showing::sealed_none, crate::proofs::Showing::sealed_first))]
-    fn shown(&self, asked: &Asked, accepted: &[Accepted]) -> Result<List<Sealed>, NoMemory>
+    fn shown(&self, sets: &Sets, accepted: &[Accepted]) -> Result<List<Sealed>, NoMemory>
         requires { MayAcceptAll self.now accepted.now }
         ensures { IfOk result
-            (λ histories. histories ≡ map (sealed self.now.keys.bounds)
-            (shown (accept_all self.now accepted.now) asked.now.sets)) }
+            (λ histories. histories ≡ map (sealed_by self.now.keys)
+            (shown (accept_all self.now accepted.now) sets.now)) }
     {
         let mut histories = List::new(self.alloc);
-        for set in asked.sets.objects().as_slice() {
+        for set in sets.objects().as_slice() {
             if let Some(history) = self.history_after(set.object, accepted)? {
-                histories.push(seal(self.alloc, history, self.keys.bounds())?)?;
+                histories.push(history.sealed(self.alloc, &self.keys)?)?;
             }
         }
         Ok(histories)

@@ -1,27 +1,28 @@
-ghost use Rattle.std.specs.Prelude.{◌≡◌, ◌<◌, [], ◌∷◌, length, IfOk, IsSome, IfSome, IfNone, IsTrue, ◌↔◌};
+ghost use Rattle.std.specs.Prelude.{◌≡◌, ◌<◌, [], ◌∷◌, length, None, IfOk, IsSome, IfSome, IfNone, IsTrue, ◌↔◌};
 ghost use Rattle.std.specs.Option.{option_copied, option_or};
 ghost use Rattle.qu_stamp.specs.declared.limits.TheConstants.{LAST_TIME};
 ghost use Rattle.qu_history.specs.Sets.{latest_of};
 ghost use Rattle.qu_objects.specs.Parts.{are_parts};
 ghost use Rattle.qu_replica.specs.State.{own_latest};
 ghost use Rattle.qu_replica.specs.Growth.{MayDecide};
-ghost use Rattle.qu_replica.specs.Rows.{shown_of, base_of, base_version, fresh_on, is_held, row_unknown, row_thin, row_retry, row_current, row_method, row_version, row_time, row_full, row_done, row_told, decide_act, decide_ask, decision_on, objects_of};
+ghost use Rattle.qu_replica.specs.Rows.{shown_of, base_of, base_version, fresh_on, is_held, unknown_in, unknown_refused, row_unknown, row_thin, row_retry, row_current, row_method, row_version, row_time, row_full, row_done, row_told, decide_act, decide_ask, decision_on, objects_of};
 
 use super::Replica;
 use crate::asked::Asked;
 use crate::decision::{Accepted, Decision, refuse};
 use qu_base::{List, NoMemory, ObjectId};
 use qu_frames::{Body, ClassCode, Refusal, Verdict};
-use qu_history::HISTORY_LIMIT;
-use qu_objects::{Act, Version, Performed, Query, perform, tell_all};
+use qu_history::{HISTORY_LIMIT, Sets};
+use qu_objects::{Act, Performed, Query, Version, perform, tell_all};
 use qu_stamp::{Candidate, LAST_TIME, Stamp};
 use std::alloc::Global;
 
 // The replica's table: its rows in the order in which they are tried, and above them the two orders, that of an
 // act and that of a query. The first row that fits gives the decision.
 impl Replica {
-    /// What the replica makes of a request.
+    /// What the replica makes of a request of objects that it has.
     pub(super) fn decide(&self, asked: &Asked, body: &Body) -> Result<Decision, NoMemory>
+        requires { row_unknown self.now asked.now ≡ None }
         ensures value { IfOk result (λ decision. decision ≡ decision_on self.now asked.now body.now) }
         ensures may { IfOk result (λ decision. MayDecide self.now decision) }
     {
@@ -33,6 +34,7 @@ impl Replica {
 
     /// What it makes of an act.
     fn decide_act(&self, asked: &Asked, act: &Act) -> Result<Decision, NoMemory>
+        requires { row_unknown self.now asked.now ≡ None }
         ensures value { IfOk result (λ decision. decision
             ≡ decide_act self.now asked.now act.now (objects_of act.now)) }
         ensures parts { IsTrue (are_parts act.now) }
@@ -51,10 +53,11 @@ impl Replica {
         act: &Act,
         object: ObjectId,
     ) -> Result<Decision, NoMemory>
-        requires { length act.now ≡ 1 }
+        requires known { row_unknown self.now asked.now ≡ None }
+        requires one_part { length act.now ≡ 1 }
         ensures { IfOk result (λ decision. decision ≡ decide_act self.now asked.now act.now (object ∷ [])) }
     {
-        if let Some(refusal) = self.rows_of_sets(asked) {
+        if let Some(refusal) = self.row_thin(asked) {
             return Ok(refusal);
         }
         if let Some(kept) = self.row_retry(asked, object)? {
@@ -74,6 +77,7 @@ impl Replica {
 
     /// What it makes of a query.
     fn decide_ask(&self, asked: &Asked, query: &Query) -> Result<Decision, NoMemory>
+        requires { row_unknown self.now asked.now ≡ None }
         ensures value { IfOk result (λ decision. decision
             ≡ decide_ask self.now asked.now query.now (objects_of query.now)) }
         ensures parts { IsTrue (are_parts query.now) }
@@ -92,23 +96,17 @@ impl Replica {
         query: &Query,
         object: ObjectId,
     ) -> Result<Decision, NoMemory>
-        requires { length query.now ≡ 1 }
+        requires known { row_unknown self.now asked.now ≡ None }
+        requires one_part { length query.now ≡ 1 }
         ensures { IfOk result (λ decision. decision ≡ decide_ask self.now asked.now query.now (object ∷ [])) }
     {
-        if let Some(refusal) = self.rows_of_sets(asked) {
+        if let Some(refusal) = self.row_thin(asked) {
             return Ok(refusal);
         }
         if let Some(decision) = self.rows_of_base(asked, object) {
             return Ok(decision);
         }
         self.row_told(asked, query, object)
-    }
-
-    /// The rows that look at the sets alone.
-    fn rows_of_sets(&self, asked: &Asked) -> Option<Decision>
-        ensures { result ≡ option_or (row_unknown self.now asked.now) (row_thin self.now asked.now) }
-    {
-        self.row_unknown(asked).or(self.row_thin(asked))
     }
 
     /// The rows that look for a version upon which an operation on the object may rest.
@@ -124,13 +122,11 @@ impl Replica {
     }
 
     /// Refuses sets with an object that the replica does not have.
-    #[tactic(auto, unfolding(crate::specs::Rows::row_unknown))]
-    fn row_unknown(&self, asked: &Asked) -> Option<Decision>
-        ensures { result ≡ row_unknown self.now asked.now }
+    pub(super) fn row_unknown(&self, sets: &Sets) -> Option<Decision>
+        ensures { result ≡ unknown_refused (unknown_in self.now sets.now) }
     {
         let known = self.histories.len();
-        let set = asked
-            .sets
+        let set = sets
             .objects()
             .iter()
             .find(|set| known <= usize::from(set.object.0))?;

@@ -2,7 +2,7 @@
 
 use super::*;
 use qu_base::{ClientId, Digest};
-use qu_frames::{Body, Refusal, Verdict, blank_mac, decode, seal};
+use qu_frames::{Body, Refusal, Verdict, blank_mac, decode};
 use qu_history::{SetOf, Sets};
 use qu_objects::{Act, Answer, Method, Value};
 use qu_stamp::{Candidate, LAST_TIME};
@@ -17,8 +17,8 @@ fn started(alloc: Global) -> Result<Replica, Fail> {
     Ok(Replica::start(alloc, ReplicaId(0), keys, &[KindName::Counter])?)
 }
 
-/// The sets of a quorum whose histories end with this stamp.
-fn sets(alloc: Global, bounds: Bounds, latest: Stamp) -> Result<Sets, Fail> {
+/// The sets of a quorum whose histories end with this stamp, sealed by these keys.
+fn sets(alloc: Global, keys: &KeyRing, latest: Stamp) -> Result<Sets, Fail> {
     let mut entries = List::new(alloc);
     for replica in 0..5 {
         let mut history = History::opening(alloc, COUNTER, ReplicaId(replica))?;
@@ -29,7 +29,7 @@ fn sets(alloc: Global, bounds: Bounds, latest: Stamp) -> Result<Sets, Fail> {
                 prior,
             })?;
         }
-        entries.push(seal(alloc, history, bounds)?)?;
+        entries.push(history.sealed(alloc, keys)?)?;
     }
     let set = SetOf {
         object: COUNTER,
@@ -40,12 +40,22 @@ fn sets(alloc: Global, bounds: Bounds, latest: Stamp) -> Result<Sets, Fail> {
 
 /// The verdict on an act of client 1 upon this stamp.
 fn verdict(alloc: Global, replica: &mut Replica, latest: Stamp) -> Result<Verdict, Fail> {
+    let sets = sets(alloc, &replica.keys, latest)?;
+    Ok(answer(alloc, replica, sets)?.0)
+}
+
+/// The verdict on an act of client 1 with these sets, and the entries that the reply names.
+fn answer(
+    alloc: Global,
+    replica: &mut Replica,
+    sets: Sets,
+) -> Result<(Verdict, List<(ObjectId, ReplicaId)>), Fail> {
     let parts = List::one(alloc, (COUNTER, Method::Add(1)))?;
     let frame = Frame::Request {
         client: ClientId(1),
         number: 7,
         round: 1,
-        sets: sets(alloc, replica.bounds(), latest)?,
+        sets,
         body: Body::Act(Act::new(parts)?),
         mac: blank_mac(),
     };
@@ -53,7 +63,13 @@ fn verdict(alloc: Global, replica: &mut Replica, latest: Stamp) -> Result<Verdic
     let letters = replica.step(text.as_slice())?;
     let letter = letters.get(0).ok_or("nothing is sent")?;
     match decode(alloc, letter.text.as_slice()) {
-        Ok(Frame::Reply { verdict, .. }) => Ok(verdict),
+        Ok(
+            Frame::Reply {
+                verdict,
+                culled,
+                ..
+            },
+        ) => Ok((verdict, culled)),
         _ => Err("no reply")?,
     }
 }
@@ -93,5 +109,17 @@ fn a_history_can_be_full(rt: HostRuntime) -> Result<(), Fail> {
     assert_eq!(rt; latest.time, 1023);
     let found = verdict(rt.alloc(), &mut replica, latest)?;
     assert_eq!(rt; found, Verdict::Refused(Refusal::HistoryFull(COUNTER)));
+    Ok(())
+}
+
+#[test]
+fn entries_under_other_keys_are_named_and_do_not_count(rt: HostRuntime) -> Result<(), Fail> {
+    let mut replica = started(rt.alloc())?;
+    let others = KeyRing::derive(8, &replica.bounds(), 1);
+    let sets = sets(rt.alloc(), &others, Stamp::opening())?;
+    let (verdict, named) = answer(rt.alloc(), &mut replica, sets)?;
+    assert_eq!(rt; verdict, Verdict::Refused(Refusal::Thin(COUNTER)));
+    let all = [0, 1, 2, 3, 4].map(|replica| (COUNTER, ReplicaId(replica)));
+    assert_eq!(rt; named.as_slice(), &all[..]);
     Ok(())
 }
