@@ -2,6 +2,7 @@ use super::case::Case;
 use super::names::{Named, bytes_of};
 use super::no_answer::NoAnswer;
 use super::parts::Part;
+use super::program::Program;
 use super::{changes, events, program, runs, seals};
 use std::alloc::Global;
 use std::rt::Files;
@@ -17,9 +18,13 @@ pub fn answer(
     match case.command {
         "" => Ok(()),
         "example" => program::example(rt, case.name, out),
+        "page" => program::page(rt, case, out),
         "events" => events::events(alloc, names, case.lines, out),
+        "listed" => events::listed(alloc, names, case.lines, out),
         "pieces" => program::pieces(alloc, case, out),
-        "sim" | "qu" | "letters" | "injected" | "order" => of_script(alloc, case, out),
+        "sim" | "qu" | "qu-letters" | "letters" | "injected" | "order" => {
+            of_script(alloc, case, out)
+        }
         _ => of_words(alloc, names, case, out),
     }
 }
@@ -28,16 +33,23 @@ pub fn answer(
 fn of_script(alloc: Global, case: &Case<'_>, out: &mut String) -> Result<(), NoAnswer> {
     let script = case.lines.as_bytes();
     match case.command {
-        "sim" => of_program(alloc, "sim", script, out),
-        "qu" => of_program(alloc, case.words, script, out),
+        "sim" => of_program(alloc, Program::Qu, "sim", script, out),
+        "qu" => of_program(alloc, Program::Qu, case.words, script, out),
+        "qu-letters" => of_program(alloc, Program::QuLetters, case.words, script, out),
         "letters" => runs::letters(alloc, script, out),
         "injected" => runs::injected(alloc, script, out),
         _ => runs::order(alloc, script, out),
     }
 }
 
-fn of_program(alloc: Global, words: &str, script: &[u8], out: &mut String) -> Result<(), NoAnswer> {
-    program::program(alloc, words, script, out)?;
+fn of_program(
+    alloc: Global,
+    program: Program,
+    words: &str,
+    script: &[u8],
+    out: &mut String,
+) -> Result<(), NoAnswer> {
+    program::write(alloc, program, words, script, out)?;
     Ok(())
 }
 

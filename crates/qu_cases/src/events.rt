@@ -12,6 +12,7 @@ use super::runs::points;
 use super::seals::signed_text;
 use qu_base::{ClientId, LAST_CLIENT, List, Party};
 use qu_frames::Letter;
+use qu_listing::events_text;
 use qu_objects::Outcome;
 use qu_script::{Line, Script, ScriptFail, read_script};
 use qu_seal::KeyRing;
@@ -32,6 +33,25 @@ pub fn events(
     let (setup, lines) = lines.split_once("\n\n").unwrap_or((lines, ""));
     let trace = make_lines(alloc, names, setup, lines, out)?;
     Ok(points(alloc, &trace, out)?)
+}
+
+/// The same run as `qu-letters` lists it.
+pub fn listed(
+    alloc: Global,
+    names: &[Named],
+    lines: &str,
+    out: &mut String,
+) -> Result<(), NoAnswer> {
+    let (setup, lines) = lines.split_once("\n\n").unwrap_or((lines, ""));
+    let mut made = String::new(alloc);
+    let trace = make_lines(alloc, names, setup, lines, &mut made)?;
+    let text = events_text(alloc, &trace)?;
+    put_whole(alloc, text.as_slice(), out)
+}
+
+fn put_whole(alloc: Global, text: &[u8], out: &mut String) -> Result<(), NoAnswer> {
+    let text = String::from_utf8_lossy(alloc, text)?;
+    Ok(out.push_str(text.as_str().trim_end())?)
 }
 
 /// The run of these lines.

@@ -1,17 +1,24 @@
-//! What the program writes, over sources and sinks in memory.
+//! What the programs write, over sources and sinks in memory.
 
 use super::case::Case;
 use super::no_answer::NoAnswer;
 use qu_base::List;
-use qu_cli::qu;
+use qu_cli::{qu, qu_letters};
 use qu_io::{MemSink, MemSource};
 use std::alloc::{AllocError, Global};
 use std::fs;
 use std::rt::Files;
 
-/// What the program `qu` with these words writes for an input, and its status; whether it leaves a trace.
-pub fn program(
+#[derive(Clone, Copy)]
+pub enum Program {
+    Qu,
+    QuLetters,
+}
+
+/// What a program with these words writes for an input, and its status; whether it leaves a trace.
+pub fn write(
     alloc: Global,
+    program: Program,
     words: &str,
     input: &[u8],
     out: &mut String,
@@ -21,7 +28,14 @@ pub fn program(
     // Short reads and writes, so that both are done in pieces.
     let mut source = MemSource::new(input, 7, List::new(alloc));
     let mut sink = MemSink::new(alloc, 5, List::new(alloc));
-    run(alloc, words.as_slice(), &mut source, &mut sink, out)
+    run(
+        alloc,
+        program,
+        words.as_slice(),
+        &mut source,
+        &mut sink,
+        out,
+    )
 }
 
 /// The words from a place on; `_` is a space in a word.
@@ -44,12 +58,13 @@ fn spaced(alloc: Global, word: &str) -> Result<String, AllocError> {
 
 fn run(
     alloc: Global,
+    program: Program,
     words: &[String],
     source: &mut MemSource,
     sink: &mut MemSink,
     out: &mut String,
 ) -> Result<bool, AllocError> {
-    let (status, traced) = ended(alloc, words, source, sink);
+    let (status, traced) = ended(alloc, program, words, source, sink);
     put_text(alloc, sink.taken(), out)?;
     write!(out, "status {status}")?;
     Ok(traced)
@@ -57,11 +72,15 @@ fn run(
 
 fn ended(
     alloc: Global,
+    program: Program,
     words: &[String],
     source: &mut MemSource,
     sink: &mut MemSink,
 ) -> (u8, bool) {
-    let report = qu(alloc, words, source, sink);
+    let report = match program {
+        Program::Qu => qu(alloc, words, source, sink),
+        Program::QuLetters => qu_letters(alloc, words, source, sink),
+    };
     (report.status, report.trace.is_some())
 }
 
@@ -135,7 +154,7 @@ fn run_pieces(
     mut sink: MemSink,
     out: &mut String,
 ) -> Result<(), AllocError> {
-    let traced = run(alloc, words, &mut source, &mut sink, out)?;
+    let traced = run(alloc, Program::Qu, words, &mut source, &mut sink, out)?;
     let trace = if traced { "a trace" } else { "no trace" };
     let (reads, left) = (source.calls(), source.left().len());
     write!(
@@ -170,9 +189,48 @@ fn compare(
     out: &mut String,
 ) -> Result<(), AllocError> {
     let mut told = String::new(alloc);
-    program(alloc, "sim", script, &mut told)?;
+    write(alloc, Program::Qu, "sim", script, &mut told)?;
     match told.strip_prefix(report) {
         Some(status) => write!(out, "as in {name}.report, {status}"),
         None => out.push_str(told.as_str()),
+    }
+}
+
+/// Whether the lines of a page that are set off by four spaces are what `qu-letters` writes for the script that
+/// the case names; else what it writes.
+pub fn page(
+    rt: &(impl Files + AllocGlobal),
+    case: &Case<'_>,
+    out: &mut String,
+) -> Result<(), NoAnswer> {
+    let script = fs::read(rt, case.word(0))?;
+    let page = fs::read_to_string(rt, case.name)?;
+    let shown = set_off(rt.alloc(), page.as_str())?;
+    let mut told = String::new(rt.alloc());
+    write(
+        rt.alloc(),
+        Program::QuLetters,
+        "",
+        script.as_slice(),
+        &mut told,
+    )?;
+    Ok(put_shown(told.as_str(), shown.as_str(), out)?)
+}
+
+/// The lines that are set off, without the spaces before them.
+fn set_off(alloc: Global, page: &str) -> Result<String, AllocError> {
+    let mut lines = String::new(alloc);
+    for line in page.lines() {
+        if let Some(line) = line.strip_prefix("    ") {
+            write!(lines, "{line}\n")?;
+        }
+    }
+    Ok(lines)
+}
+
+fn put_shown(told: &str, shown: &str, out: &mut String) -> Result<(), AllocError> {
+    match told.strip_prefix(shown) {
+        Some(status) => write!(out, "shows what is written, {status}"),
+        None => out.push_str(told),
     }
 }

@@ -7,7 +7,7 @@ use Rattle.qu_trace.specs.declared.trace.Trace.{Trace}
 use Rattle.qu_script.specs.declared.bad.Bad.{Bad}
 use Rattle.qu_script.specs.declared.limits.TheConstants.{SCRIPT_LIMIT}
 use Rattle.qu_cli.specs.declared.command.Command.{Command}
-use Rattle.qu_cli.specs.declared.command.Command.TheVariants.{Sim, Digests}
+use Rattle.qu_cli.specs.declared.command.Command.TheVariants.{Sim, Events, Digests}
 use Rattle.qu_cli.specs.declared.output.Output.TheVariants.{Report}
 use Rattle.qu_cli.specs.Refusal.{bad_text}
 use Rattle.qu_cli.proofs.ScriptFacts.{sim_too_long}
@@ -64,6 +64,7 @@ makes_known Sim script trace text makes = record {
   serial = makes.tells.serial;
   chained = makes.tells.chained;
 }
+makes_known Events script trace text makes = makes.is_run
 makes_known Digests script trace text makes = makes.is_run
 
 -- the headline of a program whose one command makes reports
@@ -73,6 +74,7 @@ pub has_history : (asked : Option Command) (trace : Option Trace)
 has_history asked None one known = tt
 has_history None (Some trace) one known = absurd known
 has_history (Some Sim) (Some trace) one known = known
+has_history (Some Events) (Some trace) one known = let wrong = one Events refl in absurd (cc)
 has_history (Some Digests) (Some trace) one known = let wrong = one Digests refl in absurd (cc)
 
 not_both : (command : Command) (script : List ℕ) (bad : Bad) → Accepts command script → Refuses command script bad → ⊥

@@ -13,10 +13,11 @@ use Rattle.qu_grounds.specs.Chained.{IsChained}
 use Rattle.qu_points.specs.Order.{IsPrintedOrder}
 use Rattle.qu_print.specs.Report.{report_of}
 use Rattle.qu_listing.specs.Digests.{digests_of}
+use Rattle.qu_listing.specs.Events.{events_of}
 use Rattle.qu_script.specs.declared.bad.Bad.{Bad}
 use Rattle.qu_script.specs.Events.{sim_of}
 use Rattle.qu_cli.specs.declared.command.Command.{Command}
-use Rattle.qu_cli.specs.declared.command.Command.TheVariants.{Sim, Digests}
+use Rattle.qu_cli.specs.declared.command.Command.TheVariants.{Sim, Events, Digests}
 use Rattle.qu_cli.specs.Refusal.{bad_text}
 use Rattle.qu_cli.specs.Transfer.{TakesScript, Writes, WritesShort, WritesOrFails}
 
@@ -44,6 +45,7 @@ pub record HasOneHistory (trace : Trace) : Type 0 where
 -- the text is what the command tells of a run
 abbrev pub Tells : Command → Trace → List ℕ → Type 0
 Tells Sim trace text = Reports trace text
+Tells Events trace text = text ≡ events_of trace
 Tells Digests trace text = text ≡ digests_of trace
 
 -- the trace is that of the script's run, and the text is what the command tells of it
@@ -61,6 +63,7 @@ Makes command script (Some trace) text = MakesOf command script trace text
 abbrev pub IsKnown : Option Command → Trace → Type 0
 IsKnown None trace = ⊥
 IsKnown (Some Sim) trace = HasOneHistory trace
+IsKnown (Some Events) trace = IsRun trace
 IsKnown (Some Digests) trace = IsRun trace
 
 -- the command can make something of it: each command runs a script

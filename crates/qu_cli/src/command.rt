@@ -7,6 +7,8 @@ ghost use Rattle.qu_cli.specs.Command.{command_of, letters_command_of};
 pub enum Command {
     /// Runs the script on the input, and reports its operations.
     Sim,
+    /// Runs it, and lists its events with their letters.
+    Events,
     /// Runs it, and lists its letters with their digests.
     Digests,
 }
@@ -27,7 +29,7 @@ pub fn read_command(words: &[String]) -> Option<Command>
 }
 
 /// The line that tells which words `qu-letters` has.
-pub const LETTERS_USAGE: &[u8] = b"usage: qu-letters digests\n";
+pub const LETTERS_USAGE: &[u8] = b"usage: qu-letters [digests]\n";
 
 /// The command that the words ask of `qu-letters`. `None` exactly where they are no known command.
 #[tactic(auto, unfolding(crate::specs::Command::letters_command_of))]
@@ -35,6 +37,7 @@ pub fn read_letters_command(words: &[String]) -> Option<Command>
     ensures { result ≡ letters_command_of (map string_bytes words.now) }
 {
     match words {
+        [] => Some(Command::Events),
         [word] if word.as_str() == "digests" => Some(Command::Digests),
         _ => None,
     }

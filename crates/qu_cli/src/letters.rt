@@ -10,7 +10,8 @@ use super::command::{LETTERS_USAGE, read_letters_command};
 use qu_io::{Sink, Source};
 use std::alloc::Global;
 
-/// Runs the program `qu-letters`: lists the letters of the run of the script on the input, as the words ask.
+/// Runs the program `qu-letters`: lists the letters of the run of the script on the input, by event or with their
+/// digests, as the words ask.
 ///
 /// The statuses are those of `qu`, with their causes. At 0 and 5 the report has the trace of the run.
 #[tactic(auto, unfolding(crate::specs::Command::letters_usage_text))]

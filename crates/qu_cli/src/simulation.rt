@@ -10,7 +10,7 @@ use super::Command;
 use super::output::Output;
 use super::refusal::refusal_line;
 use qu_base::{List, NoMemory};
-use qu_listing::digests_text;
+use qu_listing::{digests_text, events_text};
 use qu_print::report_text;
 use qu_safety::order_of;
 use qu_script::{ScriptFail, read_script, run_script};
@@ -41,6 +41,10 @@ fn told_text(alloc: Global, command: Command, trace: &Trace) -> Result<List<u8>,
         Command::Sim => {
             let order = order_of(alloc, trace)?;
             let text = report_text(alloc, trace, order.as_slice())?;
+            Ok(text)
+        }
+        Command::Events => {
+            let text = events_text(alloc, trace)?;
             Ok(text)
         }
         Command::Digests => {

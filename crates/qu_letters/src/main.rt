@@ -8,20 +8,19 @@ use std::process::ExitCode;
 use std::rt::Env;
 
 fn main(rt: HostRuntime) -> ExitCode {
-    let words = words(&rt);
+    let alloc = rt.alloc();
     let mut input = StdSource::new(rt.stdin());
     let mut output = StdSink::new(rt.stdout());
-    let report = qu_letters(rt.alloc(), words.as_slice(), &mut input, &mut output);
+    let report = match words(&rt) {
+        Some(words) => qu_letters(alloc, words.as_slice(), &mut input, &mut output),
+        // Words that cannot be had are wrong, as the empty word is.
+        None => qu_letters(alloc, &[String::new(alloc)], &mut input, &mut output),
+    };
     ExitCode::from(report.status)
 }
 
-/// The words behind the program's name. Where they cannot be had there are none, and so they are wrong.
-fn words(rt: &(impl Env + AllocGlobal)) -> Vec<String> {
-    let Ok(args) = env::args(rt) else {
-        return Vec::new(rt.alloc());
-    };
-    match args.skip(1).collect(rt.alloc()) {
-        Ok(words) => words,
-        Err(_) => Vec::new(rt.alloc()),
-    }
+/// The words behind the program's name. None where they cannot be had.
+fn words(rt: &(impl Env + AllocGlobal)) -> Option<Vec<String>> {
+    let args = env::args(rt).ok()?;
+    args.skip(1).collect(rt.alloc()).ok()
 }

@@ -1,1 +1,4 @@
+pub mod CallFacts
 pub mod DigestFacts
+pub mod EventFacts
+pub mod LetterFacts

@@ -1,1 +1,6 @@
 pub mod Digests
+pub mod Names
+pub mod Verdicts
+pub mod Frames
+pub mod Events
+pub mod Known

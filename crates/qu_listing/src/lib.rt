@@ -1,6 +1,18 @@
-//! The letters of a run as lines of text.
+//! The letters of a run as lines of text: by event, or with their digests.
 #![tactic(auto)]
 
+mod deliveries;
 mod digests;
+mod events;
+mod frames;
+mod known;
+mod letters;
+mod names;
+mod told;
+mod verdicts;
 
 pub use digests::digests_text;
+pub use events::events_text;
+
+#[cfg(test)]
+mod tests;

@@ -9,6 +9,7 @@ mod timeline;
 mod words;
 
 pub use report::report_text;
+pub use words::{put_answer, put_op};
 
 #[cfg(test)]
 mod tests;

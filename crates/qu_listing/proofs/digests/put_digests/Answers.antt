@@ -1,5 +1,5 @@
 -- the lines of the next event are those that come next in the whole
-use Rattle.std.proofs.Common.{◌+◌, arith, ap, ◌∙◌}
+use Rattle.std.proofs.Common.{◌+◌, arith}
 use Rattle.qu_listing.proofs.DigestFacts.{event_step}
 use Rattle.qu_listing.proofs.digests.put_digests.Goals as goal
 

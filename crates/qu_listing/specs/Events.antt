@@ -1,0 +1,102 @@
+-- A run as lines: one for each event, with what it ends, and one for each letter that it sends.
+use Rattle.std.specs.Prelude.{ℕ, zero, suc, ◌+◌, List, [], ◌∷◌, ◌++◌, length, map, take, slice_get, Option, None, Some, codes}
+use Rattle.std.specs.List.{flat_map, enumerate_from}
+use Rattle.std.specs.Fmt.{decimal}
+use Rattle.qu_base.specs.declared.party.ClientId.{ClientId}
+use Rattle.qu_base.specs.declared.party.Party.TheVariants as party
+use Rattle.qu_seal.specs.Keys.{Ring}
+use Rattle.qu_objects.specs.declared.op.Outcome.{Outcome}
+use Rattle.qu_objects.specs.declared.op.Outcome.TheVariants.{Done, GaveUp}
+use Rattle.qu_frames.specs.declared.frame.Frame.{Frame}
+use Rattle.qu_frames.specs.declared.frame.Letter.{Letter}
+use Rattle.qu_frames.specs.Decoding.{decoded}
+use Rattle.qu_frames.specs.Signing.{sender, brought}
+use Rattle.qu_trace.specs.declared.event.Event.{Event}
+use Rattle.qu_trace.specs.declared.event.Event.TheVariants.{Invoke, Deliver, Tick, Inject}
+use Rattle.qu_trace.specs.declared.trace.Entry.{Entry}
+use Rattle.qu_trace.specs.declared.trace.Setup.{Setup}
+use Rattle.qu_trace.specs.declared.trace.Trace.{Trace}
+use Rattle.qu_trace.specs.Letters.{letters_of}
+use Rattle.qu_trace.specs.Operation.{begun_by}
+use Rattle.qu_print.specs.Lines.{lines_text}
+use Rattle.qu_print.specs.Words.{name_text, op_text, answer_text}
+use Rattle.qu_listing.specs.Names.{party_text, count_text}
+use Rattle.qu_listing.specs.Frames.{frame_text, carried_text}
+
+-- ---- the line of a letter
+
+abbrev pub letter_route : Letter → List ℕ
+letter_route letter = party_text letter.from ++ codes " to " ++ party_text letter.to ++ codes ": "
+
+unfoldable pub letter_line : ℕ → Letter → List ℕ
+letter_line number letter =
+    codes "  letter " ++ decimal number ++ codes " " ++ letter_route letter ++ carried_text (decoded letter.text)
+
+-- the lines of these letters, of which the first has this number
+abbrev pub letter_lines : ℕ → List Letter → List (List ℕ)
+letter_lines first letters = map (λ place. letter_line place.0 place.1) (enumerate_from first letters)
+
+-- ---- the line of an event
+
+-- a party ignores a text that brings it no frame
+abbrev pub taken_text : Option Frame → List ℕ
+taken_text None = codes ", ignored"
+taken_text (Some frame) = []
+
+-- the letter with this number among those that were sent, from 1
+abbrev pub sent_letter : ℕ → List Letter → Option Letter
+sent_letter zero letters = None
+sent_letter (suc number) letters = slice_get letters number
+
+abbrev pub receiver_text : Ring → Option Letter → List ℕ
+receiver_text ring None = codes "nobody"
+receiver_text ring (Some letter) = party_text letter.to ++ taken_text (brought ring letter.to letter.text)
+
+-- injected bytes bring a frame of the party that it names, or are ignored
+abbrev pub injected_text : Option Frame → List ℕ
+injected_text None = codes ", ignored"
+injected_text (Some frame) = codes " as " ++ party_text (sender frame) ++ codes ": " ++ frame_text frame
+
+-- what happens, behind these earlier entries
+abbrev pub event_text : Ring → List Entry → Event → List ℕ
+event_text ring earlier (Invoke client op) =
+    codes "call " ++ name_text client (begun_by client earlier + 1) ++ codes " " ++ op_text op
+event_text ring earlier (Deliver number) =
+    codes "deliver " ++ decimal number ++ codes " to " ++ receiver_text ring (sent_letter number (letters_of earlier))
+event_text ring earlier (Tick client) = codes "tick " ++ party_text (party.Client client)
+event_text ring earlier (Inject to text) =
+    codes "inject " ++ count_text (length text) (codes "byte") ++ codes " to " ++ party_text to
+    ++ injected_text (brought ring to text)
+
+abbrev pub outcome_text : Outcome → List ℕ
+outcome_text (Done answer) = codes " with " ++ answer_text answer
+outcome_text GaveUp = codes " given up"
+
+-- the operation that ends, and how
+abbrev pub end_text : Option (ClientId × ℕ × Outcome) → List ℕ
+end_text None = []
+end_text (Some ended) = codes ", ends " ++ name_text ended.0 ended.1 ++ outcome_text ended.2
+
+-- the event behind these entries has the number that comes next
+unfoldable pub event_line : Ring → List Entry → Entry → List ℕ
+event_line ring earlier entry =
+    codes "event " ++ decimal (length earlier + 1) ++ codes " " ++ event_text ring earlier entry.event
+    ++ end_text entry.ended
+
+-- ---- the listing
+
+-- letters are numbered on, from event to event
+unfoldable pub event_lines : Ring → List Entry → Entry → List (List ℕ)
+event_lines ring earlier entry =
+    event_line ring earlier entry ∷ letter_lines (length (letters_of earlier) + 1) entry.letters
+
+unfoldable pub listing : Ring → List Entry → List (List ℕ)
+listing ring entries = flat_map (λ place. event_lines ring (take place.0 entries) place.1) (enumerate_from 0 entries)
+
+-- the keys of a run
+abbrev pub keys_of : Setup → Ring
+keys_of setup = record { seed = setup.seed; bounds = setup.bounds; clients = setup.clients }
+
+-- the events of the run by their numbers, each with the letters that it sent
+unfoldable pub events_of : Trace → List ℕ
+events_of trace = lines_text (listing (keys_of trace.setup) trace.entries)

@@ -1,0 +1,86 @@
+//! What reaches parties.
+ghost use Rattle.std.specs.Prelude.{◌≡◌, [], ◌++◌, if◌then◌else◌, length, OnOk, string_bytes, codes};
+ghost use Rattle.std.specs.Fmt.{decimal};
+ghost use Rattle.qu_frames.specs.Signing.{brought};
+ghost use Rattle.qu_trace.specs.Letters.{letters_of};
+ghost use Rattle.qu_listing.specs.Names.{party_text, count_text};
+ghost use Rattle.qu_listing.specs.Events.{sent_letter, receiver_text, injected_text};
+ghost use Rattle.qu_listing.specs.Known.{Knows};
+
+use super::frames::put_frame;
+use super::known::Known;
+use super::names::{put_count, put_party};
+use qu_base::{NoMemory, Party};
+use qu_frames::{Frame, receive};
+use qu_seal::KeyRing;
+use qu_trace::Entry;
+use std::alloc::Global;
+
+/// Writes which letter is delivered to whom, and whether it is ignored.
+pub fn put_delivery(
+    text: &mut String,
+    keys: &KeyRing,
+    known: &Known,
+    earlier: &[Entry],
+    number: u64,
+) -> Result<(), NoMemory>
+    requires { Knows keys.now earlier.now known.now }
+    ensures { OnOk result (string_bytes text.new ≡ string_bytes text.old ++ codes "deliver " ++ decimal number
+        ++ codes " to " ++ receiver_text keys.now (sent_letter number (letters_of earlier.now))) }
+{
+    write!(text, "deliver {number} to ")?;
+    match known.letter(keys, earlier, number) {
+        Some(sent) => {
+            put_party(text, sent.to)?;
+            put_ignored(text, sent.ignored)
+        }
+        None => {
+            text.push_str("nobody")?;
+            Ok(())
+        }
+    }
+}
+
+fn put_ignored(text: &mut String, ignored: bool) -> Result<(), NoMemory>
+    ensures { OnOk result (string_bytes text.new
+        ≡ string_bytes text.old ++ (if ignored then codes ", ignored" else [])) }
+{
+    if ignored {
+        text.push_str(", ignored")?;
+    }
+    Ok(())
+}
+
+/// Writes how many bytes are injected to whom, and what frame they bring.
+pub fn put_injection(
+    alloc: Global,
+    text: &mut String,
+    keys: &KeyRing,
+    to: Party,
+    bytes: &[u8],
+) -> Result<(), NoMemory>
+    ensures { OnOk result (string_bytes text.new ≡ string_bytes text.old ++ codes "inject "
+        ++ count_text (length bytes.now) (codes "byte") ++ codes " to " ++ party_text to
+        ++ injected_text (brought keys.now to bytes.now)) }
+{
+    text.push_str("inject ")?;
+    put_count(text, bytes.len(), "byte")?;
+    text.push_str(" to ")?;
+    put_party(text, to)?;
+    let frame = receive(alloc, keys, to, bytes)?;
+    put_injected(text, &frame)
+}
+
+fn put_injected(text: &mut String, frame: &Option<Frame>) -> Result<(), NoMemory>
+    ensures { OnOk result (string_bytes text.new ≡ string_bytes text.old ++ injected_text frame.now) }
+{
+    match frame {
+        Some(frame) => {
+            text.push_str(" as ")?;
+            put_party(text, frame.sender())?;
+            text.push_str(": ")?;
+            put_frame(text, frame)
+        }
+        None => put_ignored(text, true),
+    }
+}

@@ -1,0 +1,146 @@
+ghost use Rattle.std.specs.Prelude.{◌≡◌, ◌∷◌, [], ◌++◌, ◌≤◌, IfOk, OnOk, string_bytes};
+ghost use Rattle.qu_base.specs.declared.limits.TheConstants.{LAST_CLIENT};
+ghost use Rattle.qu_print.specs.Lines.{lines_text};
+ghost use Rattle.qu_listing.specs.Events.{events_of, listing, event_line, event_lines, event_text, outcome_text, end_text};
+ghost use Rattle.qu_listing.specs.Known.{Knows};
+
+use super::deliveries::{put_delivery, put_injection};
+use super::known::Known;
+use super::letters::put_letters;
+use super::names::put_party;
+use qu_base::{ClientId, List, NoMemory, Party};
+use qu_objects::Outcome;
+use qu_print::{put_answer, put_op};
+use qu_seal::KeyRing;
+use qu_trace::{Entry, Event, Trace};
+use std::alloc::Global;
+
+/// A line for each event of a run, with the operation that it ends, and below it a line for each letter
+/// that it sends. What reaches a party and brings it no frame is told as ignored.
+#[tactic(auto, unfolding(crate::specs::Events::events_of))]
+pub fn events_text(alloc: Global, trace: &Trace) -> Result<List<u8>, NoMemory>
+    requires { trace.now.setup.clients ≤ LAST_CLIENT }
+    ensures { IfOk result (λ text. text ≡ events_of trace.now) }
+{
+    let setup = &trace.setup;
+    let keys = KeyRing::derive(setup.seed, &setup.bounds, setup.clients);
+    let mut text = String::new(alloc);
+    put_events(alloc, &mut text, &keys, trace.entries.as_slice())?;
+    Ok(List::from(text.into_bytes()))
+}
+
+/// Writes the lines of all events.
+#[tactic(auto, unfolding(qu_print::specs::Lines::lines_text, crate::specs::Events::listing))]
+fn put_events(
+    alloc: Global,
+    text: &mut String,
+    keys: &KeyRing,
+    entries: &[Entry],
+) -> Result<(), NoMemory>
+    ensures { OnOk result (string_bytes text.new
+        ≡ string_bytes text.old ++ lines_text (listing keys.now entries.now)) }
+{
+    let mut known = Known::new(alloc);
+    for (index, entry) in entries.iter().enumerate() {
+        put_event(alloc, text, keys, &mut known, &entries[..index], entry)?;
+    }
+    Ok(())
+}
+
+/// Writes the lines of the event behind the earlier ones, and then knows of it too.
+#[tactic(auto, unfolding(qu_print::specs::Lines::lines_text, crate::specs::Events::event_lines))]
+fn put_event(
+    alloc: Global,
+    text: &mut String,
+    keys: &KeyRing,
+    known: &mut Known,
+    earlier: &[Entry],
+    entry: &Entry,
+) -> Result<(), NoMemory>
+    requires { Knows keys.now earlier.now known.old }
+    ensures text { OnOk result (string_bytes text.new
+        ≡ string_bytes text.old ++ lines_text (event_lines keys.now earlier.now entry.now)) }
+    ensures known { OnOk result (Knows keys.now (earlier.now ++ entry.now ∷ []) known.new) }
+{
+    put_event_line(alloc, text, keys, known, earlier, entry)?;
+    put_letters(alloc, text, keys, &mut known.sent, entry.letters.as_slice())?;
+    known.note_call(earlier, entry)?;
+    Ok(())
+}
+
+/// Writes the line of an event.
+#[tactic(auto, unfolding(crate::specs::Events::event_line))]
+fn put_event_line(
+    alloc: Global,
+    text: &mut String,
+    keys: &KeyRing,
+    known: &Known,
+    earlier: &[Entry],
+    entry: &Entry,
+) -> Result<(), NoMemory>
+    requires { Knows keys.now earlier.now known.now }
+    ensures { OnOk result (string_bytes text.new
+        ≡ string_bytes text.old ++ event_line keys.now earlier.now entry.now ++ 10 ∷ []) }
+{
+    let number = earlier.len() as u64 + 1;
+    write!(text, "event {number} ")?;
+    put_happened(alloc, text, keys, known, earlier, &entry.event)?;
+    put_end(text, &entry.ended)?;
+    text.push_str("\n")?;
+    Ok(())
+}
+
+/// Writes what happens at an event.
+fn put_happened(
+    alloc: Global,
+    text: &mut String,
+    keys: &KeyRing,
+    known: &Known,
+    earlier: &[Entry],
+    event: &Event,
+) -> Result<(), NoMemory>
+    requires { Knows keys.now earlier.now known.now }
+    ensures { OnOk result (string_bytes text.new
+        ≡ string_bytes text.old ++ event_text keys.now earlier.now event.now) }
+{
+    match event {
+        Event::Invoke(client, op) => {
+            let (number, client) = (known.calls_of(earlier, *client) + 1, client.0);
+            write!(text, "call {client}.{number} ")?;
+            put_op(text, op)
+        }
+        Event::Deliver(number) => put_delivery(text, keys, known, earlier, *number),
+        Event::Tick(client) => {
+            text.push_str("tick ")?;
+            put_party(text, Party::Client(*client))
+        }
+        Event::Inject(to, bytes) => put_injection(alloc, text, keys, *to, bytes.as_slice()),
+    }
+}
+
+/// Writes which operation ends, and how.
+fn put_end(text: &mut String, ended: &Option<(ClientId, u64, Outcome)>) -> Result<(), NoMemory>
+    ensures { OnOk result (string_bytes text.new ≡ string_bytes text.old ++ end_text ended.now) }
+{
+    let Some((client, number, outcome)) = ended else {
+        return Ok(());
+    };
+    let client = client.0;
+    write!(text, ", ends {client}.{number}")?;
+    put_outcome(text, outcome)
+}
+
+fn put_outcome(text: &mut String, outcome: &Outcome) -> Result<(), NoMemory>
+    ensures { OnOk result (string_bytes text.new ≡ string_bytes text.old ++ outcome_text outcome.now) }
+{
+    match outcome {
+        Outcome::Done(answer) => {
+            text.push_str(" with ")?;
+            put_answer(text, answer)
+        }
+        Outcome::GaveUp => {
+            text.push_str(" given up")?;
+            Ok(())
+        }
+    }
+}

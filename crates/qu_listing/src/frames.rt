@@ -1,0 +1,118 @@
+ghost use Rattle.std.specs.Prelude.{◌≡◌, ◌++◌, OnOk, string_bytes};
+ghost use Rattle.qu_listing.specs.Frames.{showers_text, body_text, asked_text, frame_text};
+
+use super::names::{put_count, put_object, put_party};
+use super::told::{Told, put_all};
+use super::verdicts::put_verdict;
+use qu_base::{ClientId, NoMemory, ObjectId, Party, ReplicaId};
+use qu_frames::{Body, Frame};
+use qu_history::{Sealed, SetOf};
+
+impl Told for SetOf {
+    ghost use Rattle.qu_listing.specs.Frames.{set_text};
+
+    ghost text_of = { set_text };
+
+    fn put(&self, text: &mut String) -> Result<(), NoMemory> {
+        text.push_str(", ")?;
+        put_object(text, self.object)?;
+        text.push_str(" shown by")?;
+        put_showers(text, self.entries.as_slice())
+    }
+}
+
+impl Told for (ObjectId, ReplicaId) {
+    ghost use Rattle.qu_listing.specs.Frames.{culled_text};
+
+    ghost text_of = { culled_text };
+
+    fn put(&self, text: &mut String) -> Result<(), NoMemory> {
+        let (object, replica) = self;
+        text.push_str(", culled ")?;
+        put_object(text, *object)?;
+        text.push_str(" of ")?;
+        put_party(text, Party::Replica(*replica))
+    }
+}
+
+impl Told for Sealed {
+    ghost use Rattle.qu_listing.specs.Frames.{shown_text};
+
+    ghost text_of = { shown_text };
+
+    fn put(&self, text: &mut String) -> Result<(), NoMemory> {
+        text.push_str(", shows ")?;
+        put_object(text, self.history.object())?;
+        text.push_str(" with ")?;
+        put_count(text, self.history.candidates().len(), "candidate")
+    }
+}
+
+/// Writes a frame: what it asks and upon which histories, or what it answers and shows.
+#[tactic(auto, unfolding(crate::specs::Frames::frame_text))]
+pub fn put_frame(text: &mut String, frame: &Frame) -> Result<(), NoMemory>
+    ensures { OnOk result (string_bytes text.new ≡ string_bytes text.old ++ frame_text frame.now) }
+{
+    match frame {
+        Frame::Request {
+            client,
+            number,
+            round,
+            sets,
+            body,
+            ..
+        } => {
+            text.push_str("request ")?;
+            put_asked(text, *client, *number, *round)?;
+            text.push_str(body_word(body))?;
+            put_all(text, sets.objects().as_slice())
+        }
+        Frame::Reply {
+            client,
+            number,
+            round,
+            verdict,
+            culled,
+            shown,
+            ..
+        } => {
+            text.push_str("reply ")?;
+            put_asked(text, *client, *number, *round)?;
+            put_verdict(text, verdict)?;
+            put_all(text, culled.as_slice())?;
+            put_all(text, shown.as_slice())
+        }
+    }
+}
+
+/// Writes which operation it is about, and which round of it.
+fn put_asked(text: &mut String, client: ClientId, number: u64, round: u8) -> Result<(), NoMemory>
+    ensures { OnOk result (string_bytes text.new ≡ string_bytes text.old ++ asked_text client number round) }
+{
+    let client = client.0;
+    write!(text, "{client}.{number} round {round}, ")?;
+    Ok(())
+}
+
+fn body_word(body: &Body) -> &'static str
+    ensures { result.now ≡ body_text body.now }
+{
+    match body {
+        Body::Act(_) => "act",
+        Body::Ask(_) => "query",
+    }
+}
+
+/// Writes the replicas whose histories these are.
+fn put_showers(text: &mut String, entries: &[Sealed]) -> Result<(), NoMemory>
+    ensures { OnOk result (string_bytes text.new ≡ string_bytes text.old ++ showers_text entries.now) }
+{
+    if entries.is_empty() {
+        text.push_str(" none")?;
+    }
+    for entry in entries {
+        let replica = entry.history.replica().0;
+        write!(text, " {replica}")?;
+    }
+    Ok(())
+}
