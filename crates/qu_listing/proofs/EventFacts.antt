@@ -17,7 +17,8 @@ lines_from ring entries index =
     (enumerate_from index (drop index entries))
 
 -- what is written stays the front of the whole as the lines of one event are written
-pub event_step : (ring : Ring) (index : ℕ) (entries earlier : List Entry) (entry : Entry) (before written whole : List ℕ)
+pub event_step : (ring : Ring) (index : ℕ) (entries earlier : List Entry) (entry : Entry)
+    (before written whole : List ℕ)
     → index < length entries → entry ≡ get_or entries index entry → earlier ≡ take index entries
     → before ++ lines_text (lines_from ring entries index) ≡ whole
     → written ≡ before ++ lines_text (event_lines ring earlier entry)

@@ -1,5 +1,5 @@
 -- How verdicts are told, in the words of the protocol.
-use Rattle.std.specs.Prelude.{ℕ, Bool, true, false, List, ◌++◌, codes}
+use Rattle.std.specs.Prelude.{ℕ, Bool, true, false, ◌==◌, if◌then◌else◌, List, ◌++◌, codes}
 use Rattle.std.specs.List.{flat_map}
 use Rattle.std.specs.Fmt.{decimal}
 use Rattle.qu_base.specs.declared.party.ObjectId.{ObjectId}
@@ -21,9 +21,11 @@ abbrev pub time_word : Bool → List ℕ
 time_word false = codes "time "
 time_word true = codes "barrier "
 
--- `time 3 of client 1`; its digests are not told
+-- `time 3 of client 1`, and `opening` at time 0; its digests are not told
 unfoldable pub stamp_text : Stamp → List ℕ
-stamp_text stamp = time_word stamp.barrier ++ decimal stamp.time ++ codes " of " ++ party_text (Client stamp.client)
+stamp_text stamp =
+    if stamp.time == 0 then codes "opening"
+    else time_word stamp.barrier ++ decimal stamp.time ++ codes " of " ++ party_text (Client stamp.client)
 
 abbrev pub object_at_text : ObjectId × Stamp → List ℕ
 object_at_text told = codes ", " ++ object_text told.0 ++ codes " at " ++ stamp_text told.1
@@ -45,7 +47,8 @@ refusal_text (HistoryFull object) = codes "history full " ++ decimal object.0
 refusal_text (Thin object) = codes "thin " ++ decimal object.0
 refusal_text (Needs object) = codes "needs " ++ decimal object.0
 refusal_text (Stale object) = codes "stale " ++ decimal object.0
-refusal_text (NotCurrent object latest) = codes "not current " ++ decimal object.0 ++ codes " latest " ++ stamp_text latest
+refusal_text (NotCurrent object latest) =
+    codes "not current " ++ decimal object.0 ++ codes " latest " ++ stamp_text latest
 refusal_text (NotMethod object class) = not_method_text object class
 refusal_text (Spent object number) = codes "spent " ++ decimal object.0 ++ codes " at " ++ decimal number
 refusal_text (TimeSpent object) = codes "time spent " ++ decimal object.0

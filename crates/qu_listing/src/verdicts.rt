@@ -115,8 +115,12 @@ fn class_word(class: ClassCode) -> &'static str
 fn put_stamp(text: &mut String, stamp: &Stamp) -> Result<(), NoMemory>
     ensures { OnOk result (string_bytes text.new ≡ string_bytes text.old ++ stamp_text stamp.now) }
 {
-    text.push_str(time_word(stamp.barrier))?;
     let time = stamp.time;
+    if time == 0 {
+        text.push_str("opening")?;
+        return Ok(());
+    }
+    text.push_str(time_word(stamp.barrier))?;
     write!(text, "{time} of ")?;
     put_party(text, Party::Client(stamp.client))
 }
