@@ -1,4 +1,10 @@
 -- What a replica accepts it handled, and it was made for that act; and a request that was handled was sent.
+use Rattle.qu_trace.specs.Faulty.{is_faulty}
+use Rattle.qu_runs.specs.Carried.{offered}
+use Rattle.qu_runs.proofs.Handing.{handed_offers, handed_correct}
+use Rattle.qu_runs.specs.Digested.{is_handler}
+use Rattle.qu_runs.proofs.Plain.{setup_after}
+use Rattle.std.proofs.Common.{false}
 use Rattle.std.proofs.Common.{◌≡◌, ℕ, suc, ◌<◌, ◌≤◌, Bool, true, not, cond, List, [], ◌∷◌, length, Option, get_or, None, Some, refl, sym, ap, ◌∙◌, arith, add-one}
 use Rattle.std.specs.Prelude.{slice_get, nat_le, nat_lt, Contains, option_map}
 use Rattle.std.specs.List.{list_all}
@@ -71,14 +77,14 @@ request_of_letter trace is_run time within number to text (Some letter) sent giv
     ap (request_by trace.setup) (letter_stays trace is_run time within number letter sent) ∙
     ap (λ (it : Party × List ℕ). request_to trace.setup it.1 it.0) (same_Some (letter.to, letter.text) (to, text) given)
 
-request_handed : (trace : Trace) → IsRun trace → (time : ℕ) → time ≤ length trace.entries
-    → (event : Event) (to : Party) (text : List ℕ) → handed (world_after trace time) event ≡ Some (to, text)
+request_offered : (trace : Trace) → IsRun trace → (time : ℕ) → time ≤ length trace.entries
+    → (event : Event) (to : Party) (text : List ℕ) → offered (world_after trace time) event ≡ Some (to, text)
     → handled_by trace event ≡ request_to trace.setup text to
-request_handed trace is_run time within (Invoke client op) to text none = absurd (none-some (to, text) none)
-request_handed trace is_run time within (Deliver number) to text hands =
+request_offered trace is_run time within (Invoke client op) to text none = absurd (none-some (to, text) none)
+request_offered trace is_run time within (Deliver number) to text hands =
     request_of_letter trace is_run time within number to text (letter_of (world_after trace time) number) refl hands
-request_handed trace is_run time within (Tick client) to text none = absurd (none-some (to, text) none)
-request_handed trace is_run time within (Inject who other) to text hands =
+request_offered trace is_run time within (Tick client) to text none = absurd (none-some (to, text) none)
+request_offered trace is_run time within (Inject who other) to text hands =
     ap (λ (it : Party × List ℕ). request_to trace.setup it.1 it.0) (same_Some (who, other) (to, text) hands)
 
 -- a replica handles a request that shows it objects that it has
@@ -100,11 +106,17 @@ request_handled trace is_run time within event place old is_old letter hands to 
     slice_get_within (world_after trace time).replicas place old is_old in
     let all : length (world_after trace time).replicas ≡ replicas trace.setup.bounds = all_replicas trace time in
     let among : nat_lt place (replicas trace.setup.bounds) ≡ true = lt-ltb _ _ (omega (arith, there, all)) in
-    request_handed trace is_run time (omega arith) event letter.to letter.text hands ∙
+    let correct : is_faulty trace.setup (party.Replica (record { 0 = place })) ≡ false =
+    ap (λ (setup : Setup). is_faulty setup (party.Replica (record { 0 = place }))) (sym (setup_after trace time))
+    ∙ ap (is_faulty (world_after trace time).setup) (sym to)
+    ∙ handed_correct (world_after trace time) event letter.to letter.text hands in
+    let handles : is_handler trace.setup (record { 0 = place }) ≡ true = and_from _ _ among (ap not correct) in
+    request_offered trace is_run time (omega arith) event letter.to letter.text
+    (handed_offers (world_after trace time) event letter.to letter.text hands) ∙
     ap (request_to trace.setup letter.text) to ∙
     ap (λ (test : Bool). cond test
     (request_brought trace.setup (record { 0 = place })
-    (brought (ring_of trace.setup) (party.Replica (record { 0 = place })) letter.text)) None) among ∙
+    (brought (ring_of trace.setup) (party.Replica (record { 0 = place })) letter.text)) None) handles ∙
     ap (λ (keys : Ring). request_brought trace.setup (record { 0 = place })
     (brought keys (party.Replica (record { 0 = place })) letter.text))
     (sym (keys_are trace time place old is_old)) ∙

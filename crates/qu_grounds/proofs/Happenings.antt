@@ -1,4 +1,6 @@
 -- What an event of a world adds to a replica, and why: nothing, or what a letter to it makes it accept.
+use Rattle.qu_world.proofs.Steps.{AtCorrect, step_cases}
+use Rattle.qu_world.specs.Step.{moved}
 use Rattle.std.proofs.Common.{◌≡◌, ◌⊎◌, ℕ, List, Option, None, Some, inl, inr, refl, sym, subst, ap, ◌∙◌, Ok}
 use Rattle.std.specs.Prelude.{slice_get, slice_set}
 use Rattle.std.proofs.lemmas.Bool.{cases_eq}
@@ -140,17 +142,29 @@ letter_taken world event number letter (party.Replica me) place old new is_lette
       })
     ]
 
-letter_delivered : (world : WorldState) (number : ℕ) (found : Option Letter) (place : ℕ) (old new : ReplicaState)
+letter_delivered : (world : WorldState) (number : ℕ) → AtCorrect world (Deliver number) → (found : Option Letter)
+    (place : ℕ) (old new : ReplicaState)
     → letter_of world number ≡ found
     → ((letter : Letter) → found ≡ Some letter → (carried : Frame) → Carries letter carried → TakesWhole old carried)
     → slice_get world.replicas place ≡ Some old → slice_get (delivered world (Deliver number) found).replicas
     place ≡ Some new
     → (new ≡ old) ⊎ IsMoved world (Deliver number) place old new
-letter_delivered world number None place old new is_found parts is_old is_new =
+letter_delivered world number correct None place old new is_found parts is_old is_new =
     inl (stays world.replicas world.replicas place old new refl is_old is_new)
-letter_delivered world number (Some letter) place old new is_found parts is_old is_new =
+letter_delivered world number correct (Some letter) place old new is_found parts is_old is_new =
     letter_taken world (Deliver number) number letter letter.to place old new is_found
-    (letter_handed world number letter is_found) refl (parts letter refl) is_old is_new
+    (letter_handed world number letter correct is_found) refl (parts letter refl) is_old is_new
+
+-- an event at a faulty party leaves each replica as it is
+moves_cases : (world : WorldState) (event : Event) (place : ℕ) (old new : ReplicaState)
+    → slice_get world.replicas place ≡ Some old
+    → (AtCorrect world event → slice_get (moved world event).replicas place ≡ Some new
+    → (new ≡ old) ⊎ IsMoved world event place old new)
+    → slice_get (world_step world event).replicas place ≡ Some new → (new ≡ old) ⊎ IsMoved world event place old new
+moves_cases world event place old new is_old step =
+    step_cases (λ (made : WorldState). slice_get made.replicas place ≡ Some new
+    → (new ≡ old) ⊎ IsMoved world event place old new) world event
+    (λ is. inl (stays world.replicas world.replicas place old new refl is_old is)) step
 
 -- an event leaves a replica as it is, or delivers to it what adds candidates
 pub event_moves : (world : WorldState) (event : Event) (place : ℕ) (old new : ReplicaState)
@@ -159,20 +173,23 @@ pub event_moves : (world : WorldState) (event : Event) (place : ℕ) (old new : 
     → Carries letter carried → TakesWhole old carried)
     → IsPlain world event → (new ≡ old) ⊎ IsMoved world event place old new
 event_moves world (Invoke client op) place old new is_old is_new parts plain =
+    moves_cases world (Invoke client op) place old new is_old (λ correct is.
     inl (client_stays world (Invoke client op) client (λ (state : ClientState). client_invoke state op)
-    (numbered world.clients client.0) place old new is_old is_new)
+    (numbered world.clients client.0) place old new is_old is)) is_new
 event_moves world (Deliver number) place old new is_old is_new parts plain =
-    letter_delivered world number (letter_of world number) place old new refl (parts number) is_old is_new
+    moves_cases world (Deliver number) place old new is_old (λ correct is.
+    letter_delivered world number correct (letter_of world number) place old new refl (parts number) is_old is) is_new
 event_moves world (Inject to text) place old new is_old is_new parts plain =
     injected_cases world to text (λ (event : Event) (made : WorldState). slice_get made.replicas place ≡ Some new
     → (new ≡ old) ⊎ IsMoved world event place old new)
     (λ is. inl (stays world.replicas world.replicas place old new refl is_old is))
-    (λ number letter is_letter is. letter_taken world (Inject letter.to letter.text) number letter letter.to place
-    old new is_letter refl refl (parts number letter is_letter) is_old is)
+    (λ number letter is_letter hands is. letter_taken world (Inject letter.to letter.text) number letter letter.to
+    place old new is_letter hands refl (parts number letter is_letter) is_old is)
     plain is_new
 event_moves world (Tick client) place old new is_old is_new parts plain =
+    moves_cases world (Tick client) place old new is_old (λ correct is.
     inl (client_stays world (Tick client) client client_tick (numbered world.clients client.0) place old new
-    is_old is_new)
+    is_old is)) is_new
 
 -- the same of one object
 pub event_accepts : (world : WorldState) (event : Event) (place : ℕ) (old new : ReplicaState)

@@ -1,5 +1,7 @@
 -- In every run each history that stands in a letter or with a client was held by its replica before, which sealed
 -- it; so that nothing of a request is culled.
+use Rattle.qu_world.proofs.Steps.{AtCorrect, step_cases}
+use Rattle.qu_world.specs.Step.{moved}
 use Rattle.std.proofs.Common.{◌≡◌, ℕ, zero, suc, ◌+◌, ◌<◌, ◌≤◌, IsTrue, List, [], ◌∷◌, ◌++◌, length, get_or, Option, None, Some, Ok, refl, sym, ap, subst, ◌∙◌, arith, add-one}
 use Rattle.std.specs.Prelude.{slice_get}
 use Rattle.std.specs.List.{AllByRecursion}
@@ -157,24 +159,36 @@ module _ (Held : Sealed → Type 0) (bounds : ℕ) where
       (each_numbered (IsTrueLetter Held bounds) (letters_of world.entries) number letter before.letters is)
       (λ me state sent found carries. fits.answers me state found number letter sent is carries) fits before now
 
+  step_true : (world : WorldState) (event : Event) → IsTrueWorld Held bounds world
+      → (AtCorrect world event → IsFitStep world (moved world event) → HasHeld (moved world event)
+      → IsTrueWorld Held bounds (moved world event))
+      → IsFitStep world (world_step world event) → HasHeld (world_step world event)
+      → IsTrueWorld Held bounds (world_step world event)
+  step_true world event before step =
+      step_cases (λ (made : WorldState). IsFitStep world made → HasHeld made → IsTrueWorld Held bounds made) world event
+      (λ fits now. unchanged-true world event before) step
+
   -- `now` says that what the replicas have after the step counts as held
   world_step-true : (world : WorldState) (event : Event) → IsPlain world event
       → IsFitStep world (world_step world event) → IsTrueWorld Held bounds world
       → HasHeld (world_step world event) → IsTrueWorld Held bounds (world_step world event)
   world_step-true world (Invoke client op) parts fits before now =
+      step_true world (Invoke client op) before (λ correct fits has.
       at_client-true world (Invoke client op) client (λ (state : ClientState). client_invoke state op)
       (numbered world.clients client.0) refl
-      (λ state is. client_invoke-true Held bounds state op parts.1 is) fits before
+      (λ state is. client_invoke-true Held bounds state op parts.1 is) fits before) fits now
   world_step-true world (Deliver number) parts fits before now =
-      delivered-true world (Deliver number) number (letter_of world number) refl fits before now
+      step_true world (Deliver number) before (λ correct fits.
+      delivered-true world (Deliver number) number (letter_of world number) refl fits before) fits now
   world_step-true world (Tick client) parts fits before now =
+      step_true world (Tick client) before (λ correct fits has.
       at_client-true world (Tick client) client client_tick (numbered world.clients client.0) refl
-      (λ state is fit. record { state = is; letters = tt }) fits before
+      (λ state is fit. record { state = is; letters = tt }) fits before) fits now
   world_step-true world (Inject to text) plain fits before now =
       injected_cases world to text
       (λ (event : Event) (new : WorldState). IsFitStep world new → HasHeld new → IsTrueWorld Held bounds new)
       (λ fit has. unchanged-true world (Inject to text) before)
-      (λ number letter sent fit has.
+      (λ number letter sent hands fit has.
       received-true world (Inject letter.to letter.text) letter.to letter.text
       (each_numbered (IsTrueLetter Held bounds) (letters_of world.entries) number letter before.letters sent)
       (λ me state taken found carries. fit.answers me state found number letter taken sent carries) fit before has)

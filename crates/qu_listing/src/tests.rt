@@ -38,6 +38,7 @@ fn trace_of(alloc: Global, entries: List<Entry>) -> Result<Trace, Fail> {
         seed: 7,
         clients: 1,
         kinds: List::new(alloc),
+        liars: List::new(alloc),
     };
     Ok(Trace { setup, entries })
 }

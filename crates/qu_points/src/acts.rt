@@ -78,7 +78,9 @@ fn act_to(
     ensures { IfOk result (λ act. act ≡ act_in (request_to setup.now text.now to)) }
 {
     match to {
-        Party::Replica(me) if me.0 < setup.bounds.n() => act_brought(alloc, setup, text, me),
+        Party::Replica(me) if me.0 < setup.bounds.n() && !setup.is_faulty(to) => {
+            act_brought(alloc, setup, text, me)
+        }
         Party::Replica(_) | Party::Client(_) => Ok(None),
     }
 }

@@ -60,6 +60,7 @@ fn trace_of(alloc: Global, clients: u16, entries: List<Entry>) -> Result<Trace, 
         seed: 0,
         clients,
         kinds: List::new(alloc),
+        liars: List::new(alloc),
     };
     Ok(Trace { setup, entries })
 }

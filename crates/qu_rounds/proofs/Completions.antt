@@ -1,4 +1,6 @@
 -- A completed operation was answered by a quorum.
+use Rattle.qu_runs.specs.Carried.{offered}
+use Rattle.qu_runs.proofs.Handing.{handed_offers}
 use Rattle.std.proofs.Common.{◌≡◌, ◌≢◌, ℕ, suc, ◌+◌, ◌-◌, ◌<◌, ◌≤◌, Bool, true, eqb, List, [], ◌∷◌, length, map, filter, get_or, None, Some, refl, sym, ap, subst, ◌∙◌, arith, slice_get, All, AllPairs, Contains, Ok, Option}
 use Rattle.std.proofs.lemmas.Bool.{and_parts, eqb-true, cond_both}
 use Rattle.std.proofs.lemmas.List.{length-map, get_or-map}
@@ -178,9 +180,10 @@ round_of_letter trace is index within number to text (Some letter) sent given =
 round_handed : (trace : Trace) → IsRun trace → (index : ℕ) → index ≤ length trace.entries
     → (entry : Entry) (to : Party) (text : List ℕ) → handed (world_after trace index) entry.event ≡ Some
     (to, text) → delivered_round trace (Some entry) ≡ round_in (decoded text)
-round_handed trace is index within entry to text given = by_event entry.event given
+round_handed trace is index within entry to text given =
+    by_event entry.event (handed_offers (world_after trace index) entry.event to text given)
   where
-    by_event : (event : Event) → handed (world_after trace index) event ≡ Some (to, text)
+    by_event : (event : Event) → offered (world_after trace index) event ≡ Some (to, text)
         → delivered_round trace (Some (record entry { event = event })) ≡ round_in (decoded text)
     by_event (Invoke client op) none = absurd (none-some (to, text) none)
     by_event (Deliver number) hands =

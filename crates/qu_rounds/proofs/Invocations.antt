@@ -1,4 +1,6 @@
 -- Each request of a run is one of an operation that the trace shows, and that began before.
+use Rattle.qu_world.proofs.Steps.{step_cases, step_moved, is_invoked}
+use Rattle.qu_world.specs.Step.{moved}
 use Rattle.std.proofs.Common.{◌≡◌, ℕ, zero, suc, ◌+◌, ◌<◌, ◌≤◌, ◌≢◌, List, [], ◌∷◌, ◌++◌, length, take, drop, get_or, Option, None, Some, refl, sym, ap, subst, ◌∙◌, add-one, arith, inl, inr}
 use Rattle.std.specs.Prelude.{slice_get}
 use Rattle.std.specs.List.{All}
@@ -171,8 +173,8 @@ module _ (trace : Trace) (count : ℕ) (world : WorldState) (shown : IsShown tra
       → ((number : ℕ) → number ≢ client.0 → begun_at trace (count + 1) number ≡ begun_at trace count number)
       → begun_at trace (count + 1) client.0 ≡ begun_at trace count client.0 + 1
       → IsRequestOf trace (count + 1) client (begun_at trace count client.0 + 1) (body_of what)
-      → IsFitStep world (world_step world (Invoke client what)) → IsShown trace (count + 1)
-      (world_step world (Invoke client what))
+      → IsFitStep world (moved world (Invoke client what)) → IsShown trace (count + 1)
+      (moved world (Invoke client what))
   invoked_shown client what free quiet one request fits =
       let state : ClientState = free.state in
       let begun : ℕ = begun_at trace count client.0 in
@@ -213,7 +215,9 @@ module _ (trace : Trace) (count : ℕ) (world : WorldState) (shown : IsShown tra
         → cause_of world event ≡ None → IsPlain world event → IsFitStep world (world_step world event)
         → IsShown trace (count + 1) (world_step world event)
     event_shown (Invoke client what) is may plain fits =
-        invoked_shown client what (may_invoke world client what may)
+        subst (λ (made : WorldState). IsFitStep world made → IsShown trace (count + 1) made)
+        (sym (step_moved world (Invoke client what) (is_invoked world client what may).correct))
+        (invoked_shown client what (may_invoke world client what may)
         (λ number other. begun_same trace.entries count default (record { 0 = number }) below
         (ap (invokes (record { 0 = number })) is ∙ ne_eqb number client.0 other))
         (begun_one trace.entries count default client what below is)
@@ -224,22 +228,26 @@ module _ (trace : Trace) (count : ℕ) (world : WorldState) (shown : IsShown tra
           of_number = refl;
           asks = refl;
           begun = omega arith;
-        })
-        fits
+        })) fits
     event_shown (Deliver number) is may plain fits =
-        delivered_shown (Deliver number) (λ it. begun_same trace.entries count default (record { 0 = it }) below
-        (ap (invokes (record { 0 = it })) is)) (letter_of world number) fits
+        let quiet : (number : ℕ) → begun_at trace (count + 1) number ≡ begun_at trace count number =
+        λ it. begun_same trace.entries count default (record { 0 = it }) below (ap (invokes (record { 0 = it })) is) in
+        step_cases (λ (made : WorldState). IsFitStep world made → IsShown trace (count + 1) made) world
+        (Deliver number) (λ fit. idle_shown (Deliver number) quiet)
+        (λ correct. delivered_shown (Deliver number) quiet (letter_of world number)) fits
     event_shown (Inject to text) is may plain fits =
         let quiet : (number : ℕ) → begun_at trace (count + 1) number ≡ begun_at trace count number =
         λ it. begun_same trace.entries count default (record { 0 = it }) below (ap (invokes (record { 0 = it })) is) in
         injected_cases world to text (λ (event : Event) (new : WorldState). IsFitStep world new
         → IsShown trace (count + 1) new)
         (λ fit. idle_shown (Inject to text) quiet)
-        (λ number letter sent fit. received_shown (Inject letter.to letter.text) quiet letter.to letter.text fit)
+        (λ number letter sent hands fit. received_shown (Inject letter.to letter.text) quiet letter.to letter.text fit)
         plain fits
     event_shown (Tick client) is may plain fits =
-        ticked_shown (Tick client) (λ it. begun_same trace.entries count default (record { 0 = it }) below
-        (ap (invokes (record { 0 = it })) is)) client fits
+        let quiet : (number : ℕ) → begun_at trace (count + 1) number ≡ begun_at trace count number =
+        λ it. begun_same trace.entries count default (record { 0 = it }) below (ap (invokes (record { 0 = it })) is) in
+        step_cases (λ (made : WorldState). IsFitStep world made → IsShown trace (count + 1) made) world
+        (Tick client) (λ fit. idle_shown (Tick client) quiet) (λ correct. ticked_shown (Tick client) quiet client) fits
 
 -- ---- runs
 

@@ -35,6 +35,8 @@ use Rattle.qu_trace.specs.declared.trace.Setup.{Setup}
 use Rattle.qu_trace.specs.declared.trace.Trace.{Trace}
 use Rattle.qu_trace.specs.Letters.{letters_of}
 use Rattle.qu_world.specs.State.{WorldState, opening_world, numbered, with_numbered, letter_of, ring_of}
+use Rattle.qu_world.specs.Step as steps
+use Rattle.qu_world.proofs.Steps.{AtCorrect, step_cases}
 use Rattle.qu_world.specs.Step.{world_step, unchanged, at_replica, at_client, received, delivered}
 use Rattle.qu_world.specs.Run.{IsRun}
 use Rattle.qu_runs.specs.Times.{world_after}
@@ -272,10 +274,19 @@ module _ (bounds : ℕ) where
   delivered-once world event None fits before = unchanged-once world event before
   delivered-once world event (Some letter) fits before = received-once world event letter.to letter.text fits before
 
+  step_once : (world : WorldState) (event : Event) → IsOnceWorld bounds world
+      → (AtCorrect world event → IsFitStep world (steps.moved world event)
+      → IsOnceWorld bounds (steps.moved world event))
+      → IsFitStep world (world_step world event) → IsOnceWorld bounds (world_step world event)
+  step_once world event before step =
+      step_cases (λ (made : WorldState). IsFitStep world made → IsOnceWorld bounds made) world event
+      (λ fits. unchanged-once world event before) step
+
   world_step-once : (world : WorldState) (event : Event) → IsPlain world event
       → IsFitStep world (world_step world event) → IsOnceWorld bounds world
       → IsOnceWorld bounds (world_step world event)
   world_step-once world (Invoke client operation) plain fits before =
+      step_once world (Invoke client operation) before (λ correct fits.
       at_client-once world (Invoke client operation) client
       (λ (state : ClientState). client_invoke state operation) (numbered world.clients client.0) refl
       (λ number state at once fit. (
@@ -285,18 +296,20 @@ module _ (bounds : ℕ) where
           bounds_are = client_invoke-bounds state operation ∙ at.bounds_are;
           sound = IsSound-invoke state operation;
         },
-      )) fits before
+      )) fits before) fits
   world_step-once world (Deliver number) plain fits before =
-      delivered-once world (Deliver number) (letter_of world number) fits before
+      step_once world (Deliver number) before
+      (λ correct fits. delivered-once world (Deliver number) (letter_of world number) fits before) fits
   world_step-once world (Inject to text) plain fits before =
       injected_cases world to text (λ (event : Event) (new : WorldState). IsFitStep world new → IsOnceWorld bounds new)
       (λ fit. unchanged-once world (Inject to text) before)
-      (λ number letter sent fit. received-once world (Inject letter.to letter.text) letter.to letter.text fit before)
+      (λ number letter sent hands fit. received-once world (Inject letter.to letter.text) letter.to letter.text fit before)
       plain fits
   world_step-once world (Tick client) plain fits before =
+      step_once world (Tick client) before (λ correct fits.
       at_client-once world (Tick client) client client_tick (numbered world.clients client.0) refl
       (λ number state at once fit. (client_tick-once (StandsIn (letters_of world.entries)) bounds state once, at))
-      fits before
+      fits before) fits
 
 -- ---- all worlds of a run
 

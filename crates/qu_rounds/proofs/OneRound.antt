@@ -23,6 +23,8 @@ use Rattle.qu_trace.specs.declared.trace.Setup.{Setup}
 use Rattle.qu_trace.specs.declared.trace.Trace.{Trace}
 use Rattle.qu_trace.specs.Letters.{letters_of}
 use Rattle.qu_world.specs.State.{WorldState, opening_world, numbered, with_numbered, letter_of, ring_of}
+use Rattle.qu_world.specs.Step as steps
+use Rattle.qu_world.proofs.Steps.{AtCorrect, step_cases}
 use Rattle.qu_world.specs.Step.{world_step, unchanged, at_replica, at_client, received, delivered}
 use Rattle.qu_world.specs.Run.{IsRun}
 use Rattle.qu_runs.specs.Times.{world_after}
@@ -152,26 +154,36 @@ module _ (bounds : ℕ) (world : WorldState)
   delivered-round event None fits = unchanged-round world event before
   delivered-round event (Some letter) fits = received-round event letter.to letter.text fits
 
+  step_round : (event : Event)
+      → (AtCorrect world event → IsFitStep world (steps.moved world event) → IsRoundWorld (steps.moved world event))
+      → IsFitStep world (world_step world event) → IsRoundWorld (world_step world event)
+  step_round event step =
+      step_cases (λ (made : WorldState). IsFitStep world made → IsRoundWorld made) world event
+      (λ fits. unchanged-round world event before) step
+
   world_step-round : (event : Event) → IsPlain world event → IsFitStep world (world_step world event)
       → IsRoundWorld (world_step world event)
   world_step-round (Invoke client operation) plain fits =
+      step_round (Invoke client operation) (λ correct fits.
       at_client-round (Invoke client operation) client (λ (state : ClientState). client_invoke state operation)
       (numbered world.clients client.0) refl
       (λ number state at known within fit. (
         client_invoke-once Sent bounds state operation at.bounds_are known fit,
-        client_invoke-round Sent state
-            operation known.up_to fit,
-      )) fits
-  world_step-round (Deliver number) plain fits = delivered-round (Deliver number) (letter_of world number) fits
+        client_invoke-round Sent state operation known.up_to fit,
+      )) fits) fits
+  world_step-round (Deliver number) plain fits =
+      step_round (Deliver number)
+      (λ correct fits. delivered-round (Deliver number) (letter_of world number) fits) fits
   world_step-round (Inject to text) plain fits =
       injected_cases world to text (λ (event : Event) (new : WorldState). IsFitStep world new → IsRoundWorld new)
       (λ fit. unchanged-round world (Inject to text) before)
-      (λ number letter sent fit. received-round (Inject letter.to letter.text) letter.to letter.text fit)
+      (λ number letter sent hands fit. received-round (Inject letter.to letter.text) letter.to letter.text fit)
       plain fits
   world_step-round (Tick client) plain fits =
+      step_round (Tick client) (λ correct fits.
       at_client-round (Tick client) client client_tick (numbered world.clients client.0) refl
       (λ number state at known within fit.
-      (client_tick-once Sent bounds state known, client_tick-round Sent state within)) fits
+      (client_tick-once Sent bounds state known, client_tick-round Sent state within)) fits) fits
 
 -- ---- all worlds of a run
 

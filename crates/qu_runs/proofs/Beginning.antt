@@ -1,4 +1,5 @@
 -- The operation that a client begins at an event is one of the trace, and the client was free to begin it.
+use Rattle.qu_world.proofs.Steps.{is_invoked}
 use Rattle.std.proofs.Common.{◌≡◌, ℕ, zero, suc, ◌+◌, ◌<◌, Bool, false, cond, List, [], ◌∷◌, ◌++◌, length, take, drop, get_or, Option, None, Some, refl, sym, ap, subst, ◌∙◌, append_assoc, arith}
 use Rattle.std.specs.Prelude.{Contains, is_some}
 use Rattle.std.proofs.lemmas.Bool.{eq-eqb}
@@ -137,4 +138,5 @@ free_by clients client who (Some state) is may =
 -- an invocation that may happen is that of a client without work
 pub may_invoke : (world : WorldState) (client : ClientId) (op : Op) → cause_of world (Invoke client op) ≡ None
     → IsFree world.clients client
-may_invoke world client op may = free_by world.clients client _ (numbered world.clients client.0) refl may
+may_invoke world client op may =
+    free_by world.clients client _ (numbered world.clients client.0) refl (is_invoked world client op may).free

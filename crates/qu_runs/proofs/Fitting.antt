@@ -1,4 +1,5 @@
 -- In a run without injections all that is sent fits its format.
+use Rattle.qu_world.proofs.Steps.{step_cases}
 use Rattle.std.proofs.Common.{◌≡◌, ℕ, zero, suc, ◌+◌, ◌<◌, ◌≤◌, ◌^◌, List, [], ◌∷◌, ◌++◌, length, get_or, Option, None, Some, Ok, IsTrue, refl, sym, subst, arith, add-one, inl, inr}
 use Rattle.std.specs.Prelude.{slice_get}
 use Rattle.std.specs.List.{AllByRecursion}
@@ -140,19 +141,23 @@ module _ (bounds most : ℕ) (few : most + 1 < 2 ^ 64) (size : replicas bounds �
 
   step_world : (event : Event) → IsPlain world event → FitWorld bounds (most + 1) (world_step world event)
   step_world (Invoke client what) plain =
+      step_cases (FitWorld bounds (most + 1)) world (Invoke client what) (unchanged_fit (Invoke client what)) (λ correct.
       at_client_fit (Invoke client what) client (λ (state : ClientState). client_invoke state what)
       (numbered world.clients client.0) refl
       (λ state before. invoke_fit bounds most client.0 state what plain.1 before)
-      (λ state asks. invoke_letters state what asks)
-  step_world (Deliver number) plain = delivered_fit number (letter_of world number) refl
+      (λ state asks. invoke_letters state what asks))
+  step_world (Deliver number) plain =
+      step_cases (FitWorld bounds (most + 1)) world (Deliver number) (unchanged_fit (Deliver number))
+      (λ correct. delivered_fit number (letter_of world number) refl)
   step_world (Tick client) plain =
+      step_cases (FitWorld bounds (most + 1)) world (Tick client) (unchanged_fit (Tick client)) (λ correct.
       at_client_fit (Tick client) client client_tick (numbered world.clients client.0) refl
       (λ state before. fit_more bounds most client.0 state before)
-      (λ state asks. tt)
+      (λ state asks. tt))
   step_world (Inject to text) plain =
       injected_cases world to text (λ (event : Event) (new : WorldState). FitWorld bounds (most + 1) new)
       (unchanged_fit (Inject to text))
-      (λ number letter is. received_fit (Inject letter.to letter.text) letter.to letter.text
+      (λ number letter is hands. received_fit (Inject letter.to letter.text) letter.to letter.text
       (carried_fits letter (each_numbered LetterFits (letters_of world.entries) number letter fit.letters
       is))) plain
 

@@ -1,4 +1,6 @@
 -- Each client of a run has its number and the keys of the run, whatever happens.
+use Rattle.qu_world.proofs.Steps.{step_cases}
+use Rattle.qu_world.specs.Step.{moved}
 use Rattle.std.proofs.Common.{◌≡◌, ℕ, zero, suc, ◌≤◌, List, length, get_or, Option, None, Some, inl, inr, refl, sym, ap, subst, ◌∙◌, arith, add-one, ◌+◌, add-zero}
 use Rattle.std.specs.Prelude.{slice_get}
 use Rattle.qu_base.specs.declared.party.ClientId.{ClientId}
@@ -93,15 +95,20 @@ module _ (keys : Ring) (world : WorldState) (keyed : AreKeyed keys world.clients
   delivered_keyed event None = keyed
   delivered_keyed event (Some letter) = received_keyed event letter.to letter.text
 
-  step_keyed : (event : Event) → AreKeyed keys (world_step world event).clients
-  step_keyed (Invoke client op) =
+  moved_keyed : (event : Event) → AreKeyed keys (moved world event).clients
+  moved_keyed (Invoke client op) =
       client_keyed (Invoke client op) client (λ (state : ClientState). client_invoke state op)
       (numbered world.clients client.0) refl
       (λ state. record { me = client_invoke-me state op; keys = client_invoke-keys state op })
-  step_keyed (Deliver number) = delivered_keyed (Deliver number) (letter_of world number)
-  step_keyed (Tick client) = client_keyed (Tick client) client client_tick (numbered world.clients client.0) refl
+  moved_keyed (Deliver number) = delivered_keyed (Deliver number) (letter_of world number)
+  moved_keyed (Tick client) = client_keyed (Tick client) client client_tick (numbered world.clients client.0) refl
       (λ state. record { me = refl; keys = refl })
-  step_keyed (Inject to text) = received_keyed (Inject to text) to text
+  moved_keyed (Inject to text) = received_keyed (Inject to text) to text
+
+  step_keyed : (event : Event) → AreKeyed keys (world_step world event).clients
+  step_keyed event =
+      step_cases (λ (made : WorldState). AreKeyed keys made.clients) world event keyed
+      (λ correct. moved_keyed event)
 
 pub clients_keyed : (trace : Trace) (count : ℕ) → count ≤ length trace.entries
     → (number : ℕ) (state : ClientState) → numbered (world_after trace count).clients number ≡ Some state

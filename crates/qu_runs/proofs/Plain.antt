@@ -1,4 +1,5 @@
 -- A trace of operations with parts, into which nothing forged is injected, is plain.
+use Rattle.qu_world.proofs.Steps.{step_cases}
 use Rattle.std.proofs.Common.{◌≡◌, ℕ, zero, suc, ◌≤◌, true, not, List, [], ◌∷◌, length, get_or, Option, None, Some, inl, inr, refl, sym, ap, ◌∙◌, arith, ◌<◌, ◌^◌}
 use Rattle.std.specs.Prelude.{slice_get, slice_set}
 use Rattle.std.specs.List.{list_all, AllByRecursion}
@@ -117,7 +118,11 @@ module _ (trace : Trace) (count : ℕ) (within : count ≤ length trace.entries)
   plain_injection : (to : Party) (text : List ℕ) (read : Option Frame)
       → brought (ring_of world.setup) to text ≡ read
       → ((frame : Frame) → read ≡ Some frame → HasSent world (sender frame) to text) → IsPlain world (Inject to text)
-  plain_injection to text None is sent = inl (record { nothing = is; same = ignored (Inject to text) to text is })
+  plain_injection to text None is sent = inl (record {
+        nothing = is;
+        same = step_cases (λ (made : WorldState). made ≡ unchanged world (Inject to text)) world (Inject to text) refl
+            (λ correct. ignored (Inject to text) to text is);
+      })
   plain_injection to text (Some frame) is sent =
       let from : HasSent world (sender frame) to text = sent frame refl in
       inr (record {

@@ -1,4 +1,5 @@
 -- What each event of a run recorded, by the party that moved.
+use Rattle.qu_world.proofs.Steps.{AtCorrect, step_cases}
 use Rattle.std.proofs.Common.{◌≡◌, ℕ, suc, ◌+◌, ◌<◌, ◌≤◌, List, [], ◌∷◌, ◌++◌, length, take, drop, get_or, Option, None, Some, refl, sym, ap, subst, ◌∙◌, append_assoc, arith, slice_get}
 use Rattle.std.proofs.lemmas.List.{append-nil, map-append, length-map, length-take-le, take-append-drop, take_at, take_more, same_from_push, take_all}
 use Rattle.std.proofs.lemmas.Option.{slice_get_within, get_or_from_slice_get}
@@ -77,19 +78,25 @@ module _ (world : WorldState) (P : WorldState → Type 0)
   received_by event number letter sent hands (party.Client me) =
       take_found event number letter sent hands me (numbered world.clients me.0) refl
 
-  letter_found : (number : ℕ) (found : Option Letter) → letter_of world number ≡ found
-      → P (delivered world (Deliver number) found)
-  letter_found number None is = nothing (Deliver number)
-  letter_found number (Some letter) is =
-      received_by (Deliver number) number letter is (letter_handed world number letter is) letter.to
+  letter_found : (number : ℕ) → AtCorrect world (Deliver number) → (found : Option Letter)
+      → letter_of world number ≡ found → P (delivered world (Deliver number) found)
+  letter_found number correct None is = nothing (Deliver number)
+  letter_found number correct (Some letter) is =
+      received_by (Deliver number) number letter is (letter_handed world number letter correct is) letter.to
 
   pub world_cases : (event : Event) → IsPlain world event → P (world_step world event)
-  world_cases (Invoke client op) plain = invoke_found client op (numbered world.clients client.0) refl
-  world_cases (Deliver number) plain = letter_found number (letter_of world number) refl
-  world_cases (Tick client) plain = tick_found client (numbered world.clients client.0) refl
+  world_cases (Invoke client op) plain =
+      step_cases P world (Invoke client op) (nothing (Invoke client op))
+      (λ correct. invoke_found client op (numbered world.clients client.0) refl)
+  world_cases (Deliver number) plain =
+      step_cases P world (Deliver number) (nothing (Deliver number))
+      (λ correct. letter_found number correct (letter_of world number) refl)
+  world_cases (Tick client) plain =
+      step_cases P world (Tick client) (nothing (Tick client))
+      (λ correct. tick_found client (numbered world.clients client.0) refl)
   world_cases (Inject to text) plain =
       injected_cases world to text (λ (event : Event) (new : WorldState). P new) (nothing (Inject to text))
-      (λ number letter sent. received_by (Inject letter.to letter.text) number letter sent refl letter.to) plain
+      (λ number letter sent hands. received_by (Inject letter.to letter.text) number letter sent hands letter.to) plain
 
 -- ---- the entries of a world of a run
 

@@ -1,5 +1,5 @@
 -- What the bytes of a letter carry, and which bytes an event hands to a party.
-use Rattle.std.specs.Prelude.{◌≡◌, ℕ, List, Option, None, Some, Ok, option_map}
+use Rattle.std.specs.Prelude.{◌≡◌, ℕ, if◌then◌else◌, List, Option, None, Some, Ok, option_map}
 use Rattle.qu_base.specs.declared.party.ClientId.{ClientId}
 use Rattle.qu_base.specs.declared.party.ObjectId.{ObjectId}
 use Rattle.qu_base.specs.declared.party.Party.{Party}
@@ -18,17 +18,22 @@ use Rattle.qu_replica.specs.State.{ReplicaState}
 use Rattle.qu_trace.specs.declared.event.Event.{Event}
 use Rattle.qu_trace.specs.declared.event.Event.TheVariants.{Invoke, Deliver, Tick, Inject}
 use Rattle.qu_world.specs.State.{WorldState, letter_of}
+use Rattle.qu_world.specs.Step.{at_faulty}
 
 -- the letter's text is decoded to this frame
 abbrev pub Carries : Letter → Frame → Type 0
 Carries letter sent = decoded letter.text ≡ Ok sent
 
--- the bytes that an event hands to a party: those of a letter to its receiver, or injected ones
+-- the bytes that an event brings to a party: those of a letter to its receiver, or injected ones
+abbrev pub offered : WorldState → Event → Option (Party × List ℕ)
+offered world (Invoke client op) = None
+offered world (Deliver number) = option_map (λ (letter : Letter). (letter.to, letter.text)) (letter_of world number)
+offered world (Tick client) = None
+offered world (Inject to text) = Some (to, text)
+
+-- the bytes that an event hands to a correct party
 abbrev pub handed : WorldState → Event → Option (Party × List ℕ)
-handed world (Invoke client op) = None
-handed world (Deliver number) = option_map (λ (letter : Letter). (letter.to, letter.text)) (letter_of world number)
-handed world (Tick client) = None
-handed world (Inject to text) = Some (to, text)
+handed world event = if at_faulty world.setup world.entries event then None else offered world event
 
 -- the replica handles the letter as this frame, whose HMAC is right for it
 abbrev pub Brings : ReplicaState → Letter → Frame → Type 0

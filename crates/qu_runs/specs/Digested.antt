@@ -1,6 +1,6 @@
 -- The requests that replicas handle in a run, the texts that are digested for them, and the premise that no two
 -- of these texts have one digest.
-use Rattle.std.specs.Prelude.{◌≡◌, ℕ, Bool, nat_lt, if◌then◌else◌, List, [], ◌∷◌, length, Option, None, Some, Contains}
+use Rattle.std.specs.Prelude.{◌≡◌, ℕ, Bool, nat_lt, not, ◌&&◌, if◌then◌else◌, List, [], ◌∷◌, length, Option, None, Some, Contains}
 use Rattle.std.specs.List.{list_all, flat_map}
 use Rattle.qu_base.specs.declared.party.ClientId.{ClientId}
 use Rattle.qu_base.specs.declared.party.ObjectId.{ObjectId}
@@ -27,6 +27,7 @@ use Rattle.qu_trace.specs.declared.event.Event.TheVariants.{Invoke, Deliver, Tic
 use Rattle.qu_trace.specs.declared.trace.Entry.{Entry}
 use Rattle.qu_trace.specs.declared.trace.Setup.{Setup}
 use Rattle.qu_trace.specs.declared.trace.Trace.{Trace}
+use Rattle.qu_trace.specs.Faulty.{is_faulty}
 use Rattle.qu_trace.specs.Letters.{letters_of}
 use Rattle.qu_world.specs.State.{ring_of, numbered}
 
@@ -55,10 +56,14 @@ abbrev pub request_brought : Setup → ReplicaId → Option Frame → Option Req
 request_brought setup me None = None
 request_brought setup me (Some sent) = request_in setup me sent
 
--- the request that a text brings to a replica of the setup
+-- a correct replica of the setup
+abbrev pub is_handler : Setup → ReplicaId → Bool
+is_handler setup me = nat_lt me.0 (replicas setup.bounds) && not (is_faulty setup (party.Replica me))
+
+-- the request that a text brings to a correct replica of the setup
 abbrev pub request_to : Setup → List ℕ → Party → Option Request
 request_to setup text (party.Replica me) =
-    if nat_lt me.0 (replicas setup.bounds) then request_brought setup me
+    if is_handler setup me then request_brought setup me
     (brought (ring_of setup) (party.Replica me) text) else None
 request_to setup text (party.Client me) = None
 

@@ -1,5 +1,6 @@
 -- What the replicas of a run accept over time, as the theory of what is decided speaks of it.
--- All replicas are correct, and an operation names one object, so that no candidate has a group.
+-- All replicas count as correct, since a faulty one has no step, so that it is as one that no letter reaches. An
+-- operation names one object, so that no candidate has a group.
 -- Definitions whose comment names no source are this project's own; Query/Update is the paper of SOSP 2005.
 use Rattle.std.specs.Prelude.{true, not, nat_lt, length, is_some, None}
 use Rattle.qu_base.specs.Bounds.{replicas, quorum, repair}

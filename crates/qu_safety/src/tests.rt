@@ -22,6 +22,7 @@ fn started(alloc: Global, clients: u16) -> Result<World, Fail>
         seed: 7,
         clients,
         kinds,
+        liars: List::new(alloc),
     };
     Ok(World::start(alloc, setup)?)
 }

@@ -117,5 +117,6 @@ fn make_setup(alloc: Global, faults: u8, seed: u64, clients: u16) -> Result<Setu
         seed,
         clients,
         kinds,
+        liars: List::new(alloc),
     })
 }

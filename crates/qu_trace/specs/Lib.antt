@@ -1,3 +1,4 @@
+pub mod Faulty
 pub mod Letters
 pub mod Injections
 pub mod Operation

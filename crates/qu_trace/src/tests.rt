@@ -22,10 +22,14 @@ fn copies_are_equal(rt: HostRuntime) -> Result<(), Fail> {
         seed: 7,
         clients: 1,
         kinds: List::one(alloc, KindName::Counter)?,
+        liars: List::one(alloc, Party::Replica(ReplicaId(3)))?,
     };
     let entries = List::one(alloc, entry)?;
     let trace = Trace { setup, entries }.copy(alloc)?;
     assert_eq!(rt; (trace.setup.seed, trace.setup.clients), (7, 1));
+    assert!(rt; trace.setup.is_faulty(Party::Replica(ReplicaId(3))));
+    assert!(rt; !trace.setup.is_faulty(Party::Replica(ReplicaId(2))));
+    assert!(rt; !trace.setup.is_faulty(Party::Client(ClientId(3))));
     let copy = trace.entries.get(0).ok_or("no entry")?;
     assert!(rt; matches!(copy.event, Event::Tick(ClientId(1))));
     assert!(rt; matches!(copy.ended, Some((ClientId(1), 3, Outcome::GaveUp))));

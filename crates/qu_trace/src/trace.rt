@@ -1,7 +1,8 @@
 ghost use Rattle.std.specs.Prelude.{◌≡◌, IfOk};
+ghost use Rattle.qu_trace.specs.Faulty.{is_same, is_faulty};
 
 use super::Event;
-use qu_base::{Bounds, ClientId, List, NoMemory};
+use qu_base::{Bounds, ClientId, List, NoMemory, Party};
 use qu_frames::Letter;
 use qu_objects::{KindName, Outcome};
 use std::alloc::Global;
@@ -16,6 +17,8 @@ pub struct Setup {
     pub clients: u16,
     /// The kinds of objects 0, 1, 2, ..
     pub kinds: List<KindName>,
+    /// The faulty parties, which have no steps of their own.
+    pub liars: List<Party>,
 }
 
 impl Setup {
@@ -28,7 +31,25 @@ impl Setup {
             seed: self.seed,
             clients: self.clients,
             kinds: self.kinds.copy(alloc)?,
+            liars: self.liars.copy(alloc)?,
         })
+    }
+
+    /// Whether the party is faulty.
+    pub fn is_faulty(&self, who: Party) -> bool
+        ensures { result ≡ is_faulty self.now who }
+    {
+        self.liars.iter().any(|liar| is_same(*liar, who))
+    }
+}
+
+fn is_same(one: Party, other: Party) -> bool
+    ensures { result ≡ is_same one other }
+{
+    match (one, other) {
+        (Party::Replica(one), Party::Replica(other)) => one.0 == other.0,
+        (Party::Client(one), Party::Client(other)) => one.0 == other.0,
+        (Party::Replica(_), Party::Client(_)) | (Party::Client(_), Party::Replica(_)) => false,
     }
 }
 

@@ -1,4 +1,7 @@
 -- Only a replica that is handed a request sends a reply, and the reply's verdict is what it decided.
+use Rattle.qu_world.proofs.Steps as steps
+use Rattle.qu_world.proofs.Steps.{AtCorrect}
+use Rattle.qu_world.specs.Step.{moved}
 use Rattle.std.proofs.Common.{◌≡◌, ℕ, zero, suc, ◌+◌, ◌<◌, List, [], ◌∷◌, ◌++◌, length, get_or, Option, None, Some, refl, sym, subst, ap, ◌∙◌, arith, map}
 use Rattle.std.specs.Prelude.{slice_get, Contains}
 use Rattle.std.specs.List.{AllByRecursion}
@@ -179,23 +182,32 @@ received_sends world event asked letter (party.Client me) is_letter hands is_to 
     client_sends world event me (λ (state : ClientState). client_step state letter.text)
     (numbered world.clients me.0) (λ state. step_requests state letter.text)
 
-delivered_sends : (world : WorldState) (asked : ℕ) (found : Option Letter) → letter_of world asked ≡ found
-    → Sends world (delivered world (Deliver asked) found) (Deliver asked)
-delivered_sends world asked None is = unchanged_sends world (Deliver asked)
-delivered_sends world asked (Some letter) is = received_sends world (Deliver asked) asked letter letter.to is
-    (letter_handed world asked letter is) refl
+delivered_sends : (world : WorldState) (asked : ℕ) → AtCorrect world (Deliver asked) → (found : Option Letter)
+    → letter_of world asked ≡ found → Sends world (delivered world (Deliver asked) found) (Deliver asked)
+delivered_sends world asked correct None is = unchanged_sends world (Deliver asked)
+delivered_sends world asked correct (Some letter) is =
+    received_sends world (Deliver asked) asked letter letter.to is (letter_handed world asked letter correct is) refl
+
+step_sent : (world : WorldState) (event : Event) → (AtCorrect world event → Sends world (moved world event) event)
+    → Sends world (world_step world event) event
+step_sent world event step =
+    steps.step_cases (λ (made : WorldState). Sends world made event) world event (unchanged_sends world event) step
 
 step_sends : (world : WorldState) (event : Event) → IsPlain world event → Sends world (world_step world event) event
 step_sends world (Invoke client op) plain =
+    step_sent world (Invoke client op) (λ correct.
     client_sends world (Invoke client op) client (λ (state : ClientState). client_invoke state op)
-    (numbered world.clients client.0) (λ state. invoke_requests state op)
+    (numbered world.clients client.0) (λ state. invoke_requests state op))
 step_sends world (Inject to text) plain =
     injected_cases world to text (λ (event : Event) (new : WorldState). Sends world new event)
     (unchanged_sends world (Inject to text))
-    (λ number letter is. received_sends world (Inject letter.to letter.text) number letter letter.to is refl refl) plain
-step_sends world (Deliver asked) plain = delivered_sends world asked (letter_of world asked) refl
+    (λ number letter is hands. received_sends world (Inject letter.to letter.text) number letter letter.to is hands
+    refl) plain
+step_sends world (Deliver asked) plain =
+    step_sent world (Deliver asked) (λ correct. delivered_sends world asked correct (letter_of world asked) refl)
 step_sends world (Tick client) plain =
-    client_sends world (Tick client) client client_tick (numbered world.clients client.0) (λ state. tt)
+    step_sent world (Tick client) (λ correct.
+    client_sends world (Tick client) client client_tick (numbered world.clients client.0) (λ state. tt))
 
 -- ---- what a reply is
 

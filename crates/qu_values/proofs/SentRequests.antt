@@ -1,4 +1,5 @@
 -- A request that was handled was sent, and belongs to an operation.
+use Rattle.qu_runs.specs.Digested.{is_handler}
 use Rattle.std.proofs.Common.{◌≡◌, ℕ, ◌<◌, ◌≤◌, Bool, true, false, cond, List, length, Option, None, Some, refl, sym, ap, subst, ◌∙◌, arith, inl, inr}
 use Rattle.std.specs.Prelude.{nat_lt, Contains}
 use Rattle.std.specs.List.{list_all}
@@ -77,7 +78,7 @@ carried_to : (setup : Setup) (text : List ℕ) (to : Party) (request : Request)
     → (me : ReplicaId) × (request_brought setup me (brought (ring_of setup) to text) ≡ Some request)
 carried_to setup text (party.Replica me) request is = (
   me,
-  cond_given (nat_lt me.0 (replicas setup.bounds))
+  cond_given (is_handler setup me)
       (request_brought setup me (brought (ring_of setup) (party.Replica me) text)) request is,
 )
 carried_to setup text (party.Client me) request is = absurd (none-some request is)

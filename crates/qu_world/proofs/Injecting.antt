@@ -1,5 +1,6 @@
 -- Bytes that are injected do what a letter with these bytes does.
-use Rattle.std.proofs.Common.{◌≡◌, ℕ, List, [], ◌∷◌, Option, None, Some, refl, sym, subst, ◌∙◌}
+use Rattle.qu_trace.specs.Faulty.{is_faulty}
+use Rattle.std.proofs.Common.{◌≡◌, ℕ, Bool, true, false, cond, List, [], ◌∷◌, Option, None, Some, refl, sym, subst, ◌∙◌}
 use Rattle.std.specs.Prelude.{slice_get}
 use Rattle.std.proofs.lemmas.List.{map-append}
 use Rattle.qu_base.specs.declared.party.ClientId.{ClientId}
@@ -16,7 +17,7 @@ use Rattle.qu_trace.specs.declared.event.Event.{Event}
 use Rattle.qu_trace.specs.declared.event.Event.TheVariants.{Deliver, Inject}
 use Rattle.qu_trace.specs.declared.trace.Entry.{Entry}
 use Rattle.qu_world.specs.State.{WorldState, numbered, letter_of}
-use Rattle.qu_world.specs.Step.{recorded, at_replica, at_client, received, delivered, world_step}
+use Rattle.qu_world.specs.Step.{recorded, unchanged, at_replica, at_client, received, delivered, is_to_faulty, world_step}
 use Rattle.qu_world.specs.Effects.{DidSame}
 use Rattle.qu_world.proofs.LetterLaws.{letters-push}
 
@@ -58,6 +59,15 @@ pub injection_is_delivery : (world : WorldState) (number : ℕ) (letter : Letter
     → letter_of world number ≡ Some letter → DidSame (world_step world (Inject letter.to letter.text))
     (world_step world (Deliver number))
 injection_is_delivery world number letter is =
-    subst (λ (found : Option Letter). DidSame (world_step world (Inject letter.to letter.text))
-    (delivered world (Deliver number) found)) (sym is)
-    (received_same world (Inject letter.to letter.text) (Deliver number) letter.to letter.text)
+    let injected : Event = Inject letter.to letter.text in
+    subst (λ (found : Option Letter). DidSame (world_step world injected)
+    (cond (is_to_faulty world.setup found) (unchanged world (Deliver number)) (delivered world (Deliver number) found)))
+    (sym is)
+    (alike (is_faulty world.setup letter.to))
+  where
+    alike : (faulty : Bool) → DidSame
+        (cond faulty (unchanged world (Inject letter.to letter.text))
+        (received world (Inject letter.to letter.text) letter.to letter.text))
+        (cond faulty (unchanged world (Deliver number)) (received world (Deliver number) letter.to letter.text))
+    alike true = recorded_same world (Inject letter.to letter.text) (Deliver number) [] None
+    alike false = received_same world (Inject letter.to letter.text) (Deliver number) letter.to letter.text

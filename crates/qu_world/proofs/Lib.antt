@@ -3,5 +3,6 @@ pub mod LetterLaws
 pub mod Injecting
 pub mod Moving
 pub mod OpeningLaws
+pub mod Steps
 pub mod RunLaws
 pub mod WorldGrowth

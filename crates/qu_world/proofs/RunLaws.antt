@@ -26,7 +26,8 @@ use Rattle.qu_client.specs.declared.work.Work.{Work}
 use Rattle.qu_world.specs.declared.fail.WorldFail.TheVariants as fails
 use Rattle.qu_world.specs.declared.fail.TheConstants.{EVENT_LIMIT, BYTE_LIMIT}
 use Rattle.qu_world.specs.State.{WorldState, ring_of, opening_world, opening_clients, numbered, letter_of}
-use Rattle.qu_world.specs.Step.{world_step, at_client, at_replica, received, delivered}
+use Rattle.qu_world.proofs.Steps.{step_cases, is_invoked}
+use Rattle.qu_world.specs.Step.{moved, world_step, at_client, at_replica, received, delivered}
 use Rattle.qu_world.specs.Refusals.{cause_of, limit_at, refused_invocation}
 use Rattle.qu_world.specs.Parties.{MayBegin, CanBegin}
 use Rattle.qu_world.specs.Run.{run_from, run, MayHappen, events_of, IsSetup, IsWorld, IsCounted}
@@ -79,14 +80,20 @@ delivered_records : (world : WorldState) (event : Event) (letter : Option Letter
 delivered_records world event None = record { setup = refl; entry = _; of_event = refl; entries = refl }
 delivered_records world event (Some letter) = received_records world event letter.to letter.text
 
-pub step_records : (world : WorldState) (event : Event) → Records world (world_step world event) event
-step_records world (Invoke client op) =
+moved_records : (world : WorldState) (event : Event) → Records world (moved world event) event
+moved_records world (Invoke client op) =
     at_client_records world (Invoke client op) client (λ state. client_invoke state op)
     (numbered world.clients client.0)
-step_records world (Deliver number) = delivered_records world (Deliver number) (letter_of world number)
-step_records world (Tick client) =
+moved_records world (Deliver number) = delivered_records world (Deliver number) (letter_of world number)
+moved_records world (Tick client) =
     at_client_records world (Tick client) client client_tick (numbered world.clients client.0)
-step_records world (Inject who text) = received_records world (Inject who text) who text
+moved_records world (Inject who text) = received_records world (Inject who text) who text
+
+pub step_records : (world : WorldState) (event : Event) → Records world (world_step world event) event
+step_records world event =
+    step_cases (λ (made : WorldState). Records world made event) world event
+    (record { setup = refl; entry = _; of_event = refl; entries = refl })
+    (λ correct. moved_records world event)
 
 -- ---- worlds
 
@@ -177,20 +184,28 @@ numbers_delivered most world event None all =
     each_weaker (NumbersWithin most) (NumbersWithin (most + 1)) world.clients (within_more most) all
 numbers_delivered most world event (Some letter) all = numbers_received most world event letter.to letter.text all
 
+numbers_moved : (most : ℕ) (world : WorldState) (event : Event)
+    → AllByRecursion (NumbersWithin most) world.clients → AllByRecursion (NumbersWithin (most + 1))
+    (moved world event).clients
+numbers_moved most world (Invoke client op) all =
+    numbers_at most world (Invoke client op) client (λ state. client_invoke state op)
+    (numbered world.clients client.0) refl
+    (λ state within. NumbersWithin-invoke most state op within) all
+numbers_moved most world (Deliver number) all =
+    numbers_delivered most world (Deliver number) (letter_of world number) all
+numbers_moved most world (Tick client) all =
+    numbers_at most world (Tick client) client client_tick (numbered world.clients client.0) refl
+    (λ state within. within_more most (client_tick state).state (NumbersWithin-tick most state within)) all
+numbers_moved most world (Inject who text) all = numbers_received most world (Inject who text) who text all
+
 -- a step makes the numbers of operations at most one greater
 numbers_step : (most : ℕ) (world : WorldState) (event : Event)
     → AllByRecursion (NumbersWithin most) world.clients → AllByRecursion (NumbersWithin (most + 1))
     (world_step world event).clients
-numbers_step most world (Invoke client op) all =
-    numbers_at most world (Invoke client op) client (λ state. client_invoke state op)
-    (numbered world.clients client.0) refl
-    (λ state within. NumbersWithin-invoke most state op within) all
-numbers_step most world (Deliver number) all =
-    numbers_delivered most world (Deliver number) (letter_of world number) all
-numbers_step most world (Tick client) all =
-    numbers_at most world (Tick client) client client_tick (numbered world.clients client.0) refl
-    (λ state within. within_more most (client_tick state).state (NumbersWithin-tick most state within)) all
-numbers_step most world (Inject who text) all = numbers_received most world (Inject who text) who text all
+numbers_step most world event all =
+    step_cases (λ (made : WorldState). AllByRecursion (NumbersWithin (most + 1)) made.clients) world event
+    (each_weaker (NumbersWithin most) (NumbersWithin (most + 1)) world.clients (within_more most) all)
+    (λ correct. numbers_moved most world event all)
 
 numbers_from : (events : List Event) (most total : ℕ) (world : WorldState) → total ≡ most + length events
     → AllByRecursion (NumbersWithin most) world.clients → AllByRecursion (NumbersWithin total)
@@ -241,7 +256,7 @@ pub may_begin : (world : WorldState) (event : Event) → IsWorld world → lengt
     → cause_of world event ≡ None → MayBegin world.clients event
 may_begin world (Invoke client op) is few free =
     can_begin world.clients client.0 (length world.entries) (party.Client client)
-    (numbered world.clients client.0) refl (numbers_world world is) few free
+    (numbered world.clients client.0) refl (numbers_world world is) few (is_invoked world client op free).free
 may_begin world (Deliver number) is few free = tt
 may_begin world (Tick client) is few free = tt
 may_begin world (Inject who text) is few free = tt

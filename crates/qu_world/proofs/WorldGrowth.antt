@@ -18,7 +18,8 @@ use Rattle.qu_client.specs.Steps.{client_invoke, client_step, client_tick}
 use Rattle.qu_trace.specs.declared.event.Event.{Event}
 use Rattle.qu_trace.specs.declared.event.Event.TheVariants.{Invoke, Deliver, Tick, Inject}
 use Rattle.qu_world.specs.State.{WorldState, numbered, letter_of}
-use Rattle.qu_world.specs.Step.{world_step, at_replica, at_client, received, delivered}
+use Rattle.qu_world.proofs.Steps.{step_cases}
+use Rattle.qu_world.specs.Step.{moved, world_step, at_replica, at_client, received, delivered}
 use Rattle.qu_world.specs.Growth.{GrowsTo}
 use Rattle.qu_world.specs.Run.{run_from}
 
@@ -79,14 +80,19 @@ delivered-grows : (world : WorldState) (event : Event) (letter : Option Letter)
 delivered-grows world event None = record { setup = refl; replicas = each-self world.replicas }
 delivered-grows world event (Some letter) = received-grows world event letter.to letter.text
 
-pub world_step-grows : (world : WorldState) (event : Event) → GrowsTo world (world_step world event)
-world_step-grows world (Invoke client op) =
+moved-grows : (world : WorldState) (event : Event) → GrowsTo world (moved world event)
+moved-grows world (Invoke client op) =
     at_client-grows world (Invoke client op) client (λ (state : ClientState). client_invoke state op)
     (numbered world.clients client.0)
-world_step-grows world (Deliver number) = delivered-grows world (Deliver number) (letter_of world number)
-world_step-grows world (Tick client) =
+moved-grows world (Deliver number) = delivered-grows world (Deliver number) (letter_of world number)
+moved-grows world (Tick client) =
     at_client-grows world (Tick client) client client_tick (numbered world.clients client.0)
-world_step-grows world (Inject who text) = received-grows world (Inject who text) who text
+moved-grows world (Inject who text) = received-grows world (Inject who text) who text
+
+pub world_step-grows : (world : WorldState) (event : Event) → GrowsTo world (world_step world event)
+world_step-grows world event =
+    step_cases (GrowsTo world) world event (record { setup = refl; replicas = each-self world.replicas })
+    (λ correct. moved-grows world event)
 
 -- what a step made of a world grew out of it
 pub step_made-grows : (old new : WorldState) (event : Event) → new ≡ world_step old event → GrowsTo old new

@@ -13,7 +13,7 @@ use Rattle.qu_trace.specs.declared.trace.Entry.{Entry}
 use Rattle.qu_trace.specs.declared.trace.Setup.{Setup}
 use Rattle.qu_world.specs.declared.parties.Made.{Made}
 use Rattle.qu_world.specs.State.{WorldState, world_of, numbered, with_numbered}
-use Rattle.qu_world.specs.Step.{ended_by, received, world_step}
+use Rattle.qu_world.specs.Step.{ended_by, received, moved, world_step}
 
 -- nobody moved, and nothing was made
 pub record MakesNothing {X : Type 0} (old new : List X) (made : Made) : Type 0 where
@@ -71,15 +71,21 @@ Receives replicas moved clients stepped to text made =
     (setup : Setup) (entries : List Entry) (event : Event) → made_world setup moved stepped entries event
     made ≡ received (world_of setup replicas clients entries) event to text
 
--- an event made this of the parties
-abbrev pub Makes : List ReplicaState → List ReplicaState → List ClientState → List ClientState → List Entry
+-- the step of the party at which an event happens made this of the parties
+abbrev pub Steps : List ReplicaState → List ReplicaState → List ClientState → List ClientState → List Entry
     → Event → Made → Type 0
-Makes replicas moved clients stepped entries event made =
-    (setup : Setup) → made_world setup moved stepped entries event made ≡ world_step
+Steps replicas others clients stepped entries event made =
+    (setup : Setup) → made_world setup others stepped entries event made ≡ moved
     (world_of setup replicas clients entries) event
 
+-- an event made this of the parties
+abbrev pub Makes : Setup → List ReplicaState → List ReplicaState → List ClientState → List ClientState → List Entry
+    → Event → Made → Type 0
+Makes setup replicas others clients stepped entries event made =
+    made_world setup others stepped entries event made ≡ world_step (world_of setup replicas clients entries) event
+
 -- an event made this of the parties and of the record
-abbrev pub MakesEntry : List ReplicaState → List ReplicaState → List ClientState → List ClientState → List Entry
-    → List Entry → Event → Type 0
-MakesEntry replicas moved clients stepped before after event =
-    (setup : Setup) → world_of setup moved stepped after ≡ world_step (world_of setup replicas clients before) event
+abbrev pub MakesEntry : Setup → List ReplicaState → List ReplicaState → List ClientState → List ClientState
+    → List Entry → List Entry → Event → Type 0
+MakesEntry setup replicas moved clients stepped before after event =
+    world_of setup moved stepped after ≡ world_step (world_of setup replicas clients before) event

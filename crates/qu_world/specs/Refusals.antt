@@ -13,7 +13,7 @@ use Rattle.qu_trace.specs.Letters.{bytes_sent}
 use Rattle.qu_world.specs.declared.fail.WorldFail.{WorldFail}
 use Rattle.qu_world.specs.declared.fail.WorldFail.TheVariants.{NoSuchLetter, NoSuchActor, Busy, TooManyEvents, TooManyBytes}
 use Rattle.qu_world.specs.declared.fail.TheConstants.{EVENT_LIMIT, BYTE_LIMIT}
-use Rattle.qu_world.specs.State.{WorldState, numbered, letter_of}
+use Rattle.qu_world.specs.State.{WorldState, numbered, letter_of, correct_client}
 
 -- ---- causes
 
@@ -38,11 +38,11 @@ is_party replicas clients (party.Client me) = is_some (numbered clients me.0)
 abbrev pub refused_injection : Party → Bool → Option WorldFail
 refused_injection who there = if there then None else Some (NoSuchActor who)
 
--- why an event cannot happen here: no such letter, no such party, or a client that is busy
+-- why an event cannot happen here: no such letter, no such party, no correct client, or one that is busy
 abbrev pub cause_of : WorldState → Event → Option WorldFail
-cause_of world (Invoke client op) = refused_invocation (party.Client client) (numbered world.clients client.0)
+cause_of world (Invoke client op) = refused_invocation (party.Client client) (correct_client world client)
 cause_of world (Deliver number) = refused_delivery number (letter_of world number)
-cause_of world (Tick client) = refused_tick (party.Client client) (numbered world.clients client.0)
+cause_of world (Tick client) = refused_tick (party.Client client) (correct_client world client)
 cause_of world (Inject who text) = refused_injection who (is_party world.replicas world.clients who)
 
 -- ---- limits

@@ -1,11 +1,12 @@
 -- A run: the fold of the steps over a list of events, each of which may happen where it comes. It may have any
 -- number of events and letters; the limits are those of the call that makes a run.
-use Rattle.std.specs.Prelude.{ℕ, ◌≡◌, ◌≤◌, ◌-◌, ◌^◌, min, List, [], ◌∷◌, map, length, None}
+use Rattle.std.specs.Prelude.{ℕ, ◌≡◌, ◌≤◌, ◌-◌, ◌^◌, min, List, [], ◌∷◌, map, length, None, count_by}
 use Rattle.qu_base.specs.declared.limits.TheConstants.{LAST_CLIENT, MOST_FAULTS, OBJECT_IDS}
 use Rattle.qu_trace.specs.declared.event.Event.{Event}
 use Rattle.qu_trace.specs.declared.trace.Entry.{Entry}
 use Rattle.qu_trace.specs.declared.trace.Setup.{Setup}
 use Rattle.qu_trace.specs.declared.trace.Trace.{Trace}
+use Rattle.qu_trace.specs.Faulty.{is_replica}
 use Rattle.qu_trace.specs.Letters.{bytes_sent}
 use Rattle.qu_world.specs.State.{WorldState, opening_world}
 use Rattle.qu_world.specs.Step.{world_step}
@@ -33,6 +34,8 @@ pub record IsSetup (setup : Setup) : Type 0 where
   pub few_faults : setup.bounds ≤ MOST_FAULTS
   pub clients : setup.clients ≤ LAST_CLIENT
   pub kinds : length setup.kinds ≤ OBJECT_IDS
+  -- at most b replicas are faulty
+  pub few : count_by is_replica setup.liars ≤ setup.bounds
 
 -- a trace is that of the run of its events
 pub record IsRun (trace : Trace) : Type 0 where

@@ -1,7 +1,9 @@
 -- A world: the state of each replica and client, and the record of what happened so far.
-use Rattle.std.specs.Prelude.{ℕ, zero, suc, ◌+◌, List, [], ◌∷◌, slice_get, slice_set, Option, None}
+use Rattle.std.specs.Prelude.{ℕ, if◌then◌else◌, zero, suc, ◌+◌, List, [], ◌∷◌, slice_get, slice_set, Option, None}
 use Rattle.std.specs.Option.{option_and_then}
+use Rattle.qu_base.specs.declared.party.ClientId.{ClientId}
 use Rattle.qu_base.specs.declared.party.ObjectId.{ObjectId}
+use Rattle.qu_base.specs.declared.party.Party.TheVariants as party
 use Rattle.qu_base.specs.declared.party.ReplicaId.{ReplicaId}
 use Rattle.qu_base.specs.Bounds.{replicas}
 use Rattle.qu_seal.specs.Keys.{Ring}
@@ -13,6 +15,7 @@ use Rattle.qu_client.specs.State as client
 use Rattle.qu_client.specs.declared.state.ClientState.{ClientState}
 use Rattle.qu_trace.specs.declared.trace.Setup.{Setup}
 use Rattle.qu_trace.specs.declared.trace.Entry.{Entry}
+use Rattle.qu_trace.specs.Faulty.{is_faulty}
 use Rattle.qu_trace.specs.Letters.{letters_of}
 
 pub record WorldState : Type 0 where
@@ -61,6 +64,11 @@ numbered items (suc number) = slice_get items number
 abbrev pub with_numbered : {X : Type 0} → List X → ℕ → X → List X
 with_numbered items zero item = items
 with_numbered items (suc number) item = slice_set items number item
+
+-- the client with this number, where it is correct
+abbrev pub correct_client : WorldState → ClientId → Option ClientState
+correct_client world me =
+    if is_faulty world.setup (party.Client me) then None else numbered world.clients me.0
 
 -- the letter with this number
 abbrev pub letter_of : WorldState → ℕ → Option Letter

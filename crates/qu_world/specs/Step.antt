@@ -1,5 +1,5 @@
 -- What an event makes of a world: one step of one party, which is recorded.
-use Rattle.std.specs.Prelude.{ℕ, List, [], ◌∷◌, ◌++◌, slice_get, slice_set, Option, None, Some, option_map}
+use Rattle.std.specs.Prelude.{ℕ, Bool, false, if◌then◌else◌, List, [], ◌∷◌, ◌++◌, slice_get, slice_set, Option, None, Some, option_map}
 use Rattle.qu_base.specs.declared.party.ClientId.{ClientId}
 use Rattle.qu_base.specs.declared.party.ReplicaId.{ReplicaId}
 use Rattle.qu_base.specs.declared.party.Party.{Party}
@@ -12,6 +12,10 @@ use Rattle.qu_client.specs.declared.work.Work.{Work}
 use Rattle.qu_client.specs.declared.state.ClientState.{ClientState}
 use Rattle.qu_client.specs.declared.state.Stepped.{Stepped}
 use Rattle.qu_client.specs.Steps.{client_invoke, client_step, client_tick}
+use Rattle.qu_trace.specs.declared.trace.Setup.{Setup}
+use Rattle.qu_trace.specs.declared.trace.Entry.{Entry}
+use Rattle.qu_trace.specs.Letters.{letters_of}
+use Rattle.qu_trace.specs.Faulty.{is_faulty}
 use Rattle.qu_trace.specs.declared.event.Event.{Event}
 use Rattle.qu_trace.specs.declared.event.Event.TheVariants.{Invoke, Deliver, Tick, Inject}
 use Rattle.qu_world.specs.State.{WorldState, numbered, with_numbered, letter_of}
@@ -60,9 +64,25 @@ abbrev pub delivered : WorldState → Event → Option Letter → WorldState
 delivered world event None = unchanged world event
 delivered world event (Some letter) = received world event letter.to letter.text
 
-abbrev pub world_step : WorldState → Event → WorldState
-world_step world (Invoke client op) =
+-- the step of the party at which the event happens
+abbrev pub moved : WorldState → Event → WorldState
+moved world (Invoke client op) =
     at_client world (Invoke client op) client (λ state. client_invoke state op) (numbered world.clients client.0)
-world_step world (Deliver number) = delivered world (Deliver number) (letter_of world number)
-world_step world (Tick client) = at_client world (Tick client) client client_tick (numbered world.clients client.0)
-world_step world (Inject party text) = received world (Inject party text) party text
+moved world (Deliver number) = delivered world (Deliver number) (letter_of world number)
+moved world (Tick client) = at_client world (Tick client) client client_tick (numbered world.clients client.0)
+moved world (Inject party text) = received world (Inject party text) party text
+
+abbrev pub is_to_faulty : Setup → Option Letter → Bool
+is_to_faulty setup None = false
+is_to_faulty setup (Some letter) = is_faulty setup letter.to
+
+-- whether the event happens at a faulty party
+abbrev pub at_faulty : Setup → List Entry → Event → Bool
+at_faulty setup entries (Invoke client op) = is_faulty setup (party.Client client)
+at_faulty setup entries (Deliver number) = is_to_faulty setup (numbered (letters_of entries) number)
+at_faulty setup entries (Tick client) = is_faulty setup (party.Client client)
+at_faulty setup entries (Inject who text) = is_faulty setup who
+
+-- a faulty party has no step, and an event at it changes nothing
+abbrev pub world_step : WorldState → Event → WorldState
+world_step world event = if at_faulty world.setup world.entries event then unchanged world event else moved world event

@@ -1,13 +1,14 @@
 ghost use Rattle.std.specs.Prelude.{◌≡◌, ◌≤◌, ◌+◌, ◌-◌, ◌^◌, IfOk, OnOk, OnErr};
 ghost use Rattle.qu_trace.specs.Letters.{bytes_sent};
-ghost use Rattle.qu_world.specs.Parties.{MayBegin, Receives, Makes, MakesEntry};
+ghost use Rattle.qu_world.specs.Parties.{MayBegin, Receives, Steps, Makes, MakesEntry};
+ghost use Rattle.qu_world.specs.Step.{at_faulty, is_to_faulty};
 
 use super::letters::{bytes_in, letter_at};
 use super::parties::{Made, invoke_client, step_client, step_replica, tick_client};
 use qu_base::{List, NoMemory, Party};
 use qu_client::Client;
 use qu_replica::Replica;
-use qu_trace::{Entry, Event, Trace};
+use qu_trace::{Entry, Event, Setup, Trace};
 use std::alloc::Global;
 use std::mem;
 
@@ -30,8 +31,8 @@ fn take_text(
     }
 }
 
-/// What an event makes of the parties. Without memory they are as before.
-fn make(
+/// What the party at which an event happens makes of the parties. Without memory they are as before.
+fn step(
     alloc: Global,
     replicas: &mut Vec<Replica>,
     clients: &mut Vec<Client>,
@@ -39,7 +40,7 @@ fn make(
     event: &Event,
 ) -> Result<Made, NoMemory>
     requires { MayBegin clients.old.items event.now }
-    ensures made { IfOk result (Makes replicas.old.items replicas.new.items clients.old.items clients.new.items
+    ensures made { IfOk result (Steps replicas.old.items replicas.new.items clients.old.items clients.new.items
         entries.now event.now) }
     ensures replicas_stay { OnErr result (replicas.new.items ≡ replicas.old.items) }
     ensures clients_stay { OnErr result (clients.new.items ≡ clients.old.items) }
@@ -58,19 +59,55 @@ fn make(
     }
 }
 
+/// Whether an event happens at a faulty party.
+fn is_at_faulty(setup: &Setup, entries: &[Entry], event: &Event) -> bool
+    ensures { result ≡ at_faulty setup.now entries.now event.now }
+{
+    match event {
+        Event::Invoke(me, _) | Event::Tick(me) => setup.is_faulty(Party::Client(*me)),
+        Event::Deliver(number) => match letter_at(entries, *number) {
+            None => false,
+            Some(letter) => setup.is_faulty(letter.to),
+        },
+        Event::Inject(to, _) => setup.is_faulty(*to),
+    }
+}
+
+/// What an event makes of the parties: nothing where it happens at a faulty one. Without memory they are as before.
+fn make(
+    alloc: Global,
+    setup: &Setup,
+    replicas: &mut Vec<Replica>,
+    clients: &mut Vec<Client>,
+    entries: &[Entry],
+    event: &Event,
+) -> Result<Made, NoMemory>
+    requires { MayBegin clients.old.items event.now }
+    ensures made { IfOk result (Makes setup.now replicas.old.items replicas.new.items clients.old.items
+        clients.new.items entries.now event.now) }
+    ensures replicas_stay { OnErr result (replicas.new.items ≡ replicas.old.items) }
+    ensures clients_stay { OnErr result (clients.new.items ≡ clients.old.items) }
+{
+    if is_at_faulty(setup, entries, event) {
+        return Ok(Made::nothing(alloc));
+    }
+    step(alloc, replicas, clients, entries, event)
+}
+
 /// Records an event with what it makes of the parties, and tells how many bytes were sent. Room for
 /// the record is made first.
 #[tactic(auto, using(crate::proofs::LetterLaws::bytes_sent_more))]
 fn push_event(
     alloc: Global,
+    setup: &Setup,
     replicas: &mut Vec<Replica>,
     clients: &mut Vec<Client>,
     entries: &mut Vec<Entry>,
     event: Event,
 ) -> Result<u128, NoMemory>
     requires { MayBegin clients.old.items event }
-    ensures ok { OnOk result (MakesEntry replicas.old.items replicas.new.items clients.old.items clients.new.items
-        entries.old.items entries.new.items event) }
+    ensures ok { OnOk result (MakesEntry setup.now replicas.old.items replicas.new.items clients.old.items
+        clients.new.items entries.old.items entries.new.items event) }
     ensures sent { IfOk result (λ bytes. bytes_sent entries.new.items ≡ bytes_sent entries.old.items + bytes) }
     ensures most { IfOk result (λ bytes. bytes ≤ 2 ^ 128 - 2 ^ 64) }
     ensures replicas_stay { OnErr result (replicas.new.items ≡ replicas.old.items) }
@@ -78,7 +115,7 @@ fn push_event(
     ensures entries_stay { OnErr result (entries.new.items ≡ entries.old.items) }
 {
     entries.reserve(1)?;
-    let made = make(alloc, replicas, clients, entries.as_slice(), &event)?;
+    let made = make(alloc, setup, replicas, clients, entries.as_slice(), &event)?;
     let bytes = bytes_in(made.letters.as_slice());
     entries.push_reserved(Entry {
         event,
@@ -97,8 +134,8 @@ pub fn record_event(
     event: Event,
 ) -> Result<u128, NoMemory>
     requires { MayBegin clients.old.items event }
-    ensures ok { OnOk result (MakesEntry replicas.old.items replicas.new.items clients.old.items clients.new.items
-        trace.old.entries trace.new.entries event) }
+    ensures ok { OnOk result (MakesEntry trace.old.setup replicas.old.items replicas.new.items clients.old.items
+        clients.new.items trace.old.entries trace.new.entries event) }
     ensures sent { IfOk result (λ bytes. bytes_sent trace.new.entries ≡ bytes_sent trace.old.entries + bytes) }
     ensures most { IfOk result (λ bytes. bytes ≤ 2 ^ 128 - 2 ^ 64) }
     ensures setup { trace.new.setup ≡ trace.old.setup }
@@ -107,7 +144,7 @@ pub fn record_event(
     ensures trace_stays { OnErr result (trace.new ≡ trace.old) }
 {
     let mut entries = mem::replace(&mut trace.entries, List::new(alloc)).into_vec();
-    let recorded = push_event(alloc, replicas, clients, &mut entries, event);
+    let recorded = push_event(alloc, &trace.setup, replicas, clients, &mut entries, event);
     trace.entries = List::from(entries);
     recorded
 }

@@ -2,7 +2,9 @@ ghost use Rattle.std.specs.Prelude.{◌≡◌, ◌≢◌, ◌<◌, ◌^◌, leng
 ghost use Rattle.std.specs.Option.{option_copied};
 ghost use Rattle.qu_trace.specs.declared.trace.Setup.{Setup as SetupOf};
 ghost use Rattle.qu_world.specs.declared.fail.WorldFail.{WorldFail as Fail};
-ghost use Rattle.qu_world.specs.State.{opening_world, numbered, history_at};
+ghost use Rattle.qu_base.specs.declared.party.Party.TheVariants as party;
+ghost use Rattle.qu_trace.specs.Faulty.{is_faulty};
+ghost use Rattle.qu_world.specs.State.{opening_world, correct_client, history_at};
 ghost use Rattle.qu_world.specs.Step.{world_step};
 ghost use Rattle.qu_world.specs.Refusals.{cause_of, limit_of, refusal_of};
 ghost use Rattle.qu_replica.specs.Growth.{AreHistories};
@@ -16,7 +18,7 @@ use super::recording::record_event;
 use super::refusals::{
     limit_at, refuse_delivery, refuse_injection, refuse_invocation, refuse_tick,
 };
-use qu_base::{ClientId, List, NoMemory, ObjectId, ReplicaId};
+use qu_base::{ClientId, List, NoMemory, ObjectId, Party, ReplicaId};
 use qu_client::Client;
 use qu_history::History;
 use qu_replica::Replica;
@@ -138,6 +140,9 @@ impl World {
     {
         let clients = self.clients.as_slice();
         match event {
+            Event::Invoke(me, _) | Event::Tick(me) if self.is_faulty_client(*me) => {
+                Some(WorldFail::NoSuchActor(Party::Client(*me)))
+            }
             Event::Invoke(me, _) => refuse_invocation(clients, *me),
             Event::Deliver(number) => refuse_delivery(self.trace.entries.as_slice(), *number),
             Event::Tick(me) => refuse_tick(clients, *me),
@@ -193,11 +198,20 @@ impl World {
         self.replica(me)?.history(object)
     }
 
-    /// The client with this number as it is now. None exactly where the setup has no such client.
+    /// The client with this number as it is now. None exactly where the setup has no such correct client.
     pub fn client(&self, me: ClientId) -> Option<&Client>
-        ensures { option_copied result ≡ numbered self.now.clients me.0 }
+        ensures { option_copied result ≡ correct_client self.now me }
     {
+        if self.is_faulty_client(me) {
+            return None;
+        }
         client_at(self.clients.as_slice(), me)
+    }
+
+    fn is_faulty_client(&self, me: ClientId) -> bool
+        ensures { result ≡ is_faulty self.now.setup (party.Client me) }
+    {
+        self.trace.setup.is_faulty(Party::Client(me))
     }
 }
 

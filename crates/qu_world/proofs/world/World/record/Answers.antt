@@ -28,7 +28,7 @@ invariant_of-self-2 c =
           IsWorld-step old new c.args.event
           (ap (λ setup. world_of setup made.replicas.items made.clients.items made.trace.entries)
           c.in_ok-bytes.ensures.setup
-          ∙ c.in_ok-bytes.ensures.ok inside.trace.setup)
+          ∙ c.in_ok-bytes.ensures.ok)
           c.self.invariant.is_world
           (ap (λ world. cause_of world c.args.event) c.self.view_is ∙ c.requires);
       all =
@@ -46,4 +46,4 @@ returns-clause-grows c =
     (step_made-grows old new c.args.event
     (ap (λ setup. world_of setup made.replicas.items made.clients.items made.trace.entries)
     c.in_ok-bytes.ensures.setup
-    ∙ c.in_ok-bytes.ensures.ok inside.trace.setup))
+    ∙ c.in_ok-bytes.ensures.ok))
