@@ -22,7 +22,7 @@ use Rattle.qu_frames.specs.declared.frame.Body.TheVariants as body
 use Rattle.qu_frames.specs.declared.frame.Frame.{Frame}
 use Rattle.qu_frames.specs.declared.frame.Frame.TheVariants.{Request, Reply}
 use Rattle.qu_frames.specs.declared.limits.TheConstants.{LAST_ROUND, CULLED_LIMIT}
-use Rattle.qu_frames.specs.declared.refusal_number.TheConstants.{HISTORY_FULL, THIN, NEEDS, STALE, NOT_CURRENT, NOT_METHOD, SPENT, TIME_SPENT, UNKNOWN_OBJECT, SOUND}
+use Rattle.qu_frames.specs.declared.refusal_number.TheConstants.{HISTORY_FULL, THIN, NEEDS, STALE, NOT_CURRENT, NOT_METHOD, SPENT, TIME_SPENT, UNKNOWN_OBJECT}
 use Rattle.qu_frames.specs.RefusalNumber.{refusal_number, is_refusal_number}
 use Rattle.qu_frames.specs.declared.verdict.ClassCode.{ClassCode}
 use Rattle.qu_frames.specs.declared.verdict.ClassCode.TheVariants as class

@@ -1,5 +1,5 @@
 //! Verdicts from bytes, by the formats of `specs/Formats.antt`.
-ghost use Rattle.std.specs.Prelude.{◌≡◌, ◌<◌, IfOk, OnErr};
+ghost use Rattle.std.specs.Prelude.{◌≡◌, ◌<◌, IfOk};
 ghost use Rattle.qu_base.specs.Reading.{Reads, Gives};
 ghost use Rattle.qu_frames.specs.Formats.{class_form, refusal_form, stamp_from, some_stamps, stamps_form, verdict_form};
 

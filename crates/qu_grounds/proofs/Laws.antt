@@ -201,7 +201,8 @@ module _ (trace : Trace) (is_run : IsRun trace) (have : ArePlain trace) where
       let one : Accepts accepted.old accepted.new (accepted.delivered).carried = (accepted.delivered).accepts in
       let stamp : candidate.stamp ≡ fresh_stamp
       (asked_of one.client one.number one.sets (body.Act one.parts)) object =
-      ap (λ (it : Candidate). it.stamp) (sym accepted.candidate_is) ∙ (one.grounds object (accepted.delivered).names).stamp in
+      ap (λ (it : Candidate). it.stamp) (sym accepted.candidate_is)
+      ∙ (one.grounds object (accepted.delivered).names).stamp in
       record {
         plain = ap (λ (it : Stamp). not it.barrier) stamp;
         is_act = ap (λ (it : Stamp). is_some it.act) stamp;

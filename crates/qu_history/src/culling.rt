@@ -1,5 +1,4 @@
-ghost use Rattle.std.specs.Prelude.{◌≡◌, ◌++◌, [], ◌∷◌, not, filter, map, IfOk, OnOk, IsTrue};
-ghost use Rattle.std.specs.List.{flat_map};
+ghost use Rattle.std.specs.Prelude.{◌≡◌, ◌++◌, [], ◌∷◌, IfOk, OnOk, IsTrue};
 ghost use Rattle.std.specs.Option.{option_copied};
 ghost use Rattle.qu_history.specs.Culling.{history_digest, mac_is_right, is_right, culled_set, culled, left_of, left_out};
 ghost use Rattle.qu_history.specs.Sealing.{are_right};

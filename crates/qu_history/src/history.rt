@@ -1,8 +1,7 @@
-ghost use Rattle.std.specs.Prelude.{◌≡◌, ◌<◌, ◌≤◌, ◌↔◌, length, [], ◌∷◌, ◌++◌, IsTrue, true, false, IfOk, OnOk, OnErr, IfErr};
+ghost use Rattle.std.specs.Prelude.{◌≡◌, ◌<◌, ◌≤◌, ◌↔◌, length, [], ◌∷◌, ◌++◌, IsTrue, true, false, IfOk, OnOk, OnErr};
 ghost use Rattle.qu_stamp.specs.declared.stamp.Stamp.{Stamp};
 ghost use Rattle.qu_stamp.specs.Candidate.{opening};
 ghost use Rattle.qu_stamp.specs.Stamp.{is_below};
-ghost use Rattle.qu_base.specs.Cursor.{Extends};
 ghost use Rattle.qu_base.specs.Reading.{Gives, IsGiven};
 ghost use Rattle.qu_history.specs.History.{is_history, latest, holds, last};
 ghost use Rattle.qu_history.specs.Formats.{history_form};

@@ -1,6 +1,6 @@
-ghost use Rattle.std.specs.Prelude.{◌≡◌, ◌≤◌, length, None, Some, IsTrue, IfOk, OnErr};
+ghost use Rattle.std.specs.Prelude.{◌≡◌, ◌≤◌, length, None, Some, IsTrue, IfOk};
 ghost use Rattle.qu_base.specs.Format.{items};
-ghost use Rattle.qu_base.specs.Reading.{Reads, Gives, IsGiven};
+ghost use Rattle.qu_base.specs.Reading.{Reads, Gives};
 ghost use Rattle.qu_stamp.specs.Formats.{candidate_form};
 ghost use Rattle.qu_history.specs.History.{is_history};
 ghost use Rattle.qu_history.specs.Formats.{next_stamp, next_candidate, candidates_form};

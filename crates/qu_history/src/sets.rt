@@ -1,4 +1,4 @@
-ghost use Rattle.std.specs.Prelude.{◌≡◌, ◌≤◌, ◌↔◌, [], length, true, false, IsTrue, IsNone, IfNone, IfSome, IfOk};
+ghost use Rattle.std.specs.Prelude.{◌≡◌, ◌≤◌, ◌↔◌, [], length, true, false, IsTrue, IsNone, IfSome, IfOk};
 ghost use Rattle.qu_history.specs.Sets.{is_entry, are_entries, is_set, are_sets, histories, entries_of, order_of, latest_of, method_at};
 
 use super::{History, OBJECTS_LIMIT, Sealed, entries};

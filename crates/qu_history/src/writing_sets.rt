@@ -1,4 +1,4 @@
-ghost use Rattle.std.specs.Prelude.{◌≡◌, ◌++◌, List, take, length, OnOk, OnErr};
+ghost use Rattle.std.specs.Prelude.{◌≡◌, ◌++◌, take, length, OnOk, OnErr};
 ghost use Rattle.std.specs.List.{flat_map};
 ghost use Rattle.qu_base.specs.declared.party.ReplicaId.{ReplicaId};
 ghost use Rattle.qu_history.specs.Formats.{macs_form, sealed_form, entries_form, set_form, sets_form, shown_form};

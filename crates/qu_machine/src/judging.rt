@@ -1,7 +1,7 @@
 ghost use Rattle.std.specs.Prelude.{◌≡◌, length, position, IfOk, IsOkUnless, OnOk, MatchOption, MatchResult, All};
 ghost use Rattle.qu_machine.specs.PointTests.{is_outside, is_absent};
 ghost use Rattle.qu_machine.specs.Serial.{IsRising, HasObjects, IsSerial, op_answer, op_values};
-ghost use Rattle.qu_machine.specs.Fault.{IsFault, IsFirst, Nowhere, DiffersAt, OutsideAt, TwiceAt, AbsentAt};
+ghost use Rattle.qu_machine.specs.Fault.{IsFault, IsFirst, Nowhere, DiffersAt, TwiceAt};
 ghost use Rattle.qu_machine.specs.declared.fault.JudgeFault.TheVariants as faults;
 
 use super::standing::{differs, is_absent, is_outside, stood_before};

@@ -1,6 +1,6 @@
 -- The format of states is exact.
 use Rattle.std.proofs.Common.{◌≡◌, ℕ, true, ◌^◌, ◌<◌, ◌&&◌, Option, None, Some, refl, arith}
-use Rattle.std.specs.Prelude.{IsTrue, nat_le}
+use Rattle.std.specs.Prelude.{IsTrue}
 use Rattle.std.proofs.lemmas.Bool.Decides.{nat_tests}
 use Rattle.std.specs.Int.{w8, w16}
 use Rattle.qu_base.specs.declared.bad_text.Why.TheVariants.{Order}
@@ -13,7 +13,7 @@ use Rattle.qu_base.proofs.Reading.{given_exactly}
 use Rattle.qu_stamp.proofs.Forms.{stamp_with-exact}
 use Rattle.qu_objects.specs.declared.kind.Value.{Value}
 use Rattle.qu_objects.specs.declared.kind.Value.TheVariants.{Counter}
-use Rattle.qu_objects.specs.declared.limits.TheConstants.{LAST_KIND, KEPT_LIMIT, LINKS_LIMIT}
+use Rattle.qu_objects.specs.declared.limits.TheConstants.{KEPT_LIMIT, LINKS_LIMIT}
 use Rattle.qu_objects.specs.Formats.{word_form, is_after}
 use Rattle.qu_objects.specs.States.{kind_code, counted_value, is_kind_code, value_form, client_form, is_later_client, row_form, after_row, kept_form, link_form, after_link, links_form, state_form}
 use Rattle.qu_objects.proofs.Forms.{word-exact, byte-exact, answer-exact}

@@ -1,4 +1,4 @@
-ghost use Rattle.std.specs.Prelude.{◌≡◌, ◌<◌, ◌↔◌, IsOk, IfOk, IfErr, IsTrue};
+ghost use Rattle.std.specs.Prelude.{◌≡◌, ◌<◌, ◌↔◌, IsOk, IfOk, IsTrue};
 ghost use Rattle.qu_objects.specs.Parts.{are_parts};
 
 use qu_base::{List, NoMemory, OBJECT_IDS, ObjectId};

@@ -1,5 +1,5 @@
 //! The answers that are sent in a run, each of whose letters is decoded once.
-ghost use Rattle.std.specs.Prelude.{◌≡◌, [], ◌++◌, Ok, map, position, option_map, IfOk, OnOk};
+ghost use Rattle.std.specs.Prelude.{◌≡◌, [], ◌++◌, Ok, map, position, IfOk, OnOk};
 ghost use Rattle.std.specs.List.{cons_option};
 ghost use Rattle.qu_frames.specs.Decoding.{decoded};
 ghost use Rattle.qu_points.specs.Points.{answered, answered_at, has_answered, first_answer};

@@ -1,8 +1,8 @@
-ghost use Rattle.std.specs.Prelude.{◌≡◌, ◌+◌, ◌&&◌, ℕ, not, nat_le, [], ◌∷◌, ◌++◌, count_by, find, position, is_some, All, IfOk, OnOk, OnErr};
+ghost use Rattle.std.specs.Prelude.{◌≡◌, ◌+◌, ◌&&◌, ℕ, not, nat_le, [], ◌∷◌, ◌++◌, count_by, position, is_some, All, OnOk};
 ghost use Rattle.std.specs.List.{AllZip, list_any};
 ghost use Rattle.qu_base.specs.Bounds.{quorum};
-ghost use Rattle.qu_runs.specs.Accepted.{accepts, is_accepted};
-ghost use Rattle.qu_points.specs.Tracker.{is_established, is_of, is_tracked, with_tracked, with_all, is_child, is_next, IsSettled, IsSound, AreAccepted};
+ghost use Rattle.qu_runs.specs.Accepted.{accepts};
+ghost use Rattle.qu_points.specs.Tracker.{is_established, is_tracked, with_tracked, with_all, is_child, is_next, IsSettled, IsSound, AreAccepted};
 
 use super::news::own_candidates;
 use super::tracked::Tracked;

@@ -7,7 +7,7 @@ ghost use Rattle.qu_replica.specs.State.{opening_state};
 ghost use Rattle.qu_replica.specs.Versions.{version_at};
 ghost use Rattle.qu_replica.specs.Rows.{asked_at, decision_on};
 ghost use Rattle.qu_replica.specs.Step.{named, on_frame, replica_step};
-ghost use Rattle.qu_replica.specs.Growth.{AreHistories, HasParts, Grows, MayDecide};
+ghost use Rattle.qu_replica.specs.Growth.{AreHistories, Grows, MayDecide};
 ghost use Rattle.qu_replica.specs.Fits.{StateFits, LetterFits};
 
 mod opening;

@@ -303,7 +303,8 @@ module _ (bounds : ℕ) where
   world_step-once world (Inject to text) plain fits before =
       injected_cases world to text (λ (event : Event) (new : WorldState). IsFitStep world new → IsOnceWorld bounds new)
       (λ fit. unchanged-once world (Inject to text) before)
-      (λ number letter sent hands fit. received-once world (Inject letter.to letter.text) letter.to letter.text fit before)
+      (λ number letter sent hands fit.
+      received-once world (Inject letter.to letter.text) letter.to letter.text fit before)
       plain fits
   world_step-once world (Tick client) plain fits before =
       step_once world (Tick client) before (λ correct fits.

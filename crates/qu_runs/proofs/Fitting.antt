@@ -141,7 +141,8 @@ module _ (bounds most : ℕ) (few : most + 1 < 2 ^ 64) (size : replicas bounds �
 
   step_world : (event : Event) → IsPlain world event → FitWorld bounds (most + 1) (world_step world event)
   step_world (Invoke client what) plain =
-      step_cases (FitWorld bounds (most + 1)) world (Invoke client what) (unchanged_fit (Invoke client what)) (λ correct.
+      step_cases (FitWorld bounds (most + 1)) world (Invoke client what) (unchanged_fit (Invoke client what))
+      (λ correct.
       at_client_fit (Invoke client what) client (λ (state : ClientState). client_invoke state what)
       (numbered world.clients client.0) refl
       (λ state before. invoke_fit bounds most client.0 state what plain.1 before)

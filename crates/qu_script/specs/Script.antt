@@ -39,7 +39,8 @@ lines_from clients number (text ∷ texts) =
     then_good (lines_from clients (number + 1) texts) (λ lines. Ok ((number, line) ∷ lines)))
 
 abbrev pub setup_of : ℕ → ℕ → ℕ → Setup
-setup_of bounds seed clients = record { bounds = bounds; seed = seed; clients = clients; kinds = Counter ∷ []; liars = [] }
+setup_of bounds seed clients =
+    record { bounds = bounds; seed = seed; clients = clients; kinds = Counter ∷ []; liars = [] }
 
 -- four setup lines in their order, and then event lines
 unfoldable pub script_from : List (List ℕ) → Result Script Bad

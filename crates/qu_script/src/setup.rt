@@ -1,5 +1,5 @@
-ghost use Rattle.std.specs.Prelude.{◌≡◌, map, IfSome};
-ghost use Rattle.qu_script.specs.Grammar.{number_line, counter_word, counter_of, object_line, setup_number, IsInRange};
+ghost use Rattle.std.specs.Prelude.{◌≡◌, map};
+ghost use Rattle.qu_script.specs.Grammar.{number_line, counter_word, counter_of, object_line, setup_number};
 
 use super::cut::next_word;
 use super::numbers::{read_number_in, read_only_number};

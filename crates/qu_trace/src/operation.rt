@@ -1,4 +1,4 @@
-ghost use Rattle.std.specs.Prelude.{◌≡◌, ◌<◌, ◌≤◌, ◌+◌, ◌^◌, length, take, drop, IfOk, option_map};
+ghost use Rattle.std.specs.Prelude.{◌≡◌, ◌<◌, ◌≤◌, ◌+◌, ◌^◌, length, take, drop, IfOk};
 ghost use Rattle.std.specs.Option.{option_copied};
 ghost use Rattle.qu_trace.specs.Operation.{operations_of, invokes, begun_by, outcome_in, end_from, record_of};
 

@@ -1,7 +1,7 @@
 -- A request that was handled was sent, and belongs to an operation.
 use Rattle.qu_runs.specs.Digested.{is_handler}
 use Rattle.std.proofs.Common.{◌≡◌, ℕ, ◌<◌, ◌≤◌, Bool, true, false, cond, List, length, Option, None, Some, refl, sym, ap, subst, ◌∙◌, arith, inl, inr}
-use Rattle.std.specs.Prelude.{nat_lt, Contains}
+use Rattle.std.specs.Prelude.{Contains}
 use Rattle.std.specs.List.{list_all}
 use Rattle.std.proofs.lemmas.List.{take_all}
 use Rattle.std.proofs.lemmas.Option.{none-some, cond_some}
@@ -10,7 +10,6 @@ use Rattle.qu_base.specs.declared.party.ObjectId.{ObjectId}
 use Rattle.qu_base.specs.declared.party.Party.{Party}
 use Rattle.qu_base.specs.declared.party.Party.TheVariants as party
 use Rattle.qu_base.specs.declared.party.ReplicaId.{ReplicaId}
-use Rattle.qu_base.specs.Bounds.{replicas}
 use Rattle.qu_stamp.specs.declared.candidate.Candidate.{Candidate}
 use Rattle.qu_history.specs.declared.sets.SetOf.{SetOf}
 use Rattle.qu_history.specs.Culling.{culled}

@@ -1,5 +1,5 @@
 -- What is found under a key: in the opening versions, and after one more version was put in.
-use Rattle.std.proofs.Common.{◌≡◌, ℕ, zero, suc, ◌+◌, ◌<◌, ◌==◌, Bool, true, false, ◌&&◌, cond, if◌then◌else◌, List, [], ◌∷◌, ◌++◌, Option, None, Some, is_some, refl, sym, ap, ◌∙◌, arith, add-zero}
+use Rattle.std.proofs.Common.{◌≡◌, ℕ, zero, suc, ◌+◌, ◌<◌, ◌==◌, Bool, true, false, ◌&&◌, cond, if◌then◌else◌, List, [], ◌∷◌, ◌++◌, Option, None, Some, is_some, refl, ap, ◌∙◌, arith}
 use Rattle.std.specs.Prelude.{find, option_map, slice_get}
 use Rattle.std.specs.Option.{option_or}
 use Rattle.std.proofs.lemmas.Bool.Decides.{nat_tests}
@@ -10,7 +10,7 @@ use Rattle.qu_stamp.proofs.Order.{same_stamp-self}
 use Rattle.qu_objects.specs.declared.kind.KindName.{KindName}
 use Rattle.qu_objects.specs.declared.state.ObjState.{ObjState}
 use Rattle.qu_versions.specs.declared.store.Stored.{Stored}
-use Rattle.qu_versions.specs.Versions.{is_same_key, is_stored, state_at, is_held, with_state, Grows, fresh_state, opening_versions, opening_at}
+use Rattle.qu_versions.specs.Versions.{is_same_key, is_stored, state_at, with_state, Grows, fresh_state, opening_versions, opening_at}
 
 -- ---- the version under a key is that of the first such entry
 
@@ -131,7 +131,8 @@ opened_from object stamp first place [] is =
 opened_from object stamp first zero (kind ∷ kinds) is =
     let same : (first == object.0) ≡ true = grind (arith, nat_tests) in
     rw same (elim (same_stamp opening_stamp stamp)
-    as (λ (test : Bool). cond test (Some (fresh_state kind)) (state_at object stamp (opening_versions (first + 1) kinds)) ≡
+    as (λ (test : Bool). cond test (Some (fresh_state kind))
+    (state_at object stamp (opening_versions (first + 1) kinds)) ≡
     (if test then Some (fresh_state kind) else None)) [
       | true ↦ refl
       | false ↦ none_below object stamp (first + 1) kinds (omega arith)

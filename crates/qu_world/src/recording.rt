@@ -1,7 +1,7 @@
 ghost use Rattle.std.specs.Prelude.{◌≡◌, ◌≤◌, ◌+◌, ◌-◌, ◌^◌, IfOk, OnOk, OnErr};
 ghost use Rattle.qu_trace.specs.Letters.{bytes_sent};
 ghost use Rattle.qu_world.specs.Parties.{MayBegin, Receives, Steps, Makes, MakesEntry};
-ghost use Rattle.qu_world.specs.Step.{at_faulty, is_to_faulty};
+ghost use Rattle.qu_world.specs.Step.{at_faulty};
 
 use super::letters::{bytes_in, letter_at};
 use super::parties::{Made, invoke_client, step_client, step_replica, tick_client};

@@ -1,6 +1,5 @@
 ghost use Rattle.std.specs.Prelude.{◌≡◌, ◌≢◌, ◌<◌, ◌^◌, length, Err, Some, None, slice_get, IfSome, IfOk, OnOk, OnErr, IfErr};
 ghost use Rattle.std.specs.Option.{option_copied};
-ghost use Rattle.qu_trace.specs.declared.trace.Setup.{Setup as SetupOf};
 ghost use Rattle.qu_world.specs.declared.fail.WorldFail.{WorldFail as Fail};
 ghost use Rattle.qu_base.specs.declared.party.Party.TheVariants as party;
 ghost use Rattle.qu_trace.specs.Faulty.{is_faulty};

@@ -1,4 +1,4 @@
-ghost use Rattle.std.specs.Prelude.{◌≡◌, [], ◌∷◌, length, map, slice_get, IfOk, OnOk, OnErr};
+ghost use Rattle.std.specs.Prelude.{◌≡◌, [], ◌∷◌, map, slice_get, IfOk, OnOk, OnErr};
 ghost use Rattle.qu_history.specs.Sealing.{sealed_by};
 ghost use Rattle.qu_replica.specs.State.{accept, accept_all};
 ghost use Rattle.qu_replica.specs.Step.{shown, named, reply, carried_out};

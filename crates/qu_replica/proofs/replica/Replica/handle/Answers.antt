@@ -1,7 +1,5 @@
 -- A request whose objects the replica has passes the row, and its reply names all that is culled.
 use Rattle.std.proofs.Common.{rules, ◌≡◌, List, None, ap, ◌∙◌}
-use Rattle.qu_base.specs.declared.party.ObjectId.{ObjectId}
-use Rattle.qu_base.specs.declared.party.ReplicaId.{ReplicaId}
 use Rattle.qu_history.specs.declared.sets.SetOf.{SetOf}
 use Rattle.qu_history.specs.Culling.{left_out}
 use Rattle.qu_replica.specs.State.{ReplicaState}
