@@ -130,10 +130,9 @@ opened_from object stamp first place [] is =
     ]
 opened_from object stamp first zero (kind ∷ kinds) is =
     let same : (first == object.0) ≡ true = grind (arith, nat_tests) in
+    let later : Option ObjState = state_at object stamp (opening_versions (first + 1) kinds) in
     rw same (elim (same_stamp opening_stamp stamp)
-    as (λ (test : Bool). cond test (Some (fresh_state kind))
-    (state_at object stamp (opening_versions (first + 1) kinds)) ≡
-    (if test then Some (fresh_state kind) else None)) [
+    as (λ (test : Bool). cond test (Some (fresh_state kind)) later ≡ (if test then Some (fresh_state kind) else None)) [
       | true ↦ refl
       | false ↦ none_below object stamp (first + 1) kinds (omega arith)
     ])

@@ -53,8 +53,8 @@ impl VersionStore {
     /// nothing changes.
     pub fn put(&mut self, object: ObjectId, stamp: Stamp, state: ObjState) -> Result<(), NoMemory>
         ensures value { OnOk result (self.new ≡ with_state object stamp state self.old) }
-        ensures held { OnOk result (state_at object stamp self.new
-            ≡ option_or (state_at object stamp self.old) (Some state)) }
+        ensures held { OnOk result
+            (state_at object stamp self.new ≡ option_or (state_at object stamp self.old) (Some state)) }
         ensures others { (other : Object) (at : AStamp) → is_same_key object stamp other at ≡ false
             → OnOk result (state_at other at self.new ≡ state_at other at self.old) }
         ensures grows { OnOk result (Grows self.old self.new) }
