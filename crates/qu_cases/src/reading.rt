@@ -4,9 +4,7 @@
 use qu_base::{BadText, Cursor, NoMemory, ObjectId, Party, ReadFail};
 use qu_frames::{Frame, decode, receive};
 use qu_history::{History, Sets, read_sets};
-use qu_objects::{
-    Act, Answer, ObjState, Query, read_act, read_answer, read_query, read_state,
-};
+use qu_objects::{Act, Answer, ObjState, Query, read_act, read_answer, read_query, read_state};
 use qu_seal::KeyRing;
 use qu_stamp::{Candidate, Stamp, read_candidate, read_stamp};
 use std::alloc::Global;

@@ -238,7 +238,7 @@ module _ (trace : Trace) (is_run : IsRun trace) (have : ArePlain trace) where
       let one : Accepts accepted.old accepted.new (accepted.delivered).carried = (accepted.delivered).accepts in
       let base : Candidate = one.bases object in
       let why : IsGround accepted.old (asked_of one.client one.number one.sets (body.Act one.parts)) object
-          (one.candidates object) base = one.grounds object (accepted.delivered).names in
+      (one.candidates object) base = one.grounds object (accepted.delivered).names in
       let within : time < length trace.entries = new.step in
       let shown : quorum trace.setup.bounds ≤ acceptors (setting trace) time object base =
       base_shown time object place candidate within accepted in

@@ -119,10 +119,10 @@ module _ (trace : Trace) (count : ℕ) (within : count ≤ length trace.entries)
       → brought (ring_of world.setup) to text ≡ read
       → ((frame : Frame) → read ≡ Some frame → HasSent world (sender frame) to text) → IsPlain world (Inject to text)
   plain_injection to text None is sent = inl (record {
-        nothing = is;
-        same = step_cases (λ (made : WorldState). made ≡ unchanged world (Inject to text)) world (Inject to text) refl
-            (λ correct. ignored (Inject to text) to text is);
-      })
+    nothing = is;
+    same = step_cases (λ (made : WorldState). made ≡ unchanged world (Inject to text)) world (Inject to text) refl
+        (λ correct. ignored (Inject to text) to text is);
+  })
   plain_injection to text (Some frame) is sent =
       let from : HasSent world (sender frame) to text = sent frame refl in
       inr (record {

@@ -81,7 +81,7 @@ asked_by : (trace : Trace) → IsRun trace → (object : ObjectId) (candidate : 
 asked_by trace is_run object candidate came =
     let one : Accepts came.old came.new (came.delivered).carried = (came.delivered).accepts in
     let why : IsGround came.old (asked_of one.client one.number one.sets (body.Act one.parts)) object
-        (one.candidates object) (one.bases object) = one.grounds object (came.delivered).names in
+    (one.candidates object) (one.bases object) = one.grounds object (came.delivered).names in
     let before : came.past < length trace.entries = came.earlier in
     let was : IsHandled trace one.client one.number one.parts =
     handled trace is_run came.past before came.entry came.of_trace came.event came.event_is came.place came.old

@@ -205,7 +205,7 @@ module _ (trace : Trace) (laws : Laws (setting trace)) (joint : Joint (setting t
     accepted_stores was accepted companions object names =
         let candidate : Candidate = one.candidates object in
         let grounds : IsGround old (asked_of one.client one.number one.sets (body.Act one.parts)) object candidate
-            (one.bases object) = one.grounds object names in (
+        (one.bases object) = one.grounds object names in (
           one.versions object,
           version_of_fresh before.of_held one object names,
           HasVersion.of_update object candidate

@@ -45,7 +45,9 @@ fn a_letter_reaches_its_receiver(rt: HostRuntime) -> Result<(), Fail> {
     world.apply(Event::Deliver(1))?;
     world.follow(Event::Deliver(7))?;
     assert_eq!(rt; world.trace().entries.len(), 3);
-    let history = world.history(ReplicaId(0), ObjectId(0)).ok_or("no history")?;
+    let history = world
+        .history(ReplicaId(0), ObjectId(0))
+        .ok_or("no history")?;
     assert_eq!(rt; history.len(), 1);
     Ok(())
 }
