@@ -1,3 +1,6 @@
+ghost use Rattle.std.specs.Prelude.{◌≤◌, IfOk};
+ghost use Rattle.qu_base.specs.declared.limits.TheConstants.{LAST_CLIENT};
+
 use super::*;
 use qu_base::{Bounds, ClientId, List, Party, ReplicaId};
 use qu_frames::Letter;
@@ -32,7 +35,9 @@ fn what_no_script_makes_is_told(rt: HostRuntime) -> Result<(), Fail> {
     Ok(())
 }
 
-fn trace_of(alloc: Global, entries: List<Entry>) -> Result<Trace, Fail> {
+fn trace_of(alloc: Global, entries: List<Entry>) -> Result<Trace, Fail>
+    ensures { IfOk result (λ trace. trace.setup.clients ≤ LAST_CLIENT) }
+{
     let setup = Setup {
         bounds: Bounds::new(1)?,
         seed: 7,
