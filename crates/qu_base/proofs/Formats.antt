@@ -9,9 +9,9 @@ use Rattle.std.proofs.lemmas.Nat.{be_bytes_2, be_bytes_8, from_be_bytes-to_be_by
 use Rattle.qu_base.specs.declared.bad_text.BadText.{BadText}
 use Rattle.qu_base.specs.declared.bad_text.Why.{Why}
 use Rattle.qu_base.specs.declared.bad_text.Why.TheVariants.{Short, Range}
-use Rattle.qu_base.specs.declared.limits.TheConstants.{OBJECT_IDS, REPLICA_IDS}
+use Rattle.qu_base.specs.declared.limits.TheConstants.{LAST_CLIENT, OBJECT_IDS, REPLICA_IDS}
 use Rattle.qu_base.specs.Cursor.{Front, Takes}
-use Rattle.qu_base.specs.Format.{Format, front_of, behind, refused, and_then, number_at, number, bytes_at, bytes, nothing, both, tested, FitsPart, spelled_part, made, either, FitsFrom, items_at, items, counted, flag, optional, tagged, digest_form, object_form, replica_form, Spells, AreBytes, IsExact, IsPrefixCode}
+use Rattle.qu_base.specs.Format.{Format, front_of, behind, refused, and_then, number_at, number, bytes_at, bytes, nothing, both, tested, FitsPart, spelled_part, made, either, FitsFrom, items_at, items, counted, flag, optional, tagged, digest_form, object_form, replica_form, client_form, Spells, AreBytes, IsExact, IsPrefixCode}
 
 -- ---- fronts
 
@@ -474,6 +474,10 @@ object-exact = fields-exact _ _ _ (number-exact w16 (2 ^ 16) 0 (OBJECT_IDS - 1) 
 pub replica-exact : IsExact replica_form
 replica-exact = fields-exact _ _ _ (number-exact w8 (2 ^ 8) 0 (REPLICA_IDS - 1) wide8 (omega arith))
     (λ found fits. refl) (λ replica. refl)
+
+pub client-exact : IsExact client_form
+client-exact = fields-exact _ _ _ (number-exact w16 (2 ^ 16) 1 LAST_CLIENT wide16 (omega arith))
+    (λ found fits. refl) (λ client. refl)
 
 -- ---- what exactness gives
 

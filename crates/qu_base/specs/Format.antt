@@ -7,7 +7,8 @@ use Rattle.std.specs.Int.{Width, w8, w16, byte_len, from_be_bytes, to_be_bytes, 
 use Rattle.qu_base.specs.declared.bad_text.BadText.{BadText}
 use Rattle.qu_base.specs.declared.bad_text.Why.{Why}
 use Rattle.qu_base.specs.declared.bad_text.Why.TheVariants.{Short, Range}
-use Rattle.qu_base.specs.declared.limits.TheConstants.{OBJECT_IDS, REPLICA_IDS}
+use Rattle.qu_base.specs.declared.limits.TheConstants.{LAST_CLIENT, OBJECT_IDS, REPLICA_IDS}
+use Rattle.qu_base.specs.declared.party.ClientId.{ClientId}
 use Rattle.qu_base.specs.declared.party.Digest.{Digest}
 use Rattle.qu_base.specs.declared.party.ObjectId.{ObjectId}
 use Rattle.qu_base.specs.declared.party.ReplicaId.{ReplicaId}
@@ -169,12 +170,15 @@ tagged is_code code body =
 abbrev pub digest_form : Format Digest
 digest_form = made (λ content. record { 0 = content }) (λ digest. Some digest.0) (bytes 32)
 
--- an object, a replica: by its number
+-- an object, a replica, a client: by its number
 abbrev pub object_form : Format ObjectId
 object_form = made (λ number. record { 0 = number }) (λ object. Some object.0) (below w16 OBJECT_IDS)
 
 abbrev pub replica_form : Format ReplicaId
 replica_form = made (λ number. record { 0 = number }) (λ replica. Some replica.0) (below w8 REPLICA_IDS)
+
+abbrev pub client_form : Format ClientId
+client_form = made (λ number. record { 0 = number }) (λ client. Some client.0) (number w16 1 LAST_CLIENT)
 
 -- ---- what it is to be exact
 

@@ -1,10 +1,12 @@
 ghost use Rattle.std.specs.Prelude.{◌≡◌, ◌<◌, ◌↔◌, ◌∷◌, [], length, IsNone, IfNone, IfSome, OnErr};
 ghost use Rattle.std.specs.Int.{w8, w16, w64, to_be_bytes};
 ghost use Rattle.qu_base.specs.Cursor.{Takes};
-ghost use Rattle.qu_base.specs.Format.{number, bytes, flag, digest_form, object_form, replica_form, AreBytes};
+ghost use Rattle.qu_base.specs.Format.{number, bytes, flag, digest_form, object_form, replica_form, client_form, AreBytes};
 ghost use Rattle.qu_base.specs.Reading.{Reads};
 
-use super::{BadText, Digest, OBJECT_IDS, ObjectId, REPLICA_IDS, ReplicaId, Why};
+use super::{
+    BadText, ClientId, Digest, LAST_CLIENT, OBJECT_IDS, ObjectId, REPLICA_IDS, ReplicaId, Why,
+};
 use std::marker::Model;
 
 /// A place in a text that is being read. A number is big-endian.
@@ -197,6 +199,14 @@ impl<'a> Cursor<'a> {
         ensures kept { OnErr result (self.new ≡ self.old) }
     {
         Ok(ReplicaId(self.u8_within(0, REPLICA_IDS - 1)?))
+    }
+
+    /// The next client, by its number.
+    pub fn client(&mut self) -> Result<ClientId, BadText>
+        ensures read { Reads client_form result self.old self.new }
+        ensures kept { OnErr result (self.new ≡ self.old) }
+    {
+        Ok(ClientId(self.u16_within(1, LAST_CLIENT)?))
     }
 
     /// The next 32 bytes.

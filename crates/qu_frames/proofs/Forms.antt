@@ -3,15 +3,14 @@ use Rattle.std.proofs.Common.{◌≡◌, ℕ, zero, suc, ◌^◌, ◌≤◌, ◌
 use Rattle.std.specs.Prelude.{IsTrue}
 use Rattle.std.proofs.lemmas.Bool.{cases_Bool, eqb-true}
 use Rattle.std.proofs.lemmas.Bool.Decides.{nat_tests}
-use Rattle.std.specs.Int.{w8, w16, w64}
+use Rattle.std.specs.Int.{w8, w64}
 use Rattle.qu_base.specs.declared.bad_text.Why.TheVariants.{Kind, Order}
-use Rattle.qu_base.specs.declared.limits.TheConstants.{LAST_CLIENT}
 use Rattle.qu_base.specs.declared.party.ObjectId.{ObjectId}
 use Rattle.qu_base.specs.declared.party.ReplicaId.{ReplicaId}
 use Rattle.qu_base.specs.Format.{IsPrefixCode, Format, number, both, tested, FitsPart, made, either, object_form, replica_form, IsExact}
-use Rattle.qu_base.proofs.Formats.{prefix_code, some_is, wide16, wide64, number-exact, bytes-exact, both-exact, tested-exact, made-exact, fields-exact, counted-exact, tagged-exact, object-exact, replica-exact}
+use Rattle.qu_base.proofs.Formats.{prefix_code, some_is, wide64, number-exact, bytes-exact, both-exact, tested-exact, made-exact, fields-exact, counted-exact, tagged-exact, object-exact, replica-exact, client-exact}
 use Rattle.qu_stamp.specs.declared.stamp.Stamp.{Stamp}
-use Rattle.qu_stamp.specs.Formats.{stamp_form}
+use Rattle.qu_stamp.specs.Formats.{stamp_form, plain_stamp_form}
 use Rattle.qu_stamp.proofs.Forms.{stamp_with-exact}
 use Rattle.qu_objects.specs.declared.limits.TheConstants.{PARTS_LIMIT}
 use Rattle.qu_objects.specs.declared.act.Method.{Method}
@@ -19,12 +18,13 @@ use Rattle.qu_objects.specs.declared.query.Ask.{Ask}
 use Rattle.qu_objects.specs.declared.answer.Answer.{Answer}
 use Rattle.qu_objects.specs.Formats.{word_form, is_one_of, act_form, query_form, answer_form}
 use Rattle.qu_objects.proofs.Forms.{word-exact, act-exact, query-exact, answer-exact, byte-exact}
+use Rattle.qu_objects.proofs.StateLaws.{state-exact}
 use Rattle.qu_history.specs.Formats.{object_from}
 use Rattle.qu_history.proofs.Forms.{object_from-exact, sets-exact, shown-exact}
 use Rattle.qu_frames.specs.declared.frame.Body.{Body}
 use Rattle.qu_frames.specs.declared.frame.Body.TheVariants as body
 use Rattle.qu_frames.specs.declared.frame.Frame.{Frame}
-use Rattle.qu_frames.specs.declared.frame.Frame.TheVariants.{Request, Reply}
+use Rattle.qu_frames.specs.declared.frame.Frame.TheVariants.{Request, Reply, Fetch, Fetched}
 use Rattle.qu_frames.specs.declared.limits.TheConstants.{LAST_ROUND, CULLED_LIMIT}
 use Rattle.qu_frames.specs.declared.refusal_number.TheConstants.{HISTORY_FULL, THIN, NEEDS, STALE, NOT_CURRENT, NOT_METHOD, SPENT, TIME_SPENT, UNKNOWN_OBJECT, SOUND}
 use Rattle.qu_frames.specs.RefusalNumber.{refusal_number, is_refusal_number}
@@ -35,7 +35,7 @@ use Rattle.qu_frames.specs.declared.verdict.Refusal.TheVariants.{HistoryFull, Th
 use Rattle.qu_frames.specs.declared.verdict.Verdict.{Verdict}
 use Rattle.qu_frames.specs.declared.verdict.Verdict.TheVariants.{Done, Told, Already, Mended, Refused}
 use Rattle.qu_frames.specs.Verdict.{class_code}
-use Rattle.qu_frames.specs.Formats.{class_of, class_form, refused_object, latest_told, class_told, number_told, plain_refusal, plain_object, refusal_body, refusal_form, spelled_stamp, stamp_from, after_told, stamps_form, verdict_code, is_verdict_code, done, told, already, mended, refusal, answered_form, verdict_body, verdict_form, body_code, is_body_code, act_parts, ask_parts, body_of_code, body_form, client_form, round_form, is_after_pair, spelled_pair, pair_after, culled_form, RequestFields, request_fields, request_of, request_form, request_frame, ReplyFields, reply_fields, reply_of, reply_form, reply_frame, frame_kind, is_version, is_frame_kind, frame_body, kind_form, frame_form}
+use Rattle.qu_frames.specs.Formats.{class_of, class_form, refused_object, latest_told, class_told, number_told, plain_refusal, plain_object, refusal_body, refusal_form, spelled_stamp, stamp_from, after_told, stamps_form, verdict_code, is_verdict_code, done, told, already, mended, refusal, answered_form, verdict_body, verdict_form, body_code, is_body_code, act_parts, ask_parts, body_of_code, body_form, round_form, is_after_pair, spelled_pair, pair_after, culled_form, RequestFields, request_fields, request_of, request_form, request_frame, ReplyFields, reply_fields, reply_of, reply_form, reply_frame, FetchFields, fetch_fields, fetch_of, fetch_form, fetch_frame, FetchedFields, fetched_fields, fetched_of, fetched_form, fetched_frame, frame_kind, is_version, is_frame_kind, frame_body, kind_form, frame_form}
 
 -- ---- one of two formats, by a test
 
@@ -348,10 +348,6 @@ body-exact objects =
 
 -- ---- frames
 
-client-exact : IsExact client_form
-client-exact = fields-exact _ _ _ (number-exact w16 (2 ^ 16) 1 LAST_CLIENT wide16 (omega arith))
-    (λ found fits. refl) (λ client. refl)
-
 round-exact : IsExact round_form
 round-exact = byte-exact 1 LAST_ROUND (omega arith)
 
@@ -382,15 +378,36 @@ reply-exact =
     (λ round fits. both-exact _ _ verdict-exact (λ verdict fits. both-exact _ _ culled-exact (λ culled fits.
     both-exact _ _ (shown-exact replica) (λ shown fits. bytes-exact 32)))))))
 
+fetch-exact : IsExact fetch_form
+fetch-exact =
+    both-exact _ _ replica-exact (λ replica fits. both-exact _ _ object-exact (λ object fits.
+    both-exact _ _ (stamp_with-exact false) (λ stamp fits. bytes-exact 32)))
+
+fetched-exact : IsExact fetched_form
+fetched-exact =
+    both-exact _ _ replica-exact (λ replica fits. both-exact _ _ object-exact (λ object fits.
+    both-exact _ _ (stamp_with-exact false) (λ stamp fits.
+    both-exact _ _ state-exact (λ state fits. bytes-exact 32))))
+
 request_again : (frame : Frame) (found : RequestFields) → request_fields frame ≡ Some found → request_of found ≡ frame
 request_again (Request client number round sets asked mac) found is =
     of_part request_of (client, (number, (round, (sets, (asked, mac))))) found is
-request_again (Reply replica client number round verdict culled shown mac) found is = absurd cc
+request_again _ found is = absurd cc
 
 reply_again : (frame : Frame) (found : ReplyFields) → reply_fields frame ≡ Some found → reply_of found ≡ frame
-reply_again (Request client number round sets asked mac) found is = absurd cc
 reply_again (Reply replica client number round verdict culled shown mac) found is =
     of_part reply_of (replica, (client, (number, (round, (verdict, (culled, (shown, mac))))))) found is
+reply_again _ found is = absurd cc
+
+fetch_again : (frame : Frame) (found : FetchFields) → fetch_fields frame ≡ Some found → fetch_of found ≡ frame
+fetch_again (Fetch replica object stamp mac) found is = of_part fetch_of (replica, (object, (stamp, mac))) found is
+fetch_again _ found is = absurd cc
+
+fetched_again : (frame : Frame) (found : FetchedFields) → fetched_fields frame ≡ Some found
+    → fetched_of found ≡ frame
+fetched_again (Fetched replica object stamp state mac) found is =
+    of_part fetched_of (replica, (object, (stamp, (state, mac)))) found is
+fetched_again _ found is = absurd cc
 
 pub request_frame-exact : IsExact request_frame
 unfolding request_frame
@@ -402,26 +419,55 @@ unfolding reply_frame
 reply_frame-exact = made-exact reply_of reply_fields reply_form reply-exact (λ found fits. refl)
     (λ frame found fits is. reply_again frame found is)
 
+pub fetch_frame-exact : IsExact fetch_frame
+unfolding fetch_frame
+fetch_frame-exact = made-exact fetch_of fetch_fields fetch_form fetch-exact (λ found fits. refl)
+    (λ frame found fits is. fetch_again frame found is)
+
+pub fetched_frame-exact : IsExact fetched_frame
+unfolding fetched_frame
+fetched_frame-exact = made-exact fetched_of fetched_fields fetched_form fetched-exact (λ found fits. refl)
+    (λ frame found fits is. fetched_again frame found is)
+
 frame_body-exact : (kind : ℕ) → IsExact (frame_body kind)
-frame_body-exact kind = either-exact (kind == 1) request_frame reply_frame request_frame-exact
-    (λ no1. reply_frame-exact)
+frame_body-exact kind =
+    either-exact (kind == 1) request_frame _ request_frame-exact
+    (λ no1. either-exact (kind == 2) reply_frame _ reply_frame-exact
+    (λ no2. either-exact (kind == 3) fetch_frame fetched_frame fetch_frame-exact (λ no3. fetched_frame-exact)))
 
 request_kind : (form : Format RequestFields) (frame : Frame) → FitsPart form (request_fields frame)
     → frame_kind frame ≡ 1
 request_kind form (Request client number round sets asked mac) fits = refl
-request_kind form (Reply replica client number round verdict culled shown mac) fits = absurd fits
+request_kind form _ fits = absurd fits
 
 reply_kind : (form : Format ReplyFields) (frame : Frame) → FitsPart form (reply_fields frame) → frame_kind frame ≡ 2
-reply_kind form (Request client number round sets asked mac) fits = absurd fits
 reply_kind form (Reply replica client number round verdict culled shown mac) fits = refl
+reply_kind form _ fits = absurd fits
+
+fetch_kind : (form : Format FetchFields) (frame : Frame) → FitsPart form (fetch_fields frame) → frame_kind frame ≡ 3
+fetch_kind form (Fetch replica object stamp mac) fits = refl
+fetch_kind form _ fits = absurd fits
+
+fetched_kind : (form : Format FetchedFields) (frame : Frame) → FitsPart form (fetched_fields frame)
+    → frame_kind frame ≡ 4
+fetched_kind form (Fetched replica object stamp state mac) fits = refl
+fetched_kind form _ fits = absurd fits
+
+last_kind : (kind : ℕ) → IsTrue (is_frame_kind kind) → (kind == 1) ≡ false → (kind == 2) ≡ false
+    → (kind == 3) ≡ false → 4 ≡ kind
+last_kind kind known no1 no2 no3 = grind (arith, nat_tests)
 
 frame_coded : (kind : ℕ) (frame : Frame) → IsTrue (is_frame_kind kind) → (frame_body kind).Fits frame
     → frame_kind frame ≡ kind
-unfolding request_frame reply_frame
+unfolding request_frame reply_frame fetch_frame fetched_frame
 frame_coded kind frame known fits =
-    either-fits (kind == 1) request_frame reply_frame frame (λ is here. request_kind request_form frame here
+    either-fits (kind == 1) request_frame _ frame (λ is here. request_kind request_form frame here
     ∙ sym (eqb-true _ _ is))
-    (λ no1 here. reply_kind reply_form frame here ∙ second_code kind known no1) fits
+    (λ no1. either-fits (kind == 2) reply_frame _ frame (λ is here. reply_kind reply_form frame here
+    ∙ sym (eqb-true _ _ is))
+    (λ no2. either-fits (kind == 3) fetch_frame fetched_frame frame (λ is here. fetch_kind fetch_form frame here
+    ∙ sym (eqb-true _ _ is))
+    (λ no3 here. fetched_kind fetched_form frame here ∙ last_kind kind known no1 no2 no3))) fits
 
 second_is : {A B : Type 0} (one : A) (pair : A × B) (two : B) → Some (one, two) ≡ Some pair → pair.1 ≡ two
 second_is {A = A} {B = B} one pair two is = ap (λ (it : A × B). it.1) (sym (some_is is))
@@ -469,8 +515,14 @@ request-code = prefix_code request_frame request_frame-exact
 pub reply-code : IsPrefixCode reply_frame
 reply-code = prefix_code reply_frame reply_frame-exact
 
+pub fetch-code : IsPrefixCode fetch_frame
+fetch-code = prefix_code fetch_frame fetch_frame-exact
+
+pub fetched-code : IsPrefixCode fetched_frame
+fetched-code = prefix_code fetched_frame fetched_frame-exact
+
 pub frame-code : IsPrefixCode frame_form
 frame-code = prefix_code frame_form frame-exact
 
 pub ruleset code_laws =
-    (refusal-code, stamps-code, verdict-code, body-code, culled-code, request-code, reply-code, frame-code)
+    (refusal-code, stamps-code, verdict-code, body-code, culled-code, request-code, reply-code, fetch-code, fetched-code, frame-code)

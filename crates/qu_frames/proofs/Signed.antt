@@ -12,11 +12,13 @@ use Rattle.qu_base.specs.declared.party.Party.{Party}
 use Rattle.qu_seal.specs.Digesting.{digest_of}
 use Rattle.qu_seal.specs.Keys.{Ring, have_key, seal_of, verifies}
 use Rattle.qu_seal.proofs.Lengths.{length-hmac}
+use Rattle.qu_stamp.specs.Formats.{plain_stamp_form}
+use Rattle.qu_objects.specs.States.{state_form}
 use Rattle.qu_history.specs.Formats.{sets_form, shown_form}
 use Rattle.qu_frames.specs.declared.limits.TheConstants.{TEXT_LIMIT}
 use Rattle.qu_frames.specs.declared.frame.Frame.{Frame}
-use Rattle.qu_frames.specs.declared.frame.Frame.TheVariants.{Request, Reply}
-use Rattle.qu_frames.specs.Formats.{objects_in_sets, body_form, verdict_form, culled_form, request_frame, reply_frame, kind_form, frame_form}
+use Rattle.qu_frames.specs.declared.frame.Frame.TheVariants.{Request, Reply, Fetch, Fetched}
+use Rattle.qu_frames.specs.Formats.{objects_in_sets, body_form, verdict_form, culled_form, request_frame, reply_frame, fetch_frame, fetched_frame, kind_form, frame_form}
 use Rattle.qu_frames.specs.Decoding.{decoded}
 use Rattle.qu_frames.specs.Signing.{sender, mac_of, with_mac, before_mac, text_digest, signature, signed, is_signed, if_signed, brought}
 use Rattle.qu_frames.proofs.Decoded.{spelled_is_decoded}
@@ -35,6 +37,22 @@ fields_of (Reply replica client number round verdict culled shown mac) =
     2 ++ (to_be_bytes w8
     replica.0 ++ (to_be_bytes w16 client.0 ++ (to_be_bytes w64 number ++ (to_be_bytes w8 round ++
     (verdict_form.spell verdict ++ (culled_form.spell culled ++ (shown_form replica).spell shown)))))))
+fields_of (Fetch replica object stamp mac) =
+    to_be_bytes w8
+    1 ++ (to_be_bytes w8
+    3 ++ (to_be_bytes w8 replica.0 ++ (to_be_bytes w16 object.0 ++ plain_stamp_form.spell stamp)))
+fields_of (Fetched replica object stamp state mac) =
+    to_be_bytes w8
+    1 ++ (to_be_bytes w8
+    4 ++ (to_be_bytes w8
+    replica.0 ++ (to_be_bytes w16 object.0 ++ (plain_stamp_form.spell stamp ++ state_form.spell state))))
+
+five : (a b c d e f : List ℕ) → a ++ (b ++ (c ++ (d ++ (e ++ f)))) ≡ (a ++ (b ++ (c ++ (d ++ e)))) ++ f
+five a b c d e f = simp append_assoc
+
+six : (a b c d e f g : List ℕ)
+    → a ++ (b ++ (c ++ (d ++ (e ++ (f ++ g))))) ≡ (a ++ (b ++ (c ++ (d ++ (e ++ f))))) ++ g
+six a b c d e f g = simp append_assoc
 
 seven : (a b c d e f g h : List ℕ)
     → a ++ (b ++ (c ++ (d ++ (e ++ (f ++ (g ++ h)))))) ≡ (a ++ (b ++ (c ++ (d ++ (e ++ (f ++ g)))))) ++ h
@@ -45,7 +63,7 @@ nine : (a b c d e f g h i j : List ℕ) → a ++ (b ++ (c ++ (d ++ (e ++ (f ++ (
 nine a b c d e f g h i j = simp append_assoc
 
 spelled_fields : (frame : Frame) → frame_form.spell frame ≡ fields_of frame ++ mac_of frame
-unfolding frame_form kind_form request_frame reply_frame fields_of
+unfolding frame_form kind_form request_frame reply_frame fetch_frame fetched_frame fields_of
 spelled_fields (Request client number round sets asked mac) =
     seven (to_be_bytes w8 1) (to_be_bytes w8 1) (to_be_bytes w16 client.0) (to_be_bytes w64 number)
     (to_be_bytes w8 round) (sets_form.spell sets) ((body_form (objects_in_sets sets)).spell asked) mac
@@ -53,15 +71,25 @@ spelled_fields (Reply replica client number round verdict culled shown mac) =
     nine (to_be_bytes w8 1) (to_be_bytes w8 2) (to_be_bytes w8 replica.0) (to_be_bytes w16 client.0)
     (to_be_bytes w64 number) (to_be_bytes w8 round)
     (verdict_form.spell verdict) (culled_form.spell culled) ((shown_form replica).spell shown) mac
+spelled_fields (Fetch replica object stamp mac) =
+    five (to_be_bytes w8 1) (to_be_bytes w8 3) (to_be_bytes w8 replica.0) (to_be_bytes w16 object.0)
+    (plain_stamp_form.spell stamp) mac
+spelled_fields (Fetched replica object stamp state mac) =
+    six (to_be_bytes w8 1) (to_be_bytes w8 4) (to_be_bytes w8 replica.0) (to_be_bytes w16 object.0)
+    (plain_stamp_form.spell stamp) (state_form.spell state) mac
 
 fields_with : (frame : Frame) (mac : List ℕ) → fields_of (with_mac frame mac) ≡ fields_of frame
 unfolding fields_of
 fields_with (Request client number round sets asked mac) other = refl
 fields_with (Reply replica client number round verdict culled shown mac) other = refl
+fields_with (Fetch replica object stamp mac) other = refl
+fields_with (Fetched replica object stamp state mac) other = refl
 
 mac_with : (frame : Frame) (mac : List ℕ) → mac_of (with_mac frame mac) ≡ mac
 mac_with (Request client number round sets asked mac) other = refl
 mac_with (Reply replica client number round verdict culled shown mac) other = refl
+mac_with (Fetch replica object stamp mac) other = refl
+mac_with (Fetched replica object stamp state mac) other = refl
 
 without : (fields mac : List ℕ) → length mac ≡ 32 → before_mac (fields ++ mac) ≡ fields
 without fields mac size =
@@ -79,7 +107,7 @@ text_with frame mac size =
 -- a frame that fits does so with another HMAC of 32 bytes
 pub fits_with : (frame : Frame) (mac : List ℕ) → frame_form.Fits frame → length mac ≡ 32
     → frame_form.Fits (with_mac frame mac)
-unfolding frame_form kind_form request_frame reply_frame
+unfolding frame_form kind_form request_frame reply_frame fetch_frame fetched_frame
 fits_with (Request client number round sets asked mac) other fits size =
     let f = fits.1.1 in
     (fits.0, (fits.1.0, (f.0, (f.1.0, (f.1.1.0, (f.1.1.1.0, (f.1.1.1.1.0, size)))))))
@@ -91,11 +119,17 @@ fits_with (Reply replica client number round verdict culled shown mac) other fit
         (f.0, (f.1.0, (f.1.1.0, (f.1.1.1.0, (f.1.1.1.1.0, (f.1.1.1.1.1.0, (f.1.1.1.1.1.1.0, size))))))),
       ),
     )
+fits_with (Fetch replica object stamp mac) other fits size =
+    let f = fits.1.1 in (fits.0, (fits.1.0, (f.0, (f.1.0, (f.1.1.0, size)))))
+fits_with (Fetched replica object stamp state mac) other fits size =
+    let f = fits.1.1 in (fits.0, (fits.1.0, (f.0, (f.1.0, (f.1.1.0, (f.1.1.1.0, size))))))
 
 pub mac_fits : (frame : Frame) → frame_form.Fits frame → length (mac_of frame) ≡ 32
-unfolding frame_form kind_form request_frame reply_frame
+unfolding frame_form kind_form request_frame reply_frame fetch_frame fetched_frame
 mac_fits (Request client number round sets asked mac) fits = fits.1.1.1.1.1.1.1
 mac_fits (Reply replica client number round verdict culled shown mac) fits = fits.1.1.1.1.1.1.1.1.1
+mac_fits (Fetch replica object stamp mac) fits = fits.1.1.1.1.1
+mac_fits (Fetched replica object stamp state mac) fits = fits.1.1.1.1.1.1
 
 -- what is decoded of a signed text: the frame with the signature
 pub signed_is_decoded : (ring : Ring) (to : Party) (frame : Frame) → frame_form.Fits frame
@@ -112,6 +146,8 @@ signed_is_decoded ring to frame fits size few =
 sender_with : (frame : Frame) (mac : List ℕ) → sender (with_mac frame mac) ≡ sender frame
 sender_with (Request client number round sets asked mac) other = refl
 sender_with (Reply replica client number round verdict culled shown mac) other = refl
+sender_with (Fetch replica object stamp mac) other = refl
+sender_with (Fetched replica object stamp state mac) other = refl
 
 same_bytes : (bytes : List ℕ) → pointwise nat_eq bytes bytes ≡ true
 same_bytes bytes = (bytes_decides bytes bytes).1 refl

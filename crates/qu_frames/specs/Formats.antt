@@ -1,26 +1,27 @@
 -- The formats of verdicts, of what is asked for, and of frames.
 use Rattle.std.specs.Prelude.{ℕ, Bool, true, ◌==◌, ◌&&◌, ◌||◌, ◌-◌, ◌^◌, ◌+◌, nat_lt, nat_le, if◌then◌else◌, List, ◌++◌, map, Option, None, Some}
-use Rattle.std.specs.Int.{w8, w16, w64}
+use Rattle.std.specs.Int.{w8, w64}
 use Rattle.qu_base.specs.declared.bad_text.Why.TheVariants.{Kind, Order}
-use Rattle.qu_base.specs.declared.limits.TheConstants.{LAST_CLIENT}
 use Rattle.qu_base.specs.declared.party.ClientId.{ClientId}
 use Rattle.qu_base.specs.declared.party.ObjectId.{ObjectId}
 use Rattle.qu_base.specs.declared.party.ReplicaId.{ReplicaId}
-use Rattle.qu_base.specs.Format.{Format, number, bytes, both, tested, made, either, items, counted, tagged, object_form, replica_form}
+use Rattle.qu_base.specs.Format.{Format, number, bytes, both, tested, made, either, items, counted, tagged, object_form, replica_form, client_form}
 use Rattle.qu_stamp.specs.declared.stamp.Stamp.{Stamp}
-use Rattle.qu_stamp.specs.Formats.{stamp_form}
+use Rattle.qu_stamp.specs.Formats.{stamp_form, plain_stamp_form}
 use Rattle.qu_objects.specs.declared.limits.TheConstants.{PARTS_LIMIT}
 use Rattle.qu_objects.specs.declared.act.Method.{Method}
 use Rattle.qu_objects.specs.declared.query.Ask.{Ask}
 use Rattle.qu_objects.specs.declared.answer.Answer.{Answer}
+use Rattle.qu_objects.specs.declared.state.ObjState.{ObjState}
 use Rattle.qu_objects.specs.Formats.{word_form, is_one_of, act_form, query_form, answer_form}
+use Rattle.qu_objects.specs.States.{state_form}
 use Rattle.qu_history.specs.declared.sealed.Sealed.{Sealed}
 use Rattle.qu_history.specs.declared.sets.SetOf.{SetOf}
 use Rattle.qu_history.specs.Formats.{object_from, sets_form, shown_form}
 use Rattle.qu_frames.specs.declared.frame.Body.{Body}
 use Rattle.qu_frames.specs.declared.frame.Body.TheVariants as body
 use Rattle.qu_frames.specs.declared.frame.Frame.{Frame}
-use Rattle.qu_frames.specs.declared.frame.Frame.TheVariants.{Request, Reply}
+use Rattle.qu_frames.specs.declared.frame.Frame.TheVariants.{Request, Reply, Fetch, Fetched}
 use Rattle.qu_frames.specs.declared.limits.TheConstants.{LAST_ROUND, CULLED_LIMIT}
 use Rattle.qu_frames.specs.declared.refusal_number.TheConstants.{HISTORY_FULL, THIN, NEEDS, STALE, NOT_CURRENT, NOT_METHOD, SPENT, TIME_SPENT, UNKNOWN_OBJECT}
 use Rattle.qu_frames.specs.RefusalNumber.{refusal_number, is_refusal_number}
@@ -190,9 +191,6 @@ body_form objects = tagged is_body_code body_code (body_of_code objects)
 
 -- ---- frames
 
-abbrev pub client_form : Format ClientId
-client_form = made (λ number. record { 0 = number }) (λ client. Some client.0) (number w16 1 LAST_CLIENT)
-
 abbrev pub round_form : Format ℕ
 round_form = number w8 1 LAST_ROUND
 
@@ -220,7 +218,7 @@ RequestFields = ClientId × (ℕ × (ℕ × (List SetOf × (Body × List ℕ))))
 
 abbrev pub request_fields : Frame → Option RequestFields
 request_fields (Request client number round sets body mac) = Some (client, (number, (round, (sets, (body, mac)))))
-request_fields (Reply replica client number round verdict culled shown mac) = None
+request_fields _ = None
 
 abbrev pub request_of : RequestFields → Frame
 request_of fields = Request fields.0 fields.1.0 fields.1.1.0 fields.1.1.1.0 fields.1.1.1.1.0 fields.1.1.1.1.1
@@ -238,9 +236,9 @@ abbrev pub ReplyFields : Type 0
 ReplyFields = ReplicaId × (ClientId × (ℕ × (ℕ × (Verdict × (List (ObjectId × ReplicaId) × (List Sealed × List ℕ))))))
 
 abbrev pub reply_fields : Frame → Option ReplyFields
-reply_fields (Request client number round sets body mac) = None
 reply_fields (Reply replica client number round verdict culled shown mac) =
     Some (replica, (client, (number, (round, (verdict, (culled, (shown, mac)))))))
+reply_fields _ = None
 
 abbrev pub reply_of : ReplyFields → Frame
 reply_of fields =
@@ -256,18 +254,60 @@ reply_form =
 unfoldable pub reply_frame : Format Frame
 reply_frame = made reply_of reply_fields reply_form
 
+abbrev pub FetchFields : Type 0
+FetchFields = ReplicaId × (ObjectId × (Stamp × List ℕ))
+
+abbrev pub fetch_fields : Frame → Option FetchFields
+fetch_fields (Fetch replica object stamp mac) = Some (replica, (object, (stamp, mac)))
+fetch_fields _ = None
+
+abbrev pub fetch_of : FetchFields → Frame
+fetch_of fields = Fetch fields.0 fields.1.0 fields.1.1.0 fields.1.1.1
+
+-- replica, object, stamp of no barrier, HMAC
+abbrev pub fetch_form : Format FetchFields
+fetch_form =
+    both replica_form (λ replica. both object_form (λ object. both plain_stamp_form (λ stamp. bytes 32)))
+
+unfoldable pub fetch_frame : Format Frame
+fetch_frame = made fetch_of fetch_fields fetch_form
+
+abbrev pub FetchedFields : Type 0
+FetchedFields = ReplicaId × (ObjectId × (Stamp × (ObjState × List ℕ)))
+
+abbrev pub fetched_fields : Frame → Option FetchedFields
+fetched_fields (Fetched replica object stamp state mac) = Some (replica, (object, (stamp, (state, mac))))
+fetched_fields _ = None
+
+abbrev pub fetched_of : FetchedFields → Frame
+fetched_of fields = Fetched fields.0 fields.1.0 fields.1.1.0 fields.1.1.1.0 fields.1.1.1.1
+
+-- replica, object, stamp of no barrier, the object's state under this stamp, HMAC
+abbrev pub fetched_form : Format FetchedFields
+fetched_form =
+    both replica_form (λ replica. both object_form (λ object. both plain_stamp_form (λ stamp.
+    both state_form (λ state. bytes 32))))
+
+unfoldable pub fetched_frame : Format Frame
+fetched_frame = made fetched_of fetched_fields fetched_form
+
 abbrev pub frame_kind : Frame → ℕ
 frame_kind (Request client number round sets body mac) = 1
 frame_kind (Reply replica client number round verdict culled shown mac) = 2
+frame_kind (Fetch replica object stamp mac) = 3
+frame_kind (Fetched replica object stamp state mac) = 4
 
 abbrev pub is_version : ℕ → Bool
 is_version version = version == 1
 
 abbrev pub is_frame_kind : ℕ → Bool
-is_frame_kind kind = nat_le 1 kind && nat_le kind 2
+is_frame_kind kind = nat_le 1 kind && nat_le kind 4
 
 abbrev pub frame_body : ℕ → Format Frame
-frame_body kind = either (kind == 1) request_frame reply_frame
+frame_body kind =
+    either (kind == 1) request_frame
+    (either (kind == 2) reply_frame
+    (either (kind == 3) fetch_frame fetched_frame))
 
 -- the kind, and a frame of it
 unfoldable pub kind_form : Format Frame

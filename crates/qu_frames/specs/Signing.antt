@@ -7,7 +7,7 @@ use Rattle.qu_base.specs.declared.party.Party.TheVariants as party
 use Rattle.qu_seal.specs.Digesting.{digest_of}
 use Rattle.qu_seal.specs.Keys.{Ring, seal_of, verifies}
 use Rattle.qu_frames.specs.declared.frame.Frame.{Frame}
-use Rattle.qu_frames.specs.declared.frame.Frame.TheVariants.{Request, Reply}
+use Rattle.qu_frames.specs.declared.frame.Frame.TheVariants.{Request, Reply, Fetch, Fetched}
 use Rattle.qu_seal.specs.declared.constants.TheConstants.{FRAME_TAG}
 use Rattle.qu_frames.specs.Formats.{frame_form}
 use Rattle.qu_frames.specs.Decoding.{decoded}
@@ -16,16 +16,22 @@ use Rattle.qu_frames.specs.Decoding.{decoded}
 abbrev pub sender : Frame → Party
 sender (Request client number round sets body mac) = party.Client client
 sender (Reply replica client number round verdict culled shown mac) = party.Replica replica
+sender (Fetch replica object stamp mac) = party.Replica replica
+sender (Fetched replica object stamp state mac) = party.Replica replica
 
 abbrev pub mac_of : Frame → List ℕ
 mac_of (Request client number round sets body mac) = mac
 mac_of (Reply replica client number round verdict culled shown mac) = mac
+mac_of (Fetch replica object stamp mac) = mac
+mac_of (Fetched replica object stamp state mac) = mac
 
 -- the same frame with another HMAC
 abbrev pub with_mac : Frame → List ℕ → Frame
 with_mac (Request client number round sets body mac) other = Request client number round sets body other
 with_mac (Reply replica client number round verdict culled shown mac) other =
     Reply replica client number round verdict culled shown other
+with_mac (Fetch replica object stamp mac) other = Fetch replica object stamp other
+with_mac (Fetched replica object stamp state mac) other = Fetched replica object stamp state other
 
 -- the bytes before the HMAC, which are the last 32
 abbrev pub before_mac : List ℕ → List ℕ

@@ -1,7 +1,7 @@
 ghost use Rattle.std.specs.Prelude.{List};
 ghost use Rattle.qu_base.specs.declared.party.ObjectId.{ObjectId as Object};
 ghost use Rattle.qu_base.specs.Format.{IsPrefixCode};
-ghost use Rattle.qu_frames.specs.Formats.{refusal_form, stamps_form, verdict_form, body_form, culled_form, request_frame, reply_frame, frame_form};
+ghost use Rattle.qu_frames.specs.Formats.{refusal_form, stamps_form, verdict_form, body_form, culled_form, request_frame, reply_frame, fetch_frame, fetched_frame, frame_form};
 
 /// By each format of this crate, what is read is spelled so, what is spelled so is read, and no
 /// spelling begins another.
@@ -14,5 +14,7 @@ pub fn formats_are_codes()
     ensures culled { IsPrefixCode culled_form }
     ensures request { IsPrefixCode request_frame }
     ensures reply { IsPrefixCode reply_frame }
+    ensures fetch { IsPrefixCode fetch_frame }
+    ensures fetched { IsPrefixCode fetched_frame }
     ensures frame { IsPrefixCode frame_form }
 {}

@@ -3,7 +3,8 @@ ghost use Rattle.std.specs.Prelude.{◌≡◌, IfOk};
 use super::Verdict;
 use qu_base::{ClientId, List, NoMemory, ObjectId, Party, ReplicaId};
 use qu_history::{Sealed, Sets};
-use qu_objects::{Act, Op, Query};
+use qu_objects::{Act, ObjState, Op, Query};
+use qu_stamp::Stamp;
 use std::alloc::Global;
 
 /// What a request asks for.
@@ -61,6 +62,21 @@ pub enum Frame {
         shown: List<Sealed>,
         mac: [u8; 32],
     },
+    /// A replica asks another one for the version of an object under this stamp, which is no barrier's.
+    Fetch {
+        replica: ReplicaId,
+        object: ObjectId,
+        stamp: Stamp,
+        mac: [u8; 32],
+    },
+    /// A replica's answer to a fetch: the state of the object under this stamp.
+    Fetched {
+        replica: ReplicaId,
+        object: ObjectId,
+        stamp: Stamp,
+        state: ObjState,
+        mac: [u8; 32],
+    },
 }
 
 impl Frame {
@@ -101,6 +117,30 @@ impl Frame {
                 verdict: verdict.copy(alloc)?,
                 culled: culled.copy(alloc)?,
                 shown: Sealed::copy_all(alloc, shown.as_slice())?,
+                mac: *mac,
+            },
+            Frame::Fetch {
+                replica,
+                object,
+                stamp,
+                mac,
+            } => Frame::Fetch {
+                replica: *replica,
+                object: *object,
+                stamp: *stamp,
+                mac: *mac,
+            },
+            Frame::Fetched {
+                replica,
+                object,
+                stamp,
+                state,
+                mac,
+            } => Frame::Fetched {
+                replica: *replica,
+                object: *object,
+                stamp: *stamp,
+                state: state.copy(alloc)?,
                 mac: *mac,
             },
         })

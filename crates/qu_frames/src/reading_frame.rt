@@ -1,15 +1,14 @@
 //! Frames from bytes, by the formats of `specs/Formats.antt`.
 ghost use Rattle.std.specs.Prelude.{◌≡◌, None, IfOk};
 ghost use Rattle.qu_base.specs.Reading.{Reads, Gives};
-ghost use Rattle.qu_frames.specs.Formats.{objects_in_sets, body_form, client_form, is_after_pair, pair_after, some_culled, culled_form, request_frame, reply_frame, kind_form, frame_form};
+ghost use Rattle.qu_frames.specs.Formats.{objects_in_sets, body_form, is_after_pair, pair_after, some_culled, culled_form, request_frame, reply_frame, fetch_frame, fetched_frame, kind_form, frame_form};
 
 use super::reading_verdict::verdict_at;
 use super::{Body, CULLED_LIMIT, Frame, LAST_ROUND};
-use qu_base::{
-    BadText, ClientId, Cursor, LAST_CLIENT, List, NoMemory, ObjectId, ReadFail, ReplicaId, Why,
-};
+use qu_base::{BadText, Cursor, List, NoMemory, ObjectId, ReadFail, ReplicaId, Why};
 use qu_history::{SetOf, read_sets, read_shown};
-use qu_objects::{read_act, read_query};
+use qu_objects::{read_act, read_query, read_state};
+use qu_stamp::read_plain_stamp;
 use std::alloc::Global;
 
 /// The next frame: its version, its kind, and the fields of this kind.
@@ -35,6 +34,8 @@ fn kind_at(alloc: Global, text: &mut Cursor) -> Result<Frame, ReadFail>
     match kind {
         1 => request_at(alloc, text),
         2 => reply_at(alloc, text),
+        3 => Ok(fetch_at(text)?),
+        4 => fetched_at(alloc, text),
         _ => Err(ReadFail::Bad(start.refusal(Why::Kind))),
     }
 }
@@ -44,7 +45,7 @@ fn kind_at(alloc: Global, text: &mut Cursor) -> Result<Frame, ReadFail>
 fn request_at(alloc: Global, text: &mut Cursor) -> Result<Frame, ReadFail>
     ensures { Gives request_frame result text.old text.new }
 {
-    let client = client_at(text)?;
+    let client = text.client()?;
     let number = text.u64_within(1, u64::MAX)?;
     let round = text.u8_within(1, LAST_ROUND)?;
     let sets = read_sets(alloc, text)?;
@@ -66,7 +67,7 @@ fn reply_at(alloc: Global, text: &mut Cursor) -> Result<Frame, ReadFail>
     ensures { Gives reply_frame result text.old text.new }
 {
     let replica = text.replica()?;
-    let client = client_at(text)?;
+    let client = text.client()?;
     let number = text.u64_within(0, u64::MAX)?;
     let round = text.u8_within(1, LAST_ROUND)?;
     let verdict = verdict_at(alloc, text)?;
@@ -85,11 +86,40 @@ fn reply_at(alloc: Global, text: &mut Cursor) -> Result<Frame, ReadFail>
     })
 }
 
-/// The next client, by its number.
-fn client_at(text: &mut Cursor) -> Result<ClientId, BadText>
-    ensures { Reads client_form result text.old text.new }
+/// The fields of a fetch.
+#[tactic(auto, unfolding(crate::specs::Formats::fetch_frame))]
+fn fetch_at(text: &mut Cursor) -> Result<Frame, BadText>
+    ensures { Reads fetch_frame result text.old text.new }
 {
-    Ok(ClientId(text.u16_within(1, LAST_CLIENT)?))
+    let replica = text.replica()?;
+    let object = text.object()?;
+    let stamp = read_plain_stamp(text)?;
+    let mac = text.array()?;
+    Ok(Frame::Fetch {
+        replica,
+        object,
+        stamp,
+        mac,
+    })
+}
+
+/// The fields of what was fetched.
+#[tactic(auto, unfolding(crate::specs::Formats::fetched_frame))]
+fn fetched_at(alloc: Global, text: &mut Cursor) -> Result<Frame, ReadFail>
+    ensures { Gives fetched_frame result text.old text.new }
+{
+    let replica = text.replica()?;
+    let object = text.object()?;
+    let stamp = read_plain_stamp(text)?;
+    let state = read_state(alloc, text)?;
+    let mac = text.array()?;
+    Ok(Frame::Fetched {
+        replica,
+        object,
+        stamp,
+        state,
+        mac,
+    })
 }
 
 /// What is asked of the objects of these sets: a code, and the parts.

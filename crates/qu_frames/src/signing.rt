@@ -14,7 +14,9 @@ impl Frame {
     {
         match self {
             Frame::Request { client, .. } => Party::Client(*client),
-            Frame::Reply { replica, .. } => Party::Replica(*replica),
+            Frame::Reply { replica, .. }
+            | Frame::Fetch { replica, .. }
+            | Frame::Fetched { replica, .. } => Party::Replica(*replica),
         }
     }
 
@@ -40,7 +42,10 @@ impl Frame {
         ensures { result.now ≡ mac_of self.now }
     {
         match self {
-            Frame::Request { mac, .. } | Frame::Reply { mac, .. } => mac,
+            Frame::Request { mac, .. }
+            | Frame::Reply { mac, .. }
+            | Frame::Fetch { mac, .. }
+            | Frame::Fetched { mac, .. } => mac,
         }
     }
 }

@@ -3,16 +3,18 @@ ghost use Rattle.std.specs.Prelude.{◌≡◌, ◌++◌, List, OnOk};
 ghost use Rattle.std.specs.List.{flat_map};
 ghost use Rattle.std.specs.Int.{w8, w16, w64, to_be_bytes};
 ghost use Rattle.qu_base.specs.declared.party.ObjectId.{ObjectId as Object};
+ghost use Rattle.qu_stamp.specs.Formats.{plain_stamp_form};
 ghost use Rattle.qu_frames.specs.Formats.{body_form, spelled_pair, culled_form, frame_form};
 
 use super::writing_verdict::append_verdict;
 use super::{Body, Frame};
 use qu_base::{ClientId, NoMemory, ObjectId, Outbytes, ReplicaId};
 use qu_history::{write_sets, write_shown};
-use qu_objects::{write_act, write_query};
+use qu_objects::{write_act, write_query, write_state};
+use qu_stamp::{Stamp, write_stamp};
 
 /// Appends a frame.
-#[tactic(auto, unfolding(crate::specs::Formats::frame_form, crate::specs::Formats::kind_form, crate::specs::Formats::request_frame, crate::specs::Formats::reply_frame))]
+#[tactic(auto, unfolding(crate::specs::Formats::frame_form, crate::specs::Formats::kind_form, crate::specs::Formats::request_frame, crate::specs::Formats::reply_frame, crate::specs::Formats::fetch_frame, crate::specs::Formats::fetched_frame))]
 pub(crate) fn append_frame(frame: &Frame, out: &mut Outbytes) -> Result<(), NoMemory>
     ensures { OnOk result (out.new ≡ out.old ++ frame_form.spell frame.now) }
 {
@@ -52,6 +54,30 @@ pub(crate) fn append_frame(frame: &Frame, out: &mut Outbytes) -> Result<(), NoMe
             out.put(mac)?;
             Ok(())
         }
+        Frame::Fetch {
+            replica,
+            object,
+            stamp,
+            mac,
+        } => {
+            out.u8(3)?;
+            append_version(*replica, *object, stamp, out)?;
+            out.put(mac)?;
+            Ok(())
+        }
+        Frame::Fetched {
+            replica,
+            object,
+            stamp,
+            state,
+            mac,
+        } => {
+            out.u8(4)?;
+            append_version(*replica, *object, stamp, out)?;
+            write_state(state, out)?;
+            out.put(mac)?;
+            Ok(())
+        }
     }
 }
 
@@ -69,6 +95,22 @@ fn append_round(
     out.u64(number)?;
     out.u8(round)?;
     Ok(())
+}
+
+/// Appends the replica, the object and the stamp, which is no barrier's.
+#[tactic(auto, unfolding(qu_stamp::specs::Formats::stamp_with))]
+fn append_version(
+    replica: ReplicaId,
+    object: ObjectId,
+    stamp: &Stamp,
+    out: &mut Outbytes,
+) -> Result<(), NoMemory>
+    ensures { OnOk result
+        (out.new ≡ out.old ++ (to_be_bytes w8 replica.0 ++ (to_be_bytes w16 object.0 ++ plain_stamp_form.spell stamp.now))) }
+{
+    out.u8(replica.0)?;
+    out.u16(object.0)?;
+    write_stamp(stamp, out)
 }
 
 /// Appends what is asked for.

@@ -1,21 +1,20 @@
 -- The format of states is exact.
-use Rattle.std.proofs.Common.{◌≡◌, ℕ, true, ◌^◌, ◌<◌, ◌&&◌, Option, None, Some, refl, arith}
+use Rattle.std.proofs.Common.{◌≡◌, ℕ, true, ◌<◌, ◌&&◌, Option, None, Some, refl, arith}
 use Rattle.std.specs.Prelude.{IsTrue}
 use Rattle.std.proofs.lemmas.Bool.Decides.{nat_tests}
-use Rattle.std.specs.Int.{w8, w16}
+use Rattle.std.specs.Int.{w8}
 use Rattle.qu_base.specs.declared.bad_text.Why.TheVariants.{Order}
-use Rattle.qu_base.specs.declared.limits.TheConstants.{LAST_CLIENT}
 use Rattle.qu_base.specs.declared.party.ClientId.{ClientId}
 use Rattle.qu_base.specs.declared.party.ObjectId.{ObjectId}
-use Rattle.qu_base.specs.Format.{IsPrefixCode, IsExact, number, made, object_form}
-use Rattle.qu_base.proofs.Formats.{wide16, number-exact, both-exact, tested-exact, made-exact, fields-exact, counted-exact, tagged-exact, digest-exact, object-exact, prefix_code}
+use Rattle.qu_base.specs.Format.{IsPrefixCode, IsExact, number, made, object_form, client_form}
+use Rattle.qu_base.proofs.Formats.{both-exact, tested-exact, made-exact, fields-exact, counted-exact, tagged-exact, digest-exact, object-exact, client-exact, prefix_code}
 use Rattle.qu_base.proofs.Reading.{given_exactly}
 use Rattle.qu_stamp.proofs.Forms.{stamp_with-exact}
 use Rattle.qu_objects.specs.declared.kind.Value.{Value}
 use Rattle.qu_objects.specs.declared.kind.Value.TheVariants.{Counter}
 use Rattle.qu_objects.specs.declared.limits.TheConstants.{KEPT_LIMIT, LINKS_LIMIT}
 use Rattle.qu_objects.specs.Formats.{word_form, is_after}
-use Rattle.qu_objects.specs.States.{kind_code, counted_value, is_kind_code, value_form, client_form, is_later_client, row_form, after_row, kept_form, link_form, after_link, links_form, state_form}
+use Rattle.qu_objects.specs.States.{kind_code, counted_value, is_kind_code, value_form, is_later_client, row_form, after_row, kept_form, link_form, after_link, links_form, state_form}
 use Rattle.qu_objects.proofs.Forms.{word-exact, byte-exact, answer-exact}
 
 -- ---- values
@@ -38,10 +37,6 @@ value-exact =
     (λ code value known fits. kind_coded code value known)
 
 -- ---- what is kept of clients
-
-client-exact : IsExact client_form
-client-exact = fields-exact _ _ _ (number-exact w16 (2 ^ 16) 1 LAST_CLIENT wide16 (omega arith)) (λ found fits. refl)
-    (λ client. refl)
 
 row-exact : (before : Option ClientId) → IsExact (row_form before)
 unfolding row_form

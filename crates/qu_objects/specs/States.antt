@@ -1,11 +1,10 @@
 -- The format of an object's state: its value, what is kept of clients, and its links to other objects.
 use Rattle.std.specs.Prelude.{ℕ, Bool, true, ◌&&◌, nat_lt, nat_le, List, Option, None, Some}
-use Rattle.std.specs.Int.{w8, w16}
+use Rattle.std.specs.Int.{w8}
 use Rattle.qu_base.specs.declared.bad_text.Why.TheVariants.{Order}
-use Rattle.qu_base.specs.declared.limits.TheConstants.{LAST_CLIENT}
 use Rattle.qu_base.specs.declared.party.ClientId.{ClientId}
 use Rattle.qu_base.specs.declared.party.ObjectId.{ObjectId}
-use Rattle.qu_base.specs.Format.{Format, number, both, tested, made, items, counted, tagged, digest_form, object_form}
+use Rattle.qu_base.specs.Format.{Format, number, both, tested, made, items, counted, tagged, digest_form, object_form, client_form}
 use Rattle.qu_stamp.specs.Formats.{stamp_form}
 use Rattle.qu_objects.specs.declared.kind.Value.{Value}
 use Rattle.qu_objects.specs.declared.kind.Value.TheVariants.{Counter}
@@ -31,9 +30,6 @@ unfoldable pub value_form : Format Value
 value_form = tagged is_kind_code kind_code (λ code. made Counter counted_value word_form)
 
 -- ---- what is kept of clients
-
-abbrev pub client_form : Format ClientId
-client_form = made (λ number. record { 0 = number }) (λ client. Some client.0) (number w16 1 LAST_CLIENT)
 
 abbrev pub is_later_client : Option ClientId → ClientId → Bool
 is_later_client None client = true

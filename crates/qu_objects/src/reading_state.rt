@@ -5,7 +5,7 @@ ghost use Rattle.qu_objects.specs.States.{value_form, is_later_client, row_form,
 
 use super::reading::is_after;
 use super::{KEPT_LIMIT, KeptRow, LAST_KIND, LINKS_LIMIT, Link, ObjState, Value, read_answer};
-use qu_base::{BadText, ClientId, Cursor, LAST_CLIENT, List, ObjectId, ReadFail, Why};
+use qu_base::{BadText, ClientId, Cursor, List, ObjectId, ReadFail, Why};
 use qu_stamp::read_stamp;
 use std::alloc::Global;
 
@@ -82,7 +82,7 @@ fn row_at(
     ensures { Gives (row_form before) result text.old text.new }
 {
     let start = text.ahead();
-    let client = ClientId(text.u16_within(1, LAST_CLIENT)?);
+    let client = text.client()?;
     if !is_later_client(before, client) {
         return Err(ReadFail::Bad(start.refusal(Why::Order)));
     }

@@ -13,7 +13,7 @@ use Rattle.qu_stamp.specs.declared.stamp.Stamp.{Stamp}
 use Rattle.qu_stamp.specs.declared.limits.TheConstants.{LAST_TIME}
 use Rattle.qu_stamp.specs.declared.candidate.Candidate.{Candidate}
 use Rattle.qu_stamp.specs.Stamp.{opening_stamp, is_below, same_stamp}
-use Rattle.qu_stamp.specs.Formats.{is_below_or_opening, most_client, stamp_client_form, may_be_set, stamp_set_form, stamp_with, stamp_form, may_be_prior, prior_form, candidate_with, candidate_form}
+use Rattle.qu_stamp.specs.Formats.{is_below_or_opening, most_client, stamp_client_form, may_be_set, stamp_set_form, stamp_with, stamp_form, plain_stamp_form, may_be_prior, prior_form, candidate_with, candidate_form}
 
 most_client-fits : (time : ℕ) → most_client time < 2 ^ 16
 most_client-fits time = grind arith
@@ -58,6 +58,10 @@ candidate-exact = candidate_with-exact stamp_form (stamp_with-exact true)
 pub stamp_read : (result : Result Stamp BadText) (old new : Front) → AreBytes old.rest
     → Reads stamp_form result old new → IsRead stamp_form result old new
 stamp_read = read_exactly stamp_form (stamp_with-exact true)
+
+pub plain_stamp_read : (result : Result Stamp BadText) (old new : Front) → AreBytes old.rest
+    → Reads plain_stamp_form result old new → IsRead plain_stamp_form result old new
+plain_stamp_read = read_exactly plain_stamp_form (stamp_with-exact false)
 
 pub candidate_read : (result : Result Candidate BadText) (old new : Front) → AreBytes old.rest
     → Reads candidate_form result old new → IsRead candidate_form result old new

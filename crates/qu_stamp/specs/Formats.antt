@@ -1,5 +1,5 @@
 -- The formats of stamps and candidates.
-use Rattle.std.specs.Prelude.{ℕ, Bool, true, not, ◌==◌, ◌&&◌, ◌||◌, if◌then◌else◌, Some}
+use Rattle.std.specs.Prelude.{ℕ, Bool, true, false, not, ◌==◌, ◌&&◌, ◌||◌, if◌then◌else◌, Some}
 use Rattle.std.specs.Int.{w8, w16, w64}
 use Rattle.qu_base.specs.declared.bad_text.Why.TheVariants.{Range}
 use Rattle.qu_base.specs.declared.limits.TheConstants.{LAST_CLIENT}
@@ -58,6 +58,10 @@ stamp_with barrier_may_be =
 
 abbrev pub stamp_form : Format Stamp
 stamp_form = stamp_with true
+
+-- a stamp that is no barrier's
+abbrev pub plain_stamp_form : Format Stamp
+plain_stamp_form = stamp_with false
 
 -- ---- candidates
 

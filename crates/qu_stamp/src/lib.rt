@@ -11,7 +11,7 @@ mod writing;
 pub use candidate::Candidate;
 pub use formats::formats_are_codes;
 pub use limits::{LAST_TIME, limits_are_these};
-pub use reading::{read_candidate, read_prior, read_stamp};
+pub use reading::{read_candidate, read_plain_stamp, read_prior, read_stamp};
 pub use stamp::Stamp;
 pub use writing::{write_candidate, write_stamp};
 

@@ -1,7 +1,7 @@
 ghost use Rattle.std.specs.Prelude.{◌≡◌, OnErr};
 ghost use Rattle.qu_base.specs.Format.{optional, digest_form};
 ghost use Rattle.qu_base.specs.Reading.{Reads, IsRead};
-ghost use Rattle.qu_stamp.specs.Formats.{least_client, most_client, stamp_client_form, stamp_set_form, stamp_with, stamp_form, is_below_or_opening, may_be_prior, prior_form, candidate_form};
+ghost use Rattle.qu_stamp.specs.Formats.{least_client, most_client, stamp_client_form, stamp_set_form, stamp_with, stamp_form, plain_stamp_form, is_below_or_opening, may_be_prior, prior_form, candidate_form};
 
 use super::{Candidate, LAST_TIME, Stamp};
 use qu_base::{BadText, ClientId, Cursor, Digest, LAST_CLIENT, Why};
@@ -16,6 +16,20 @@ pub fn read_stamp(text: &mut Cursor) -> Result<Stamp, BadText>
     text.are_bytes();
     let mut ahead = text.ahead();
     let stamp = stamp_at(&mut ahead, true)?;
+    *text = ahead;
+    Ok(stamp)
+}
+
+/// The stamp at the front of a text, where a barrier mark of 1 is out of range at its byte. After a
+/// refusal the text is as before.
+#[tactic(auto, using(crate::proofs::Forms::plain_stamp_read))]
+pub fn read_plain_stamp(text: &mut Cursor) -> Result<Stamp, BadText>
+    ensures read { IsRead plain_stamp_form result text.old text.new }
+    ensures kept { OnErr result (text.new ≡ text.old) }
+{
+    text.are_bytes();
+    let mut ahead = text.ahead();
+    let stamp = stamp_at(&mut ahead, false)?;
     *text = ahead;
     Ok(stamp)
 }

@@ -1,5 +1,5 @@
 use Rattle.qu_frames.specs.Formats.{objects_in_sets}
-use Rattle.qu_frames.proofs.Pieces.{request_written, reply_written}
+use Rattle.qu_frames.proofs.Pieces.{request_written, reply_written, fetch_written, fetched_written}
 use Rattle.qu_frames.proofs.writing_frame.append_frame.Goals as goal
 
 pub returns-in_ok-put-in-Request : goal.returns-in_ok-put-in-Request
@@ -20,3 +20,16 @@ returns-in_ok-put-in-Reply c =
     c.in_ok-u8-in-Reply-2.ensures.ok c.in_ok-append_round-in-Reply.ensures c.in_ok-append_verdict-in-Reply.ensures
     culled
     shown c.in_ok-put-in-Reply.ensures.ok)
+
+pub returns-in_ok-put-in-Fetch : goal.returns-in_ok-put-in-Fetch
+returns-in_ok-put-in-Fetch c =
+    let r = c.in-Fetch in
+    rw r.is (fetch_written r.replica r.object r.stamp r.mac _ _ _ _ _ c.in_ok-u8.ensures.ok
+    c.in_ok-u8-in-Fetch.ensures.ok c.in_ok-append_version-in-Fetch.ensures c.in_ok-put-in-Fetch.ensures.ok)
+
+pub returns-in_ok-put-in-Fetched : goal.returns-in_ok-put-in-Fetched
+returns-in_ok-put-in-Fetched c =
+    let r = c.in-Fetched in
+    rw r.is (fetched_written r.replica r.object r.stamp r.state r.mac _ _ _ _ _ _ c.in_ok-u8.ensures.ok
+    c.in_ok-u8-in-Fetched.ensures.ok c.in_ok-append_version-in-Fetched.ensures
+    c.in_ok-write_state-in-Fetched.ensures.ok c.in_ok-put-in-Fetched.ensures.ok)
