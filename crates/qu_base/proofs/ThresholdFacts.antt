@@ -1,5 +1,5 @@
 -- What a proof may use of the sizes of quorums.
-use Rattle.std.proofs.Common.{◌≡◌, ℕ, zero, suc, ◌≤◌, ◌==◌, ◌||◌, true, refl, arith}
+use Rattle.std.proofs.Common.{◌≡◌, ℕ, zero, suc, ◌≤◌, true, refl, arith}
 use Rattle.std.specs.Prelude.{IsTrue}
 use Rattle.std.proofs.lemmas.Bool.Decides.{nat_tests}
 use Rattle.qu_base.specs.declared.limits.TheConstants.{MOST_FAULTS, REPLICA_IDS}

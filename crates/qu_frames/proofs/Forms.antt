@@ -10,7 +10,7 @@ use Rattle.qu_base.specs.declared.party.ReplicaId.{ReplicaId}
 use Rattle.qu_base.specs.Format.{IsPrefixCode, Format, number, both, tested, FitsPart, made, either, object_form, replica_form, IsExact}
 use Rattle.qu_base.proofs.Formats.{prefix_code, some_is, wide64, number-exact, bytes-exact, both-exact, tested-exact, made-exact, fields-exact, counted-exact, tagged-exact, object-exact, replica-exact, client-exact}
 use Rattle.qu_stamp.specs.declared.stamp.Stamp.{Stamp}
-use Rattle.qu_stamp.specs.Formats.{stamp_form, plain_stamp_form}
+use Rattle.qu_stamp.specs.Formats.{stamp_form}
 use Rattle.qu_stamp.proofs.Forms.{stamp_with-exact}
 use Rattle.qu_objects.specs.declared.limits.TheConstants.{PARTS_LIMIT}
 use Rattle.qu_objects.specs.declared.act.Method.{Method}

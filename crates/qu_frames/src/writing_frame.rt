@@ -110,7 +110,8 @@ fn append_version(
 {
     out.u8(replica.0)?;
     out.u16(object.0)?;
-    write_stamp(stamp, out)
+    write_stamp(stamp, out)?;
+    Ok(())
 }
 
 /// Appends what is asked for.

@@ -1,5 +1,5 @@
 -- The format of states is exact.
-use Rattle.std.proofs.Common.{◌≡◌, ℕ, true, ◌<◌, ◌&&◌, Option, None, Some, refl, arith}
+use Rattle.std.proofs.Common.{◌≡◌, ℕ, true, Option, None, Some, refl, arith}
 use Rattle.std.specs.Prelude.{IsTrue}
 use Rattle.std.proofs.lemmas.Bool.Decides.{nat_tests}
 use Rattle.std.specs.Int.{w8}

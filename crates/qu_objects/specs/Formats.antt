@@ -1,5 +1,5 @@
 -- The formats of operations and of what they answer.
-use Rattle.std.specs.Prelude.{ℕ, ◌-◌, ◌^◌, ◌==◌, Bool, true, ◌&&◌, ◌||◌, nat_lt, nat_le, List, ◌++◌, Option, None, Some}
+use Rattle.std.specs.Prelude.{ℕ, ◌-◌, ◌^◌, ◌==◌, Bool, true, ◌&&◌, nat_lt, nat_le, List, ◌++◌, Option, None, Some}
 use Rattle.std.specs.List.{list_any}
 use Rattle.std.specs.Int.{w8, w64}
 use Rattle.qu_base.specs.declared.bad_text.Why.TheVariants.{Range, Order}
