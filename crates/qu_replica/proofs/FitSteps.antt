@@ -226,7 +226,7 @@ on_frame-fits state (frame.Request client number round sets asks mac) fits withi
     carried_out-fits state client number round sets asks (decision_on state asked asks) fits request
     (decision_on-may state asked asks (body_has_parts (objects_in_sets sets) asks request.asked))
     (decision-fits state client number round sets asks fits request)
-on_frame-fits state (frame.Reply replica client number round verdict culled shown mac) fits within = (fits, tt)
+on_frame-fits state _ fits within = (fits, tt)
 
 pub on_received-fits : (state : ReplicaState) (found : Option Frame) → StateFits state
     → ((frame : Frame) → found ≡ Some frame → frame_form.Fits frame) → StepFits (on_received state found)

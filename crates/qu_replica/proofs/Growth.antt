@@ -110,7 +110,7 @@ carried_out-grows state client number round sets Waits = grows-self state
 pub on_frame-grows : (state : ReplicaState) (frame : Frame) → Grows state (on_frame state frame).0
 on_frame-grows state (frame.Request client number round sets body mac) =
     carried_out-grows state client number round sets (decision_on state (asked_at state client number sets body) body)
-on_frame-grows state (frame.Reply replica client number round verdict culled shown mac) = grows-self state
+on_frame-grows state _ = grows-self state
 
 on_received-grows : (state : ReplicaState) (found : Option Frame) → Grows state (on_received state found).0
 on_received-grows state (Some frame) = on_frame-grows state frame

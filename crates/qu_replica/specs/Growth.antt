@@ -66,4 +66,4 @@ has_parts (body.Ask parts) = are_parts parts
 
 abbrev pub HasParts : Frame → Type 0
 HasParts (frame.Request client number round sets asked mac) = IsTrue (has_parts asked)
-HasParts (frame.Reply replica client number round verdict culled shown mac) = Unit {0}
+HasParts _ = Unit {0}

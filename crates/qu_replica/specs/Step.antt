@@ -51,7 +51,7 @@ carried_out state client number round sets Waits = (state, [])
 abbrev pub on_frame : ReplicaState → Frame → ReplicaState × List Letter
 on_frame state (frame.Request client number round sets body mac) =
     carried_out state client number round sets (decision_on state (asked_at state client number sets body) body)
-on_frame state (frame.Reply replica client number round verdict culled shown mac) = (state, [])
+on_frame state _ = (state, [])
 
 abbrev pub on_received : ReplicaState → Option Frame → ReplicaState × List Letter
 on_received state None = (state, [])

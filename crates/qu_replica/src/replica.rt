@@ -153,7 +153,9 @@ impl Replica {
                 let handled = self.handle(&heading, body)?;
                 self.carry_out(&heading, handled.named, handled.decision)
             }
-            Frame::Reply { .. } => Ok(List::new(self.alloc)),
+            Frame::Reply { .. } | Frame::Fetch { .. } | Frame::Fetched { .. } => {
+                Ok(List::new(self.alloc))
+            }
         }
     }
 
