@@ -111,7 +111,6 @@ module _ (state : ClientState) (P : Stepped → Type 0)
     → P (goes_on (halted (record state { kept = kept })
     (record work { round = work.round + 1; replies = replies })))) where
   pub frame_cases : (frame : Frame) → P (on_frame state frame)
-  frame_cases (frame.Request client number round sets body mac) = same
   frame_cases (frame.Reply replica client number round verdict culled shown mac) =
       let kept = keep_all number round shown state.kept in
       cond_by P _ _ _
@@ -123,6 +122,7 @@ module _ (state : ClientState) (P : Stepped → Type 0)
       (and_parts _ _ counting).0)
       (λ work is counting. halts kept work (with_verdict work replica verdict).replies is (and_parts _ _ counting).0))
       same
+  frame_cases _ = same
 
   received_cases : (found : Option Frame) → P (on_received state found)
   received_cases (Some frame) = frame_cases frame

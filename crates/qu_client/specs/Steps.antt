@@ -99,12 +99,12 @@ counted_in state (Some work) replica number round verdict =
 -- a frame that is no reply to this client is ignored; a reply's histories are kept, and then its
 -- verdict counts
 abbrev pub on_frame : ClientState → Frame → Stepped
-on_frame state (frame.Request client number round sets body mac) = stays state
 on_frame state (frame.Reply replica client number round verdict culled shown mac) =
     if client.0 == (state.me).0
     then counted_in (record state { kept = keep_all number round shown state.kept }) state.work replica number
     round verdict
     else stays state
+on_frame state _ = stays state
 
 abbrev pub on_received : ClientState → Option Frame → Stepped
 on_received state None = stays state
