@@ -316,4 +316,4 @@ step_moves state (frame.Request client number round sets (body.Ask asks) mac) ta
     let decision : Decision = decision_on state asked (body.Ask asks) in
     inl (stays state (carried_out state client number round sets decision).0 (accepted_in decision)
     (carried state client number round sets decision) (ask_accepts state asked asks _))
-step_moves state (frame.Reply replica client number round verdict culled shown mac) taken = inl refl
+step_moves state _ taken = inl refl

@@ -85,7 +85,7 @@ same_place first second same = ap place_of same
 abbrev parts_in : Frame → List (ObjectId × Method)
 parts_in (frame.Request client number round sets (body.Act parts) mac) = parts
 parts_in (frame.Request client number round sets (body.Ask parts) mac) = []
-parts_in (frame.Reply replica client number round verdict culled shown mac) = []
+parts_in _ = []
 
 module _ (trace : Trace) (is_run : IsRun trace) (have : ArePlain trace) where
   sizes : Sizes (setting trace)

@@ -103,7 +103,7 @@ frame-in_place : (place : ℕ) (state : ReplicaState) (received : Frame) → IsI
 frame-in_place place state (frame.Request client number round sets body mac) in_place =
     carried_out-in_place place state client number round sets
     (decision_on state (asked_at state client number sets body) body) in_place
-frame-in_place place state (frame.Reply replica client number round verdict culled shown mac) in_place = in_place
+frame-in_place place state _ in_place = in_place
 
 brought-in_place : (place : ℕ) (state : ReplicaState) (found : Option Frame) → IsInPlace place state
     → IsInPlace place (on_received state found).0

@@ -59,6 +59,7 @@ abbrev pub IsTrueFrame : (Sealed → Type 0) → ℕ → Frame → Type 0
 IsTrueFrame Held bounds (frame.Request client number round sets body mac) = IsMadeOf Held bounds sets body
 IsTrueFrame Held bounds (frame.Reply replica client number round verdict culled shown mac) =
     AllByRecursion Held shown
+IsTrueFrame Held bounds _ = Unit {0}
 
 abbrev pub IsTrueLetter : (Sealed → Type 0) → ℕ → Letter → Type 0
 IsTrueLetter Held bounds letter = (sent : Frame) → Carries letter sent → IsTrueFrame Held bounds sent
@@ -91,6 +92,7 @@ module _ (Old New : Sealed → Type 0) (bounds : ℕ) (more : (sealed : Sealed) 
   frame-more (frame.Request client number round sets body mac) true_frame = made_of-more sets body true_frame
   frame-more (frame.Reply replica client number round verdict culled shown mac) true_frame =
       each_weaker Old New shown more true_frame
+  frame-more _ true_frame = tt
 
   pub letters-more : (letters : List Letter) → AllByRecursion (IsTrueLetter Old bounds) letters
       → AllByRecursion (IsTrueLetter New bounds) letters
@@ -206,8 +208,6 @@ module _ (Held : Sealed → Type 0) (bounds : ℕ) where
   client_frame-true : (state : ClientState) (received : Frame) → IsTrueFrame Held bounds received
       → IsTrueClient Held bounds state → AsksFit (on_frame state received).state
       → IsTrueStep Held bounds (on_frame state received)
-  client_frame-true state (frame.Request client number round sets body mac) true_frame client_is fits =
-      record { state = client_is; letters = tt }
   client_frame-true state (frame.Reply replica client number round verdict culled shown mac) true_frame client_is fits =
       let kept : List Kept = keep_all number round shown state.kept in
       cond_both _ _ _ (λ stepped. AsksFit stepped.state → IsTrueStep Held bounds stepped)
@@ -218,6 +218,7 @@ module _ (Held : Sealed → Type 0) (bounds : ℕ) where
       }))
       (λ _ fit. record { state = client_is; letters = tt })
       fits
+  client_frame-true state _ true_frame client_is fits = record { state = client_is; letters = tt }
 
   client_brought-true : (state : ClientState) (found : Option Frame)
       → ((sent : Frame) → found ≡ Some sent → IsTrueFrame Held bounds sent) → IsTrueClient Held bounds state
@@ -302,7 +303,7 @@ module _ (Held : Sealed → Type 0) (bounds : ℕ) where
   replica_frame-true state (frame.Request client number round sets body mac) fits has =
       carried_out-true state client number round sets (decision_on state (asked_at state client number sets body) body)
       fits has
-  replica_frame-true state (frame.Reply replica client number round verdict culled shown mac) fits has = tt
+  replica_frame-true state _ fits has = tt
 
   replica_brought-true : (state : ReplicaState) (found : Option Frame)
       → ((sent : Frame) → found ≡ Some sent → AnswersFit state sent)

@@ -272,7 +272,7 @@ body_parts (op.Query query) parts = parts
 made_parts : (Held : Sealed → Type 0) (bounds : ℕ) (sent : Frame) → IsTrueFrame Held bounds sent → HasParts sent
 made_parts Held bounds (frame.Request client number round sets body mac) made =
     subst (λ (it : Body). IsTrue (has_parts it)) (sym made.body_is) (body_parts made.op made.parts)
-made_parts Held bounds (frame.Reply replica client number round verdict culled shown mac) made = tt
+made_parts Held bounds _ made = tt
 
 module _ (trace : Trace) (is_run : IsRun trace) (have : ArePlain trace) (count : ℕ)
     (within : count ≤ length trace.entries) (number : ℕ) (letter : Letter)

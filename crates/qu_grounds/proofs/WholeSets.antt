@@ -109,5 +109,4 @@ module _ (trace : Trace) (is_run : IsRun trace) (have : ArePlain trace) (count :
           (view_of_request trace is_run have count within number letter sent client asked round sets body
           (record { mac = mac; carries = carries }));
     }
-    sent_is_whole (frame.Reply replica client asked round verdict left shown mac) carries =
-        record { parts = tt; whole = tt }
+    sent_is_whole _ carries = record { parts = tt; whole = tt }

@@ -13,7 +13,7 @@ IsWhole state sets = culled state.keys state.me sets ≡ sets
 
 abbrev pub ShowsWhole : ReplicaState → Frame → Type 0
 ShowsWhole state (frame.Request client number round sets body mac) = IsWhole state sets
-ShowsWhole state (frame.Reply replica client number round verdict left shown mac) = Unit {0}
+ShowsWhole state _ = Unit {0}
 
 -- the frame has parts, and is such for the replica
 pub record TakesWhole (state : ReplicaState) (sent : Frame) : Type 0 where

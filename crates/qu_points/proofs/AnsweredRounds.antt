@@ -16,18 +16,16 @@ use Rattle.qu_points.specs.Points.{answers_in, answered, letter_answered, answer
 -- the round that is answered
 pub round_of_answer : (found : Result Frame BadText) → option_map (λ (answer : Answered). answer.round)
     (answered found) ≡ round_in found
-round_of_answer (Ok (frame.Request client number round sets body mac)) = refl
 round_of_answer (Ok (frame.Reply replica client number round verdict culled shown mac)) = refl
-round_of_answer (Err bad) = refl
+round_of_answer _ = refl
 
 -- ---- one entry
 
 one_answer : (asked : Answered) (found : Result Frame BadText) (later : List Answered)
     → has_answered asked (cons_option (answered found) later) ≡ (is_answer asked.client asked.number asked.round
     found || has_answered asked later)
-one_answer asked (Ok (frame.Request client number round sets body mac)) later = refl
 one_answer asked (Ok (frame.Reply replica client number round verdict culled shown mac)) later = refl
-one_answer asked (Err bad) later = refl
+one_answer asked _ later = refl
 
 among_answers : (asked : Answered) (letters : List Letter)
     → has_answered asked (filter_map letter_answered letters) ≡ list_any

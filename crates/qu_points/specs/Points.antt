@@ -90,10 +90,9 @@ answers_in client number round entry = list_any (answers client number round) en
 
 -- the round that was answered, if what was decoded is an answer
 abbrev pub answered : Result Frame BadText → Option Answered
-answered (Ok (frame.Request client number round sets body mac)) = None
 answered (Ok (frame.Reply replica client number round verdict culled shown mac)) =
     Some (record { client = client; number = number; round = round })
-answered (Err bad) = None
+answered _ = None
 
 -- the same of a letter
 abbrev pub letter_answered : Letter → Option Answered

@@ -119,7 +119,8 @@ fn act_in(
             body: Body::Act(act),
             ..
         } if are_known(setup, sets) => Ok(Some((*client, *number, act.copy(alloc)?))),
-        Frame::Request { .. } | Frame::Reply { .. } => Ok(None),
+        Frame::Request { .. } | Frame::Reply { .. } | Frame::Fetch { .. } | Frame::Fetched { .. } =>
+            Ok(None),
     }
 }
 

@@ -76,7 +76,7 @@ fn answered_by(frame: &Frame) -> Option<Answered>
             number: *number,
             round: *round,
         }),
-        Frame::Request { .. } => None,
+        Frame::Request { .. } | Frame::Fetch { .. } | Frame::Fetched { .. } => None,
     }
 }
 

@@ -143,8 +143,6 @@ answered_frame : (trace : Trace) → IsRun trace → ArePlain trace → (before 
     (state : ClientState) → SentBefore trace before letter → WorkAnswered trace before state.me state.work
     → (received : Frame) → Carries letter received → WorkAnswered trace (before + 1) state.me
     (on_frame state received).state.work
-answered_frame trace is have before letter state sent are (frame.Request client number round sets body mac)
-    is_frame = work_more trace before state.me state.work are
 answered_frame trace is have before letter state sent are
     (frame.Reply replica client number round verdict culled shown mac) is_frame =
     let P : Stepped → Type 0 = λ stepped. WorkAnswered trace (before + 1) state.me stepped.state.work in
@@ -167,6 +165,7 @@ answered_frame trace is have before letter state sent are
     (WasAnswered trace (before + 1) state.me work.number (work.round + 1)))
     (λ work under_way counting below. All-nil (WasAnswered trace (before + 1) state.me work.number (work.round + 1))))
     (λ other. same)
+answered_frame trace is have before letter state sent are _ is_frame = work_more trace before state.me state.work are
 
 answered_brought : (trace : Trace) → IsRun trace → ArePlain trace → (before : ℕ) (letter : Letter)
     (state : ClientState) → SentBefore trace before letter → WorkAnswered trace before state.me state.work

@@ -165,8 +165,6 @@ gave_up answer same = cc
 
 pub frame_completes : (state : ClientState) (received : Frame) (answer : Answer)
     → (on_frame state received).ended ≡ Some (outcome.Done answer) → ReplyCompletes state received answer
-frame_completes state (frame.Request client number round sets body mac) answer ended =
-    absurd (none-some (outcome.Done answer) ended)
 frame_completes state (frame.Reply replica client number round verdict culled shown mac) answer ends =
     let P : Stepped → Type 0 = λ stepped. stepped.ended ≡ Some (outcome.Done answer)
     → ReplyCompletes state (frame.Reply replica client number round verdict culled shown mac) answer in
@@ -196,6 +194,7 @@ frame_completes state (frame.Reply replica client number round verdict culled sh
     (λ work under_way counting below ended. absurd (none-some (outcome.Done answer) ended)))
     (λ other ended. absurd (none-some (outcome.Done answer) ended))
     ends
+frame_completes state _ answer ended = absurd (none-some (outcome.Done answer) ended)
 
 -- the text brings such a frame
 pub record TextCompletes (state : ClientState) (found : Option Frame) (answer : Answer) : Type 0 where

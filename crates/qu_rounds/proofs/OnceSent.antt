@@ -353,14 +353,13 @@ counted_once Sent bounds state (Some work) replica number round verdict is is_bo
 frame-once : (Sent : Letter → Type 0) (bounds : ℕ) (state : ClientState) (received : Frame)
     → state.keys.bounds ≡ bounds → IsSound state → IsOnce Sent bounds state → IsOnceIf Sent bounds state.me
     (on_frame state received)
-frame-once Sent bounds state (frame.Request client number round sets asks mac) is_bounds sound once =
-    λ fits. quiet Sent bounds state.me state None once
 frame-once Sent bounds state (frame.Reply replica client number round verdict culled shown mac) is_bounds sound once =
     let kept : List Kept = keep_all number round shown state.kept in
     cond_both _ _ _ (IsOnceIf Sent bounds state.me)
     (λ _. counted_once Sent bounds (record state { kept = kept }) state.work replica number round verdict refl
     is_bounds sound (record { up_to = once.up_to; unasked = once.unasked }))
     (λ _ fits. quiet Sent bounds state.me state None once)
+frame-once Sent bounds state _ is_bounds sound once = λ fits. quiet Sent bounds state.me state None once
 
 brought-once : (Sent : Letter → Type 0) (bounds : ℕ) (state : ClientState) (found : Option Frame)
     → state.keys.bounds ≡ bounds → IsSound state → IsOnce Sent bounds state → IsOnceIf Sent bounds state.me

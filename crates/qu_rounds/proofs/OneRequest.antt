@@ -193,8 +193,7 @@ frame_asks : (state : ReplicaState) (sent : Frame) (letter : Letter) → StandsI
 frame_asks state (frame.Request client number round sets asks mac) letter stands =
     answered state client number round sets (decision_on state (asked_at state client number sets asks) asks) letter
     stands
-frame_asks state (frame.Reply replica client number round verdict culled shown mac) letter stands =
-    absurd (none_stands letter stands)
+frame_asks state _ letter stands = absurd (none_stands letter stands)
 
 brought_asks : (state : ReplicaState) (found : Option Frame) (letter : Letter)
     → StandsIn (replica.on_received state found).1 letter → (client : ClientId) (number round : ℕ)

@@ -113,8 +113,7 @@ frame_replies : (bound : ℕ) (state : ReplicaState) (received : Frame) → Answ
 frame_replies bound state (frame.Request client number round sets body mac) fits below =
     by_replica bound state client number round sets (decision_on state (asked_at state client number sets body) body)
     fits below
-frame_replies bound state (frame.Reply replica client number round verdict culled shown mac) fits below =
-    All-nil (RepliesWithin bound)
+frame_replies bound state _ fits below = All-nil (RepliesWithin bound)
 
 brought_replies : (bound : ℕ) (state : ReplicaState) (found : Option Frame)
     → ((sent : Frame) → found ≡ Some sent → AnswersFit state sent) → (state.me).0 < bound

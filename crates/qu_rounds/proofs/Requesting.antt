@@ -60,7 +60,7 @@ request_later trace count more client number asked order is = record {
 -- a request is one of an operation
 abbrev pub IsOfOperation : Trace → ℕ → Frame → Type 0
 IsOfOperation trace count (frame.Request client number round sets body mac) = IsRequestOf trace count client number body
-IsOfOperation trace count (frame.Reply replica client number round verdict culled shown mac) = Unit {0}
+IsOfOperation trace count _ = Unit {0}
 
 pub record IsAsked (trace : Trace) (count : ℕ) (letter : Letter) : Type 0 where
   pub asked : (carried : Frame) → Carries letter carried → IsOfOperation trace count carried
@@ -69,7 +69,7 @@ of_operation_later : (trace : Trace) (count more : ℕ) (sent : Frame) → count
     → IsOfOperation trace count sent → IsOfOperation trace more sent
 of_operation_later trace count more (frame.Request client number round sets body mac) order is =
     request_later trace count more client number body order is
-of_operation_later trace count more (frame.Reply replica client number round verdict culled shown mac) order is = tt
+of_operation_later trace count more _ order is = tt
 
 pub asked_later : (trace : Trace) (count more : ℕ) (letter : Letter) → count ≤ more → IsAsked trace count letter
     → IsAsked trace more letter
@@ -101,8 +101,7 @@ reply_asked trace count letter replica to number round verdict culled shown mac 
     (frame.Request client asked turn sets body other) carries =
     absurd (no_request letter replica to number round verdict culled shown mac spelled client asked turn sets body
     (record { mac = other; carries = carries }))
-reply_asked trace count letter replica to number round verdict culled shown mac spelled
-    (frame.Reply other client asked turn told more besides seal) carries = tt
+reply_asked trace count letter replica to number round verdict culled shown mac spelled _ carries = tt
 
 carried_asked : (trace : Trace) (count : ℕ) (state : ReplicaState) (client : ClientId) (number round : ℕ)
     (sets : List SetOf) (decision : Decision) → All (IsAsked trace count)
@@ -126,8 +125,7 @@ frame_asked : (trace : Trace) (count : ℕ) (state : ReplicaState) (sent : Frame
 frame_asked trace count state (frame.Request client number round sets body mac) =
     carried_asked trace count state client number round sets
     (decision_on state (asked_at state client number sets body) body)
-frame_asked trace count state (frame.Reply replica client number round verdict culled shown mac) =
-    All-nil (IsAsked trace count)
+frame_asked trace count state _ = All-nil (IsAsked trace count)
 
 brought_asked : (trace : Trace) (count : ℕ) (state : ReplicaState) (found : Option Frame)
     → All (IsAsked trace count) (replica.on_received state found).1
@@ -235,8 +233,6 @@ module _ (trace : Trace) (count begun : ℕ) (state : ClientState) (sound : IsSo
 frame_at : (trace : Trace) (count begun : ℕ) (state : ClientState) (sent : Frame) → IsSound state
     → IsAtWork trace count begun state.me state.last_request state.work → AsksFit (on_frame state sent).state
     → IsStepAt trace count begun state.me (on_frame state sent)
-frame_at trace count begun state (frame.Request client number round sets body mac) sound at fits =
-    record { at_work = at; letters = All-nil (IsAsked trace count) }
 frame_at trace count begun state (frame.Reply replica client number round verdict culled shown mac) sound at fits =
     cond_both (eqb client.0 (state.me).0) _ _
     (λ stepped. AsksFit stepped.state → IsStepAt trace count begun state.me stepped)
@@ -244,6 +240,7 @@ frame_at trace count begun state (frame.Reply replica client number round verdic
     replica number round verdict)
     (λ _ fit. record { at_work = at; letters = All-nil (IsAsked trace count) })
     fits
+frame_at trace count begun state _ sound at fits = record { at_work = at; letters = All-nil (IsAsked trace count) }
 
 brought_at : (trace : Trace) (count begun : ℕ) (state : ClientState) (found : Option Frame) → IsSound state
     → IsAtWork trace count begun state.me state.last_request state.work → AsksFit (on_received state found).state

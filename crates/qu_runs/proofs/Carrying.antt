@@ -21,7 +21,7 @@ use Rattle.qu_frames.specs.declared.frame.Frame.{Frame}
 use Rattle.qu_frames.specs.declared.frame.Frame.TheVariants as frame
 use Rattle.qu_frames.specs.declared.frame.Letter.{Letter}
 use Rattle.qu_frames.specs.declared.verdict.Verdict.{Verdict}
-use Rattle.qu_frames.specs.Formats.{is_version, is_frame_kind, frame_kind, frame_body, request_form, request_fields, request_of, request_frame, reply_form, reply_fields, reply_of, reply_frame, kind_form, frame_form}
+use Rattle.qu_frames.specs.Formats.{is_version, is_frame_kind, frame_kind, frame_body, request_form, request_fields, request_of, request_frame, reply_form, reply_fields, reply_of, reply_frame, kind_form, frame_form, fetch_fields, fetch_of, fetch_form, fetch_frame, fetched_fields, fetched_of, fetched_form, fetched_frame}
 use Rattle.qu_frames.specs.Decoding.{decoded}
 use Rattle.qu_frames.specs.Signing.{mac_of, with_mac, signature, signed}
 use Rattle.qu_frames.proofs.Decoded.{decoded_is_read, one_frame}
@@ -115,7 +115,7 @@ AnswersFit state (frame.Request client number round sets body mac) =
     (verdict : Verdict) (accepted : List Accepted) → decision_on state (asked_at state client number sets body)
     body ≡ Answers verdict accepted
     → frame_form.Fits (answer_frame (accept_all state accepted) client number round sets verdict)
-AnswersFit state (frame.Reply replica client number round verdict culled shown mac) = Unit {0}
+AnswersFit state _ = Unit {0}
 
 -- what an event makes the parties send fits
 pub record IsFitStep (old new : WorldState) : Type 0 where
@@ -187,6 +187,17 @@ unfolding reply_frame
 reply_kind front end other read =
     ap frame_kind (sym (made_after reply_of reply_fields reply_form front end other read).is)
 
+fetch_kind : (front end : Front) (other : Frame) → fetch_frame.read front ≡ Ok (other, end) → frame_kind other ≡ 3
+unfolding fetch_frame
+fetch_kind front end other read =
+    ap frame_kind (sym (made_after fetch_of fetch_fields fetch_form front end other read).is)
+
+fetched_kind : (front end : Front) (other : Frame) → fetched_frame.read front ≡ Ok (other, end)
+    → frame_kind other ≡ 4
+unfolding fetched_frame
+fetched_kind front end other read =
+    ap frame_kind (sym (made_after fetched_of fetched_fields fetched_form front end other read).is)
+
 -- a frame is read by the kind that stands before it
 kind_read : (tag : ℕ) (rest : List ℕ) (end : Front) (other : Frame) → tag ≤ 255 → is_frame_kind tag ≡ true
     → frame_form.read (front_of (to_be_bytes w8 1 ++ (to_be_bytes w8 tag ++ rest))) ≡ Ok (other, end)
@@ -229,6 +240,15 @@ same_kind (frame.Reply replica client number round verdict culled shown mac) oth
     reply_kind _ read.0 other
     (kind_read 2 (reply_frame.spell (frame.Reply replica client number round verdict culled shown mac)) read.0
     other (omega arith) refl read.1)
+same_kind (frame.Fetch replica object stamp mac) other given =
+    let read = decoded_is_read (frame_form.spell (frame.Fetch replica object stamp mac)) other given in
+    fetch_kind _ read.0 other
+    (kind_read 3 (fetch_frame.spell (frame.Fetch replica object stamp mac)) read.0 other (omega arith) refl read.1)
+same_kind (frame.Fetched replica object stamp state mac) other given =
+    let read = decoded_is_read (frame_form.spell (frame.Fetched replica object stamp state mac)) other given in
+    fetched_kind _ read.0 other
+    (kind_read 4 (fetched_frame.spell (frame.Fetched replica object stamp state mac)) read.0 other (omega arith)
+    refl read.1)
 
 not_one_kind : (left right : ℕ) → left ≡ 1 → right ≡ 2 → left ≡ right → ⊥
 not_one_kind left right one two same = omega arith

@@ -132,7 +132,6 @@ counted-fit state replica number round verdict holds =
 
 frame-fit : (state : ClientState) (received : Frame) → frame_form.Fits received → HoldsFit state
     → HoldsFit (on_frame state received).state
-frame-fit state (frame.Request client number round sets body mac) fits holds = holds
 frame-fit state (frame.Reply replica client number round verdict culled shown mac) fits holds =
     cond_both (eqb client.0 (state.me).0) _ _ (λ (stepped : Stepped). HoldsFit stepped.state)
     (λ _. counted-fit (record state { kept = keep_all number round shown state.kept }) replica number round verdict
@@ -142,6 +141,7 @@ frame-fit state (frame.Reply replica client number round verdict culled shown ma
       work = holds.work;
     }))
     (λ _. holds)
+frame-fit state _ fits holds = holds
 
 brought-fit : (state : ClientState) (found : Option Frame)
     → ((sent : Frame) → found ≡ Some sent → frame_form.Fits sent) → HoldsFit state

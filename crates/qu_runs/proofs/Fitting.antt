@@ -235,7 +235,7 @@ answers_fit state (frame.Request client number round sets body mac) fits within 
     answer-fits (accept_all state accepted) after client number round sets verdict request.low request.high
     request.word request.from_one request.few request.shown
     (subst DecisionFits given (decision-fits state client number round sets body fits request)).0
-answers_fit state (frame.Reply replica client number round verdict culled shown mac) fits within = tt
+answers_fit state _ fits within = tt
 
 -- what an event makes the parties send fits
 pub fit_step : (trace : Trace) → IsRun trace → ArePlain trace → (count : ℕ) → count < length trace.entries

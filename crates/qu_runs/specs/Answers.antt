@@ -15,10 +15,9 @@ use Rattle.qu_world.specs.State.{numbered}
 
 -- what was decoded is an answer to this round of the operation
 abbrev pub is_answer : ClientId → ℕ → ℕ → Result Frame BadText → Bool
-is_answer client number round (Ok (frame.Request other asked turn sets body mac)) = false
 is_answer client number round (Ok (frame.Reply replica other replied turn verdict culled shown mac)) =
     other.0 == client.0 && (replied == number && turn == round)
-is_answer client number round (Err bad) = false
+is_answer client number round _ = false
 
 -- the letter carries one
 abbrev pub answers : ClientId → ℕ → ℕ → Letter → Bool
@@ -26,9 +25,8 @@ answers client number round letter = is_answer client number round (decoded lett
 
 -- the round of the answer that was decoded
 abbrev pub round_in : Result Frame BadText → Option ℕ
-round_in (Ok (frame.Request client number round sets body mac)) = None
 round_in (Ok (frame.Reply replica client number round verdict culled shown mac)) = Some round
-round_in (Err bad) = None
+round_in _ = None
 
 -- the round of the answer that a letter carries
 abbrev pub round_of : Option Letter → Option ℕ

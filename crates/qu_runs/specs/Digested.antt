@@ -49,7 +49,7 @@ abbrev pub request_in : Setup → ReplicaId → Frame → Option Request
 request_in setup me (frame.Request client number round sets body mac) =
     if list_all (is_known setup) sets then Some
     (record { client = client; number = number; sets = culled (ring_of setup) me sets; body = body }) else None
-request_in setup me (frame.Reply replica client number round verdict left shown mac) = None
+request_in setup me _ = None
 
 -- the same of a frame that was brought, if there is one
 abbrev pub request_brought : Setup → ReplicaId → Option Frame → Option Request

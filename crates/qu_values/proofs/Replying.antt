@@ -287,8 +287,7 @@ module _ (replica : ReplicaId) (client : ClientId) (number round : ℕ) (verdict
   reply_decided state (frame.Request other asked turn sets body mac) fits place sent found is_reply =
       carried_reply state other asked turn sets body mac (decision_on state (asked_at state other asked sets body) body)
       fits refl place sent found is_reply
-  reply_decided state (frame.Reply me other asked turn given none histories mac) fits place sent found is_reply =
-      absurd (none-some sent found)
+  reply_decided state _ fits place sent found is_reply = absurd (none-some sent found)
 
 -- the same of the text of a letter
 record IsDecidedUpon (state : ReplicaState) (letter : Letter) (replica : ReplicaId) (client : ClientId)

@@ -69,8 +69,7 @@ carried setup me (frame.Request client number round sets asked mac) request is =
     record { client = client; number = number; sets = culled (ring_of setup) me sets; body = asked } in
     let same : it ≡ request = (cond_some (list_all (is_known setup) sets) it request is).1 in
     (round, sets, mac, ap (λ (one : Request). frame.Request one.client one.number round sets one.body mac) same)
-carried setup me (frame.Reply replica client number round verdict left shown mac) request is =
-    absurd (none-some request is)
+carried setup me _ request is = absurd (none-some request is)
 
 carried_to : (setup : Setup) (text : List ℕ) (to : Party) (request : Request)
     → request_to setup text to ≡ Some request
