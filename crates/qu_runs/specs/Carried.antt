@@ -17,23 +17,35 @@ use Rattle.qu_frames.specs.Signing.{brought}
 use Rattle.qu_replica.specs.State.{ReplicaState}
 use Rattle.qu_trace.specs.declared.event.Event.{Event}
 use Rattle.qu_trace.specs.declared.event.Event.TheVariants.{Invoke, Deliver, Tick, Inject}
-use Rattle.qu_world.specs.State.{WorldState, letter_of}
+use Rattle.qu_trace.specs.declared.trace.Entry.{Entry}
+use Rattle.qu_trace.specs.declared.trace.Setup.{Setup}
+use Rattle.qu_trace.specs.Letters.{letters_of}
+use Rattle.qu_world.specs.State.{WorldState, numbered}
 use Rattle.qu_world.specs.Step.{at_faulty}
 
 -- the letter's text is decoded to this frame
 abbrev pub Carries : Letter → Frame → Type 0
 Carries letter sent = decoded letter.text ≡ Ok sent
 
--- the bytes that an event brings to a party: those of a letter to its receiver, or injected ones
-abbrev pub offered : WorldState → Event → Option (Party × List ℕ)
-offered world (Invoke client op) = None
-offered world (Deliver number) = option_map (λ (letter : Letter). (letter.to, letter.text)) (letter_of world number)
-offered world (Tick client) = None
-offered world (Inject to text) = Some (to, text)
+-- the bytes that an event brings to a party, the letters of these entries having been sent: those of a letter to its
+-- receiver, or injected ones
+abbrev pub offered_by : List Entry → Event → Option (Party × List ℕ)
+offered_by entries (Invoke client op) = None
+offered_by entries (Deliver number) =
+    option_map (λ (letter : Letter). (letter.to, letter.text)) (numbered (letters_of entries) number)
+offered_by entries (Tick client) = None
+offered_by entries (Inject to text) = Some (to, text)
 
--- the bytes that an event hands to a correct party
+-- those that it hands to a correct party
+abbrev pub handed_by : Setup → List Entry → Event → Option (Party × List ℕ)
+handed_by setup entries event = if at_faulty setup entries event then None else offered_by entries event
+
+-- the same in a world
+abbrev pub offered : WorldState → Event → Option (Party × List ℕ)
+offered world event = offered_by world.entries event
+
 abbrev pub handed : WorldState → Event → Option (Party × List ℕ)
-handed world event = if at_faulty world.setup world.entries event then None else offered world event
+handed world event = handed_by world.setup world.entries event
 
 -- the replica handles the letter as this frame, whose HMAC is right for it
 abbrev pub Brings : ReplicaState → Letter → Frame → Type 0
