@@ -8,7 +8,7 @@ use Rattle.qu_replica.specs.State.{ReplicaState}
 use Rattle.qu_trace.specs.declared.event.Event.{Event}
 use Rattle.qu_trace.specs.declared.trace.Entry.{Entry}
 use Rattle.qu_trace.specs.declared.trace.Trace.{Trace}
-use Rattle.qu_world.specs.State.{WorldState, opening_replicas, ring_of}
+use Rattle.qu_world.specs.State.{WorldState, kinds_at, opening_replicas, ring_of}
 use Rattle.qu_world.specs.Step.{world_step}
 use Rattle.qu_world.specs.Run.{IsRun}
 use Rattle.qu_runs.specs.Times.{world_after}
@@ -24,13 +24,13 @@ use Rattle.qu_seal.specs.Keys.{Ring}
 abbrev AllOfHeld : WorldState → Type 0
 AllOfHeld world = (place : ℕ) (state : ReplicaState) → slice_get world.replicas place ≡ Some state → AreOfHeld state
 
-opening_from : (first count : ℕ) (keys : Ring) (kinds : List KindName) (place : ℕ)
+opening_from : (first count : ℕ) (keys : Ring) (kinds : ℕ → List KindName) (place : ℕ)
     (state : ReplicaState) → slice_get (opening_replicas first count keys kinds) place ≡ Some state
     → AreOfHeld state
 unfolding opening_replicas
 opening_from first zero keys kinds place state found = absurd (none-some state found)
 opening_from first (suc count) keys kinds zero state found =
-    subst AreOfHeld (same_Some _ state found) (opening_of_held (record { 0 = first }) keys kinds)
+    subst AreOfHeld (same_Some _ state found) (opening_of_held (record { 0 = first }) keys (kinds first))
 opening_from first (suc count) keys kinds (suc place) state found =
     opening_from (first + 1) count keys kinds place state found
 
@@ -54,7 +54,7 @@ module _ (trace : Trace) (is_run : IsRun trace) (have : ArePlain trace) where
   all_held : (count : ℕ) → count ≤ length trace.entries → AllOfHeld (world_after trace count)
   all_held zero within =
       subst AllOfHeld (sym (world_after-none trace))
-      (opening_from 0 (replicas trace.setup.bounds) (ring_of trace.setup) trace.setup.kinds)
+      (opening_from 0 (replicas trace.setup.bounds) (ring_of trace.setup) (kinds_at trace.setup))
   all_held (suc count) within =
       subst (λ (at : ℕ). AllOfHeld (world_after trace at)) (add-one count)
       (held_next count (omega arith) (all_held count (omega arith)))

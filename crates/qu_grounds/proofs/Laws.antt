@@ -25,7 +25,8 @@ use Rattle.qu_grounds.proofs.Grounds.{above_base, above_held, base_not_below}
 use Rattle.qu_runs.proofs.Objects.{accepted_known}
 use Rattle.qu_runs.proofs.Settings.{acceptors_are}
 use Rattle.qu_runs.specs.Accepted.{accepts}
-use Rattle.qu_runs.proofs.OpeningReplicas.{all_begin, all_replicas, bounds_are}
+use Rattle.qu_runs.proofs.FewFaults.{few_faulty}
+use Rattle.qu_runs.proofs.OpeningReplicas.{acceptor_is_good, all_begin, all_replicas, bounds_are}
 use Rattle.qu_base.proofs.ThresholdFacts.{are_thresholds}
 use Rattle.qu_replica.specs.Rows.{asked_of, fresh_stamp}
 use Rattle.qu_runs.proofs.Carrying.{asks_so, brings_carries, one_carried}
@@ -55,13 +56,6 @@ use Rattle.qu_frames.specs.declared.frame.Frame.TheVariants as frame
 use Rattle.qu_frames.specs.declared.frame.Body.TheVariants as body
 
 -- ---- the numbers
-
-none_counted : (n : ℕ) → count n (λ replica. not true) ≡ 0
-unfolding count
-none_counted zero = refl
-none_counted (suc n) =
-    let before : count n (λ replica. not true) ≡ 0 = none_counted n in
-    omega (arith, before)
 
 more_at : (object : ObjectId) (candidate : Candidate) (olds news : List ReplicaState) (place : ℕ)
     → AllZip AcceptsMore olds news
@@ -94,8 +88,8 @@ module _ (trace : Trace) (is_run : IsRun trace) (have : ArePlain trace) where
       let thresholds : AreThresholds trace.setup.bounds =
       are_thresholds trace.setup.bounds (is_run.setup).some_faults in
       record {
-        borne = omega arith;
-        counted = none_counted (replicas trace.setup.bounds);
+        borne = few_faulty trace.setup (replicas trace.setup.bounds) (is_run.setup).few;
+        counted = refl;
         meets = omega arith;
         shares = omega arith;
         within = omega arith;
@@ -224,7 +218,7 @@ module _ (trace : Trace) (is_run : IsRun trace) (have : ArePlain trace) where
             (new_is_fresh turn.time object place candidate (record {
               step = omega arith;
               within = among;
-              good = refl;
+              good = acceptor_is_good trace (suc turn.time) place object candidate turn.after;
               after = turn.after;
               before = turn.before;
             })).plain
@@ -273,14 +267,14 @@ module _ (trace : Trace) (is_run : IsRun trace) (have : ArePlain trace) where
       let among : place < length (world_after trace time).replicas =
       slice_get_within (world_after trace time).replicas place old is_old in
       let all : length (world_after trace time).replicas ≡ replicas trace.setup.bounds = all_replicas trace time in
+      let now : test_at (accepts object candidate) (world_after trace (suc time)).replicas place ≡ true =
+      test_at-here (accepts object candidate) (world_after trace (suc time)).replicas place new is_new
+      ∙ ap (holds candidate) (accepts_so.added object names) ∙ holds_pushed candidate (own_candidates old object) in
       record {
         step = within;
         within = omega (arith, among, all);
-        good = refl;
-        after =
-            test_at-here (accepts object candidate) (world_after trace (suc time)).replicas place new is_new
-            ∙ ap (holds candidate) (accepts_so.added object names)
-            ∙ holds_pushed candidate (own_candidates old object);
+        good = acceptor_is_good trace (suc time) place object candidate now;
+        after = now;
         before =
             test_at-here (accepts object candidate) (world_after trace time).replicas place old is_old
             ∙ elim (cases_Bool (accepts object candidate old)) [
@@ -398,7 +392,7 @@ module _ (trace : Trace) (is_run : IsRun trace) (have : ArePlain trace) where
   laws = record {
     sizes = sizes;
     opens = refl;
-    begins = λ object place known good within. all_begin trace object place (ltb-true _ _ known) within;
+    begins = λ object place known good within. all_begin trace object place (ltb-true _ _ known) good within;
     start = λ object place candidate good within accepted. start object place candidate accepted;
     only_known = λ time object place candidate good within accepted.
         lt-ltb _ _ (accepted_known trace time place object candidate accepted);

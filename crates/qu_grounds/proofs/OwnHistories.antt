@@ -127,19 +127,19 @@ opening-in_place me keys kinds = record {
       record { object = own.object; replica = own.replica };
 }
 
-opening_from : (first count : ℕ) (keys : Ring) (kinds : List KindName) (number : ℕ)
+opening_from : (first count : ℕ) (keys : Ring) (kinds : ℕ → List KindName) (number : ℕ)
     (state : ReplicaState) → slice_get (opening_replicas first count keys kinds) number ≡ Some state
     → IsInPlace (first + number) state
 unfolding opening_replicas
 opening_from first zero keys kinds number state found = absurd (none-some state found)
 opening_from first (suc count) keys kinds zero state found =
     rw add-zero (subst (IsInPlace first) (same_Some _ state found)
-    (opening-in_place (record { 0 = first }) keys kinds))
+    (opening-in_place (record { 0 = first }) keys (kinds first)))
 opening_from first (suc count) keys kinds (suc number) state found =
     let sum : (first + 1) + number ≡ first + suc number = omega arith in
     subst (λ (it : ℕ). IsInPlace it state) sum (opening_from (first + 1) count keys kinds number state found)
 
-pub opening-all_in_place : (count : ℕ) (keys : Ring) (kinds : List KindName)
+pub opening-all_in_place : (count : ℕ) (keys : Ring) (kinds : ℕ → List KindName)
     → AreInPlace (opening_replicas 0 count keys kinds)
 opening-all_in_place count keys kinds = λ number state found.
     subst (λ (it : ℕ). IsInPlace it state) (zero-add number) (opening_from 0 count keys kinds number state found)

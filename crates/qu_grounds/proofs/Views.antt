@@ -35,7 +35,7 @@ use Rattle.qu_trace.specs.declared.trace.Entry.{Entry}
 use Rattle.qu_trace.specs.declared.trace.Setup.{Setup}
 use Rattle.qu_trace.specs.declared.trace.Trace.{Trace}
 use Rattle.qu_trace.specs.Letters.{letters_of}
-use Rattle.qu_world.specs.State.{WorldState, opening_world, opening_clients, numbered, letter_of, history_at, ring_of}
+use Rattle.qu_world.specs.State.{WorldState, opening_world, opening_clients, numbered, letter_of, history_at, kinds_at, ring_of}
 use Rattle.qu_world.specs.Step.{world_step, unchanged, at_replica, at_client, received, delivered}
 use Rattle.qu_world.specs.Run.{IsRun}
 use Rattle.qu_runs.specs.Carried.{Carries, Asks}
@@ -206,7 +206,7 @@ opening_world-true : (Held : Sealed → Type 0) (setup : Setup) → IsTrueWorld 
     (opening_world setup)
 unfolding letters_of
 opening_world-true Held setup = record {
-  replicas = opening-all_in_place (replicas setup.bounds) (ring_of setup) setup.kinds;
+  replicas = opening-all_in_place (replicas setup.bounds) (ring_of setup) (kinds_at setup);
   clients = opening_clients-true Held setup.bounds (ring_of setup) refl 1 setup.clients;
   letters = tt;
 }

@@ -32,7 +32,7 @@ use Rattle.qu_client.proofs.Cases.{step_cases, invoke_cases}
 use Rattle.qu_trace.specs.declared.trace.Entry.{Entry}
 use Rattle.qu_trace.specs.declared.trace.Trace.{Trace}
 use Rattle.qu_trace.specs.Letters.{letters_of}
-use Rattle.qu_world.specs.State.{WorldState, opening_world, opening_replicas, numbered, letter_of, ring_of}
+use Rattle.qu_world.specs.State.{WorldState, opening_world, opening_replicas, numbered, letter_of, kinds_at, ring_of}
 use Rattle.qu_world.specs.Growth.{GrowsTo}
 use Rattle.qu_world.specs.Run.{IsRun}
 use Rattle.qu_world.proofs.LetterLaws.{slice_get-append_left, slice_get-append_right}
@@ -52,7 +52,7 @@ use Rattle.qu_base.specs.declared.party.Party.{Party}
 
 -- ---- the names of replicas
 
-replica_name : (number count : ℕ) (keys : Ring) (kinds : List KindName) (news : List ReplicaState)
+replica_name : (number count : ℕ) (keys : Ring) (kinds : ℕ → List KindName) (news : List ReplicaState)
     → AllZip Grows (opening_replicas number count keys kinds) news → (place : ℕ) (state : ReplicaState)
     → slice_get news place ≡ Some state → (state.me).0 < number + count
 unfolding opening_replicas
@@ -77,7 +77,7 @@ replica_within trace index place state found =
     subst (λ (world : WorldState). GrowsTo world (world_after trace index)) (world_after-none trace)
     (world_after-grows trace 0 index (omega arith)) in
     let below : (state.me).0 < 0 + replicas trace.setup.bounds =
-    replica_name 0 (replicas trace.setup.bounds) (ring_of trace.setup) trace.setup.kinds
+    replica_name 0 (replicas trace.setup.bounds) (ring_of trace.setup) (kinds_at trace.setup)
     (world_after trace index).replicas grows.replicas place state found in
     omega arith
 

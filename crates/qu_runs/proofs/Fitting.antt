@@ -33,7 +33,8 @@ use Rattle.qu_trace.specs.declared.trace.Entry.{Entry}
 use Rattle.qu_trace.specs.declared.trace.Setup.{Setup}
 use Rattle.qu_trace.specs.declared.trace.Trace.{Trace}
 use Rattle.qu_trace.specs.Letters.{letters_of}
-use Rattle.qu_world.specs.State.{WorldState, opening_world, opening_replicas, numbered, letter_of, ring_of}
+use Rattle.qu_runs.proofs.Objects.{few_kinds}
+use Rattle.qu_world.specs.State.{WorldState, opening_world, opening_replicas, numbered, letter_of, kinds_at, ring_of}
 use Rattle.qu_world.specs.Step.{world_step, unchanged, at_replica, at_client, received, delivered}
 use Rattle.qu_world.specs.Run.{IsSetup, IsRun}
 use Rattle.qu_runs.specs.Carried.{Carries}
@@ -164,15 +165,15 @@ module _ (bounds most : ℕ) (few : most + 1 < 2 ^ 64) (size : replicas bounds �
 
 -- ---- the beginning
 
-opening_from : (first count : ℕ) (keys : Ring) (kinds : List KindName) (place : ℕ)
+opening_from : (first count : ℕ) (keys : Ring) (kinds : ℕ → List KindName) (place : ℕ)
     (state : ReplicaState) → first + count ≤ REPLICA_IDS → IsTrue (is_replica_count (replicas keys.bounds))
-    → length kinds ≤ OBJECT_IDS → slice_get (opening_replicas first count keys kinds) place ≡ Some state
+    → ((number : ℕ) → length (kinds number) ≤ OBJECT_IDS) → slice_get (opening_replicas first count keys kinds) place ≡ Some state
     → StateFits state
 unfolding opening_replicas
 opening_from first zero keys kinds place state few sized kinds_few found = absurd (none-some state found)
 opening_from first (suc count) keys kinds zero state few sized kinds_few found =
-    subst StateFits (same_Some (opening_state (record { 0 = first }) keys kinds) state found)
-    (opening-fits (record { 0 = first }) keys kinds (omega arith) sized kinds_few)
+    subst StateFits (same_Some (opening_state (record { 0 = first }) keys (kinds first)) state found)
+    (opening-fits (record { 0 = first }) keys (kinds first) (omega arith) sized (kinds_few first))
 opening_from first (suc count) keys kinds (suc place) state few sized kinds_few found =
     opening_from (first + 1) count keys kinds place state (omega arith) sized kinds_few found
 
@@ -184,8 +185,11 @@ opening_fits setup is =
       clients = λ number state found. opening_clients-fit (ring_of setup) setup.clients number state
           is.clients found;
       replicas = λ place state found. opening_from 0 (replicas setup.bounds) (ring_of setup)
-          setup.kinds place state (omega arith) (replicas_are_count setup.bounds is.some_faults is.few_faults)
-          is.kinds found;
+          (kinds_at setup) place state (omega arith)
+          (replicas_are_count setup.bounds is.some_faults is.few_faults)
+          (λ number. let few : length (kinds_at setup number) ≤ length setup.kinds = few_kinds setup number in
+          let all : length setup.kinds ≤ OBJECT_IDS = is.kinds in
+          omega arith) found;
       letters = tt;
     }
 

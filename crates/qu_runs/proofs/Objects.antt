@@ -6,7 +6,10 @@ use Rattle.qu_objects.specs.declared.kind.KindName.{KindName}
 use Rattle.qu_replica.specs.State.{ReplicaState, opening_histories, candidates_in}
 use Rattle.qu_replica.specs.Growth.{Grows}
 use Rattle.qu_trace.specs.declared.trace.Setup.{Setup}
-use Rattle.qu_world.specs.State.{opening_replicas, opening_world, ring_of, WorldState}
+use Rattle.std.specs.Prelude.{if◌then◌else◌}
+use Rattle.qu_base.specs.declared.party.Party.TheVariants as party
+use Rattle.qu_trace.specs.Faulty.{is_faulty}
+use Rattle.qu_world.specs.State.{opening_replicas, opening_world, kinds_at, ring_of, WorldState}
 use Rattle.qu_replica.proofs.FitState.{opening_number}
 use Rattle.qu_seal.specs.Keys.{Ring}
 use Rattle.std.specs.Prelude.{slice_get}
@@ -36,17 +39,27 @@ each_has-grows objects (old ∷ olds) (new ∷ news) grows few =
     let before : length old.histories ≤ objects = few.0 in
     (omega arith, each_has-grows objects olds news grows.1 few.1)
 
-each_has-opening : (number count : ℕ) (keys : Ring) (kinds : List KindName)
-    → EachHas (length kinds) (opening_replicas number count keys kinds)
+each_has-opening : (most number count : ℕ) (keys : Ring) (kinds : ℕ → List KindName)
+    → ((place : ℕ) → length (kinds place) ≤ most) → EachHas most (opening_replicas number count keys kinds)
 unfolding opening_replicas
-each_has-opening number zero keys kinds = tt
-each_has-opening number (suc count) keys kinds =
-    let same_number : length (opening_histories (record { 0 = number }) 0 kinds) ≡ length kinds =
-    opening_number (record { 0 = number }) 0 kinds in
-    (omega arith, each_has-opening (number + 1) count keys kinds)
+each_has-opening most number zero keys kinds few = tt
+each_has-opening most number (suc count) keys kinds few =
+    let same_number : length (opening_histories (record { 0 = number }) 0 (kinds number)) ≡ length (kinds number) =
+    opening_number (record { 0 = number }) 0 (kinds number) in
+    let here : length (kinds number) ≤ most = few number in
+    (omega arith, each_has-opening most (number + 1) count keys kinds few)
+
+-- a replica keeps no more objects than there are
+pub few_kinds : (setup : Setup) (place : ℕ) → length (kinds_at setup place) ≤ length setup.kinds
+few_kinds setup place = fewer (is_faulty setup (party.Replica (record { 0 = place })))
+  where
+    fewer : (test : Bool) → length (if test then [] else setup.kinds) ≤ length setup.kinds
+    fewer true = omega arith
+    fewer false = omega arith
 
 pub opening_has : (setup : Setup) → EachHas (length setup.kinds) (opening_world setup).replicas
-opening_has setup = each_has-opening 0 (replicas setup.bounds) (ring_of setup) setup.kinds
+opening_has setup = each_has-opening (length setup.kinds) 0 (replicas setup.bounds) (ring_of setup) (kinds_at setup)
+    (few_kinds setup)
 
 -- the replicas of a run have the objects of its setup
 pub run_has : (trace : Trace) (count : ℕ) → EachHas (length trace.setup.kinds) (world_after trace count).replicas

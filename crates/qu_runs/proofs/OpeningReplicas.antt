@@ -1,8 +1,14 @@
 -- What the replicas of a run begin with: the opening candidates, and the bounds of the setup, which they keep.
 use Rattle.std.proofs.Common.{◌≡◌, ℕ, zero, suc, ◌+◌, true, List, [], ◌∷◌, Some, sym, ap, subst, ◌∙◌, arith, inl, inr, zero-add, add-zero, length, refl, false, ◌<◌}
 use Rattle.std.specs.Prelude.{slice_get}
-use Rattle.std.proofs.lemmas.Bool.{false≢true, or_cases, or_left}
+use Rattle.std.proofs.lemmas.Bool.{false≢true, cases_Bool, or_cases, or_left}
 use Rattle.std.proofs.lemmas.Option.{none-some, same_Some}
+use Rattle.std.specs.Prelude.{not, if◌then◌else◌}
+use Rattle.qu_base.specs.declared.party.Party.TheVariants as party
+use Rattle.qu_history.specs.History.{ObjectHistory}
+use Rattle.qu_trace.specs.declared.trace.Setup.{Setup}
+use Rattle.qu_trace.specs.Faulty.{is_faulty, is_good}
+use Rattle.qu_chain.proofs.Counting.{Found, found_at}
 use Rattle.qu_base.specs.declared.party.ObjectId.{ObjectId}
 use Rattle.qu_base.specs.declared.party.ReplicaId.{ReplicaId}
 use Rattle.qu_base.specs.Bounds.{replicas}
@@ -13,7 +19,7 @@ use Rattle.qu_history.specs.History.{holds}
 use Rattle.qu_objects.specs.declared.kind.KindName.{KindName}
 use Rattle.qu_replica.specs.State.{ReplicaState, candidates_in, own_candidates, opening_histories, opening_state}
 use Rattle.qu_trace.specs.declared.trace.Trace.{Trace}
-use Rattle.qu_world.specs.State.{WorldState, opening_replicas, ring_of}
+use Rattle.qu_world.specs.State.{WorldState, kinds_at, opening_replicas, ring_of}
 use Rattle.qu_runs.specs.Times.{world_after}
 use Rattle.qu_runs.proofs.WorldGrowth.{world_after-none, world_after-grows}
 use Rattle.qu_runs.proofs.Befores.{WasBefore, grown_from}
@@ -24,26 +30,26 @@ use Rattle.qu_runs.specs.Accepted.{accepts}
 use Rattle.qu_chain.specs.Count.{test_at}
 
 -- a replica begins with its place as its name
-opening_replica : (number count : ℕ) (keys : Ring) (kinds : List KindName) (place : ℕ) (state : ReplicaState)
+opening_replica : (number count : ℕ) (keys : Ring) (kinds : ℕ → List KindName) (place : ℕ) (state : ReplicaState)
     → slice_get (opening_replicas number count keys kinds) place ≡ Some state
-    → state ≡ opening_state (record { 0 = number + place }) keys kinds
+    → state ≡ opening_state (record { 0 = number + place }) keys (kinds (number + place))
 unfolding opening_replicas
 opening_replica number zero keys kinds place state found = absurd (none-some state found)
 opening_replica number (suc count) keys kinds zero state found =
-    sym (same_Some _ state found) ∙ ap (λ (it : ℕ). opening_state (record { 0 = it }) keys kinds)
+    sym (same_Some _ state found) ∙ ap (λ (it : ℕ). opening_state (record { 0 = it }) keys (kinds it))
     (sym (add-zero number))
 opening_replica number (suc count) keys kinds (suc place) state found =
     let sum : (number + 1) + place ≡ number + suc place = omega arith in
     opening_replica (number + 1) count keys kinds place state found
-    ∙ ap (λ (it : ℕ). opening_state (record { 0 = it }) keys kinds) sum
+    ∙ ap (λ (it : ℕ). opening_state (record { 0 = it }) keys (kinds it)) sum
 
 pub opening_at : (trace : Trace) (place : ℕ) (state : ReplicaState)
     → slice_get (world_after trace 0).replicas place ≡ Some state
-    → state ≡ opening_state (record { 0 = place }) (ring_of trace.setup) trace.setup.kinds
+    → state ≡ opening_state (record { 0 = place }) (ring_of trace.setup) (kinds_at trace.setup place)
 opening_at trace place state is_state =
-    opening_replica 0 (replicas trace.setup.bounds) (ring_of trace.setup) trace.setup.kinds place state
+    opening_replica 0 (replicas trace.setup.bounds) (ring_of trace.setup) (kinds_at trace.setup) place state
     (ap (λ (world : WorldState). slice_get world.replicas place) (sym (world_after-none trace)) ∙ is_state)
-    ∙ ap (λ (it : ℕ). opening_state (record { 0 = it }) (ring_of trace.setup) trace.setup.kinds) (zero-add place)
+    ∙ ap (λ (it : ℕ). opening_state (record { 0 = it }) (ring_of trace.setup) (kinds_at trace.setup it)) (zero-add place)
 
 -- what is held at the beginning
 opening_held : (me : ReplicaId) (first : ℕ) (kinds : List KindName) (place : ℕ) (candidate : Candidate)
@@ -61,7 +67,7 @@ pub opening_holds : (trace : Trace) (place : ℕ) (state : ReplicaState) → sli
     place ≡ Some state → (object : ObjectId) (candidate : Candidate)
     → holds candidate (own_candidates state object) ≡ true → candidate ≡ opening
 opening_holds trace place state is_state object candidate held =
-    opening_held (record { 0 = place }) 0 trace.setup.kinds object.0 candidate
+    opening_held (record { 0 = place }) 0 (kinds_at trace.setup place) object.0 candidate
     (ap (λ (it : ReplicaState). holds candidate (own_candidates it object))
     (sym (opening_at trace place state is_state))
     ∙ held)
@@ -71,7 +77,7 @@ opening_holds trace place state is_state object candidate held =
 -- each replica of a run grew from what it began with
 grown_at : (trace : Trace) (count place : ℕ) (state : ReplicaState)
     → slice_get (world_after trace count).replicas place ≡ Some state
-    → Grows (opening_state (record { 0 = place }) (ring_of trace.setup) trace.setup.kinds) state
+    → Grows (opening_state (record { 0 = place }) (ring_of trace.setup) (kinds_at trace.setup place)) state
 grown_at trace count place state is_state =
     let before : WasBefore (world_after trace 0).replicas place state =
     grown_from (world_after trace 0).replicas (world_after trace count).replicas place state
@@ -95,7 +101,7 @@ me_is trace count place state is_state = (grown_at trace count place state is_st
 
 -- ---- their number
 
-length-opening : (first count : ℕ) (keys : Ring) (kinds : List KindName)
+length-opening : (first count : ℕ) (keys : Ring) (kinds : ℕ → List KindName)
     → length (opening_replicas first count keys kinds) ≡ count
 unfolding opening_replicas
 length-opening first zero keys kinds = refl
@@ -106,7 +112,7 @@ all_replicas trace count =
     sym (length_all_zip Grows (world_after trace 0).replicas (world_after trace count).replicas
     (world_after-grows trace 0 count (omega arith)).replicas) ∙
     ap (λ (world : WorldState). length world.replicas) (world_after-none trace) ∙
-    length-opening 0 (replicas trace.setup.bounds) (ring_of trace.setup) trace.setup.kinds
+    length-opening 0 (replicas trace.setup.bounds) (ring_of trace.setup) (kinds_at trace.setup)
 
 -- ---- what all of them begin with
 
@@ -118,20 +124,70 @@ begins_held me number [] place below = absurd (omega arith)
 begins_held me number (first ∷ kinds) zero below = or_left (same opening opening) false (same-self opening)
 begins_held me number (first ∷ kinds) (suc place) below = begins_held me (number + 1) kinds place (omega arith)
 
-begins_accepted : (object : ObjectId) (number count : ℕ) (keys : Ring) (kinds : List KindName)
-    → object.0 < length kinds → (place : ℕ) → place < count
+begins_accepted : (object : ObjectId) (number count : ℕ) (keys : Ring) (kinds : ℕ → List KindName) (place : ℕ)
+    → place < count → object.0 < length (kinds (number + place))
     → test_at (accepts object opening) (opening_replicas number count keys kinds) place ≡ true
 unfolding opening_replicas
-begins_accepted object number zero keys kinds known place below = absurd (omega arith)
-begins_accepted object number (suc count) keys kinds known zero below =
-    begins_held (record { 0 = number }) 0 kinds object.0 known
-begins_accepted object number (suc count) keys kinds known (suc place) below =
-    begins_accepted object (number + 1) count keys kinds known place (omega arith)
+begins_accepted object number zero keys kinds place below known = absurd (omega arith)
+begins_accepted object number (suc count) keys kinds zero below known =
+    begins_held (record { 0 = number }) 0 (kinds number) object.0 (rw add-zero at known)
+begins_accepted object number (suc count) keys kinds (suc place) below known =
+    let sum : number + suc place ≡ (number + 1) + place = omega arith in
+    begins_accepted object (number + 1) count keys kinds place (omega arith) (rw sum at known)
+
+-- a correct one keeps all objects
+pub correct_kinds : (setup : Setup) (place : ℕ) → is_good setup place ≡ true → kinds_at setup place ≡ setup.kinds
+correct_kinds setup place good =
+    ap (λ (test : Bool). if test then [] else setup.kinds)
+    (not_false (is_faulty setup (party.Replica (record { 0 = place }))) good)
+  where
+    not_false : (test : Bool) → not test ≡ true → test ≡ false
+    not_false true is = absurd (false≢true is)
+    not_false false is = refl
 
 pub all_begin : (trace : Trace) (object : ObjectId) (place : ℕ) → object.0 < length trace.setup.kinds
-    → place < replicas trace.setup.bounds
+    → is_good trace.setup place ≡ true → place < replicas trace.setup.bounds
     → test_at (accepts object opening) (world_after trace 0).replicas place ≡ true
-all_begin trace object place known below =
+all_begin trace object place known good below =
+    let kinds : kinds_at trace.setup place ≡ trace.setup.kinds = correct_kinds trace.setup place good in
     ap (λ (world : WorldState). test_at (accepts object opening) world.replicas place) (world_after-none trace)
-    ∙ begins_accepted object 0 (replicas trace.setup.bounds) (ring_of trace.setup) trace.setup.kinds
-    known place below
+    ∙ begins_accepted object 0 (replicas trace.setup.bounds) (ring_of trace.setup) (kinds_at trace.setup)
+    place below (subst (λ (it : ℕ). object.0 < length (kinds_at trace.setup it)) (sym (zero-add place))
+    (subst (λ (it : List KindName). object.0 < length it) (sym kinds) known))
+
+-- ---- a faulty one accepts nothing
+
+no_kinds : (setup : Setup) (place : ℕ) → is_faulty setup (party.Replica (record { 0 = place })) ≡ true
+    → kinds_at setup place ≡ []
+no_kinds setup place faulty = ap (λ (test : Bool). if test then [] else setup.kinds) faulty
+
+no_items : (histories : List ObjectHistory) → length histories ≡ 0 → histories ≡ []
+no_items [] none = refl
+no_items (history ∷ later) none = absurd (omega arith)
+
+none_held : (object : ObjectId) (candidate : Candidate) (state : ReplicaState) → length state.histories ≡ 0
+    → accepts object candidate state ≡ false
+none_held object candidate state none =
+    ap (λ (histories : List ObjectHistory). holds candidate (candidates_in (slice_get histories object.0)))
+    (no_items state.histories none)
+
+-- who accepted anything is correct
+pub acceptor_is_good : (trace : Trace) (time place : ℕ) (object : ObjectId) (candidate : Candidate)
+    → test_at (accepts object candidate) (world_after trace time).replicas place ≡ true
+    → is_good trace.setup place ≡ true
+acceptor_is_good trace time place object candidate accepted =
+    let found : Found (accepts object candidate) (world_after trace time).replicas place =
+    found_at (accepts object candidate) (world_after trace time).replicas place accepted in
+    elim (cases_Bool (is_faulty trace.setup (party.Replica (record { 0 = place })))) [
+      | inr correct ↦ ap not correct
+      | inl faulty ↦
+          let grows : Grows (opening_state (record { 0 = place }) (ring_of trace.setup) (kinds_at trace.setup place))
+          found.item = grown_at trace time place found.item found.is_at in
+          let before : length (opening_histories (record { 0 = place }) 0 (kinds_at trace.setup place)) ≡ 0 =
+          ap (λ (kinds : List KindName). length (opening_histories (record { 0 = place }) 0 kinds))
+          (no_kinds trace.setup place faulty) in
+          let now : length (found.item).histories
+          ≡ length (opening_histories (record { 0 = place }) 0 (kinds_at trace.setup place)) = grows.number in
+          let none : length (found.item).histories ≡ 0 = now ∙ before in
+          absurd (false≢true (sym (none_held object candidate found.item none) ∙ found.passed))
+    ]

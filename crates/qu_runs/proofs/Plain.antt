@@ -1,9 +1,9 @@
--- A trace of operations with parts, into which nothing forged is injected, is plain.
+-- A trace of operations with parts, into which nothing forged is injected, is plain where faulty parties are silent.
 use Rattle.qu_world.proofs.Steps.{step_cases}
 use Rattle.std.proofs.Common.{◌≡◌, ℕ, zero, suc, ◌≤◌, true, not, List, [], ◌∷◌, length, get_or, Option, None, Some, inl, inr, refl, sym, ap, ◌∙◌, arith, ◌<◌, ◌^◌}
-use Rattle.std.specs.Prelude.{slice_get, slice_set}
-use Rattle.std.specs.List.{list_all, AllByRecursion}
-use Rattle.std.proofs.lemmas.Bool.{false≢true, and_parts}
+use Rattle.std.specs.Prelude.{slice_get, slice_set, OnSome}
+use Rattle.std.specs.List.{list_any}
+use Rattle.std.proofs.lemmas.Bool.{false≢true, cases_Bool}
 use Rattle.std.proofs.lemmas.Option.{none-some, same_Some}
 use Rattle.qu_base.specs.declared.party.ClientId.{ClientId}
 use Rattle.qu_base.specs.declared.party.Party.{Party}
@@ -24,12 +24,15 @@ use Rattle.qu_trace.specs.declared.event.Event.{Event}
 use Rattle.qu_trace.specs.declared.event.Event.TheVariants.{Invoke, Deliver, Tick, Inject}
 use Rattle.qu_trace.specs.declared.trace.Entry.{Entry}
 use Rattle.qu_trace.specs.declared.trace.Trace.{Trace}
-use Rattle.qu_trace.specs.Injections.{injects, no_injection}
 use Rattle.qu_world.specs.State.{WorldState, ring_of, numbered, with_numbered}
 use Rattle.qu_world.specs.Step.{recorded, unchanged, ended_by, at_replica, at_client, received}
 use Rattle.qu_world.proofs.Each.{each_at}
 use Rattle.qu_runs.specs.Times.{world_after}
-use Rattle.qu_runs.specs.Premises.{HasSent, IsUnforgedAt, IsUnforged}
+use Rattle.qu_trace.specs.declared.trace.Setup.{Setup}
+use Rattle.qu_trace.specs.Faulty.{is_same, is_faulty}
+use Rattle.qu_runs.specs.Carried.{handed}
+use Rattle.qu_runs.specs.Premises.{HasSent, AreUnforged, IsUnforgedAt, IsUnforged, IsSilentAt, FaultyAreSilent}
+use Rattle.qu_runs.proofs.Handing.{offered_handed}
 use Rattle.qu_runs.specs.Plain.{HasEventParts, HaveParts, IsPlain, ArePlain}
 use Rattle.qu_runs.proofs.Keyed.{HasKeys, clients_keyed}
 use Rattle.qu_runs.proofs.OpeningReplicas.{keys_are, me_is}
@@ -115,15 +118,16 @@ module _ (trace : Trace) (count : ℕ) (within : count ≤ length trace.entries)
   ignored event (party.Client me) text none =
       client_ignores world event me text (numbered world.clients me.0) refl (client_none me text none)
 
-  plain_injection : (to : Party) (text : List ℕ) (read : Option Frame)
+  -- to a correct party
+  plain_taken : (to : Party) (text : List ℕ) (read : Option Frame)
       → brought (ring_of world.setup) to text ≡ read
       → ((frame : Frame) → read ≡ Some frame → HasSent world (sender frame) to text) → IsPlain world (Inject to text)
-  plain_injection to text None is sent = inl (record {
-    nothing = is;
+  plain_taken to text None is sent = inl (record {
+    nothing = λ correct. is;
     same = step_cases (λ (made : WorldState). made ≡ unchanged world (Inject to text)) world (Inject to text) refl
         (λ correct. ignored (Inject to text) to text is);
   })
-  plain_injection to text (Some frame) is sent =
+  plain_taken to text (Some frame) is sent =
       let from : HasSent world (sender frame) to text = sent frame refl in
       inr (record {
         number = from.number;
@@ -133,43 +137,63 @@ module _ (trace : Trace) (count : ℕ) (within : count ≤ length trace.entries)
         text_is = from.text_is;
       })
 
-  plain_event : (event : Event) → HasEventParts event → IsUnforgedAt world event → IsPlain world event
-  plain_event (Invoke client op) parts unforged = parts
-  plain_event (Deliver letter) parts unforged = tt
-  plain_event (Tick client) parts unforged = tt
-  plain_event (Inject to text) parts unforged =
-      plain_injection to text (brought (ring_of world.setup) to text) refl unforged
+  -- to a faulty one
+  plain_lost : (to : Party) (text : List ℕ) → is_faulty world.setup to ≡ true → IsPlain world (Inject to text)
+  plain_lost to text faulty = inl (record {
+    nothing = λ correct. absurd (false≢true (sym correct ∙ faulty));
+    same = step_cases (λ (made : WorldState). made ≡ unchanged world (Inject to text)) world (Inject to text) refl
+        (λ correct. absurd (false≢true (sym correct ∙ faulty)));
+  })
+
+  plain_injection : (to : Party) (text : List ℕ) → IsUnforgedAt world (Inject to text)
+      → IsSilentAt world (Inject to text) → IsPlain world (Inject to text)
+  plain_injection to text unforged silent =
+      elim (cases_Bool (is_faulty world.setup to)) [
+        | inl faulty ↦ plain_lost to text faulty
+        | inr correct ↦
+            let given : handed world (Inject to text) ≡ Some (to, text) =
+            offered_handed world (Inject to text) to text correct refl in
+            let true_to : AreUnforged world to text =
+            subst (λ (it : Option (Party × List ℕ)). OnSome it (λ (it : Party × List ℕ). AreUnforged world it.0 it.1))
+            given unforged in
+            let of_correct : (frame : Frame) → brought (ring_of world.setup) to text ≡ Some frame
+            → is_faulty world.setup (sender frame) ≡ false =
+            subst (λ (it : Option (Party × List ℕ)). OnSome it (λ (it : Party × List ℕ). (frame : Frame)
+            → brought (ring_of world.setup) it.0 it.1 ≡ Some frame → is_faulty world.setup (sender frame) ≡ false))
+            given silent in
+            plain_taken to text (brought (ring_of world.setup) to text) refl
+            (λ frame is. true_to.sent frame is (of_correct frame is))
+      ]
+
+  plain_event : (event : Event) → HasEventParts event → IsUnforgedAt world event → IsSilentAt world event
+      → IsPlain world event
+  plain_event (Invoke client op) parts unforged silent = parts
+  plain_event (Deliver letter) parts unforged silent = tt
+  plain_event (Tick client) parts unforged silent = tt
+  plain_event (Inject to text) parts unforged silent = plain_injection to text unforged silent
 
 pub plain_from : (trace : Trace) → HaveParts trace.entries → length trace.entries < 2 ^ 63 → IsUnforged trace
-    → ArePlain trace
-plain_from trace parts few unforged = record {
+    → FaultyAreSilent trace → ArePlain trace
+plain_from trace parts few unforged silent = record {
   parts = parts;
   few = few;
   plain_at = λ at default below.
       plain_event trace at (omega arith) (get_or trace.entries at default).event
       (each_at (λ (entry : Entry). HasEventParts entry.event) trace.entries at default parts below)
-      (unforged at default below);
+      (unforged at default below) (silent at default below);
 }
 
--- ---- nothing is forged where nothing is injected
+-- ---- nobody is faulty
 
-none_from : (entries : List Entry) → no_injection entries ≡ true
-    → AllByRecursion (λ (entry : Entry). not (injects entry.event) ≡ true) entries
-unfolding no_injection
-none_from [] none = tt
-none_from (entry ∷ later) none =
-    let tests : (not (injects entry.event) ≡ true)
-    × (list_all (λ (it : Entry). not (injects it.event)) later ≡ true) = and_parts _ _ none in
-    (tests.0, none_from later tests.1)
-
-not_forged : (at : WorldState) (event : Event) → not (injects event) ≡ true → IsUnforgedAt at event
-not_forged at (Invoke client op) none = tt
-not_forged at (Deliver letter) none = tt
-not_forged at (Tick client) none = tt
-not_forged at (Inject to text) none = absurd (false≢true none)
-
-pub unforged_of_none : (trace : Trace) → no_injection trace.entries ≡ true → IsUnforged trace
-unforged_of_none trace none = λ at default below.
-    not_forged (world_after trace at) (get_or trace.entries at default).event
-    (each_at (λ (entry : Entry). not (injects entry.event) ≡ true) trace.entries at default
-    (none_from trace.entries none) below)
+-- where nobody is faulty, all that are faulty are silent
+pub silent_none : (trace : Trace) → trace.setup.liars ≡ [] → FaultyAreSilent trace
+silent_none trace none = λ at default below.
+    silent_at (handed (world_after trace at) (get_or trace.entries at default).event)
+    (ap (λ (setup : Setup). setup.liars) (setup_after trace at) ∙ none)
+  where
+    silent_at : {world : WorldState} (given : Option (Party × List ℕ)) → (world.setup).liars ≡ []
+        → OnSome given (λ (it : Party × List ℕ). (frame : Frame)
+        → brought (ring_of world.setup) it.0 it.1 ≡ Some frame → is_faulty world.setup (sender frame) ≡ false)
+    silent_at None none = tt
+    silent_at {world} (Some it) none = λ frame is.
+        ap (λ (liars : List Party). list_any (λ (liar : Party). is_same liar (sender frame)) liars) none

@@ -47,12 +47,29 @@ accepted_somewhere object candidate (state ∷ later) some =
 
 -- ---- what is accepted
 
+-- where a replica accepted something it is correct
+good_too : (trace : Trace) (time : ℕ) (object : ObjectId) (candidate : Candidate) (place : ℕ)
+    → (is_good trace.setup place && test_at (accepts object candidate) (world_after trace time).replicas place)
+    ≡ test_at (accepts object candidate) (world_after trace time).replicas place
+good_too trace time object candidate place =
+    both (is_good trace.setup place) (test_at (accepts object candidate) (world_after trace time).replicas place)
+    (acceptor_is_good trace time place object candidate)
+  where
+    both : (good accepted : Bool) → (accepted ≡ true → good ≡ true) → (good && accepted) ≡ accepted
+    both true accepted so = refl
+    both false true so = absurd (false≢true (so refl))
+    both false false so = refl
+
 pub acceptors_are : (trace : Trace) (time : ℕ) (object : ObjectId) (candidate : Candidate)
     → acceptors (setting trace) time object candidate
     ≡ count_by (accepts object candidate) (world_after trace time).replicas
 unfolding setting
 acceptors_are trace time object candidate =
-    ap (λ (n : ℕ). count n (test_at (accepts object candidate) (world_after trace time).replicas))
+    count-same (replicas trace.setup.bounds)
+    (λ place. is_good trace.setup place && test_at (accepts object candidate) (world_after trace time).replicas place)
+    (test_at (accepts object candidate) (world_after trace time).replicas)
+    (λ place below. good_too trace time object candidate place)
+    ∙ ap (λ (n : ℕ). count n (test_at (accepts object candidate) (world_after trace time).replicas))
     (sym (all_replicas trace time))
     ∙ count-test_at (accepts object candidate) (world_after trace time).replicas
 
@@ -64,8 +81,9 @@ accepted_of trace time object candidate accepted =
     let found : AcceptedAt object candidate states = accepted_somewhere object candidate states accepted in
     let few : found.place < length states = found.within in
     let number : length states ≡ replicas trace.setup.bounds = all_replicas trace time in
-    count-some (replicas trace.setup.bounds) (test_at (accepts object candidate) states) found.place (omega arith)
-    found.accepted
+    count-some (replicas trace.setup.bounds)
+    (λ place. is_good trace.setup place && test_at (accepts object candidate) states place) found.place (omega arith)
+    (good_too trace time object candidate found.place ∙ found.accepted)
 
 pub is_accepted_by : (trace : Trace) (time : ℕ) (object : ObjectId) (candidate : Candidate)
     → IsAccepted (setting trace) time object candidate → is_accepted (world_after trace time) object candidate ≡ true

@@ -13,6 +13,7 @@ use Rattle.qu_trace.specs.declared.event.Event.TheVariants.{Invoke, Deliver, Tic
 use Rattle.qu_trace.specs.declared.trace.Entry.{Entry}
 use Rattle.qu_trace.specs.declared.trace.Trace.{Trace}
 use Rattle.qu_world.specs.State.{WorldState, ring_of, letter_of}
+use Rattle.qu_trace.specs.Faulty.{is_faulty}
 use Rattle.qu_world.specs.Step.{world_step, unchanged}
 use Rattle.qu_runs.specs.Times.{world_after}
 
@@ -31,9 +32,9 @@ HasEventParts (Inject party text) = Unit {0}
 abbrev pub HaveParts : List Entry → Type 0
 HaveParts entries = AllByRecursion (λ entry. HasEventParts entry.event) entries
 
--- bytes of which no frame with a right HMAC is decoded, so that nothing happens
+-- bytes for a faulty party, or of which no frame with a right HMAC is decoded, so that nothing happens
 pub record IsIgnored (world : WorldState) (to : Party) (text : List ℕ) : Type 0 where
-  pub nothing : brought (ring_of world.setup) to text ≡ None
+  pub nothing : is_faulty world.setup to ≡ false → brought (ring_of world.setup) to text ≡ None
   pub same : world_step world (Inject to text) ≡ unchanged world (Inject to text)
 
 -- bytes that were sent to this party

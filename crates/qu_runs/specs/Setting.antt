@@ -1,12 +1,13 @@
 -- What the replicas of a run accept over time, as the theory of what is decided speaks of it.
--- All replicas count as correct, since a faulty one has no step, so that it is as one that no letter reaches. An
--- operation names one object, so that no candidate has a group.
+-- Only correct replicas count: a faulty one accepts nothing. An operation names one object, so that no candidate has
+-- a group.
 -- Definitions whose comment names no source are this project's own; Query/Update is the paper of SOSP 2005.
 use Rattle.std.specs.Prelude.{true, not, nat_lt, length, is_some, None}
 use Rattle.qu_base.specs.Bounds.{replicas, quorum, repair}
-use Rattle.qu_chain.specs.Count.{test_at}
+use Rattle.qu_chain.specs.Count.{count, test_at}
 use Rattle.qu_chain.specs.Setting.{Setting}
 use Rattle.qu_trace.specs.declared.trace.Trace.{Trace}
+use Rattle.qu_trace.specs.Faulty.{is_good}
 use Rattle.qu_runs.specs.Accepted.{accepts}
 use Rattle.qu_runs.specs.Times.{world_after}
 
@@ -14,12 +15,12 @@ use Rattle.qu_runs.specs.Times.{world_after}
 unfoldable pub setting : Trace → Setting
 setting trace = record {
   n = replicas trace.setup.bounds;
-  faults = 0;
+  faults = count (replicas trace.setup.bounds) (λ replica. not (is_good trace.setup replica));
   b = trace.setup.bounds;
   quorum = quorum trace.setup.bounds;
   repair = repair trace.setup.bounds;
   last = length trace.entries;
-  good = λ replica. true;
+  good = is_good trace.setup;
   known = λ object. nat_lt object.0 (length trace.setup.kinds);
   plain = λ candidate. not candidate.stamp.barrier;
   is_act = λ candidate. is_some candidate.stamp.act;

@@ -1,5 +1,5 @@
 -- The faulty parties of a setup. All others are correct: they begin as they should, and keep to the protocol.
-use Rattle.std.specs.Prelude.{Bool, true, false, ◌==◌}
+use Rattle.std.specs.Prelude.{ℕ, Bool, true, false, not, ◌==◌}
 use Rattle.std.specs.List.{list_any}
 use Rattle.qu_base.specs.declared.party.Party.{Party}
 use Rattle.qu_base.specs.declared.party.Party.TheVariants as party
@@ -18,3 +18,7 @@ is_replica (party.Client me) = false
 -- whether the party is faulty
 abbrev pub is_faulty : Setup → Party → Bool
 is_faulty setup who = list_any (λ (liar : Party). is_same liar who) setup.liars
+
+-- whether the replica with this number is correct
+abbrev pub is_good : Setup → ℕ → Bool
+is_good setup number = not (is_faulty setup (party.Replica (record { 0 = number })))

@@ -15,7 +15,7 @@ use Rattle.qu_runs.specs.Accepted.{accepts}
 use Rattle.qu_runs.specs.Setting.{setting}
 use Rattle.qu_runs.specs.Times.{world_after}
 use Rattle.qu_runs.proofs.Small.{some_quorum}
-use Rattle.qu_runs.proofs.OpeningReplicas.{all_replicas}
+use Rattle.qu_runs.proofs.OpeningReplicas.{acceptor_is_good, all_replicas}
 use Rattle.qu_runs.proofs.Settings.{acceptors_are}
 use Rattle.qu_values.specs.Updates.{IsEverAccepted}
 
@@ -26,7 +26,12 @@ module _ (trace : Trace) (laws : Laws (setting trace)) (time : ℕ) (within : ti
   place_ever place below object candidate accepted =
       some-later (setting trace) laws time (length trace.entries) within object candidate
       (accepted_by (setting trace) time object candidate
-      (record { replica = place; within = below; good = refl; accepted = accepted }))
+      (record {
+        replica = place;
+        within = below;
+        good = acceptor_is_good trace time place object candidate accepted;
+        accepted = accepted;
+      }))
 
   pub held_ever : (place : ℕ) (state : ReplicaState) → slice_get (world_after trace time).replicas place ≡ Some state
       → (object : ObjectId) (candidate : Candidate) → holds candidate (own_candidates state object) ≡ true

@@ -26,7 +26,11 @@ use Rattle.qu_replica.proofs.Growth.{version_at-grows}
 use Rattle.qu_trace.specs.declared.event.Event.{Event}
 use Rattle.qu_trace.specs.declared.trace.Entry.{Entry}
 use Rattle.qu_trace.specs.declared.trace.Trace.{Trace}
-use Rattle.qu_world.specs.State.{WorldState, letter_of, ring_of}
+use Rattle.qu_base.specs.declared.party.Party.TheVariants as party
+use Rattle.std.specs.Prelude.{if◌then◌else◌}
+use Rattle.qu_trace.specs.declared.trace.Setup.{Setup}
+use Rattle.qu_trace.specs.Faulty.{is_faulty}
+use Rattle.qu_world.specs.State.{WorldState, kinds_at, letter_of, ring_of}
 use Rattle.qu_world.specs.Step.{world_step}
 use Rattle.qu_world.specs.Run.{IsRun}
 use Rattle.qu_replica.specs.Rows.{asked_of}
@@ -138,21 +142,36 @@ begun_from me first (kind ∷ kinds) object (suc place) candidate at held =
     later_begun first kind kinds object place candidate at (begun_from me (first + 1) kinds object place candidate
     (omega arith) held)
 
+-- what a replica keeps are objects of the setup
+kept_kinds : (setup : Setup) (number place : ℕ) (kind : KindName) → slice_get (kinds_at setup number) place ≡ Some kind
+    → slice_get setup.kinds place ≡ Some kind
+kept_kinds setup number place kind is =
+    kept (is_faulty setup (party.Replica (record { 0 = number }))) is
+  where
+    kept : (test : Bool) → slice_get (if test then [] else setup.kinds) place ≡ Some kind
+        → slice_get setup.kinds place ≡ Some kind
+    kept true found = absurd (none-some kind found)
+    kept false found = found
+
 begun_stores : (trace : Trace) (me : ReplicaId) (object : ObjectId) (candidate : Candidate)
-    → IsBegun 0 trace.setup.kinds object object.0 candidate → Stores trace object
-    (opening_state me (ring_of trace.setup) trace.setup.kinds) candidate
+    → IsBegun 0 (kinds_at trace.setup me.0) object object.0 candidate → Stores trace object
+    (opening_state me (ring_of trace.setup) (kinds_at trace.setup me.0)) candidate
 begun_stores trace me object candidate begun =
-    subst (Stores trace object (opening_state me (ring_of trace.setup) trace.setup.kinds))
+    subst (Stores trace object (opening_state me (ring_of trace.setup) (kinds_at trace.setup me.0)))
     begun.alone
-    (fresh_version begun.kind, begun.fresh, HasVersion.of_opening object begun.kind begun.is_kind)
+    (
+      fresh_version begun.kind,
+      begun.fresh,
+      HasVersion.of_opening object begun.kind (kept_kinds trace.setup me.0 object.0 begun.kind begun.is_kind),
+    )
 
 opening-versioned : (trace : Trace) (me : ReplicaId) → IsVersioned trace
-    (opening_state me (ring_of trace.setup) trace.setup.kinds)
+    (opening_state me (ring_of trace.setup) (kinds_at trace.setup me.0))
 opening-versioned trace me = record {
   bounds = refl;
-  of_held = opening_of_held me (ring_of trace.setup) trace.setup.kinds;
+  of_held = opening_of_held me (ring_of trace.setup) (kinds_at trace.setup me.0);
   stores = λ object candidate held. begun_stores trace me object candidate
-      (begun_from me 0 trace.setup.kinds object object.0 candidate (omega arith) held);
+      (begun_from me 0 (kinds_at trace.setup me.0) object object.0 candidate (omega arith) held);
 }
 
 -- ---- what accepted candidates are made of
@@ -339,7 +358,7 @@ AreVersioned trace count = (place : ℕ) (state : ReplicaState) → slice_get (w
 versioned_none : (trace : Trace) → AreVersioned trace 0
 versioned_none trace = λ place state is_state.
     let me : ReplicaId = record { 0 = place } in
-    let begun : state ≡ opening_state me (ring_of trace.setup) trace.setup.kinds =
+    let begun : state ≡ opening_state me (ring_of trace.setup) (kinds_at trace.setup place) =
     opening_at trace place state is_state in
     subst (IsVersioned trace) (sym begun) (opening-versioned trace me)
 

@@ -8,15 +8,15 @@ use Rattle.qu_client.specs.declared.state.ClientState.{ClientState}
 use Rattle.qu_world.specs.State.{opening_replicas, opening_clients}
 
 -- the first of those that are left, and the others
-pub replicas_more : (number count at : ℕ) (keys : Ring) (kinds : List KindName) → at < count
+pub replicas_more : (number count at : ℕ) (keys : Ring) (kinds : ℕ → List KindName) → at < count
     → opening_replicas number (count - at) keys kinds
-    ≡ replica.opening_state (record { 0 = number }) keys kinds ∷ opening_replicas (number + 1)
+    ≡ replica.opening_state (record { 0 = number }) keys (kinds number) ∷ opening_replicas (number + 1)
     (count - (at + 1)) keys kinds
 unfolding opening_replicas
 replicas_more number count at keys kinds more =
     let e : count - at ≡ suc (count - (at + 1)) = omega arith in rw e refl
 
-pub replicas_none : (number count at : ℕ) (keys : Ring) (kinds : List KindName) → count ≤ at
+pub replicas_none : (number count at : ℕ) (keys : Ring) (kinds : ℕ → List KindName) → count ≤ at
     → opening_replicas number (count - at) keys kinds ≡ []
 unfolding opening_replicas
 replicas_none number count at keys kinds none = let e : count - at ≡ 0 = omega arith in rw e refl
@@ -35,9 +35,9 @@ clients_none number count at keys none = let e : count - at ≡ 0 = omega arith 
 
 -- one more replica was started
 pub replica_started : (started new all : List replica.ReplicaState) (state : replica.ReplicaState)
-    (number count : ℕ) (keys : Ring) (kinds : List KindName) → number < count
+    (number count : ℕ) (keys : Ring) (kinds : ℕ → List KindName) → number < count
     → started ++ opening_replicas number (count - number) keys kinds ≡ all
-    → state ≡ replica.opening_state (record { 0 = number }) keys kinds → new ≡ started ++ state ∷ []
+    → state ≡ replica.opening_state (record { 0 = number }) keys (kinds number) → new ≡ started ++ state ∷ []
     → new ++ opening_replicas (number + 1) (count - (number + 1)) keys kinds ≡ all
 replica_started started new all state number count keys kinds more so_far is new_is =
     ap (λ front. front ++ opening_replicas (number + 1) (count - (number + 1)) keys kinds) new_is
@@ -47,7 +47,7 @@ replica_started started new all state number count keys kinds more so_far is new
     ∙ so_far
 
 pub replicas_started : (started all : List replica.ReplicaState) (number count : ℕ) (keys : Ring)
-    (kinds : List KindName) → count ≤ number
+    (kinds : ℕ → List KindName) → count ≤ number
     → started ++ opening_replicas number (count - number) keys kinds ≡ all → started ≡ all
 replicas_started started all number count keys kinds none so_far =
     sym (append-nil started) ∙ ap (λ rest. started ++ rest)

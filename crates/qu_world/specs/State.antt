@@ -30,11 +30,16 @@ abbrev pub world_of : Setup → List replica.ReplicaState → List ClientState �
 world_of setup replicas clients entries =
     record { setup = setup; replicas = replicas; clients = clients; entries = entries }
 
--- so many replicas from this number on, as they begin
-unfoldable pub opening_replicas : ℕ → ℕ → Ring → List KindName → List replica.ReplicaState
+-- the kinds of the objects that the replica with this number keeps: a faulty one keeps nothing, so that it accepts
+-- nothing
+abbrev pub kinds_at : Setup → ℕ → List KindName
+kinds_at setup number = if is_faulty setup (party.Replica (record { 0 = number })) then [] else setup.kinds
+
+-- so many replicas from this number on, as they begin, each with objects of its kinds
+unfoldable pub opening_replicas : ℕ → ℕ → Ring → (ℕ → List KindName) → List replica.ReplicaState
 opening_replicas number zero keys kinds = []
 opening_replicas number (suc count) keys kinds =
-    replica.opening_state (record { 0 = number }) keys kinds ∷ opening_replicas (number + 1) count keys kinds
+    replica.opening_state (record { 0 = number }) keys (kinds number) ∷ opening_replicas (number + 1) count keys kinds
 
 -- so many clients from this number on, as they begin
 unfoldable pub opening_clients : ℕ → ℕ → Ring → List ClientState
@@ -50,7 +55,7 @@ ring_of setup = record { seed = setup.seed; bounds = setup.bounds; clients = set
 abbrev pub opening_world : Setup → WorldState
 opening_world setup = record {
   setup = setup;
-  replicas = opening_replicas 0 (replicas setup.bounds) (ring_of setup) setup.kinds;
+  replicas = opening_replicas 0 (replicas setup.bounds) (ring_of setup) (kinds_at setup);
   clients = opening_clients 1 setup.clients (ring_of setup);
   entries = [];
 }
@@ -65,6 +70,11 @@ abbrev pub with_numbered : {X : Type 0} → List X → ℕ → X → List X
 with_numbered items zero item = items
 with_numbered items (suc number) item = slice_set items number item
 
+-- the replica with this number, where it is correct
+abbrev pub correct_replica : WorldState → ReplicaId → Option replica.ReplicaState
+correct_replica world me =
+    if is_faulty world.setup (party.Replica me) then None else slice_get world.replicas me.0
+
 -- the client with this number, where it is correct
 abbrev pub correct_client : WorldState → ClientId → Option ClientState
 correct_client world me =
@@ -74,7 +84,7 @@ correct_client world me =
 abbrev pub letter_of : WorldState → ℕ → Option Letter
 letter_of world number = numbered (letters_of world.entries) number
 
--- the history of an object at a replica
+-- the history of an object at a replica; a faulty one has none
 abbrev pub history_at : WorldState → ReplicaId → ObjectId → Option ObjectHistory
 history_at world me object = option_and_then (λ replica. slice_get replica.histories object.0)
     (slice_get world.replicas me.0)

@@ -3,7 +3,7 @@ ghost use Rattle.std.specs.Option.{option_copied};
 ghost use Rattle.qu_world.specs.declared.fail.WorldFail.{WorldFail as Fail};
 ghost use Rattle.qu_base.specs.declared.party.Party.TheVariants as party;
 ghost use Rattle.qu_trace.specs.Faulty.{is_faulty};
-ghost use Rattle.qu_world.specs.State.{opening_world, correct_client, history_at};
+ghost use Rattle.qu_world.specs.State.{opening_world, correct_client, correct_replica, history_at};
 ghost use Rattle.qu_world.specs.Step.{world_step};
 ghost use Rattle.qu_world.specs.Refusals.{cause_of, limit_of, refusal_of};
 ghost use Rattle.qu_replica.specs.Growth.{AreHistories};
@@ -58,7 +58,7 @@ impl World {
         ensures { IfOk result (λ world. world ≡ opening_world setup) }
     {
         let keys = KeyRing::derive(setup.seed, &setup.bounds, setup.clients);
-        let replicas = start_replicas(alloc, keys, setup.kinds.as_slice())?;
+        let replicas = start_replicas(alloc, keys, &setup)?;
         let clients = start_clients(alloc, keys, setup.clients)?;
         let entries = List::new(alloc);
         Ok(World {
@@ -174,27 +174,31 @@ impl World {
         self.trace
     }
 
-    /// The replicas as they are now, from that with number 0 on.
+    /// The replicas as they are now, from that with number 0 on. A faulty one keeps nothing.
     pub fn replicas(&self) -> &[Replica]
         ensures { result.now ≡ self.now.replicas }
     {
         self.replicas.as_slice()
     }
 
-    /// The replica with this number as it is now. None exactly where the setup has no such replica.
+    /// The replica with this number as it is now. None exactly where the setup has no such correct replica.
     pub fn replica(&self, me: ReplicaId) -> Option<&Replica>
-        ensures { option_copied result ≡ slice_get self.now.replicas me.0 }
+        ensures { option_copied result ≡ correct_replica self.now me }
     {
+        if self.trace.setup.is_faulty(Party::Replica(me)) {
+            return None;
+        }
         self.replicas.as_slice().get(usize::from(me.0))
     }
 
     /// The history of an object at a replica as it is now: it rises from the opening candidate. None
-    /// exactly where the setup has no such replica or no such object.
+    /// exactly where the setup has no such correct replica or no such object.
     pub fn history(&self, me: ReplicaId, object: ObjectId) -> Option<&History>
         ensures value { option_copied result ≡ history_at self.now me object }
         ensures rising { IfSome (slice_get self.now.replicas me.0) AreHistories }
     {
-        self.replica(me)?.history(object)
+        let replica = self.replicas.as_slice().get(usize::from(me.0))?;
+        replica.history(object)
     }
 
     /// The client with this number as it is now. None exactly where the setup has no such correct client.

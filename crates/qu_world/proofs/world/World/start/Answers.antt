@@ -9,5 +9,4 @@ invariant_of-result c =
       c.in_ok-clients.ensures,
       c.derive-keys.ensures,
       c.new-entries.ensures,
-      c.as_slice.ensures,
     ) (counted-opening c.args.setup c.requires)
