@@ -1,13 +1,15 @@
 -- At most b replicas of a run are faulty.
-use Rattle.std.proofs.Common.{◌≡◌, ℕ, zero, suc, Bool, true, false, ◌+◌, ◌<◌, ◌≤◌, not, List, [], ◌∷◌, refl, sym, ap, ◌∙◌, arith, inl, inr}
+use Rattle.std.proofs.Common.{cond, ◌≡◌, ℕ, zero, suc, Bool, true, false, ◌+◌, ◌<◌, ◌≤◌, not, List, [], ◌∷◌, refl, sym, ap, ◌∙◌, arith, inl, inr}
 use Rattle.std.specs.Prelude.{count_by, ◌==◌, ◌||◌}
 use Rattle.std.specs.List.{list_any}
-use Rattle.std.proofs.lemmas.Bool.{cases_Bool, false≢true}
+use Rattle.std.proofs.lemmas.Bool.{cases_Bool, false≢true, eqb-true}
+use Rattle.std.proofs.lemmas.List.Sums.{sum_by-cons}
 use Rattle.qu_base.specs.declared.party.Party.{Party}
 use Rattle.qu_base.specs.declared.party.Party.TheVariants as party
 use Rattle.qu_base.specs.declared.party.ReplicaId.{ReplicaId}
 use Rattle.qu_base.specs.declared.party.ClientId.{ClientId}
 use Rattle.qu_chain.specs.Count.{count}
+use Rattle.qu_chain.proofs.Counting.{count-same}
 use Rattle.qu_trace.specs.declared.trace.Setup.{Setup}
 use Rattle.qu_trace.specs.Faulty.{is_same, is_replica, is_faulty, is_good}
 
@@ -15,15 +17,15 @@ use Rattle.qu_trace.specs.Faulty.{is_same, is_replica, is_faulty, is_good}
 abbrev numbered_replica : ℕ → Party
 numbered_replica number = party.Replica (record { 0 = number })
 
-bit : Bool → ℕ
-bit test = cond test 1 0
-
 none_counted : (n : ℕ) → count n (λ number. false) ≡ 0
 unfolding count
 none_counted zero = refl
 none_counted (suc n) =
     let before : count n (λ number. false) ≡ 0 = none_counted n in
     omega (arith, before)
+
+abbrev bit : Bool → ℕ
+bit test = cond test 1 0
 
 one_bit : (first second : Bool) → cond (first || second) 1 0 ≤ cond first 1 0 + cond second 1 0
 one_bit true second = omega arith
@@ -40,14 +42,21 @@ either_counted (suc n) first second =
     one_bit (first n) (second n) in
     omega (arith, before, here)
 
+not_same : (place number : ℕ) → number < place → (place == number) ≡ false
+not_same place number below =
+    elim (cases_Bool (place == number)) [
+      | inr other ↦ other
+      | inl same ↦ let equal : place ≡ number = eqb-true place number same in absurd (omega arith)
+    ]
+
 -- numbers at most this one are not it, where it is above them
 above_none : (place n : ℕ) → n ≤ place → count n (λ number. place == number) ≡ 0
 unfolding count
 above_none place zero above = refl
 above_none place (suc n) above =
     let before : count n (λ number. place == number) ≡ 0 = above_none place n (omega arith) in
-    let here : (place == n) ≡ false = grind (arith, nat_tests) in
-    let bits : cond (place == n) 1 0 ≡ 0 = ap (λ (test : Bool). cond test 1 0) here in
+    let here : (place == n) ≡ false = not_same place n (omega arith) in
+    let bits : bit (place == n) ≡ bit false = ap bit here in
     omega (arith, before, bits)
 
 one_counted : (place n : ℕ) → count n (λ number. place == number) ≤ 1
@@ -56,13 +65,13 @@ one_counted place zero = omega arith
 one_counted place (suc n) =
     elim (cases_Bool (place == n)) [
       | inl here ↦
-          let same : place ≡ n = eqb-eq place n here in
+          let same : place ≡ n = eqb-true place n here in
           let before : count n (λ number. place == number) ≡ 0 = above_none place n (omega arith) in
-          let bits : cond (place == n) 1 0 ≡ 1 = ap (λ (test : Bool). cond test 1 0) here in
+          let bits : bit (place == n) ≡ bit true = ap bit here in
           omega (arith, before, bits)
       | inr other ↦
           let before : count n (λ number. place == number) ≤ 1 = one_counted place n in
-          let bits : cond (place == n) 1 0 ≡ 0 = ap (λ (test : Bool). cond test 1 0) other in
+          let bits : bit (place == n) ≡ bit false = ap bit other in
           omega (arith, before, bits)
     ]
 

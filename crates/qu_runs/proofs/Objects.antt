@@ -1,5 +1,5 @@
 -- A replica of a run has as many objects as the setup has kinds.
-use Rattle.std.proofs.Common.{◌≡◌, ℕ, zero, suc, ◌+◌, ◌≤◌, List, [], ◌∷◌, length, arith, Some, sym, subst, None, Option, refl, true, ◌<◌}
+use Rattle.std.proofs.Common.{Bool, false, ◌≡◌, ℕ, zero, suc, ◌+◌, ◌≤◌, List, [], ◌∷◌, length, arith, Some, sym, subst, None, Option, refl, true, ◌<◌}
 use Rattle.std.specs.List.{AllZip}
 use Rattle.qu_base.specs.Bounds.{replicas}
 use Rattle.qu_objects.specs.declared.kind.KindName.{KindName}

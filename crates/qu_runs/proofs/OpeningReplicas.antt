@@ -1,5 +1,5 @@
 -- What the replicas of a run begin with: the opening candidates, and the bounds of the setup, which they keep.
-use Rattle.std.proofs.Common.{◌≡◌, ℕ, zero, suc, ◌+◌, true, List, [], ◌∷◌, Some, sym, ap, subst, ◌∙◌, arith, inl, inr, zero-add, add-zero, length, refl, false, ◌<◌}
+use Rattle.std.proofs.Common.{Bool, ◌≡◌, ℕ, zero, suc, ◌+◌, true, List, [], ◌∷◌, Some, sym, ap, subst, ◌∙◌, arith, inl, inr, zero-add, add-zero, length, refl, false, ◌<◌}
 use Rattle.std.specs.Prelude.{slice_get}
 use Rattle.std.proofs.lemmas.Bool.{false≢true, cases_Bool, or_cases, or_left}
 use Rattle.std.proofs.lemmas.Option.{none-some, same_Some}
@@ -175,6 +175,7 @@ none_held object candidate state none =
 pub acceptor_is_good : (trace : Trace) (time place : ℕ) (object : ObjectId) (candidate : Candidate)
     → test_at (accepts object candidate) (world_after trace time).replicas place ≡ true
     → is_good trace.setup place ≡ true
+unfolding opening_histories
 acceptor_is_good trace time place object candidate accepted =
     let found : Found (accepts object candidate) (world_after trace time).replicas place =
     found_at (accepts object candidate) (world_after trace time).replicas place accepted in

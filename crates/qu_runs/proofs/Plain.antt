@@ -1,7 +1,7 @@
 -- A trace of operations with parts, into which nothing forged is injected, is plain where faulty parties are silent.
 use Rattle.qu_world.proofs.Steps.{step_cases}
-use Rattle.std.proofs.Common.{◌≡◌, ℕ, zero, suc, ◌≤◌, true, not, List, [], ◌∷◌, length, get_or, Option, None, Some, inl, inr, refl, sym, ap, ◌∙◌, arith, ◌<◌, ◌^◌}
-use Rattle.std.specs.Prelude.{slice_get, slice_set, OnSome}
+use Rattle.std.proofs.Common.{subst, false, ◌≡◌, ℕ, zero, suc, ◌≤◌, true, not, List, [], ◌∷◌, length, get_or, Option, None, Some, inl, inr, refl, sym, ap, ◌∙◌, arith, ◌<◌, ◌^◌}
+use Rattle.std.specs.Prelude.{slice_get, slice_set, IfSome}
 use Rattle.std.specs.List.{list_any}
 use Rattle.std.proofs.lemmas.Bool.{false≢true, cases_Bool}
 use Rattle.std.proofs.lemmas.Option.{none-some, same_Some}
@@ -154,11 +154,11 @@ module _ (trace : Trace) (count : ℕ) (within : count ≤ length trace.entries)
             let given : handed world (Inject to text) ≡ Some (to, text) =
             offered_handed world (Inject to text) to text correct refl in
             let true_to : AreUnforged world to text =
-            subst (λ (it : Option (Party × List ℕ)). OnSome it (λ (it : Party × List ℕ). AreUnforged world it.0 it.1))
+            subst (λ (it : Option (Party × List ℕ)). IfSome it (λ (it : Party × List ℕ). AreUnforged world it.0 it.1))
             given unforged in
             let of_correct : (frame : Frame) → brought (ring_of world.setup) to text ≡ Some frame
             → is_faulty world.setup (sender frame) ≡ false =
-            subst (λ (it : Option (Party × List ℕ)). OnSome it (λ (it : Party × List ℕ). (frame : Frame)
+            subst (λ (it : Option (Party × List ℕ)). IfSome it (λ (it : Party × List ℕ). (frame : Frame)
             → brought (ring_of world.setup) it.0 it.1 ≡ Some frame → is_faulty world.setup (sender frame) ≡ false))
             given silent in
             plain_taken to text (brought (ring_of world.setup) to text) refl
@@ -188,12 +188,12 @@ plain_from trace parts few unforged silent = record {
 -- where nobody is faulty, all that are faulty are silent
 pub silent_none : (trace : Trace) → trace.setup.liars ≡ [] → FaultyAreSilent trace
 silent_none trace none = λ at default below.
-    silent_at (handed (world_after trace at) (get_or trace.entries at default).event)
+    silent_at (world_after trace at) (handed (world_after trace at) (get_or trace.entries at default).event)
     (ap (λ (setup : Setup). setup.liars) (setup_after trace at) ∙ none)
   where
-    silent_at : {world : WorldState} (given : Option (Party × List ℕ)) → (world.setup).liars ≡ []
-        → OnSome given (λ (it : Party × List ℕ). (frame : Frame)
+    silent_at : (world : WorldState) (given : Option (Party × List ℕ)) → (world.setup).liars ≡ []
+        → IfSome given (λ (it : Party × List ℕ). (frame : Frame)
         → brought (ring_of world.setup) it.0 it.1 ≡ Some frame → is_faulty world.setup (sender frame) ≡ false)
-    silent_at None none = tt
-    silent_at {world} (Some it) none = λ frame is.
+    silent_at world None none = tt
+    silent_at world (Some it) none = λ frame is.
         ap (λ (liars : List Party). list_any (λ (liar : Party). is_same liar (sender frame)) liars) none

@@ -1,5 +1,5 @@
 -- Events that hand a party nothing but what was sent to it, and begin operations that have parts.
-use Rattle.std.specs.Prelude.{◌≡◌, ◌⊎◌, ℕ, ◌<◌, ◌^◌, List, length, get_or, None, Some, IsTrue}
+use Rattle.std.specs.Prelude.{false, ◌≡◌, ◌⊎◌, ℕ, ◌<◌, ◌^◌, List, length, get_or, None, Some, IsTrue}
 use Rattle.qu_base.specs.declared.party.Party.{Party}
 use Rattle.std.specs.List.{AllByRecursion}
 use Rattle.qu_objects.specs.declared.op.Op.{Op}

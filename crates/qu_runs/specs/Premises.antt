@@ -1,6 +1,6 @@
 -- What is assumed of a run: nobody makes an HMAC of a correct party but that party, and digests do not collide
 -- (Query/Update: authenticators cannot be forged, and hashes are free of collisions).
-use Rattle.std.specs.Prelude.{◌≡◌, ℕ, true, false, ◌<◌, List, length, slice_get, get_or, Option, Some, OnSome, Contains}
+use Rattle.std.specs.Prelude.{◌≡◌, ℕ, true, false, ◌<◌, List, length, slice_get, get_or, Option, Some, IfSome, Contains}
 use Rattle.qu_base.specs.declared.party.Party.{Party}
 use Rattle.qu_base.specs.declared.party.Party.TheVariants as party
 use Rattle.qu_base.specs.declared.party.ReplicaId.{ReplicaId}
@@ -48,7 +48,7 @@ pub record AreUnforged (world : WorldState) (to : Party) (text : List ℕ) : Typ
       → is_faulty world.setup (party.Replica (sealed.history).replica) ≡ false → WasShown world me sealed
 
 abbrev pub IsUnforgedAt : WorldState → Event → Type 0
-IsUnforgedAt world event = OnSome (handed world event) (λ (given : Party × List ℕ). AreUnforged world given.0 given.1)
+IsUnforgedAt world event = IfSome (handed world event) (λ (given : Party × List ℕ). AreUnforged world given.0 given.1)
 
 abbrev pub IsUnforged : Trace → Type 0
 IsUnforged trace = (at : ℕ) (default : Entry) → at < length trace.entries → IsUnforgedAt (world_after trace at)
@@ -61,7 +61,7 @@ pub record MeetsPremises (trace : Trace) : Type 0 where
 
 -- no frame of a faulty party is taken by a correct one
 abbrev pub IsSilentAt : WorldState → Event → Type 0
-IsSilentAt world event = OnSome (handed world event) (λ (given : Party × List ℕ). (frame : Frame)
+IsSilentAt world event = IfSome (handed world event) (λ (given : Party × List ℕ). (frame : Frame)
     → brought (ring_of world.setup) given.0 given.1 ≡ Some frame → is_faulty world.setup (sender frame) ≡ false)
 
 -- the faulty parties of the run are silent, as they are where there are none
