@@ -31,7 +31,7 @@ use Rattle.qu_base.proofs.ThresholdFacts.{are_thresholds}
 use Rattle.qu_replica.specs.Rows.{asked_of, fresh_stamp}
 use Rattle.qu_runs.proofs.Carrying.{asks_so, brings_carries, one_carried}
 use Rattle.std.proofs.lemmas.Bool.{cases_Bool, cases_lt, false≢true, lt-ltb, ltb-true}
-use Rattle.qu_chain.specs.Count.{count, test_at}
+use Rattle.qu_chain.specs.Count.{test_at}
 use Rattle.std.specs.Prelude.{count_by, is_some, slice_get}
 use Rattle.qu_frames.specs.Decoding.{decoded}
 use Rattle.qu_history.specs.Sets.{entries_of, method_at}

@@ -17,7 +17,6 @@ use Rattle.qu_frames.specs.declared.frame.Frame.{Frame}
 use Rattle.qu_frames.specs.Formats.{frame_form}
 use Rattle.qu_replica.specs.Rows.{asked_of, fresh_stamp}
 use Rattle.qu_replica.proofs.FitSteps.{request-fits}
-use Rattle.qu_trace.specs.declared.trace.Entry.{Entry}
 use Rattle.qu_trace.specs.declared.trace.Trace.{Trace}
 use Rattle.qu_world.specs.State.{WorldState}
 use Rattle.qu_world.specs.Step.{world_step}
@@ -30,7 +29,7 @@ use Rattle.qu_grounds.specs.Origins.{Origin}
 use Rattle.qu_runs.specs.Plain.{ArePlain}
 use Rattle.qu_runs.proofs.Fitting.{carried_in_run}
 use Rattle.qu_grounds.proofs.Handled.{request_upon, upon_handled}
-use Rattle.qu_runs.proofs.Small.{contains_mapped}
+use Rattle.qu_runs.proofs.DigestedTexts.{request_digested}
 use Rattle.qu_grounds.proofs.Origins.{accepted_from}
 use Rattle.qu_runs.proofs.OpeningReplicas.{bounds_are}
 use Rattle.qu_runs.proofs.Carrying.{brings_carries}
@@ -60,9 +59,7 @@ module _ (trace : Trace) (is_run : IsRun trace) (plain : ArePlain trace) where
   sets_digested : (object : ObjectId) (candidate : Candidate)
       (it : Origin trace (length trace.entries) object candidate) → Contains (digested trace)
       (text_of (sets_upon object candidate it))
-  unfolding digested
   sets_digested object candidate it =
-      let texts : Entry → List Text = λ entry. texts_of (handled_by trace entry.event) in
       let sets : List SetOf = sets_upon object candidate it in
       let request : Request = request_upon it.old it.new (it.delivered).carried (it.delivered).accepts in
       let is_new : slice_get (world_step (world_after trace it.past) it.event).replicas it.place ≡ Some it.new =
@@ -71,8 +68,7 @@ module _ (trace : Trace) (is_run : IsRun trace) (plain : ArePlain trace) where
       ap (handled_by trace) (sym it.event_is) ∙ upon_handled trace is_run it.past it.earlier it.event it.place
       it.old it.new it.is_old is_new object it.delivered in
       let among : Contains (texts_of (Some request)) (text_of sets) = (0, omega arith, refl) in
-      contains_mapped texts trace.entries it.entry (text_of sets) it.of_trace
-      (subst (λ found. Contains (texts_of found) (text_of sets)) (sym handled) among)
+      request_digested trace it.entry (Some request) (text_of sets) it.of_trace handled among
 
   -- the stamp holds the digest of the sets
   digest_named : (object : ObjectId) (candidate : Candidate)

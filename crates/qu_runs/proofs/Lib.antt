@@ -3,6 +3,7 @@ pub mod Small
 pub mod WorldGrowth
 pub mod Carrying
 pub mod FitRequests
+pub mod DigestedTexts
 pub mod FewFaults
 pub mod FitClients
 pub mod Fitting

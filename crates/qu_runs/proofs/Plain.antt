@@ -1,6 +1,6 @@
 -- A trace of operations with parts, into which nothing forged is injected, is plain where faulty parties are silent.
 use Rattle.qu_world.proofs.Steps.{step_cases}
-use Rattle.std.proofs.Common.{subst, false, ◌≡◌, ℕ, zero, suc, ◌≤◌, true, not, List, [], ◌∷◌, length, get_or, Option, None, Some, inl, inr, refl, sym, ap, ◌∙◌, arith, ◌<◌, ◌^◌}
+use Rattle.std.proofs.Common.{subst, false, ◌≡◌, ℕ, zero, suc, ◌≤◌, true, List, [], ◌∷◌, length, get_or, Option, None, Some, inl, inr, refl, sym, ap, ◌∙◌, arith, ◌<◌, ◌^◌}
 use Rattle.std.specs.Prelude.{slice_get, slice_set, IfSome}
 use Rattle.std.specs.List.{list_any}
 use Rattle.std.proofs.lemmas.Bool.{false≢true, cases_Bool}

@@ -1,6 +1,6 @@
 -- What is assumed of a run: nobody makes an HMAC of a correct party but that party, and digests do not collide
 -- (Query/Update: authenticators cannot be forged, and hashes are free of collisions).
-use Rattle.std.specs.Prelude.{◌≡◌, ℕ, true, false, ◌<◌, List, length, slice_get, get_or, Option, Some, IfSome, Contains}
+use Rattle.std.specs.Prelude.{◌≡◌, ℕ, true, false, ◌<◌, List, length, slice_get, get_or, Some, IfSome, Contains}
 use Rattle.qu_base.specs.declared.party.Party.{Party}
 use Rattle.qu_base.specs.declared.party.Party.TheVariants as party
 use Rattle.qu_base.specs.declared.party.ReplicaId.{ReplicaId}

@@ -2,7 +2,7 @@
 -- Only correct replicas count: a faulty one accepts nothing. An operation names one object, so that no candidate has
 -- a group.
 -- Definitions whose comment names no source are this project's own; Query/Update is the paper of SOSP 2005.
-use Rattle.std.specs.Prelude.{true, not, nat_lt, length, is_some, None}
+use Rattle.std.specs.Prelude.{not, nat_lt, length, is_some, None}
 use Rattle.qu_base.specs.Bounds.{replicas, quorum, repair}
 use Rattle.qu_chain.specs.Count.{count, test_at}
 use Rattle.qu_chain.specs.Setting.{Setting}

@@ -23,7 +23,7 @@ use Rattle.qu_rounds.specs.Invocations.{IsRequestOf}
 use Rattle.qu_runs.specs.Plain.{HasOpParts, ArePlain}
 use Rattle.qu_values.proofs.SentRequests.{asked_by_handled}
 use Rattle.qu_runs.proofs.Ranges.{Fits, operation_fits}
-use Rattle.qu_runs.proofs.Small.{contains_mapped}
+use Rattle.qu_runs.proofs.DigestedTexts.{request_digested}
 
 -- ---- its text was digested
 
@@ -32,13 +32,10 @@ text_of client number parts = record { tag = ACT_TAG; bytes = act_text client nu
 
 text_digested : (trace : Trace) (client : ClientId) (number : ℕ) (parts : List (ObjectId × Method))
     → IsHandled trace client number parts → Contains (digested trace) (text_of client number parts)
-unfolding digested
 text_digested trace client number parts it =
-    let texts : Entry → List Text = λ entry. texts_of (handled_by trace entry.event) in
     let request : Request = record { client = client; number = number; sets = it.sets; body = body.Act parts } in
     let among : Contains (texts_of (Some request)) (text_of client number parts) = (1, omega arith, refl) in
-    contains_mapped texts trace.entries it.entry (text_of client number parts) it.of_trace
-    (subst (λ found. Contains (texts_of found) (text_of client number parts)) (sym it.handled) among)
+    request_digested trace it.entry (Some request) (text_of client number parts) it.of_trace it.handled among
 
 -- ---- its numbers fit
 
