@@ -1,7 +1,9 @@
 -- A request that was handled was sent, and belongs to an operation.
 use Rattle.qu_runs.specs.Digested.{is_handler}
 use Rattle.std.proofs.Common.{◌≡◌, ℕ, ◌<◌, ◌≤◌, Bool, true, false, cond, List, length, Option, None, Some, refl, sym, ap, subst, ◌∙◌, arith, inl, inr}
-use Rattle.std.specs.Prelude.{Contains}
+use Rattle.std.specs.Prelude.{Contains, not, nat_lt, ◌&&◌, if◌then◌else◌}
+use Rattle.qu_base.specs.Bounds.{replicas}
+use Rattle.qu_trace.specs.Faulty.{is_faulty}
 use Rattle.std.specs.List.{list_all}
 use Rattle.std.proofs.lemmas.List.{take_all}
 use Rattle.std.proofs.lemmas.Option.{none-some, cond_some}
@@ -81,6 +83,20 @@ carried_to setup text (party.Replica me) request is = (
 )
 carried_to setup text (party.Client me) request is = absurd (none-some request is)
 
+-- by a correct party
+to_correct : (setup : Setup) (text : List ℕ) (to : Party) (request : Request)
+    → request_to setup text to ≡ Some request → is_faulty setup to ≡ false
+to_correct setup text (party.Replica me) request is =
+    not_faulty (nat_lt me.0 (replicas setup.bounds)) (is_faulty setup (party.Replica me))
+    (request_brought setup me (brought (ring_of setup) (party.Replica me) text)) is
+  where
+    not_faulty : (inside faulty : Bool) (found : Option Request)
+        → (if inside && not faulty then found else None) ≡ Some request → faulty ≡ false
+    not_faulty true true found is = absurd (none-some request is)
+    not_faulty true false found is = refl
+    not_faulty false faulty found is = absurd (none-some request is)
+to_correct setup text (party.Client me) request is = absurd (none-some request is)
+
 -- a frame was brought that is this request
 carried_so : (setup : Setup) (me : ReplicaId) (letter : Letter) (read : Option Frame) (request : Request)
     → brought (ring_of setup) letter.to letter.text ≡ read → request_brought setup me read ≡ Some request
@@ -109,9 +125,11 @@ sent_before : (trace : Trace) → IsRun trace → (time : ℕ) → time ≤ leng
     → (to : Party) (text : List ℕ) → IsPlain (world_after trace time) (Inject to text) → (request : Request)
     → request_to trace.setup text to ≡ Some request → IsSent trace request
 sent_before trace is_run time within to text (inl ignored) request is =
-    let none : brought (ring_of trace.setup) to text ≡ None =
-    ap (λ (setup : Setup). brought (ring_of setup) to text) (sym (setup_after trace time)) ∙ ignored.nothing in
     let given = carried_to trace.setup text to request is in
+    let correct : is_faulty trace.setup to ≡ false = to_correct trace.setup text to request is in
+    let none : brought (ring_of trace.setup) to text ≡ None =
+    ap (λ (setup : Setup). brought (ring_of setup) to text) (sym (setup_after trace time))
+    ∙ ignored.nothing (ap (λ (setup : Setup). is_faulty setup to) (setup_after trace time) ∙ correct) in
     absurd (none-some request (ap (request_brought trace.setup given.0) (sym none) ∙ given.1))
 sent_before trace is_run time within to text (inr sent) request is =
     let letter : Letter = sent.letter in
