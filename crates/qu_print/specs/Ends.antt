@@ -6,6 +6,8 @@ use Rattle.std.specs.Fmt.{decimal}
 use Rattle.qu_objects.specs.declared.op.Outcome.{Outcome}
 use Rattle.qu_objects.specs.declared.op.Outcome.TheVariants.{Done, GaveUp}
 use Rattle.qu_machine.specs.declared.record.OpRecord.{OpRecord}
+use Rattle.qu_trace.specs.declared.premises.Premises.{Premises}
+use Rattle.qu_trace.specs.declared.premises.Premises.TheVariants.{Hold, Forged, Collide}
 use Rattle.qu_print.specs.Words.{name_text}
 
 -- ---- how an operation ended
@@ -40,6 +42,12 @@ open_lines_of operations client =
 -- the open operations of clients 1, 2, .. up to this one
 unfoldable pub open_lines : ℕ → List OpRecord → List (List ℕ)
 open_lines clients operations = flat_map (open_lines_of operations) (range_with_len 1 clients)
+
+-- whether the premises hold, and else the events of the first break
+unfoldable pub premises_line : Premises → List ℕ
+premises_line Hold = codes "premises hold"
+premises_line (Forged event) = codes "premises forged " ++ decimal event
+premises_line (Collide first second) = codes "premises collide " ++ decimal first ++ codes " " ++ decimal second
 
 -- how many operations there are, and how many of them ended in each way
 unfoldable pub end_line : List OpRecord → List ℕ

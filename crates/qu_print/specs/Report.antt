@@ -3,11 +3,13 @@ use Rattle.std.specs.Prelude.{ℕ, List, [], ◌∷◌, ◌++◌, codes}
 use Rattle.std.specs.Fmt.{decimal}
 use Rattle.qu_base.specs.Bounds.{replicas, quorum, repair}
 use Rattle.qu_machine.specs.declared.record.Point.{Point}
+use Rattle.qu_trace.specs.declared.premises.Premises.{Premises}
+use Rattle.qu_trace.specs.declared.premises.Premises.TheVariants.{Hold, Forged, Collide}
 use Rattle.qu_trace.specs.declared.trace.Trace.{Trace}
 use Rattle.qu_trace.specs.Operation.{operations_of}
 use Rattle.qu_print.specs.Lines.{lines_text}
 use Rattle.qu_print.specs.Timeline.{timeline}
-use Rattle.qu_print.specs.Ends.{open_lines, end_line}
+use Rattle.qu_print.specs.Ends.{open_lines, premises_line, end_line}
 
 -- how many replicas there are and how many of them answer, where up to b of them may lie
 unfoldable pub bounds_line : ℕ → List ℕ
@@ -15,12 +17,18 @@ bounds_line b =
     codes "bounds b " ++ decimal b ++ codes " n " ++ decimal (replicas b)
     ++ codes " q " ++ decimal (quorum b) ++ codes " r " ++ decimal (repair b)
 
-abbrev pub report_lines : Trace → List Point → List (List ℕ)
-report_lines trace order =
-    bounds_line trace.setup.bounds ∷ []
-    ++ timeline trace.entries order
-    ++ open_lines trace.setup.clients (operations_of trace.entries)
-    ++ end_line (operations_of trace.entries) ∷ []
+-- where the premises of the order do not hold, no point is told
+abbrev pub told_order : Premises → List Point → List Point
+told_order Hold order = order
+told_order (Forged event) order = []
+told_order (Collide first second) order = []
 
-unfoldable pub report_of : Trace → List Point → List ℕ
-report_of trace order = lines_text (report_lines trace order)
+abbrev pub report_lines : Trace → Premises → List Point → List (List ℕ)
+report_lines trace premises order =
+    bounds_line trace.setup.bounds ∷ []
+    ++ timeline trace.entries (told_order premises order)
+    ++ open_lines trace.setup.clients (operations_of trace.entries)
+    ++ premises_line premises ∷ end_line (operations_of trace.entries) ∷ []
+
+unfoldable pub report_of : Trace → Premises → List Point → List ℕ
+report_of trace premises order = lines_text (report_lines trace premises order)

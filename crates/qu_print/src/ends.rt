@@ -1,20 +1,54 @@
 ghost use Rattle.std.specs.Prelude.{◌≡◌, ◌∷◌, [], ◌++◌, OnOk, count_by, string_bytes};
+ghost use Rattle.qu_trace.specs.declared.premises.Premises.TheVariants.{Collide};
 ghost use Rattle.qu_print.specs.Lines.{lines_text};
-ghost use Rattle.qu_print.specs.Ends.{open_lines, open_lines_of, end_line, ended_done, ended_given_up, never_ended};
+ghost use Rattle.qu_print.specs.Ends.{open_lines, open_lines_of, premises_line, end_line, ended_done, ended_given_up, never_ended};
 
 use qu_base::NoMemory;
 use qu_machine::OpRecord;
 use qu_objects::Outcome;
+use qu_trace::Premises;
 
-/// Writes which operations of clients 1, 2, .. up to this one have no end, and how many operations
-/// ended.
-pub fn put_ends(text: &mut String, clients: u16, operations: &[OpRecord]) -> Result<(), NoMemory>
+/// Writes which operations of clients 1, 2, .. up to this one have no end, whether the premises hold, and how many
+/// operations ended.
+pub fn put_ends(
+    text: &mut String,
+    clients: u16,
+    operations: &[OpRecord],
+    premises: &Premises,
+) -> Result<(), NoMemory>
     ensures { OnOk result (string_bytes text.new
         ≡ string_bytes text.old
-        ++ lines_text (open_lines clients operations.now ++ end_line operations.now ∷ [])) }
+        ++ lines_text (open_lines clients operations.now
+        ++ premises_line premises.now ∷ end_line operations.now ∷ [])) }
 {
     put_open(text, clients, operations)?;
+    put_premises(text, premises)?;
     put_end_line(text, operations)?;
+    Ok(())
+}
+
+/// Writes whether the premises hold, and else the events of the first break.
+#[tactic(auto, unfolding(crate::specs::Lines::lines_text, crate::specs::Ends::premises_line))]
+fn put_premises(text: &mut String, premises: &Premises) -> Result<(), NoMemory>
+    ensures { OnOk result (string_bytes text.new
+        ≡ string_bytes text.old ++ lines_text (premises_line premises.now ∷ [])) }
+{
+    match premises {
+        Premises::Hold => text.push_str("premises hold\n")?,
+        Premises::Forged { event } => writeln!(text, "premises forged {event}")?,
+        Premises::Collide { first, second } => put_collision(text, *first, *second)?,
+    }
+    Ok(())
+}
+
+/// Writes that the texts of two events collide.
+#[tactic(auto, unfolding(crate::specs::Lines::lines_text, crate::specs::Ends::premises_line))]
+fn put_collision(text: &mut String, first: u64, second: u64) -> Result<(), NoMemory>
+    ensures { OnOk result (string_bytes text.new
+        ≡ string_bytes text.old ++ lines_text (premises_line (Collide first second) ∷ [])) }
+{
+    write!(text, "premises collide {first}")?;
+    writeln!(text, " {second}")?;
     Ok(())
 }
 

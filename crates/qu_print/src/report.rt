@@ -1,25 +1,41 @@
 ghost use Rattle.std.specs.Prelude.{◌≡◌, ◌∷◌, [], ◌++◌, IfOk, OnOk, string_bytes};
 ghost use Rattle.qu_print.specs.Lines.{lines_text};
 ghost use Rattle.qu_print.specs.Timeline.{timeline};
-ghost use Rattle.qu_print.specs.Report.{report_of, bounds_line};
+ghost use Rattle.qu_print.specs.Report.{report_of, bounds_line, told_order};
 
 use super::ends::put_ends;
 use super::timeline::put_timeline;
 use qu_base::{Bounds, List, NoMemory};
 use qu_machine::Point;
-use qu_trace::{Trace, operations};
+use qu_trace::{Premises, Trace, operations};
 use std::alloc::Global;
 
-/// The report of a run, of which `order` tells at which points its operations took effect.
+/// The report of a run, of which `order` tells at which points its operations took effect. No point is told where
+/// the premises of the order do not hold.
 #[tactic(auto, using(crate::proofs::ReportFacts::report_parts))]
-pub fn report_text(alloc: Global, trace: &Trace, order: &[Point]) -> Result<List<u8>, NoMemory>
-    ensures { IfOk result (λ text. text ≡ report_of trace.now order.now) }
+pub fn report_text(
+    alloc: Global,
+    trace: &Trace,
+    premises: &Premises,
+    order: &[Point],
+) -> Result<List<u8>, NoMemory>
+    ensures { IfOk result (λ text. text ≡ report_of trace.now premises.now order.now) }
 {
     let records = operations(alloc, trace)?;
     let mut text = String::new(alloc);
-    put_events(&mut text, trace, order)?;
-    put_ends(&mut text, trace.setup.clients, records.as_slice())?;
+    put_events(&mut text, trace, told_order(premises, order))?;
+    put_ends(&mut text, trace.setup.clients, records.as_slice(), premises)?;
     Ok(List::from(text.into_bytes()))
+}
+
+/// The points that are told.
+fn told_order<'a>(premises: &Premises, order: &'a [Point]) -> &'a [Point]
+    ensures { result.now ≡ told_order premises.now order.now }
+{
+    match premises {
+        Premises::Hold => order,
+        Premises::Forged { .. } | Premises::Collide { .. } => &[],
+    }
 }
 
 /// Writes what happened, under the bounds.

@@ -3,7 +3,7 @@ use super::*;
 use qu_base::{Bounds, ClientId, List, NoMemory, ObjectId};
 use qu_machine::Point;
 use qu_objects::{Act, Answer, Ask, Item, Method, OVER, Op, Outcome, Query, UNDER};
-use qu_trace::{Entry, Event, Setup, Trace};
+use qu_trace::{Entry, Event, Premises, Setup, Trace};
 use std::alloc::Global;
 use std::test::Fail;
 
@@ -21,7 +21,7 @@ fn one_operation_is_refused_and_one_gives_up(rt: HostRuntime) -> Result<(), Fail
     let trace = trace_of(alloc, 1, entries)?;
     let mut order = List::one(alloc, point(alloc, 1, 1, 1)?)?;
     order.push(faulty_point(alloc, 2, 3, 9)?)?;
-    let text = report_text(alloc, &trace, order.as_slice())?;
+    let text = report_text(alloc, &trace, &Premises::Hold, order.as_slice())?;
     let expected = b"bounds b 1 n 6 q 5 r 3\n\
         call 1.1 add 0 7\n\
         point 1.1\n\
@@ -29,6 +29,7 @@ fn one_operation_is_refused_and_one_gives_up(rt: HostRuntime) -> Result<(), Fail
         point 3.9 faulty add 0 2\n\
         call 1.2 add 0 8\n\
         gaveup 1.2\n\
+        premises hold\n\
         end calls 2 done 1 gaveup 1 open 0\n";
     assert_eq!(rt; text.as_slice(), expected.as_slice());
     Ok(())

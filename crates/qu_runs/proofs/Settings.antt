@@ -61,15 +61,22 @@ good_too trace time object candidate place =
     both false true so = absurd (false≢true (so refl))
     both false false so = refl
 
-pub acceptors_are : (trace : Trace) (time : ℕ) (object : ObjectId) (candidate : Candidate)
+-- so that it need not be asked
+pub acceptors_counted : (trace : Trace) (time : ℕ) (object : ObjectId) (candidate : Candidate)
     → acceptors (setting trace) time object candidate
-    ≡ count_by (accepts object candidate) (world_after trace time).replicas
+    ≡ count (replicas trace.setup.bounds) (test_at (accepts object candidate) (world_after trace time).replicas)
 unfolding setting
-acceptors_are trace time object candidate =
+acceptors_counted trace time object candidate =
     count-same (replicas trace.setup.bounds)
     (λ place. is_good trace.setup place && test_at (accepts object candidate) (world_after trace time).replicas place)
     (test_at (accepts object candidate) (world_after trace time).replicas)
     (λ place below. good_too trace time object candidate place)
+
+pub acceptors_are : (trace : Trace) (time : ℕ) (object : ObjectId) (candidate : Candidate)
+    → acceptors (setting trace) time object candidate
+    ≡ count_by (accepts object candidate) (world_after trace time).replicas
+acceptors_are trace time object candidate =
+    acceptors_counted trace time object candidate
     ∙ ap (λ (n : ℕ). count n (test_at (accepts object candidate) (world_after trace time).replicas))
     (sym (all_replicas trace time))
     ∙ count-test_at (accepts object candidate) (world_after trace time).replicas

@@ -41,7 +41,7 @@ use Rattle.qu_runs.specs.Accepted.{accepts}
 use Rattle.qu_runs.specs.Setting.{setting}
 use Rattle.qu_rounds.specs.Invocations.{IsRequestOf}
 use Rattle.qu_runs.specs.Times.{world_after}
-use Rattle.qu_runs.proofs.Settings.{acceptors_are}
+use Rattle.qu_runs.proofs.Settings.{acceptors_are, acceptors_counted}
 use Rattle.qu_values.specs.Replies.{HasDone, TellsDone, IsReplyTo}
 use Rattle.qu_safety.specs.Quorums.{PartOfQuorum, ActOfQuorum}
 use Rattle.qu_values.specs.Updates.{IsOf}
@@ -232,7 +232,9 @@ module _ (trace : Trace) (is_run : IsRun trace) (have : ArePlain trace) (laws : 
           (λ index low member.
           has_first time ends first below told held index low
           (All-contains (Part time index) stamps told (among_all (Has time) members all index member).each one)) in
-          omega (arith, enough, among_them, more)
+          let same : acceptors (setting trace) time told.0 held.candidate ≡ count n accepted =
+          acceptors_counted trace time told.0 held.candidate in
+          omega (arith, enough, among_them, more, same)
 
       decided_of_quorum : (told : ObjectId × Stamp) → Contains stamps told → (held : Part time first told)
           → IsDecided (setting trace) time told.0 held.candidate

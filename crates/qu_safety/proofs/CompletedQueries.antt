@@ -57,7 +57,7 @@ use Rattle.qu_runs.specs.Setting.{setting}
 use Rattle.qu_rounds.specs.Invocations.{IsRequestOf}
 use Rattle.qu_runs.specs.Answers.{is_answer, answers, sends_answer, answers_at}
 use Rattle.qu_runs.specs.Times.{world_after}
-use Rattle.qu_runs.proofs.Settings.{acceptors_are}
+use Rattle.qu_runs.proofs.Settings.{acceptors_are, acceptors_counted}
 use Rattle.qu_points.specs.Order.{AnswersFirst, query_effect, effect_of, IsPoint}
 use Rattle.qu_points.specs.Points.{point_at}
 use Rattle.qu_values.specs.Replies.{IsReplyTo, HasTold, TellsQuery}
@@ -339,7 +339,9 @@ module _ (trace : Trace) (is_run : IsRun trace) (have : ArePlain trace) (laws : 
         let n : ℕ = replicas bounds in
         let accepted : ℕ → Bool = test_at (accepts object other) (world_after trace time).replicas in
         let told : length members ≤ count n (is_among members) = members_count n members different within in
-        let counted : quorum bounds ≤ count n accepted + bounds = established in
+        let same : acceptors (setting trace) time object other ≡ count n accepted =
+        acceptors_counted trace time object other in
+        let counted : quorum bounds ≤ count n accepted + bounds = omega (arith, established, same) in
         let most : count n (λ (index : ℕ). true) ≤ n = count-le n (λ (index : ℕ). true) in
         let found : Shared n (is_among members) accepted =
         shared n (is_among members) accepted (λ (index : ℕ). true) (λ index passes. refl) (λ index passes. refl)

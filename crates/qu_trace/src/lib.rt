@@ -4,10 +4,12 @@
 
 mod event;
 mod operation;
+mod premises;
 mod trace;
 
 pub use event::Event;
 pub use operation::{begun, operations};
+pub use premises::Premises;
 pub use trace::{Entry, Setup, Trace};
 
 #[cfg(test)]

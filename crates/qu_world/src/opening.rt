@@ -12,11 +12,7 @@ use qu_trace::Setup;
 use std::alloc::Global;
 
 /// The replicas of a run, as they begin. A faulty one keeps nothing.
-pub fn start_replicas(
-    alloc: Global,
-    keys: KeyRing,
-    setup: &Setup,
-) -> Result<Vec<Replica>, NoMemory>
+pub fn start_replicas(alloc: Global, keys: KeyRing, setup: &Setup) -> Result<Vec<Replica>, NoMemory>
     requires { length setup.now.kinds ≤ OBJECT_IDS }
     ensures { IfOk result (λ started. started.items ≡ opening_replicas 0 (replicas keys.bounds) keys
         (kinds_at setup.now)) }

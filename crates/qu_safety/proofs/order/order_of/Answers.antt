@@ -11,7 +11,7 @@ use Rattle.qu_chain.specs.Laws.{Laws}
 use Rattle.qu_chain.specs.Joint.{Joint}
 use Rattle.qu_runs.specs.Setting.{setting}
 use Rattle.qu_runs.specs.Plain.{HaveParts, ArePlain}
-use Rattle.qu_runs.specs.Premises.{IsUnforged, MeetsPremises}
+use Rattle.qu_runs.specs.Premises.{IsUnforged, MeetsPremises, FaultyAreSilent}
 use Rattle.qu_runs.proofs.Plain.{plain_from}
 use Rattle.qu_points.specs.Order.{IsPrintedOrder}
 use Rattle.qu_grounds.proofs.Chained.{is_chained, decides_in_turn, decides_jointly}
@@ -31,10 +31,11 @@ always : {T E : Type 0} {P : Type 0} (result : Result T E) → P → OnOk result
 always (Ok value) it = it
 always (Err failure) it = tt
 
-plain_run : (c : goal.After-printed_order) → IsUnforged c.args.trace.now → ArePlain c.args.trace.now
-plain_run c unforged =
+plain_run : (c : goal.After-printed_order) → IsUnforged c.args.trace.now → FaultyAreSilent c.args.trace.now
+    → ArePlain c.args.trace.now
+plain_run c unforged silent =
     plain_from c.args.trace.now (subst HaveParts c.as_slice.ensures c.have_parts.ensures.parts)
-    (subst (λ (entries : List Entry). length entries < 2 ^ 63) c.as_slice.ensures c.have_parts.ensures.few) unforged
+    (subst (λ (entries : List Entry). length entries < 2 ^ 63) c.as_slice.ensures c.have_parts.ensures.few) unforged silent
 
 -- what the serial order rests on
 record Grounded (trace : Trace) : Type 0 where
@@ -44,10 +45,11 @@ record Grounded (trace : Trace) : Type 0 where
   joint : Joint (setting trace)
   facts : UpdateFacts trace
 
-grounded : (c : goal.After-printed_order) → MeetsPremises c.args.trace.now → Grounded c.args.trace.now
-grounded c premises =
+grounded : (c : goal.After-printed_order) → MeetsPremises c.args.trace.now → FaultyAreSilent c.args.trace.now
+    → Grounded c.args.trace.now
+grounded c premises silent =
     let trace : Trace = c.args.trace.now in
-    let plain : ArePlain trace = plain_run c premises.unforged in
+    let plain : ArePlain trace = plain_run c premises.unforged silent in
     let one_act : ActsAreOne trace = acts_are_one trace c.requires plain premises.no_collision in
     let law : Laws (setting trace) = laws trace c.requires plain in
     let joint : Joint (setting trace) = joint_laws trace c.requires plain premises.no_collision in
@@ -62,41 +64,41 @@ grounded c premises =
 pub returns-clause-serial : goal.returns-clause-serial
 returns-clause-serial c =
     IfOk-weaker c.printed_order.result (IsPrintedOrder c.args.trace.now)
-    (λ (order : List Point). MeetsPremises c.args.trace.now → IsSerial c.args.trace.now.setup.kinds
+    (λ (order : List Point). MeetsPremises c.args.trace.now → FaultyAreSilent c.args.trace.now → IsSerial c.args.trace.now.setup.kinds
     (operations_of c.args.trace.now.entries) order)
-    (λ order printed premises.
-    let it : Grounded c.args.trace.now = grounded c premises in
+    (λ order printed premises silent.
+    let it : Grounded c.args.trace.now = grounded c premises silent in
     serial c.args.trace.now c.requires it.plain it.one_act it.laws it.joint it.facts order printed)
     c.printed_order.ensures
 
 pub returns-clause-chained : goal.returns-clause-chained
 returns-clause-chained c =
-    always c.printed_order.result (λ premises.
-    is_chained c.args.trace.now c.requires (plain_run c premises.unforged) premises.no_collision)
+    always c.printed_order.result (λ premises silent.
+    is_chained c.args.trace.now c.requires (plain_run c premises.unforged silent) premises.no_collision)
 
 pub returns-clause-named : goal.returns-clause-named
 returns-clause-named c =
-    always c.printed_order.result (λ premises.
-    stamps_name c.args.trace.now c.requires (plain_run c premises.unforged) premises.no_collision)
+    always c.printed_order.result (λ premises silent.
+    stamps_name c.args.trace.now c.requires (plain_run c premises.unforged silent) premises.no_collision)
 
 pub returns-clause-jointly : goal.returns-clause-jointly
 returns-clause-jointly c =
-    always c.printed_order.result (λ premises.
-    decides_jointly c.args.trace.now c.requires (plain_run c premises.unforged) premises.no_collision)
+    always c.printed_order.result (λ premises silent.
+    decides_jointly c.args.trace.now c.requires (plain_run c premises.unforged silent) premises.no_collision)
 
 pub returns-clause-in_turn : goal.returns-clause-in_turn
 returns-clause-in_turn c =
-    always c.printed_order.result (λ premises.
-    decides_in_turn c.args.trace.now c.requires (plain_run c premises.unforged) premises.no_collision)
+    always c.printed_order.result (λ premises silent.
+    decides_in_turn c.args.trace.now c.requires (plain_run c premises.unforged silent) premises.no_collision)
 
 pub returns-clause-once : goal.returns-clause-once
 returns-clause-once c =
-    always c.printed_order.result (λ premises.
-    let it : Grounded c.args.trace.now = grounded c premises in
+    always c.printed_order.result (λ premises silent.
+    let it : Grounded c.args.trace.now = grounded c premises silent in
     decides_once c.args.trace.now it.laws it.joint it.one_act it.facts)
 
 pub returns-clause-by_quorums : goal.returns-clause-by_quorums
 returns-clause-by_quorums c =
-    always c.printed_order.result (λ premises.
-    let it : Grounded c.args.trace.now = grounded c premises in
+    always c.printed_order.result (λ premises silent.
+    let it : Grounded c.args.trace.now = grounded c premises silent in
     completes_by_quorums c.args.trace.now c.requires it.plain it.laws it.joint it.facts)
