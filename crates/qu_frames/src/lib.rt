@@ -20,7 +20,7 @@ pub use formats::formats_are_codes;
 pub use frame::{Body, Frame, Letter};
 pub use limits::{CULLED_LIMIT, LAST_ROUND, TEXT_LIMIT, limits_are_these};
 pub use refusal_number::refusal_numbers_are_these;
-pub use signing::{receive, text_digest, with_mac};
+pub use signing::{before_mac, receive, text_digest, with_mac};
 pub use verdict::{ClassCode, Refusal, Verdict};
 
 #[cfg(test)]

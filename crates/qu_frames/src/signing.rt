@@ -87,7 +87,7 @@ pub fn text_digest(text: &[u8]) -> Digest
 }
 
 /// The bytes before the HMAC, which are the last 32.
-fn before_mac(text: &[u8]) -> &[u8]
+pub fn before_mac(text: &[u8]) -> &[u8]
     ensures { result.now ≡ before_mac text.now }
 {
     &text[..text.len().saturating_sub(32)]

@@ -1,6 +1,7 @@
 ghost use Rattle.std.specs.Prelude.{◌≡◌, ◌++◌, [], ◌∷◌, IfOk, OnOk, IsTrue};
 ghost use Rattle.std.specs.Option.{option_copied};
 ghost use Rattle.qu_history.specs.Culling.{history_digest, mac_is_right, is_right, culled_set, culled, left_of, left_out};
+ghost use Rattle.qu_history.specs.Formats.{history_form};
 ghost use Rattle.qu_history.specs.Sealing.{are_right};
 
 use super::{History, Sealed, SetOf, Sets};
@@ -33,9 +34,17 @@ impl History {
     pub fn digest(&self, alloc: Global) -> Result<Digest, NoMemory>
         ensures { IfOk result (λ digest. digest ≡ history_digest self.now) }
     {
+        let text = self.text(alloc)?;
+        Ok(digest(HISTORY_TAG, text.as_slice()))
+    }
+
+    /// The text of the history that is digested: its one spelling.
+    pub fn text(&self, alloc: Global) -> Result<List<u8>, NoMemory>
+        ensures { IfOk result (λ text. text ≡ history_form.spell self.now) }
+    {
         let mut out = Outbytes::new(alloc);
         self.write(&mut out)?;
-        Ok(digest(HISTORY_TAG, out.done().as_slice()))
+        Ok(out.done())
     }
 }
 

@@ -5,19 +5,28 @@ ghost use Rattle.qu_history.specs.Formats.{history_form, object_text_form, sets_
 ghost use Rattle.qu_history.specs.Text.{unsealed, sets_text, sets_digest};
 
 use super::{Sealed, SetOf, Sets};
-use qu_base::{Digest, NoMemory, Outbytes};
+use qu_base::{Digest, List, NoMemory, Outbytes};
 use qu_seal::{SETS_TAG, digest};
 use std::alloc::Global;
 
 impl Sets {
     /// The digest of the sets: of their objects, each with its histories. It does not depend on HMACs.
-    #[tactic(auto, unfolding(crate::specs::Text::sets_digest, crate::specs::Text::sets_text))]
+    #[tactic(auto, unfolding(crate::specs::Text::sets_digest))]
     pub fn digest_of(&self, alloc: Global) -> Result<Digest, NoMemory>
         ensures { IfOk result (λ digest. digest ≡ sets_digest self.now) }
     {
+        let text = self.text(alloc)?;
+        Ok(digest(SETS_TAG, text.as_slice()))
+    }
+
+    /// The text of the sets that is digested.
+    #[tactic(auto, unfolding(crate::specs::Text::sets_text))]
+    pub fn text(&self, alloc: Global) -> Result<List<u8>, NoMemory>
+        ensures { IfOk result (λ text. text ≡ sets_text self.now) }
+    {
         let mut out = Outbytes::new(alloc);
         append_sets(self.objects().as_slice(), &mut out)?;
-        Ok(digest(SETS_TAG, out.done().as_slice()))
+        Ok(out.done())
     }
 }
 

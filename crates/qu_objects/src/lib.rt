@@ -24,7 +24,7 @@ mod writing_state;
 
 pub use act::{Act, BadParts, Method};
 pub use answer::{Answer, Item};
-pub use digesting::act_digest;
+pub use digesting::{act_digest, act_text};
 pub use formats::formats_are_codes;
 pub use kind::{Applied, KindName, Value};
 pub use limits::{
