@@ -1,0 +1,328 @@
+-- What is seen of the digests of a run, event by event, and the first two texts that collide.
+use Rattle.std.proofs.Common.{◌≡◌, ℕ, ◌+◌, ◌<◌, ◌≤◌, Bool, true, false, cond, List, [], ◌∷◌, length, get_or, drop, min, Option, None, Some, refl, sym, ap, subst, ◌∙◌, inl, inr, arith}
+use Rattle.std.specs.Prelude.{◌⊎◌, is_some, Contains}
+use Rattle.std.proofs.lemmas.Bool.{false≢true, cases_Bool, cases_lt}
+use Rattle.std.proofs.lemmas.List.{drop_more, drop_all}
+use Rattle.std.proofs.lemmas.List.Elements.{Contains-append_left, Contains-append_right, Contains-append_cases, Contains-push}
+use Rattle.std.proofs.lemmas.Option.{none-some, same_Some}
+use Rattle.qu_base.specs.declared.party.Digest.{Digest}
+use Rattle.qu_seal.specs.Digesting.{digest_of}
+use Rattle.qu_trace.specs.declared.trace.Trace.{Trace}
+use Rattle.qu_runs.specs.Digested.{Text}
+use Rattle.qu_runs.proofs.Small.{only_one}
+use Rattle.qu_premise.specs.declared.digests.Digests.{Digests}
+use Rattle.qu_premise.specs.declared.digests.Seen.{Seen}
+use Rattle.qu_premise.specs.Answer.{texts_by, DoCollide, NoneCollideBefore, IsFirstCollision, UnforgedBefore}
+use Rattle.qu_premise.specs.Digesting.{digest_of_text, same_text}
+use Rattle.qu_premise.specs.Digests.{look, Notes, clash_with, clash, earlier_of, first_clash}
+use Rattle.qu_premise.specs.Past.{WasSeen, Knows}
+use Rattle.qu_premise.proofs.Equalities.{decides_text}
+
+-- ---- the earliest of some events
+
+earlier_cases : (first second : Option ℕ) (event : ℕ) → earlier_of first second ≡ Some event
+    → (first ≡ Some event) ⊎ (second ≡ Some event)
+earlier_cases None second event is = inr is
+earlier_cases (Some a) None event is = inl is
+earlier_cases (Some a) (Some b) event is =
+    elim (cases_lt b a) [
+      | inl later ↦
+          let least : min a b ≡ b = omega arith in
+          inr (ap (λ (it : ℕ). Some it) (sym least) ∙ is)
+      | inr order ↦
+          let least : min a b ≡ a = omega arith in
+          inl (ap (λ (it : ℕ). Some it) (sym least) ∙ is)
+    ]
+
+earlier_assoc : (a b c : Option ℕ) → earlier_of (earlier_of a b) c ≡ earlier_of a (earlier_of b c)
+earlier_assoc None b c = refl
+earlier_assoc (Some a) None c = refl
+earlier_assoc (Some a) (Some b) None = refl
+earlier_assoc (Some a) (Some b) (Some c) =
+    let same : min (min a b) c ≡ min a (min b c) = omega arith in
+    ap (λ (it : ℕ). Some it) same
+
+earlier_none : (a : Option ℕ) → earlier_of a None ≡ a
+earlier_none None = refl
+earlier_none (Some a) = refl
+
+-- one text more
+pub first_clash_more : (seen : Digest → Option Seen) (all : List Text) (index : ℕ) (default : Text)
+    (so_far : Option ℕ) → index < length all
+    → earlier_of (earlier_of so_far (clash seen (get_or all index default)))
+    (first_clash seen (drop (index + 1) all)) ≡ earlier_of so_far (first_clash seen (drop index all))
+unfolding first_clash
+first_clash_more seen all index default so_far below =
+    earlier_assoc so_far (clash seen (get_or all index default)) (first_clash seen (drop (index + 1) all)) ∙
+    ap (λ (it : List Text). earlier_of so_far (first_clash seen it)) (sym (drop_more all index default below))
+
+pub first_clash_end : (seen : Digest → Option Seen) (all : List Text) (index : ℕ) (so_far : Option ℕ)
+    → length all ≤ index → earlier_of so_far (first_clash seen (drop index all)) ≡ so_far
+unfolding first_clash
+first_clash_end seen all index so_far past =
+    ap (λ (it : List Text). earlier_of so_far (first_clash seen it)) (drop_all index all past) ∙ earlier_none so_far
+
+-- there is an event, which is not after this one
+abbrev IsUpTo : Option ℕ → ℕ → Type 0
+IsUpTo first event = (at : ℕ) × (first ≡ Some at) × (at ≤ event)
+
+earlier_left : (first second : Option ℕ) (event : ℕ) → IsUpTo first event → IsUpTo (earlier_of first second) event
+earlier_left None second event up_to = absurd (none-some up_to.0 up_to.1)
+earlier_left (Some a) None event up_to = up_to
+earlier_left (Some a) (Some b) event up_to =
+    let same : a ≡ up_to.0 = same_Some a up_to.0 up_to.1 in
+    let order : up_to.0 ≤ event = up_to.2 in
+    (min a b, refl, omega arith)
+
+earlier_right : (first second : Option ℕ) (event : ℕ) → IsUpTo second event → IsUpTo (earlier_of first second) event
+earlier_right None second event up_to = up_to
+earlier_right (Some a) None event up_to = absurd (none-some up_to.0 up_to.1)
+earlier_right (Some a) (Some b) event up_to =
+    let same : b ≡ up_to.0 = same_Some b up_to.0 up_to.1 in
+    let order : up_to.0 ≤ event = up_to.2 in
+    (min a b, refl, omega arith)
+
+-- a text that clashes
+record HasClash (seen : Digest → Option Seen) (texts : List Text) (event : ℕ) : Type 0 where
+  text : Text
+  held : Contains texts text
+  clashes : clash seen text ≡ Some event
+
+clash_later : (seen : Digest → Option Seen) (first : Text) (later : List Text) (event : ℕ)
+    → HasClash seen later event → HasClash seen (first ∷ later) event
+clash_later seen first later event it =
+    record {
+      text = it.text;
+      held = Contains-append_right (first ∷ []) later it.text it.held;
+      clashes = it.clashes;
+    }
+
+clash_found : (seen : Digest → Option Seen) (texts : List Text) (event : ℕ) → first_clash seen texts ≡ Some event
+    → HasClash seen texts event
+unfolding first_clash
+clash_found seen [] event is = absurd (none-some event is)
+clash_found seen (first ∷ later) event is =
+    elim (earlier_cases (clash seen first) (first_clash seen later) event is) [
+      | inl here ↦ record {
+        text = first;
+        held = Contains-append_left (first ∷ []) later first (Contains-push [] first);
+        clashes = here;
+      }
+      | inr there ↦ clash_later seen first later event (clash_found seen later event there)
+    ]
+
+clash_least : (seen : Digest → Option Seen) (texts : List Text) (text : Text) (event : ℕ) → Contains texts text
+    → clash seen text ≡ Some event → IsUpTo (first_clash seen texts) event
+unfolding first_clash
+clash_least seen [] text event held clashes = absurd (omega (arith, held.1))
+clash_least seen (first ∷ later) text event held clashes =
+    elim (Contains-append_cases (first ∷ []) later text held) [
+      | inl here ↦
+          let same : first ≡ text = only_one first text here in
+          earlier_left (clash seen first) (first_clash seen later) event
+          (event, ap (clash seen) same ∙ clashes, omega arith)
+      | inr there ↦ earlier_right (clash seen first) (first_clash seen later) event
+          (clash_least seen later text event there clashes)
+    ]
+
+-- ---- one event more
+
+some_in : {X : Type 0} (found : Option X) → is_some found ≡ true → (it : X) × (found ≡ Some it)
+some_in None is = absurd (false≢true is)
+some_in (Some it) is = (it, refl)
+
+module _ (trace : Trace) (count : ℕ) (old new : Digests) (knows : Knows trace count old)
+    (notes : Notes (look old) (look new) (count + 1) (texts_by trace (count + 1))) where
+  seen_within : (digest : Digest) (seen : Seen) → look new digest ≡ Some seen → seen.event ≤ count + 1
+  seen_within digest seen found =
+      elim (notes.told digest seen found) [
+        | inl before ↦
+            let within : seen.event ≤ count = knows.within digest seen before in
+            omega arith
+        | inr noted ↦
+            let at : seen.event ≡ count + 1 = noted.0 in
+            omega arith
+      ]
+
+  seen_digest : (digest : Digest) (seen : Seen) → look new digest ≡ Some seen → digest ≡ digest_of_text seen.text
+  seen_digest digest seen found =
+      elim (notes.told digest seen found) [
+        | inl before ↦ knows.digest_is digest seen before
+        | inr noted ↦ noted.1
+      ]
+
+  seen_at : (digest : Digest) (seen : Seen) → look new digest ≡ Some seen
+      → Contains (texts_by trace seen.event) seen.text
+  seen_at digest seen found =
+      elim (notes.told digest seen found) [
+        | inl before ↦ knows.at_event digest seen before
+        | inr noted ↦ subst (λ (event : ℕ). Contains (texts_by trace event) seen.text) (sym noted.0) noted.2
+      ]
+
+  noted_now : (text : Text) → Contains (texts_by trace (count + 1)) text → WasSeen new (digest_of_text text) (count + 1)
+  noted_now text held =
+      let it : (seen : Seen) × (look new (digest_of_text text) ≡ Some seen) =
+      some_in (look new (digest_of_text text)) (notes.noted text held) in
+      record { seen = it.0; found = it.1; order = seen_within (digest_of_text text) it.0 it.1 }
+
+  kept_seen : (digest : Digest) (event : ℕ) → WasSeen old digest event → WasSeen new digest event
+  kept_seen digest event it =
+      record { seen = it.seen; found = notes.kept digest it.seen it.found; order = it.order }
+
+  known_more : (event : ℕ) (text : Text) → event ≤ count + 1 → Contains (texts_by trace event) text
+      → WasSeen new (digest_of_text text) event
+  known_more event text order held =
+      elim (cases_lt count event) [
+        | inl last ↦
+            let at : event ≡ count + 1 = omega arith in
+            subst (λ (it : ℕ). WasSeen new (digest_of_text text) it) (sym at)
+            (noted_now text (subst (λ (it : ℕ). Contains (texts_by trace it) text) at held))
+        | inr before ↦ kept_seen (digest_of_text text) event (knows.known event text before held)
+      ]
+
+  pub knows_more : Knows trace (count + 1) new
+  knows_more = record { known = known_more; digest_is = seen_digest; at_event = seen_at; within = seen_within }
+
+pub knows_nothing : (trace : Trace) (digests : Digests) → ((digest : Digest) → look digests digest ≡ None)
+    → Knows trace 0 digests
+knows_nothing trace digests none = record {
+  known = λ event text order held. absurd (no_texts event text order held);
+  digest_is = λ digest seen found. absurd (none-some seen (sym (none digest) ∙ found));
+  at_event = λ digest seen found. absurd (none-some seen (sym (none digest) ∙ found));
+  within = λ digest seen found. absurd (none-some seen (sym (none digest) ∙ found));
+}
+  where
+    no_texts : (event : ℕ) (text : Text) → event ≤ 0 → ¬ (Contains (texts_by trace event) text)
+    no_texts event text order held =
+        let at : event ≡ 0 = omega arith in
+        let none : Contains (texts_by trace 0) text =
+        subst (λ (it : ℕ). Contains (texts_by trace it) text) at held in
+        omega (arith, none.1)
+
+-- ---- texts that collide
+
+clash_some : (text : Text) (found : Option Seen) (event : ℕ) → clash_with text found ≡ Some event
+    → (seen : Seen) × (found ≡ Some seen) × (seen.event ≡ event) × (same_text seen.text text ≡ false)
+clash_some text None event is = absurd (none-some event is)
+clash_some text (Some seen) event is =
+    elim (cases_Bool (same_text seen.text text)) [
+      | inl same ↦ absurd (none-some event (sym (ap (λ (it : Bool). cond it None (Some seen.event)) same) ∙ is))
+      | inr other ↦ (
+        seen,
+        refl,
+        same_Some seen.event event (sym (ap (λ (it : Bool). cond it None (Some seen.event)) other) ∙ is),
+        other,
+      )
+    ]
+
+-- a text that was seen is another one
+clash_other : (text : Text) (found : Option Seen) (seen : Seen) → found ≡ Some seen
+    → same_text seen.text text ≡ false → clash_with text found ≡ Some seen.event
+clash_other text found seen is other =
+    ap (clash_with text) is ∙ ap (λ (it : Bool). cond it None (Some seen.event)) other
+
+module _ (trace : Trace) (count : ℕ) (digests : Digests) (knows : Knows trace (count + 1) digests)
+    (none : NoneCollideBefore trace (count + 1)) where
+  abbrev texts : List Text
+  texts = texts_by trace (count + 1)
+
+  -- what was seen of a text of an earlier event is this text
+  seen_before : (event : ℕ) (text : Text) → event < count + 1 → Contains (texts_by trace event) text
+      → (it : WasSeen digests (digest_of_text text) event) → same_text (it.seen).text text ≡ true
+  seen_before event text before held it =
+      elim (cases_Bool (same_text (it.seen).text text)) [
+        | inl same ↦ same
+        | inr other ↦
+            let collide : DoCollide trace (it.seen).event event = record {
+              order = it.order;
+              one = (it.seen).text;
+              other = text;
+              at_first = knows.at_event (digest_of_text text) it.seen it.found;
+              at_second = held;
+              apart = λ equal. false≢true (sym other ∙ (decides_text (it.seen).text text).1 equal);
+              same = ap (λ (digest : Digest). digest.0) (sym (knows.digest_is (digest_of_text text) it.seen it.found));
+            } in
+            absurd (none (it.seen).event event before collide)
+      ]
+
+  -- where two texts collide at this event, one of them clashes with what was seen, which is not later
+  collision_clashes : (first : ℕ) → DoCollide trace first (count + 1) → IsUpTo (first_clash (look digests) texts) first
+  collision_clashes first it =
+      let was : WasSeen digests (digest_of_text it.one) first = knows.known first it.one it.order it.at_first in
+      let same : digest_of_text it.one ≡ digest_of_text it.other = digests_are it.one it.other it.same in
+      let found : look digests (digest_of_text it.other) ≡ Some was.seen = ap (look digests) (sym same) ∙ was.found in
+      elim (cases_Bool (same_text (was.seen).text it.other)) [
+        | inr other ↦ up_to first it.other was it.at_second
+            (clash_other it.other (look digests (digest_of_text it.other)) was.seen found other)
+        | inl alike ↦ elim (cases_Bool (same_text (was.seen).text it.one)) [
+          | inl both ↦ absurd (it.apart (sym ((decides_text (was.seen).text it.one).0 both)
+              ∙ (decides_text (was.seen).text it.other).0 alike))
+          | inr other ↦ elim (cases_lt first (count + 1)) [
+            | inl before ↦ absurd (false≢true (sym other ∙ seen_before first it.one before it.at_first was))
+            | inr last ↦
+                let order : first ≤ count + 1 = it.order in
+                let at : first ≡ count + 1 = omega arith in
+                up_to first it.one was (subst (λ (event : ℕ). Contains (texts_by trace event) it.one) at it.at_first)
+                (clash_other it.one (look digests (digest_of_text it.one)) was.seen was.found other)
+          ]
+        ]
+      ]
+    where
+      digests_are : (one other : Text) → digest_of one.tag one.bytes ≡ digest_of other.tag other.bytes
+          → digest_of_text one ≡ digest_of_text other
+      digests_are one other same = ap (λ (bytes : List ℕ). (let digest : Digest = record { 0 = bytes } in digest)) same
+
+      up_to : (first : ℕ) (text : Text) {digest : Digest} (was : WasSeen digests digest first)
+          → Contains texts text → clash (look digests) text ≡ Some (was.seen).event
+          → IsUpTo (first_clash (look digests) texts) first
+      up_to first text was held clashes =
+          let least : IsUpTo (first_clash (look digests) texts) (was.seen).event =
+          clash_least (look digests) texts text (was.seen).event held clashes in
+          let order : (was.seen).event ≤ first = was.order in
+          let before : least.0 ≤ (was.seen).event = least.2 in
+          (least.0, least.1, omega arith)
+
+  pub none_at : first_clash (look digests) texts ≡ None → NoneCollideBefore trace (count + 1 + 1)
+  none_at nothing first second order it =
+      elim (cases_lt second (count + 1)) [
+        | inl before ↦ none first second before it
+        | inr last ↦
+            let at : second ≡ count + 1 = omega arith in
+            let least : IsUpTo (first_clash (look digests) texts) first =
+            collision_clashes first (subst (λ (event : ℕ). DoCollide trace first event) at it) in
+            none-some least.0 (sym nothing ∙ least.1)
+      ]
+
+  earliest_at : (first : ℕ) → first_clash (look digests) texts ≡ Some first → (event : ℕ)
+      → DoCollide trace event (count + 1) → first ≤ event
+  earliest_at first is event it =
+      let least : IsUpTo (first_clash (look digests) texts) event = collision_clashes event it in
+      let same : first ≡ least.0 = same_Some first least.0 (sym is ∙ least.1) in
+      let order : least.0 ≤ event = least.2 in
+      omega arith
+
+  collide_at : (first : ℕ) → first_clash (look digests) texts ≡ Some first → DoCollide trace first (count + 1)
+  collide_at first is =
+      let it : HasClash (look digests) texts first = clash_found (look digests) texts first is in
+      let was = clash_some it.text (look digests (digest_of_text it.text)) first it.clashes in
+      let within : (was.0).event ≤ count + 1 = knows.within (digest_of_text it.text) was.0 was.1 in
+      let at : (was.0).event ≡ first = was.2 in
+      record {
+        order = omega arith;
+        one = (was.0).text;
+        other = it.text;
+        at_first = subst (λ (event : ℕ). Contains (texts_by trace event) (was.0).text) at
+            (knows.at_event (digest_of_text it.text) was.0 was.1);
+        at_second = it.held;
+        apart = λ equal. false≢true (sym was.3 ∙ (decides_text (was.0).text it.text).1 equal);
+        same = ap (λ (digest : Digest). digest.0) (sym (knows.digest_is (digest_of_text it.text) was.0 was.1));
+      }
+
+  pub first_collision : (first : ℕ) → first_clash (look digests) texts ≡ Some first
+      → UnforgedBefore trace (count + 1) → IsFirstCollision trace first (count + 1)
+  first_collision first is unforged = record {
+    collide = collide_at first is;
+    earliest = earliest_at first is;
+    none_before = none;
+    unforged = unforged;
+  }

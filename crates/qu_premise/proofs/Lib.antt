@@ -1,0 +1,7 @@
+mod Lists
+mod Equalities
+mod TextLaws
+mod Forgeries
+mod Collisions
+mod Steps
+mod Noting

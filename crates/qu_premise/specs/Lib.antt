@@ -1,0 +1,6 @@
+pub mod Answer
+pub mod Forging
+pub mod Texts
+pub mod Digesting
+pub mod Digests
+pub mod Past

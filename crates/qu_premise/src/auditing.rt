@@ -1,0 +1,74 @@
+ghost use Rattle.std.specs.Prelude.{◌≡◌, ◌<◌, ◌+◌, length, take, IfOk, MatchOption};
+ghost use Rattle.qu_world.specs.Run.{IsRun};
+ghost use Rattle.qu_premise.specs.Answer.{IsAnswer};
+ghost use Rattle.qu_premise.specs.Past.{IsPast};
+
+use super::Premises;
+use super::digests::Digests;
+use super::forging::is_forged;
+use super::shown::ShownSoFar;
+use super::texts::texts_at;
+use qu_base::NoMemory;
+use qu_trace::Trace;
+use std::alloc::Global;
+
+/// What is known of the events of a run so far.
+#[derive(Drop)]
+pub struct Past {
+    pub shown: ShownSoFar,
+    pub digests: Digests,
+}
+
+/// Whether the premises hold of a run, and else the first event that breaks one: at a tie it is what is forged.
+pub fn audit(alloc: Global, trace: &Trace) -> Result<Premises, NoMemory>
+    requires { IsRun trace.now }
+    ensures { IfOk result (λ premises. IsAnswer trace.now premises) }
+{
+    let mut past = Past {
+        shown: ShownSoFar::new(alloc),
+        digests: Digests::new(alloc),
+    };
+    for index in 0..trace.entries.len() {
+        if let Some(broken) = follow(alloc, trace, index, &mut past)? {
+            return Ok(broken);
+        }
+    }
+    Ok(Premises::Hold)
+}
+
+/// What the event of the entry with this index breaks; where it breaks nothing, it belongs to the past.
+fn follow(
+    alloc: Global,
+    trace: &Trace,
+    index: usize,
+    past: &mut Past,
+) -> Result<Option<Premises>, NoMemory>
+    requires run { IsRun trace.now }
+    requires within { index < length trace.now.entries }
+    requires past { IsPast trace.now index past.old }
+    ensures { IfOk result (λ broken. MatchOption broken (IsPast trace.now (index + 1) past.new)
+        (λ premises. IsAnswer trace.now premises)) }
+{
+    let entries = trace.entries.as_slice();
+    let entry = &entries[index];
+    let event = index as u64 + 1;
+    if is_forged(
+        alloc,
+        &trace.setup,
+        &entries[..index],
+        &past.shown,
+        &entry.event,
+    )? {
+        return Ok(Some(Premises::Forged { event }));
+    }
+    let texts = texts_at(alloc, trace, entry)?;
+    past.digests.note_all(alloc, event, texts.as_slice())?;
+    past.shown.add(alloc, entry)?;
+    match past.digests.first_clash(texts.as_slice()) {
+        Some(first) => Ok(Some(Premises::Collide {
+            first,
+            second: event,
+        })),
+        None => Ok(None),
+    }
+}

@@ -1,0 +1,199 @@
+ghost use Rattle.std.specs.Prelude.{◌≡◌, IfOk};
+ghost use Rattle.std.specs.List.{list_all, list_any};
+ghost use Rattle.qu_base.specs.declared.party.Party.TheVariants as party;
+ghost use Rattle.qu_world.specs.State.{ring_of};
+ghost use Rattle.qu_world.specs.Run.{IsSetup};
+ghost use Rattle.qu_runs.specs.Digested.{is_known, is_handler};
+ghost use Rattle.qu_premise.specs.Forging.{is_letter, is_sent_at, was_sent, is_unsent, is_unshown, has_unshown, asks_unshown, shows_unshown, is_forged_text, is_forged};
+
+use super::shown::ShownSoFar;
+use qu_base::{NoMemory, Party, ReplicaId};
+use qu_frames::{Frame, Letter, receive};
+use qu_history::{Sealed, SetOf, Sets};
+use qu_seal::KeyRing;
+use qu_trace::{Entry, Event, Setup};
+use qu_world::letter_at;
+use std::alloc::Global;
+
+/// Whether an event behind these entries hands something forged to a correct party; `shown` is what they show.
+pub fn is_forged(
+    alloc: Global,
+    setup: &Setup,
+    entries: &[Entry],
+    shown: &ShownSoFar,
+    event: &Event,
+) -> Result<bool, NoMemory>
+    requires { IsSetup setup.now }
+    ensures { IfOk result (λ forged. forged ≡ is_forged setup.now entries.now shown.now event.now) }
+{
+    match event {
+        Event::Deliver(number) => match letter_at(entries, *number) {
+            Some(letter) if !setup.is_faulty(letter.to) => {
+                is_forged_text(
+                    alloc,
+                    setup,
+                    entries,
+                    shown,
+                    letter.to,
+                    letter.text.as_slice(),
+                )
+            }
+            Some(_) | None => Ok(false),
+        },
+        Event::Inject(to, text) if !setup.is_faulty(*to) => {
+            is_forged_text(alloc, setup, entries, shown, *to, text.as_slice())
+        }
+        Event::Invoke(_, _) | Event::Tick(_) | Event::Inject(_, _) => Ok(false),
+    }
+}
+
+/// Whether bytes that a correct party is handed are forged, or a history in them.
+fn is_forged_text(
+    alloc: Global,
+    setup: &Setup,
+    entries: &[Entry],
+    shown: &ShownSoFar,
+    to: Party,
+    text: &[u8],
+) -> Result<bool, NoMemory>
+    requires { IsSetup setup.now }
+    ensures { IfOk result (λ forged. forged ≡ is_forged_text setup.now entries.now shown.now to text.now) }
+{
+    match receive(alloc, &ring_of(setup), to, text)? {
+        Some(frame) if is_unsent(setup, entries, to, text, &frame) => Ok(true),
+        Some(frame) => shows_unshown(alloc, setup, shown, to, &frame),
+        None => Ok(false),
+    }
+}
+
+/// The keys of a run.
+pub fn ring_of(setup: &Setup) -> KeyRing
+    requires { IsSetup setup.now }
+    ensures { result ≡ ring_of setup.now }
+{
+    KeyRing::derive(setup.seed, &setup.bounds, setup.clients)
+}
+
+/// Whether the frame that these bytes brought is of a correct party that did not send them.
+fn is_unsent(setup: &Setup, entries: &[Entry], to: Party, text: &[u8], frame: &Frame) -> bool
+    ensures { result ≡ is_unsent setup.now entries.now to text.now frame.now }
+{
+    let from = frame.sender();
+    !setup.is_faulty(from) && !was_sent(entries, from, to, text)
+}
+
+/// Whether the first party sent these bytes to the second at one of these entries. The newest are looked at first.
+fn was_sent(entries: &[Entry], from: Party, to: Party, text: &[u8]) -> bool
+    ensures { result ≡ was_sent entries.now from to text.now }
+{
+    entries
+        .iter()
+        .rev()
+        .any(|entry| is_sent_at(entry, from, to, text))
+}
+
+fn is_sent_at(entry: &Entry, from: Party, to: Party, text: &[u8]) -> bool
+    ensures { result ≡ is_sent_at from to text.now entry.now }
+{
+    entry
+        .letters
+        .iter()
+        .any(|letter| is_letter(letter, from, to, text))
+}
+
+fn is_letter(letter: &Letter, from: Party, to: Party, text: &[u8]) -> bool
+    ensures { result ≡ is_letter from to text.now letter.now }
+{
+    letter.from == from && letter.to == to && letter.text.as_slice() == text
+}
+
+/// Whether the frame is a request that shows a correct replica a forged history.
+fn shows_unshown(
+    alloc: Global,
+    setup: &Setup,
+    shown: &ShownSoFar,
+    to: Party,
+    frame: &Frame,
+) -> Result<bool, NoMemory>
+    requires { IsSetup setup.now }
+    ensures { IfOk result (λ unshown. unshown ≡ shows_unshown setup.now shown.now to frame.now) }
+{
+    match (to, frame) {
+        (Party::Replica(me), Frame::Request { sets, .. })
+            if is_handler(setup, me) && are_known(setup, sets) => {
+            any_unshown(alloc, setup, shown, me, sets)
+        }
+        (Party::Replica(_) | Party::Client(_), _) => Ok(false),
+    }
+}
+
+/// Whether this is a correct replica of the setup.
+pub fn is_handler(setup: &Setup, me: ReplicaId) -> bool
+    ensures { result ≡ is_handler setup.now me }
+{
+    me.0 < setup.bounds.n() && !setup.is_faulty(Party::Replica(me))
+}
+
+/// Whether the setup has all objects of the sets.
+pub fn are_known(setup: &Setup, sets: &Sets) -> bool
+    ensures { result ≡ list_all (is_known setup.now) sets.now }
+{
+    let known = setup.kinds.len();
+    sets.objects()
+        .iter()
+        .all(|set| usize::from(set.object.0) < known)
+}
+
+/// Whether one of the entries of these sets is forged for this reader.
+fn any_unshown(
+    alloc: Global,
+    setup: &Setup,
+    shown: &ShownSoFar,
+    me: ReplicaId,
+    sets: &Sets,
+) -> Result<bool, NoMemory>
+    requires { IsSetup setup.now }
+    ensures { IfOk result (λ any. any ≡ list_any (has_unshown setup.now shown.now me) sets.now) }
+{
+    for set in sets.objects().as_slice() {
+        if has_unshown(alloc, setup, shown, me, set)? {
+            return Ok(true);
+        }
+    }
+    Ok(false)
+}
+
+fn has_unshown(
+    alloc: Global,
+    setup: &Setup,
+    shown: &ShownSoFar,
+    me: ReplicaId,
+    set: &SetOf,
+) -> Result<bool, NoMemory>
+    requires { IsSetup setup.now }
+    ensures { IfOk result (λ any. any ≡ has_unshown setup.now shown.now me set.now) }
+{
+    for sealed in set.entries.as_slice() {
+        if is_unshown(alloc, setup, shown, me, sealed)? {
+            return Ok(true);
+        }
+    }
+    Ok(false)
+}
+
+/// Whether the reader does not cull the entry, which is of a correct replica that did not show it.
+fn is_unshown(
+    alloc: Global,
+    setup: &Setup,
+    shown: &ShownSoFar,
+    me: ReplicaId,
+    sealed: &Sealed,
+) -> Result<bool, NoMemory>
+    requires { IsSetup setup.now }
+    ensures { IfOk result (λ unshown. unshown ≡ is_unshown setup.now shown.now me sealed.now) }
+{
+    if setup.is_faulty(Party::Replica(sealed.history.replica())) || shown.has(me, sealed) {
+        return Ok(false);
+    }
+    sealed.is_right(alloc, me, &ring_of(setup))
+}
