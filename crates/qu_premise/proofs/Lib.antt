@@ -5,3 +5,4 @@ mod Forgeries
 mod Collisions
 mod Steps
 mod Noting
+mod Unique

@@ -1,5 +1,6 @@
 ghost use Rattle.std.specs.Prelude.{◌≡◌, ◌<◌, ◌+◌, length, take, IfOk, MatchOption};
 ghost use Rattle.qu_world.specs.Run.{IsRun};
+ghost use Rattle.qu_premise.specs.declared.premises.Premises.{Premises as Answer};
 ghost use Rattle.qu_premise.specs.Answer.{IsAnswer};
 ghost use Rattle.qu_premise.specs.Past.{IsPast};
 
@@ -20,7 +21,19 @@ pub struct Past {
 }
 
 /// Whether the premises hold of a run, and else the first event that breaks one: at a tie it is what is forged.
+/// Each run has one answer.
+#[tactic(auto, using(crate::proofs::Unique::answer_only))]
 pub fn audit(alloc: Global, trace: &Trace) -> Result<Premises, NoMemory>
+    requires { IsRun trace.now }
+    ensures answer { IfOk result (λ premises. IsAnswer trace.now premises) }
+    ensures only { (other : Answer) → IsAnswer trace.now other → IfOk result (λ premises. premises ≡ other) }
+{
+    let premises = first_break(alloc, trace)?;
+    Ok(premises)
+}
+
+/// The first event that breaks a premise, where one does.
+fn first_break(alloc: Global, trace: &Trace) -> Result<Premises, NoMemory>
     requires { IsRun trace.now }
     ensures { IfOk result (λ premises. IsAnswer trace.now premises) }
 {

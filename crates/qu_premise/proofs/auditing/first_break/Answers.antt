@@ -1,7 +1,7 @@
 use Rattle.std.proofs.Common.{◌≡◌, length, subst, arith}
 use Rattle.qu_premise.specs.Past.{IsPast}
 use Rattle.qu_premise.proofs.Steps.{past_none, meets_premises}
-use Rattle.qu_premise.proofs.auditing.audit.Goals as goal
+use Rattle.qu_premise.proofs.auditing.first_break.Goals as goal
 
 pub loop-index-init : goal.loop-index-init
 loop-index-init c =
