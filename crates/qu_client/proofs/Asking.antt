@@ -19,7 +19,7 @@ use Rattle.qu_frames.specs.Formats.{frame_form}
 use Rattle.qu_frames.specs.Signing.{before_mac, text_digest, signed}
 use Rattle.qu_client.specs.declared.kept.Kept.{Kept}
 use Rattle.qu_client.specs.declared.work.Work.{Work}
-use Rattle.qu_client.specs.State.{kept_of}
+use Rattle.qu_client.specs.State.{is_shown, kept_of}
 use Rattle.qu_client.specs.Rounds.{are_objects, entries_from, set_of, request_of, requests_from}
 
 -- so many are left of a number below another
@@ -122,14 +122,17 @@ kept_of-is : (object : ObjectId) (replica : ℕ) (kept : List Kept) (sealed : Se
 unfolding kept_of IsOf
 kept_of-is object replica [] sealed is = cc
 kept_of-is object replica (held ∷ later) sealed is =
-    elim (cases_Bool (eqb ((held.sealed.history).object).0 object.0 && eqb ((held.sealed.history).replica).0 replica)) [
+    elim (cases_Bool (eqb ((held.sealed.history).object).0 object.0
+    && (eqb ((held.sealed.history).replica).0 replica && is_shown held.mark))) [
       | inl here ↦
           let parts : (eqb ((held.sealed.history).object).0 object.0 ≡ true)
-          × (eqb ((held.sealed.history).replica).0 replica ≡ true) = and_parts _ _ here in
+          × ((eqb ((held.sealed.history).replica).0 replica && is_shown held.mark) ≡ true) = and_parts _ _ here in
+          let second : (eqb ((held.sealed.history).replica).0 replica ≡ true) × (is_shown held.mark ≡ true) =
+          and_parts _ _ parts.1 in
           let same : held.sealed ≡ sealed = some_same (rw here at is) in
           let P : Sealed → Type 0 = λ found. ((found.history.object).0 ≡ object.0)
           × ((found.history.replica).0 ≡ replica) in
-          subst P same (eqb-true _ _ parts.0, eqb-true _ _ parts.1)
+          subst P same (eqb-true _ _ parts.0, eqb-true _ _ second.0)
       | inr there ↦ kept_of-is object replica later sealed (rw there at is)
     ]
 

@@ -6,6 +6,7 @@ use Rattle.std.proofs.lemmas.List.Folds.{list_any_at}
 use Rattle.std.proofs.lemmas.List.Quantifiers.{all_pairs_push}
 use Rattle.std.proofs.lemmas.List.Elements.{All-nil, All-cons}
 use Rattle.qu_base.specs.declared.party.ClientId.{ClientId}
+use Rattle.qu_base.specs.declared.party.ObjectId.{ObjectId}
 use Rattle.qu_base.specs.declared.party.ReplicaId.{ReplicaId}
 use Rattle.qu_seal.specs.Keys.{Ring}
 use Rattle.qu_history.specs.declared.sets.SetOf.{SetOf}
@@ -15,9 +16,9 @@ use Rattle.qu_client.specs.declared.work.Counted.{Counted}
 use Rattle.qu_client.specs.declared.work.Work.{Work}
 use Rattle.qu_client.specs.State.{ClientState, opening_state}
 use Rattle.qu_client.specs.Rounds.{requests_from}
-use Rattle.qu_client.specs.Steps.{client_step, client_invoke, client_tick, next_number, is_asking, counts}
+use Rattle.qu_client.specs.Steps.{client_step, client_invoke, client_tick, next_number, is_asking, counts, with_verdict}
 use Rattle.qu_client.specs.Sound.{NumbersWithin, IsSoundWork, IsSound, IsFromTo}
-use Rattle.qu_client.proofs.Cases.{with_verdict, step_cases, invoke_cases}
+use Rattle.qu_client.proofs.Cases.{step_cases, invoke_cases}
 
 fits_by : (most : ℕ) (last : Option (ℕ × ℕ)) → IfSome last (λ last. last.0 ≤ most) → most < 2 ^ 64 - 1
     → IfSome last (λ last. last.0 < 2 ^ 64 - 1)
@@ -29,34 +30,34 @@ fits_by most (Some last) within few = omega arith
 pub client_step-me : (state : ClientState) (text : List ℕ) → (client_step state text).state.me ≡ state.me
 client_step-me state text =
     step_cases state (λ stepped. stepped.state.me ≡ state.me) refl (λ _. refl)
-    (λ _ _ _ _ _ _ _ _. refl)
+    (λ _ _ _ _ _ _ _ _ _. refl)
     (λ _ _. refl) (λ _ _ _ _ _ _ _. refl) (λ _ _ _ _ _ _. refl) text
 
 pub client_step-bounds : (state : ClientState) (text : List ℕ)
     → (client_step state text).state.keys.bounds ≡ state.keys.bounds
 client_step-bounds state text =
     step_cases state (λ stepped. stepped.state.keys.bounds ≡ state.keys.bounds) refl (λ _. refl)
-    (λ _ _ _ _ _ _ _ _. refl)
+    (λ _ _ _ _ _ _ _ _ _. refl)
     (λ _ _. refl) (λ _ _ _ _ _ _ _. refl) (λ _ _ _ _ _ _. refl) text
 
 pub client_step-keys : (state : ClientState) (text : List ℕ) → (client_step state text).state.keys ≡ state.keys
 client_step-keys state text =
     step_cases state (λ stepped. stepped.state.keys ≡ state.keys) refl (λ _. refl)
-    (λ _ _ _ _ _ _ _ _. refl)
+    (λ _ _ _ _ _ _ _ _ _. refl)
     (λ _ _. refl) (λ _ _ _ _ _ _ _. refl) (λ _ _ _ _ _ _. refl) text
 
 pub client_invoke-me : (state : ClientState) (op : Op) → (client_invoke state op).state.me ≡ state.me
 client_invoke-me state op =
-    invoke_cases state op (λ stepped. stepped.state.me ≡ state.me) (λ _. refl) refl
+    invoke_cases state op (λ stepped. stepped.state.me ≡ state.me) (λ _ _ _. refl) (λ _ _. refl)
 
 pub client_invoke-bounds : (state : ClientState) (op : Op)
     → (client_invoke state op).state.keys.bounds ≡ state.keys.bounds
 client_invoke-bounds state op =
-    invoke_cases state op (λ stepped. stepped.state.keys.bounds ≡ state.keys.bounds) (λ _. refl) refl
+    invoke_cases state op (λ stepped. stepped.state.keys.bounds ≡ state.keys.bounds) (λ _ _ _. refl) (λ _ _. refl)
 
 pub client_invoke-keys : (state : ClientState) (op : Op) → (client_invoke state op).state.keys ≡ state.keys
 client_invoke-keys state op =
-    invoke_cases state op (λ stepped. stepped.state.keys ≡ state.keys) (λ _. refl) refl
+    invoke_cases state op (λ stepped. stepped.state.keys ≡ state.keys) (λ _ _ _. refl) (λ _ _. refl)
 
 -- numbers are at most the number of invocations so far
 
@@ -74,7 +75,7 @@ NumbersWithin-step most state text within =
     step_cases state (λ stepped. NumbersWithin most stepped.state)
     within
     (λ kept. record { last = within.last; work = within.work })
-    (λ kept work replica number round verdict is counting. record {
+    (λ kept work replica number round verdict culled is counting. record {
       last = within.last;
       work = work_within most state work within is;
     })
@@ -100,8 +101,8 @@ pub NumbersWithin-invoke : (most : ℕ) (state : ClientState) (op : Op) → Numb
 NumbersWithin-invoke most state op within =
     let next = next_within most state.last_request within.last in
     invoke_cases state op (λ stepped. NumbersWithin (most + 1) stepped.state)
-    (λ acted. record { last = next; work = next })
-    (record { last = last_within most state.last_request within.last; work = next })
+    (λ kept acted marked. record { last = next; work = next })
+    (λ kept marked. record { last = last_within most state.last_request within.last; work = next })
 
 pub NumbersWithin-tick : (most : ℕ) (state : ClientState) → NumbersWithin most state
     → NumbersWithin most (client_tick state).state
@@ -132,16 +133,16 @@ other_replica replies replica k d none within = λ same.
     both_ways _ none (list_any_at (λ counted. eqb (counted.replica).0 replica.0) replies k d within (eq-eqb _ _ same))
 
 different_more : (work : Work) (replica : ReplicaId) (number round : ℕ) (verdict : Verdict)
-    → counts work replica number round ≡ true → AllPairs (λ (a b : Counted). (a.replica).0 ≢ (b.replica).0)
+    (culled : List (ObjectId × ReplicaId)) → counts work replica number round ≡ true → AllPairs (λ (a b : Counted). (a.replica).0 ≢ (b.replica).0)
     work.replies → AllPairs (λ (a b : Counted). (a.replica).0 ≢ (b.replica).0)
-    (with_verdict work replica verdict).replies
-different_more work replica number round verdict counting different =
+    (with_verdict work replica verdict culled).replies
+different_more work replica number round verdict culled counting different =
     let numbered = (and_parts (is_asking work.phase) _ counting).1 in
     let of_round = (and_parts (eqb number work.number) _ numbered).1 in
     let first : list_any (λ counted. eqb (counted.replica).0 replica.0) work.replies ≡ false =
     not-true _ (and_parts (eqb round work.round) _ of_round).1 in
     all_pairs_push (λ (a b : Counted). (a.replica).0 ≢ (b.replica).0) work.replies
-    (record { replica = replica; verdict = verdict }) different
+    (record { replica = replica; verdict = verdict; culled = culled }) different
     (λ k d within. other_replica work.replies replica k d first within)
 
 pub IsSound-step : (state : ClientState) (text : List ℕ) → IsSound state → IsSound (client_step state text).state
@@ -149,13 +150,12 @@ IsSound-step state text sound =
     step_cases state (λ stepped. IsSound stepped.state)
     sound
     (λ kept. sound)
-    (λ kept work replica number round verdict is counting.
+    (λ kept work replica number round verdict culled is counting.
     let before = sound_work state work sound is in
     record {
       first = before.first;
       last = before.last;
-      different = different_more work replica number round
-          verdict counting before.different;
+      different = different_more work replica number round verdict culled counting before.different;
       asked = before.asked;
     })
     (λ kept end. tt)
@@ -176,8 +176,8 @@ IsSound-step state text sound =
 pub IsSound-invoke : (state : ClientState) (op : Op) → IsSound (client_invoke state op).state
 IsSound-invoke state op =
     invoke_cases state op (λ stepped. IsSound stepped.state)
-    (λ acted. record { first = omega arith; last = omega arith; different = none_different; asked = λ _. refl })
-    (record {
+    (λ kept acted marked. record { first = omega arith; last = omega arith; different = none_different; asked = λ _. refl })
+    (λ kept marked. record {
       first = omega arith;
       last = omega arith;
       different = none_different;

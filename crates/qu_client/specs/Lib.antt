@@ -1,4 +1,5 @@
 pub mod State
+pub mod Leaving
 pub mod Rounds
 pub mod Steps
 pub mod Sound

@@ -1,6 +1,6 @@
 -- How a client begins a round of an operation (Query/Update: the client's requests).
-use Rattle.std.specs.Prelude.{ℕ, zero, suc, Bool, true, false, not, ◌+◌, ◌&&◌, nat_lt, if◌then◌else◌, List, [], ◌∷◌, map, length, None, Some, is_some}
-use Rattle.std.specs.List.{list_all}
+use Rattle.std.specs.Prelude.{ℕ, zero, suc, Bool, true, false, not, ◌+◌, ◌==◌, ◌&&◌, nat_lt, if◌then◌else◌, List, [], ◌∷◌, map, length, None, Some, is_some}
+use Rattle.std.specs.List.{list_all, list_any}
 use Rattle.qu_base.specs.declared.limits.TheConstants.{OBJECT_IDS}
 use Rattle.qu_base.specs.declared.party.ClientId.{ClientId}
 use Rattle.qu_base.specs.declared.party.ObjectId.{ObjectId}
@@ -19,10 +19,11 @@ use Rattle.qu_frames.specs.Body.{body_of}
 use Rattle.qu_frames.specs.Blank.{blank_mac}
 use Rattle.qu_frames.specs.Signing.{signed}
 use Rattle.qu_client.specs.declared.kept.Kept.{Kept}
-use Rattle.qu_client.specs.declared.state.Begun.{Begun}
+use Rattle.qu_client.specs.declared.kept.Mark.{Mark}
+use Rattle.qu_client.specs.declared.kept.Mark.TheVariants.{Unshown, Shown, LeftOut}
 use Rattle.qu_client.specs.declared.work.Phase.TheVariants.{Asking, Halted}
 use Rattle.qu_client.specs.declared.work.Work.{Work}
-use Rattle.qu_client.specs.State.{ClientState, kept_of}
+use Rattle.qu_client.specs.State.{ClientState, is_left_out, kept_of}
 
 -- the objects that an operation names
 abbrev pub operation_objects : Op → List ObjectId
@@ -39,7 +40,18 @@ abbrev pub is_act : Op → Bool
 is_act (op.Act parts) = true
 is_act (op.Query parts) = false
 
--- the entries of an object that are kept of so many replicas from this one on
+-- an entry's mark from the beginning of a round upon these objects on
+abbrev pub mark_in : List ObjectId → Kept → Mark
+mark_in objects held =
+    if is_left_out held.mark then LeftOut
+    else if list_any (λ object. object.0 == ((held.sealed.history).object).0) objects then Shown
+    else Unshown
+
+-- the entries of these objects are shown, but for those that are left out
+unfoldable pub shown_in : List ObjectId → List Kept → List Kept
+shown_in objects kept = map (λ (held : Kept). record held { mark = mark_in objects held }) kept
+
+-- the entries of an object that are shown of so many replicas from this one on
 unfoldable pub entries_from : ObjectId → ℕ → ℕ → List Kept → List Sealed
 entries_from object replica zero kept = []
 entries_from object replica (suc count) kept =
@@ -52,7 +64,7 @@ entries_from object replica (suc count) kept =
 abbrev pub set_of : ℕ → List Kept → ObjectId → SetOf
 set_of bounds kept object = record { object = object; entries = entries_from object 0 (replicas bounds) kept }
 
--- the sets of a round: of each object what is kept of it
+-- the sets of a round: of each object what is shown of it
 abbrev pub sets_of : ℕ → List Kept → Op → List SetOf
 sets_of bounds kept op = map (λ object. set_of bounds kept object) (operation_objects op)
 
@@ -77,11 +89,6 @@ requests_from keys replica (suc count) me work sets = (record {
   text = signed keys (party.Replica (record { 0 = replica })) (request_of me work sets);
 }) ∷ requests_from keys (replica + 1) count me work sets
 
--- the state and the letters that a round makes of this state
-abbrev pub begun_from : ClientState → Begun → ClientState × List Letter
-begun_from state begun =
-    (record state { last_request = begun.last_request; work = Some begun.work }, begun.letters)
-
 -- all replicas are asked
 abbrev pub asked : ClientState → Work → List SetOf → ClientState × List Letter
 asked state work sets = (
@@ -104,8 +111,12 @@ begin_full state work sets =
     then asked state (record work { acted = true }) sets
     else halted state work
 
--- a round begins from what is kept; where that is less than a quorum, the replicas' answers show more
-abbrev pub begin_round : ClientState → Work → ClientState × List Letter
-begin_round state work =
+-- a round upon what is shown; where that is less than a quorum, the replicas' answers show more
+abbrev pub begin_shown : ClientState → Work → ClientState × List Letter
+begin_shown state work =
     let sets = sets_of state.keys.bounds state.kept work.op in
     if are_full state.keys.bounds sets then begin_full state work sets else asked state work sets
+
+-- a round begins from what is kept
+abbrev pub begin_round : ClientState → Work → ClientState × List Letter
+begin_round state work = begin_shown (record state { kept = shown_in (operation_objects work.op) state.kept }) work

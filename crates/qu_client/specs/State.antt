@@ -1,16 +1,32 @@
 -- What a client holds: the histories that it was sent, and the operation under way.
-use Rattle.std.specs.Prelude.{ℕ, Bool, ◌==◌, ◌&&◌, ◌||◌, nat_lt, if◌then◌else◌, List, [], ◌∷◌, Option, None, Some}
+use Rattle.std.specs.Prelude.{ℕ, Bool, true, false, ◌==◌, ◌&&◌, ◌||◌, nat_lt, if◌then◌else◌, List, [], ◌∷◌, map, Option, None, Some}
 use Rattle.qu_base.specs.declared.party.ClientId.{ClientId}
 use Rattle.qu_base.specs.declared.party.ObjectId.{ObjectId}
 use Rattle.qu_seal.specs.Keys.{Ring}
 use Rattle.qu_history.specs.History.{ObjectHistory}
 use Rattle.qu_history.specs.declared.sealed.Sealed.{Sealed}
 use Rattle.qu_client.specs.declared.kept.Kept.{Kept}
+use Rattle.qu_client.specs.declared.kept.Mark.{Mark}
+use Rattle.qu_client.specs.declared.kept.Mark.TheVariants.{Unshown, Shown, LeftOut}
 pub use Rattle.qu_client.specs.declared.state.ClientState.{ClientState}
 
 abbrev pub opening_state : ClientId → Ring → ClientState
 opening_state me keys =
     record { me = me; keys = keys; kept = []; last_request = None; work = None }
+
+abbrev pub is_shown : Mark → Bool
+is_shown Unshown = false
+is_shown Shown = true
+is_shown LeftOut = false
+
+abbrev pub is_left_out : Mark → Bool
+is_left_out Unshown = false
+is_left_out Shown = false
+is_left_out LeftOut = true
+
+-- no entry is shown or left out
+unfoldable pub unmarked : List Kept → List Kept
+unmarked kept = map (λ (held : Kept). record held { mark = Unshown }) kept
 
 -- an answer to this number and round is older than an answer to that one
 abbrev pub is_older : ℕ → ℕ → ℕ → ℕ → Bool
@@ -32,11 +48,13 @@ keep new (held ∷ later) =
 unfoldable pub keep_all : ℕ → ℕ → List Sealed → List Kept → List Kept
 keep_all number round [] kept = kept
 keep_all number round (sealed ∷ later) kept =
-    keep_all number round later (keep (record { sealed = sealed; number = number; round = round }) kept)
+    keep_all number round later
+    (keep (record { sealed = sealed; number = number; round = round; mark = Unshown }) kept)
 
--- the sealed history that is kept of an object and a replica
+-- the sealed history that is shown of those that are kept of an object and a replica
 unfoldable pub kept_of : ObjectId → ℕ → List Kept → Option Sealed
 kept_of object replica [] = None
 kept_of object replica (held ∷ later) =
-    if ((held.sealed.history).object).0 == object.0 && ((held.sealed.history).replica).0 == replica then Some
-    held.sealed else kept_of object replica later
+    if ((held.sealed.history).object).0 == object.0
+    && (((held.sealed.history).replica).0 == replica && is_shown held.mark) then Some held.sealed
+    else kept_of object replica later

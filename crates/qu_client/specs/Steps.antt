@@ -3,6 +3,7 @@
 use Rattle.std.specs.Prelude.{ℕ, Bool, true, false, not, ◌+◌, ◌-◌, ◌==◌, ◌&&◌, nat_lt, nat_le, if◌then◌else◌, List, [], ◌∷◌, ◌++◌, length, count_by, max, Option, None, Some}
 use Rattle.std.specs.List.{list_any}
 use Rattle.qu_base.specs.declared.party.Party.TheVariants as party
+use Rattle.qu_base.specs.declared.party.ObjectId.{ObjectId}
 use Rattle.qu_base.specs.declared.party.ReplicaId.{ReplicaId}
 use Rattle.qu_base.specs.Bounds.{replicas, quorum}
 use Rattle.qu_objects.specs.declared.answer.Answer.{Answer}
@@ -23,7 +24,8 @@ use Rattle.qu_client.specs.declared.work.Phase.TheVariants.{Asking, Halted}
 use Rattle.qu_client.specs.declared.work.Work.{Work}
 use Rattle.qu_frames.specs.declared.limits.TheConstants.{LAST_ROUND}
 pub use Rattle.qu_client.specs.declared.state.Stepped.{Stepped}
-use Rattle.qu_client.specs.State.{ClientState, keep_all}
+use Rattle.qu_client.specs.State.{ClientState, keep_all, unmarked}
+use Rattle.qu_client.specs.Leaving.{after_replies}
 use Rattle.qu_client.specs.Rounds.{begin_round}
 
 abbrev pub stays : ClientState → Stepped
@@ -60,11 +62,12 @@ is_hopeless bounds op replies =
     nat_le (quorum bounds) (length replies) && nat_lt
     (best_of op replies replies + (replicas bounds - length replies)) (quorum bounds)
 
--- a round ends without an answer
+-- a round that ended without an answer leaves out what its replies name, and the next one begins
 abbrev pub next_round : ClientState → Work → Stepped
 next_round state work =
     if nat_le LAST_ROUND work.round then ends state outcome.GaveUp else goes_on
-    (begin_round state (record work { round = work.round + 1 }))
+    (begin_round (record state { kept = after_replies state.keys.bounds work.replies state.kept })
+    (record work { round = work.round + 1 }))
 
 -- the round with a verdict more, which has this answer where it fits
 abbrev pub judged : ClientState → Work → Verdict → Option Answer → Stepped
@@ -87,13 +90,17 @@ counts work replica number round =
     && (number == work.number && (round == work.round && not
     (list_any (λ counted. (counted.replica).0 == replica.0) work.replies)))
 
-abbrev pub counted_in : ClientState → Option Work → ReplicaId → ℕ → ℕ → Verdict → Stepped
-counted_in state None replica number round verdict = stays state
-counted_in state (Some work) replica number round verdict =
+-- an operation with a verdict more
+abbrev pub with_verdict : Work → ReplicaId → Verdict → List (ObjectId × ReplicaId) → Work
+with_verdict work replica verdict culled = record work {
+  replies = work.replies ++ (record { replica = replica; verdict = verdict; culled = culled }) ∷ [];
+}
+
+abbrev pub counted_in : ClientState → Option Work → ReplicaId → ℕ → ℕ → Verdict → List (ObjectId × ReplicaId) → Stepped
+counted_in state None replica number round verdict culled = stays state
+counted_in state (Some work) replica number round verdict culled =
     if counts work replica number round
-    then judged state
-    (record work { replies = work.replies ++ (record { replica = replica; verdict = verdict }) ∷ [] }) verdict
-    (fitting work.op verdict)
+    then judged state (with_verdict work replica verdict culled) verdict (fitting work.op verdict)
     else stays state
 
 -- a frame that is no reply to this client is ignored; a reply's histories are kept, and then its
@@ -102,7 +109,7 @@ abbrev pub on_frame : ClientState → Frame → Stepped
 on_frame state (frame.Reply replica client number round verdict culled shown mac) =
     if client.0 == (state.me).0
     then counted_in (record state { kept = keep_all number round shown state.kept }) state.work replica number
-    round verdict
+    round verdict culled
     else stays state
 on_frame state _ = stays state
 
@@ -131,6 +138,7 @@ next_number (Some last) = last.0 + 1
 abbrev pub first_work : Op → ℕ → Work
 first_work op number = record { op = op; number = number; round = 1; phase = Asking; acted = false; replies = [] }
 
--- an operation begins with its first round
+-- an operation begins with its first round, in which no entry is left out
 abbrev pub client_invoke : ClientState → Op → Stepped
-client_invoke state op = goes_on (begin_round state (first_work op (next_number state.last_request)))
+client_invoke state op = goes_on
+    (begin_round (record state { kept = unmarked state.kept }) (first_work op (next_number state.last_request)))

@@ -3,9 +3,9 @@ ghost use Rattle.qu_client.specs.State.{opening_state};
 ghost use Rattle.qu_client.specs.Steps.{client_invoke, client_step, on_frame, client_tick, next_number, state_after};
 
 use super::rounds::begin_round;
-use super::state::shown_to;
+use super::state::{shown_to, unmarked_state};
 use super::steps::counted_in;
-use super::{Begun, ClientState, Stepped, Work};
+use super::{ClientState, Stepped, Work};
 use qu_base::{Bounds, ClientId, List, NoMemory, Party};
 use qu_frames::{Frame, Letter, receive};
 use qu_objects::{Op, Outcome};
@@ -162,13 +162,9 @@ impl Client {
             return Err(InvokeFail::Busy);
         }
         let work = Work::new(self.alloc, op, self.next_number());
-        let Begun {
-            last_request,
-            work,
-            letters,
-        } = begin_round(self.alloc, &self.state, work)?;
-        self.state.last_request = last_request;
-        self.state.work = Some(work);
+        let idle = unmarked_state(self.alloc, &self.state)?;
+        let Stepped { state, letters, .. } = begin_round(self.alloc, idle, work)?;
+        self.state = state;
         Ok(letters)
     }
 
@@ -212,6 +208,7 @@ impl Client {
                 number,
                 round,
                 verdict,
+                culled,
                 shown,
                 ..
             } if client.0 == self.state.me.0 => {
@@ -220,7 +217,9 @@ impl Client {
                     state,
                     letters,
                     ended,
-                } = counted_in(self.alloc, state, *replica, *number, *round, verdict)?;
+                } = counted_in(
+                    self.alloc, state, *replica, *number, *round, verdict, culled,
+                )?;
                 Ok(Planned {
                     state: Some(state),
                     moved: Moved { letters, ended },

@@ -4,12 +4,46 @@ use qu_base::{List, NoMemory, ObjectId};
 use qu_history::Sealed;
 use std::alloc::Global;
 
+/// What a kept history is to the operation under way.
+#[derive(Clone, Copy, Debug, PartialEq, Eq)]
+pub enum Mark {
+    /// The round's sets do not hold it: it is of another object, or came since the round began.
+    Unshown,
+    /// The round's sets hold it.
+    Shown,
+    /// Replicas named it as culled, and this operation's sets hold it no more.
+    LeftOut,
+}
+
 /// The newest sealed history of an object that a replica sent, and which request it answered.
 #[derive(Debug, Drop)]
 pub struct Kept {
     pub sealed: Sealed,
     pub number: u64,
     pub round: u8,
+    pub mark: Mark,
+}
+
+impl Mark {
+    ghost use Rattle.qu_client.specs.State.{is_shown, is_left_out};
+
+    pub fn is_shown(self) -> bool
+        ensures { result ≡ is_shown self }
+    {
+        match self {
+            Mark::Shown => true,
+            Mark::Unshown | Mark::LeftOut => false,
+        }
+    }
+
+    pub fn is_left_out(self) -> bool
+        ensures { result ≡ is_left_out self }
+    {
+        match self {
+            Mark::LeftOut => true,
+            Mark::Unshown | Mark::Shown => false,
+        }
+    }
 }
 
 impl Kept {
@@ -39,10 +73,13 @@ impl Kept {
             sealed: self.sealed.copy(alloc)?,
             number: self.number,
             round: self.round,
+            mark: self.mark,
         })
     }
 }
 
 mod keeping;
+mod marking;
 
 pub use keeping::{keep_all, kept_of};
+pub use marking::{shown_in, unmarked};

@@ -3,6 +3,7 @@
 
 mod client;
 mod kept;
+mod leaving;
 mod rounds;
 mod sets;
 mod state;
@@ -11,6 +12,6 @@ mod verdicts;
 mod work;
 
 pub use client::{Client, InvokeFail, Moved, Planned};
-pub use kept::Kept;
-pub use state::{Begun, ClientState, Stepped};
+pub use kept::{Kept, Mark};
+pub use state::{ClientState, Stepped};
 pub use work::{Counted, Phase, Work};

@@ -1,9 +1,11 @@
 ghost use Rattle.std.specs.Prelude.{◌≡◌, IfOk};
 ghost use Rattle.qu_frames.specs.Formats.{frame_form};
-ghost use Rattle.qu_client.specs.Rounds.{is_act, request_of, requests_from, begun_from, asked, halted, begin_full, begin_round};
+ghost use Rattle.qu_client.specs.Rounds.{is_act, request_of, requests_from, asked, halted, begin_full, begin_shown, begin_round};
+ghost use Rattle.qu_client.specs.Steps.{goes_on};
 
-use super::sets::{are_current, are_full, sets_of};
-use super::{Begun, ClientState, Phase, Work};
+use super::kept::shown_in;
+use super::sets::{are_current, are_full, operation_objects, sets_of};
+use super::{ClientState, Phase, Stepped, Work};
 use qu_base::{ClientId, List, NoMemory, Party, ReplicaId};
 use qu_frames::{Body, Frame, Letter, blank_mac, encode, text_digest, with_mac};
 use qu_history::Sets;
@@ -11,10 +13,18 @@ use qu_objects::Op;
 use qu_seal::KeyRing;
 use std::alloc::Global;
 
-/// A round begins from what is kept. Where that is less than a quorum, the replicas' answers show
-/// more.
-pub fn begin_round(alloc: Global, state: &ClientState, work: Work) -> Result<Begun, NoMemory>
-    ensures { IfOk result (λ begun. begun_from state.now begun ≡ begin_round state.now work) }
+/// A round begins from what is kept.
+pub fn begin_round(alloc: Global, mut state: ClientState, work: Work) -> Result<Stepped, NoMemory>
+    ensures { IfOk result (λ stepped. stepped ≡ goes_on (begin_round state work)) }
+{
+    let objects = operation_objects(alloc, &work.op)?;
+    state.kept = shown_in(objects.as_slice(), state.kept);
+    begin_shown(alloc, state, work)
+}
+
+/// A round upon what is shown. Where that is less than a quorum, the replicas' answers show more.
+fn begin_shown(alloc: Global, state: ClientState, work: Work) -> Result<Stepped, NoMemory>
+    ensures { IfOk result (λ stepped. stepped ≡ goes_on (begin_shown state work)) }
 {
     let sets = sets_of(alloc, state.keys.bounds(), state.kept.as_slice(), &work.op)?;
     if are_full(state.keys.bounds(), &sets) {
@@ -28,11 +38,11 @@ pub fn begin_round(alloc: Global, state: &ClientState, work: Work) -> Result<Beg
 /// act only once.
 fn begin_full(
     alloc: Global,
-    state: &ClientState,
+    state: ClientState,
     mut work: Work,
     sets: &Sets,
-) -> Result<Begun, NoMemory>
-    ensures { IfOk result (λ begun. begun_from state.now begun ≡ begin_full state.now work sets.now) }
+) -> Result<Stepped, NoMemory>
+    ensures { IfOk result (λ stepped. stepped ≡ goes_on (begin_full state work sets.now)) }
 {
     let sent_before = is_act(&work.op) && work.acted;
     if are_current(state.keys.bounds(), sets) && !sent_before {
@@ -44,8 +54,13 @@ fn begin_full(
 }
 
 /// All replicas are asked.
-fn asked(alloc: Global, state: &ClientState, mut work: Work, sets: &Sets) -> Result<Begun, NoMemory>
-    ensures { IfOk result (λ begun. begun_from state.now begun ≡ asked state.now work sets.now) }
+fn asked(
+    alloc: Global,
+    mut state: ClientState,
+    mut work: Work,
+    sets: &Sets,
+) -> Result<Stepped, NoMemory>
+    ensures { IfOk result (λ stepped. stepped ≡ goes_on (asked state work sets.now)) }
 {
     let letters = requests(
         alloc,
@@ -57,23 +72,26 @@ fn asked(alloc: Global, state: &ClientState, mut work: Work, sets: &Sets) -> Res
     )?;
     work.phase = Phase::Asking;
     work.replies = List::new(alloc);
-    Ok(Begun {
-        last_request: Some((work.number, work.round)),
-        work,
+    state.last_request = Some((work.number, work.round));
+    state.work = Some(work);
+    Ok(Stepped {
+        state,
         letters,
+        ended: None,
     })
 }
 
 /// Nothing is sent, and the operation stays open.
-fn halted(alloc: Global, state: &ClientState, mut work: Work) -> Begun
-    ensures { begun_from state.now result ≡ halted state.now work }
+fn halted(alloc: Global, mut state: ClientState, mut work: Work) -> Stepped
+    ensures { result ≡ goes_on (halted state work) }
 {
     work.phase = Phase::Halted;
     work.replies = List::new(alloc);
-    Begun {
-        last_request: state.last_request,
-        work,
+    state.work = Some(work);
+    Stepped {
+        state,
         letters: List::new(alloc),
+        ended: None,
     }
 }
 

@@ -8,7 +8,7 @@ use qu_history::{Sealed, SetOf, Sets};
 use qu_objects::Op;
 use std::alloc::Global;
 
-/// The sets of a round: of each object of the operation what is kept of it.
+/// The sets of a round: of each object of the operation what is shown of it.
 #[tactic(auto, using(crate::proofs::Asking::are_sets_kept))]
 pub fn sets_of(alloc: Global, bounds: Bounds, kept: &[Kept], op: &Op) -> Result<Sets, NoMemory>
     ensures { IfOk result (λ sets. sets ≡ sets_of bounds kept.now op.now) }
@@ -52,7 +52,7 @@ pub fn are_current(bounds: Bounds, sets: &Sets) -> bool
 
 /// The objects that an operation names, in rising order.
 #[tactic(auto, using(crate::proofs::Asking::are_objects_of_parts))]
-fn operation_objects(alloc: Global, op: &Op) -> Result<List<ObjectId>, NoMemory>
+pub fn operation_objects(alloc: Global, op: &Op) -> Result<List<ObjectId>, NoMemory>
     ensures value { IfOk result (λ objects. objects ≡ operation_objects op.now) }
     ensures in_order { IfOk result (λ objects. IsTrue (are_objects objects)) }
 {
@@ -73,7 +73,7 @@ fn objects_in<T>(alloc: Global, parts: &[(ObjectId, T)]) -> Result<List<ObjectId
     Ok(objects)
 }
 
-/// The sealed histories that are kept of an object, by rising replica.
+/// The sealed histories that are shown of an object, by rising replica.
 fn entries_of(
     alloc: Global,
     replicas: u8,

@@ -1,7 +1,7 @@
-ghost use Rattle.std.specs.Prelude.{◌≡◌, IfOk};
-ghost use Rattle.qu_client.specs.State.{keep_all};
+ghost use Rattle.std.specs.Prelude.{◌≡◌, IfOk, None};
+ghost use Rattle.qu_client.specs.State.{keep_all, unmarked};
 
-use super::kept::keep_all;
+use super::kept::{keep_all, unmarked};
 use super::{Kept, Work};
 use qu_base::{ClientId, List, NoMemory};
 use qu_frames::Letter;
@@ -30,15 +30,6 @@ pub struct Stepped {
     pub ended: Option<Outcome>,
 }
 
-/// What a round that begins makes: number and round of its request if it sends one, else of the
-/// one before, the operation under way, and the letters.
-#[derive(Debug, Drop)]
-pub struct Begun {
-    pub last_request: Option<(u64, u8)>,
-    pub work: Work,
-    pub letters: List<Letter>,
-}
-
 /// The state after an answer to this number and round, which showed these histories.
 pub fn shown_to(
     alloc: Global,
@@ -61,5 +52,18 @@ pub fn shown_to(
         kept,
         last_request: state.last_request,
         work,
+    })
+}
+
+/// The state with no entry shown or left out, and no operation under way.
+pub fn unmarked_state(alloc: Global, state: &ClientState) -> Result<ClientState, NoMemory>
+    ensures { IfOk result (λ after. after ≡ record state.now { kept = unmarked state.now.kept; work = None }) }
+{
+    Ok(ClientState {
+        me: state.me,
+        keys: state.keys,
+        kept: unmarked(alloc, state.kept.as_slice())?,
+        last_request: state.last_request,
+        work: None,
     })
 }

@@ -1,11 +1,11 @@
 ghost use Rattle.std.specs.Prelude.{◌≡◌, IfOk};
-ghost use Rattle.qu_client.specs.Steps.{stays, goes_on, ends, fitting, judged, next_round, counted_in};
-ghost use Rattle.qu_client.specs.Rounds.{begin_round};
+ghost use Rattle.qu_client.specs.Steps.{stays, ends, fitting, judged, next_round, counted_in};
 
+use super::leaving::after_replies;
 use super::rounds::begin_round;
 use super::verdicts::{fitting, identical, is_hopeless};
-use super::{Begun, ClientState, Counted, Stepped, Work};
-use qu_base::{List, NoMemory, ReplicaId};
+use super::{ClientState, Counted, Stepped, Work};
+use qu_base::{List, NoMemory, ObjectId, ReplicaId};
 use qu_frames::{LAST_ROUND, Verdict};
 use qu_objects::Outcome;
 use std::alloc::Global;
@@ -19,8 +19,10 @@ pub fn counted_in(
     number: u64,
     round: u8,
     verdict: &Verdict,
+    culled: &List<(ObjectId, ReplicaId)>,
 ) -> Result<Stepped, NoMemory>
-    ensures { IfOk result (λ stepped. stepped ≡ counted_in state state.work replica number round verdict.now) }
+    ensures { IfOk result (λ stepped. stepped ≡ counted_in state state.work replica number round verdict.now
+        culled.now) }
 {
     let Some(mut work) = state.work.take() else {
         return Ok(stays(alloc, state));
@@ -29,11 +31,12 @@ pub fn counted_in(
         state.work = Some(work);
         return Ok(stays(alloc, state));
     }
-    let counted = verdict.copy(alloc)?;
-    work.replies.push(Counted {
+    let counted = Counted {
         replica,
-        verdict: counted,
-    })?;
+        verdict: verdict.copy(alloc)?,
+        culled: culled.copy(alloc)?,
+    };
+    work.replies.push(counted)?;
     judged(alloc, state, work, verdict)
 }
 
@@ -60,33 +63,21 @@ fn judged(
     }
 }
 
-/// A round ends without an answer.
-fn next_round(alloc: Global, state: ClientState, mut work: Work) -> Result<Stepped, NoMemory>
+/// A round that ended without an answer leaves out what its replies name, and the next one begins.
+fn next_round(alloc: Global, mut state: ClientState, mut work: Work) -> Result<Stepped, NoMemory>
     ensures { IfOk result (λ stepped. stepped ≡ next_round state work) }
 {
     if work.round >= LAST_ROUND {
         return Ok(ends(alloc, state, Outcome::GaveUp));
     }
+    state.kept = after_replies(
+        alloc,
+        state.keys.bounds(),
+        work.replies.as_slice(),
+        state.kept.as_slice(),
+    )?;
     work.round += 1;
-    goes_on(alloc, state, work)
-}
-
-/// The next round of the operation begins.
-fn goes_on(alloc: Global, mut state: ClientState, work: Work) -> Result<Stepped, NoMemory>
-    ensures { IfOk result (λ stepped. stepped ≡ goes_on (begin_round state work)) }
-{
-    let Begun {
-        last_request,
-        work,
-        letters,
-    } = begin_round(alloc, &state, work)?;
-    state.last_request = last_request;
-    state.work = Some(work);
-    Ok(Stepped {
-        state,
-        letters,
-        ended: None,
-    })
+    begin_round(alloc, state, work)
 }
 
 fn stays(alloc: Global, state: ClientState) -> Stepped

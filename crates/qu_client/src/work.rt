@@ -1,7 +1,7 @@
 ghost use Rattle.std.specs.Prelude.{◌≡◌, ◌==◌, IfOk};
 ghost use Rattle.std.specs.List.{list_any};
 
-use qu_base::{List, NoMemory, ReplicaId};
+use qu_base::{List, NoMemory, ObjectId, ReplicaId};
 use qu_frames::Verdict;
 use qu_objects::Op;
 use std::alloc::Global;
@@ -11,6 +11,8 @@ use std::alloc::Global;
 pub struct Counted {
     pub replica: ReplicaId,
     pub verdict: Verdict,
+    /// What the reply names as culled.
+    pub culled: List<(ObjectId, ReplicaId)>,
 }
 
 /// Where an operation stands.
@@ -45,6 +47,7 @@ impl Counted {
         Ok(Counted {
             replica: self.replica,
             verdict: self.verdict.copy(alloc)?,
+            culled: self.culled.copy(alloc)?,
         })
     }
 }

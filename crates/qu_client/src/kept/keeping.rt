@@ -3,7 +3,7 @@ ghost use Rattle.std.specs.List.{position};
 ghost use Rattle.std.specs.Option.{option_copied};
 ghost use Rattle.qu_client.specs.State.{keep, keep_all, kept_of, same_source};
 
-use super::Kept;
+use super::{Kept, Mark};
 use qu_base::{List, NoMemory, ObjectId};
 use qu_history::Sealed;
 use std::alloc::Global;
@@ -28,20 +28,24 @@ pub fn keep_all(
                 sealed,
                 number,
                 round,
+                mark: Mark::Unshown,
             },
         )?;
     }
     Ok(List::from(all))
 }
 
-/// The sealed history that is kept of an object and a replica.
+/// The sealed history that is shown of those that are kept of an object and a replica.
 #[tactic(auto, unfolding(crate::specs::State::kept_of))]
 pub fn kept_of(kept: &[Kept], object: ObjectId, replica: u8) -> Option<&Sealed>
     ensures { option_copied result ≡ kept_of object replica kept.now }
 {
     for held in kept {
         let history = &held.sealed.history;
-        if history.object().0 == object.0 && history.replica().0 == replica {
+        if history.object().0 == object.0
+            && history.replica().0 == replica
+            && held.mark.is_shown()
+        {
             return Some(&held.sealed);
         }
     }

@@ -1,0 +1,113 @@
+-- Marks change none of the histories that are kept.
+use Rattle.std.proofs.Common.{◌≡◌, ℕ, zero, suc, ◌+◌, ◌<◌, ◌≤◌, List, [], ◌∷◌, map, ◌++◌, take, length, get_or, set, refl, ap, subst, ◌∙◌, arith}
+use Rattle.std.specs.List.{AllByRecursion}
+use Rattle.std.proofs.lemmas.List.{take-append-le, take_all}
+use Rattle.qu_base.specs.declared.party.ObjectId.{ObjectId}
+use Rattle.qu_history.specs.declared.sealed.Sealed.{Sealed}
+use Rattle.qu_client.specs.declared.kept.Kept.{Kept}
+use Rattle.qu_client.specs.declared.kept.Mark.{Mark}
+use Rattle.qu_client.specs.declared.kept.Mark.TheVariants.{Unshown}
+use Rattle.qu_client.specs.declared.work.Counted.{Counted}
+use Rattle.qu_client.specs.State.{unmarked}
+use Rattle.qu_client.specs.Rounds.{mark_in, shown_in}
+use Rattle.qu_client.specs.Leaving.{mark_after, after_replies}
+
+abbrev pub sealed_of : List Kept → List Sealed
+sealed_of kept = map (λ (held : Kept). held.sealed) kept
+
+-- the same histories are kept, with other marks
+abbrev pub IsRemarked : List Kept → List Kept → Type 0
+IsRemarked kept marked = sealed_of marked ≡ sealed_of kept
+
+remarked : (mark : Kept → Mark) (kept : List Kept)
+    → IsRemarked kept (map (λ (held : Kept). record held { mark = mark held }) kept)
+remarked mark [] = refl
+remarked mark (held ∷ later) = ap (λ (rest : List Sealed). held.sealed ∷ rest) (remarked mark later)
+
+pub unmarked-remarked : (kept : List Kept) → IsRemarked kept (unmarked kept)
+unfolding unmarked
+unmarked-remarked kept = remarked (λ held. Unshown) kept
+
+pub shown_in-remarked : (objects : List ObjectId) (kept : List Kept) → IsRemarked kept (shown_in objects kept)
+unfolding shown_in
+shown_in-remarked objects kept = remarked (mark_in objects) kept
+
+pub after_replies-remarked : (bounds : ℕ) (replies : List Counted) (kept : List Kept)
+    → IsRemarked kept (after_replies bounds replies kept)
+unfolding after_replies
+after_replies-remarked bounds replies kept = remarked (mark_after bounds replies kept) kept
+
+head_same : (held old : Sealed) (later older : List Sealed) → held ∷ later ≡ old ∷ older → old ≡ held
+head_same held old later older same = cc
+
+tail_same : (held old : Sealed) (later older : List Sealed) → held ∷ later ≡ old ∷ older → later ≡ older
+tail_same held old later older same = cc
+
+-- what holds of each history that is kept
+pub each_remarked : (Q : Sealed → Type 0) (kept marked : List Kept) → IsRemarked kept marked
+    → AllByRecursion (λ (it : Kept). Q it.sealed) kept → AllByRecursion (λ (it : Kept). Q it.sealed) marked
+each_remarked Q kept [] same each = tt
+each_remarked Q [] (held ∷ later) same each = cc
+each_remarked Q (old ∷ older) (held ∷ later) same each = (
+  subst Q (head_same held.sealed old.sealed (sealed_of later) (sealed_of older) same) each.0,
+  each_remarked Q older later
+      (tail_same held.sealed old.sealed (sealed_of later) (sealed_of older) same) each.1,
+)
+
+-- the entries before this place are marked for the round
+unfoldable pub shown_up_to : List ObjectId → ℕ → List Kept → List Kept
+shown_up_to objects zero kept = kept
+shown_up_to objects (suc place) [] = []
+shown_up_to objects (suc place) (held ∷ later) =
+    (record held { mark = mark_in objects held }) ∷ shown_up_to objects place later
+
+pub length-shown_up_to : (objects : List ObjectId) (place : ℕ) (kept : List Kept)
+    → length (shown_up_to objects place kept) ≡ length kept
+unfolding shown_up_to
+length-shown_up_to objects zero kept = refl
+length-shown_up_to objects (suc place) [] = refl
+length-shown_up_to objects (suc place) (held ∷ later) = ap suc (length-shown_up_to objects place later)
+
+up_to_more : (objects : List ObjectId) (place : ℕ) (kept : List Kept) (d : Kept) → place < length kept
+    → set (shown_up_to objects place kept) place (record (get_or (shown_up_to objects place kept) place d) {
+      mark = mark_in objects (get_or (shown_up_to objects place kept) place d);
+    }) ≡ shown_up_to objects (suc place) kept
+unfolding shown_up_to
+up_to_more objects place [] d within = absurd (omega arith)
+up_to_more objects zero (first ∷ later) d within = refl
+up_to_more objects (suc place) (first ∷ later) d within =
+    ap (λ (rest : List Kept). (record first { mark = mark_in objects first }) ∷ rest)
+    (up_to_more objects place later d (omega arith))
+
+-- and the one at this place too
+pub shown_up_to_more : (objects : List ObjectId) (place : ℕ) (kept items : List Kept) (d : Kept) (mark : Mark)
+    → items ≡ shown_up_to objects place kept → place < length items → mark ≡ mark_in objects (get_or items place d)
+    → set items place (record (get_or items place d) { mark = mark }) ≡ shown_up_to objects (place + 1) kept
+shown_up_to_more objects place kept items d mark so_far within is =
+    let size : length items ≡ length kept = ap length so_far ∙ length-shown_up_to objects place kept in
+    let next : suc place ≡ place + 1 = omega arith in
+    ap (λ (it : Mark). set items place (record (get_or items place d) { mark = it })) is ∙
+    ap (λ (it : List Kept). set it place (record (get_or it place d) { mark = mark_in objects (get_or it place d) }))
+    so_far ∙ up_to_more objects place kept d (omega arith) ∙ ap (λ (it : ℕ). shown_up_to objects it kept) next
+
+up_to_all : (objects : List ObjectId) (place : ℕ) (kept : List Kept) → length kept ≤ place
+    → shown_up_to objects place kept ≡ shown_in objects kept
+unfolding shown_up_to shown_in
+up_to_all objects zero [] past = refl
+up_to_all objects zero (held ∷ later) past = absurd (omega arith)
+up_to_all objects (suc place) [] past = refl
+up_to_all objects (suc place) (held ∷ later) past =
+    ap (λ (rest : List Kept). (record held { mark = mark_in objects held }) ∷ rest)
+    (up_to_all objects place later (omega arith))
+
+-- after the last one all are
+pub shown_up_to_all : (objects : List ObjectId) (place : ℕ) (kept items : List Kept)
+    → items ≡ shown_up_to objects place kept → length items ≤ place → items ≡ shown_in objects kept
+shown_up_to_all objects place kept items so_far past =
+    let size : length items ≡ length kept = ap length so_far ∙ length-shown_up_to objects place kept in
+    so_far ∙ up_to_all objects place kept (omega arith)
+
+-- the entries of a vector whose places were all written
+pub all_written : (size : ℕ) (written rest : List Kept) → length written ≡ size → take size (written ++ rest) ≡ written
+all_written size written rest same =
+    take-append-le size written rest (omega arith) ∙ take_all size written (omega arith)
