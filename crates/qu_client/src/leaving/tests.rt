@@ -62,13 +62,13 @@ fn one_of_six_entries_is_left_out(rt: HostRuntime) -> Result<(), Fail> {
         replies.as_slice(),
         six_entries(alloc, 6)?.as_slice(),
     )?;
-    assert_eq!(rt; left_out(alloc, &all_shown)?.as_slice(), [4]);
+    assert_eq!(rt; left_out(alloc, &all_shown)?.as_slice(), [4].as_slice());
     let newer = after_replies(
         alloc,
         bounds,
         replies.as_slice(),
         six_entries(alloc, 4)?.as_slice(),
     )?;
-    assert_eq!(rt; left_out(alloc, &newer)?.as_slice(), [1]);
+    assert_eq!(rt; left_out(alloc, &newer)?.as_slice(), [1].as_slice());
     Ok(())
 }
