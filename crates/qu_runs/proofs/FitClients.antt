@@ -19,6 +19,7 @@ use Rattle.qu_frames.specs.declared.verdict.Verdict.{Verdict}
 use Rattle.qu_frames.specs.Formats.{reply_frame, kind_form, frame_form}
 use Rattle.qu_frames.specs.Decoding.{decoded}
 use Rattle.qu_client.specs.declared.kept.Kept.{Kept}
+use Rattle.qu_client.specs.declared.kept.Mark.TheVariants.{Unshown}
 use Rattle.qu_client.specs.declared.state.ClientState.{ClientState}
 use Rattle.qu_client.specs.declared.state.Stepped.{Stepped}
 use Rattle.qu_client.specs.declared.work.Work.{Work}
@@ -40,6 +41,7 @@ use Rattle.qu_seal.specs.Keys.{Ring}
 use Rattle.qu_frames.proofs.Signed.{brought_is_decoded, signed_is_spelled}
 use Rattle.qu_base.specs.declared.party.Party.{Party}
 use Rattle.qu_base.specs.declared.party.Party.TheVariants as party
+use Rattle.qu_client.proofs.Marks.{each_remarked}
 
 -- ---- what a reply shows
 
@@ -81,7 +83,7 @@ keep_all_fits : (number round : ℕ) (shown : List Sealed) (kept : List Kept)
 unfolding keep_all
 keep_all_fits number round [] kept fits all = all
 keep_all_fits number round (sealed ∷ later) kept fits all =
-    let new : Kept = record { sealed = sealed; number = number; round = round } in
+    let new : Kept = record { sealed = sealed; number = number; round = round; mark = Unshown } in
     keep_all_fits number round later (keep new kept) fits.1 (keep_fits new kept fits.0 all)
 
 -- ---- a client's state
@@ -101,10 +103,11 @@ pub record HoldsFit (state : ClientState) : Type 0 where
 begun : (found : Option Work) (work : Work) → found ≡ Some work → HasBegun found → IsBegun work
 begun found work is has = subst HasBegun is has
 
-counted-fit : (state : ClientState) (replica : ReplicaId) (number round : ℕ) (verdict : Verdict) → HoldsFit state
-    → HoldsFit (counted_in state state.work replica number round verdict).state
-counted-fit state replica number round verdict holds =
-    counted_cases state replica number round verdict (λ stepped. HoldsFit stepped.state)
+counted-fit : (state : ClientState) (replica : ReplicaId) (number round : ℕ) (verdict : Verdict)
+    (culled : List (ObjectId × ReplicaId)) → HoldsFit state
+    → HoldsFit (counted_in state state.work replica number round verdict culled).state
+counted-fit state replica number round verdict culled holds =
+    counted_cases state replica number round verdict culled (λ stepped. HoldsFit stepped.state)
     holds
     (λ work is counting. record {
       kept = holds.kept;
@@ -115,15 +118,15 @@ counted-fit state replica number round verdict holds =
     })
     (λ work answer is counting fits enough. record { kept = holds.kept; work = tt })
     (λ work is counting spent. record { kept = holds.kept; work = tt })
-    (λ work acted is counting below. record {
-      kept = holds.kept;
+    (λ kept work acted marked is counting below. record {
+      kept = each_remarked sealed_form.Fits state.kept kept marked holds.kept;
       work = record {
         from_one = (begun state.work work is holds.work).from_one;
         parts = (begun state.work work is holds.work).parts;
       };
     })
-    (λ work is counting below. record {
-      kept = holds.kept;
+    (λ kept work marked is counting below. record {
+      kept = each_remarked sealed_form.Fits state.kept kept marked holds.kept;
       work = record {
         from_one = (begun state.work work is holds.work).from_one;
         parts = (begun state.work work is holds.work).parts;
@@ -135,7 +138,7 @@ frame-fit : (state : ClientState) (received : Frame) → frame_form.Fits receive
 frame-fit state (frame.Reply replica client number round verdict culled shown mac) fits holds =
     cond_both (eqb client.0 (state.me).0) _ _ (λ (stepped : Stepped). HoldsFit stepped.state)
     (λ _. counted-fit (record state { kept = keep_all number round shown state.kept }) replica number round verdict
-    (record {
+    culled (record {
       kept = keep_all_fits number round shown state.kept
           (reply_shown replica client number round verdict culled shown mac fits) holds.kept;
       work = holds.work;
@@ -157,11 +160,14 @@ invoke-fit : (state : ClientState) (what : Op) → HasOpParts what → HoldsFit 
     → HoldsFit (client_invoke state what).state
 invoke-fit state what parts holds =
     invoke_cases state what (λ stepped. HoldsFit stepped.state)
-    (λ acted. record {
-      kept = holds.kept;
+    (λ kept acted marked. record {
+      kept = each_remarked sealed_form.Fits state.kept kept marked holds.kept;
       work = record { from_one = next_from_one state.last_request; parts = parts };
     })
-    (record { kept = holds.kept; work = record { from_one = next_from_one state.last_request; parts = parts } })
+    (λ kept marked. record {
+      kept = each_remarked sealed_form.Fits state.kept kept marked holds.kept;
+      work = record { from_one = next_from_one state.last_request; parts = parts };
+    })
 
 -- the client with this number, in a run of so many events
 pub record FitClient (bounds most number : ℕ) (state : ClientState) : Type 0 where
@@ -266,7 +272,7 @@ pub step_letters : (state : ClientState) (text : List ℕ) → AsksFit (client_s
     → AllByRecursion LetterFits (client_step state text).letters
 step_letters state text =
     step_cases state (λ stepped. AsksFit stepped.state → AllByRecursion LetterFits stepped.letters)
-    (λ fits. tt) (λ kept fits. tt) (λ kept work replica number round verdict is counting fits. tt) (λ kept end fits. tt)
+    (λ fits. tt) (λ kept fits. tt) (λ kept work replica number round verdict culled is counting fits. tt) (λ kept end fits. tt)
     (λ kept work replies acted is asking more fits. requests_fit state.keys 0 (replicas state.keys.bounds) state.me _ _
     (fits _ refl))
     (λ kept work replies is asking more fits. tt)
@@ -276,8 +282,8 @@ pub invoke_letters : (state : ClientState) (what : Op) → AsksFit (client_invok
     → AllByRecursion LetterFits (client_invoke state what).letters
 invoke_letters state what =
     invoke_cases state what (λ stepped. AsksFit stepped.state → AllByRecursion LetterFits stepped.letters)
-    (λ acted fits. requests_fit state.keys 0 (replicas state.keys.bounds) state.me _ _ (fits _ refl))
-    (λ fits. tt)
+    (λ kept acted marked fits. requests_fit state.keys 0 (replicas state.keys.bounds) state.me _ _ (fits _ refl))
+    (λ kept marked fits. tt)
 
 -- ---- all clients at the beginning
 

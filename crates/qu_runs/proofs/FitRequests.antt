@@ -26,7 +26,7 @@ use Rattle.qu_frames.specs.Formats.{body_form, request_frame, kind_form, frame_f
 use Rattle.qu_frames.specs.Formats as forms
 use Rattle.qu_client.specs.declared.kept.Kept.{Kept}
 use Rattle.qu_client.specs.declared.work.Work.{Work}
-use Rattle.qu_client.specs.State.{kept_of}
+use Rattle.qu_client.specs.State.{is_shown, kept_of}
 use Rattle.qu_client.specs.Rounds.{entries_from, set_of, sets_of, request_of}
 use Rattle.qu_runs.specs.Plain.{HasOpParts}
 use Rattle.qu_objects.proofs.Text.{method_fits}
@@ -75,16 +75,17 @@ unfolding kept_of
 found_among P object replica [] sealed all found = absurd (none-some sealed found)
 found_among P object replica (first ∷ later) sealed all found =
     let own : ObjectHistory = (first.sealed).history in
-    let test : Bool = (own.object).0 == object.0 && (own.replica).0 == replica in
+    let test : Bool = (own.object).0 == object.0 && ((own.replica).0 == replica && is_shown first.mark) in
     elim (cases_Bool test) [
       | inl here ↦
           let same : first.sealed ≡ sealed =
           same_Some _ _
           (sym (ap (λ (b : Bool). cond b (Some first.sealed) (kept_of object replica later)) here) ∙ found) in
-          let tests : (((own.object).0 == object.0) ≡ true) × (((own.replica).0 == replica) ≡ true) =
-          and_parts _ _ here in
+          let tests : (((own.object).0 == object.0) ≡ true)
+          × (((own.replica).0 == replica && is_shown first.mark) ≡ true) = and_parts _ _ here in
+          let second : (((own.replica).0 == replica) ≡ true) × (is_shown first.mark ≡ true) = and_parts _ _ tests.1 in
           subst (IsFound P object replica) same
-          (record { is = all.0; of_object = tests.0; of_replica = eqb-true _ _ tests.1 })
+          (record { is = all.0; of_object = tests.0; of_replica = eqb-true _ _ second.0 })
       | inr other ↦ found_among P object replica later sealed all.1
           (sym (ap (λ (b : Bool). cond b (Some first.sealed) (kept_of object replica later)) other) ∙ found)
     ]
