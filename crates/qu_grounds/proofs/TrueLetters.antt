@@ -29,12 +29,14 @@ use Rattle.qu_replica.specs.Rows.{asked_at, decision_on}
 use Rattle.qu_replica.specs.Step.{shown, answer_frame, reply, carried_out, replica_step}
 use Rattle.qu_replica.specs.Step as replica
 use Rattle.qu_client.specs.declared.kept.Kept.{Kept}
+use Rattle.qu_client.specs.declared.kept.Mark.TheVariants.{Unshown}
 use Rattle.qu_client.specs.declared.work.Work.{Work}
 use Rattle.qu_client.specs.declared.state.ClientState.{ClientState}
 use Rattle.qu_client.specs.declared.state.Stepped.{Stepped}
 use Rattle.qu_client.specs.State.{opening_state, is_older, same_source, keep, keep_all}
 use Rattle.qu_client.specs.Rounds.{sets_of, request_of, requests_from, asked}
 use Rattle.qu_client.specs.Steps.{goes_on, counted_in, on_frame, on_received, client_step, client_invoke}
+use Rattle.qu_client.proofs.Marks.{IsRemarked, each_remarked}
 use Rattle.qu_client.proofs.Cases.{counted_cases, invoke_cases}
 use Rattle.qu_runs.specs.Plain.{HasOpParts}
 use Rattle.qu_runs.specs.Carried.{Carries}
@@ -44,6 +46,7 @@ use Rattle.qu_frames.specs.Signing.{brought, signed}
 use Rattle.qu_seal.specs.Keys.{Ring}
 use Rattle.qu_frames.proofs.Signed.{brought_is_decoded}
 use Rattle.qu_base.specs.declared.party.Party.{Party}
+use Rattle.qu_base.specs.declared.party.ObjectId.{ObjectId}
 
 -- the sets and the body of a request: made of kept histories that were held
 pub record IsMadeOf (Held : Sealed → Type 0) (bounds : ℕ) (sets : List SetOf) (body : Body) : Type 0 where
@@ -134,7 +137,7 @@ module _ (Held : Sealed → Type 0) (bounds : ℕ) where
   unfolding keep_all
   keep_all-held number round [] kept held each = each
   keep_all-held number round (sealed ∷ later) kept held each =
-      let new : Kept = record { sealed = sealed; number = number; round = round } in
+      let new : Kept = record { sealed = sealed; number = number; round = round; mark = Unshown } in
       keep_all-held number round later (keep new kept) held.1 (keep-held new kept held.0 each)
 
   requests-true : (keys : Ring) (replica count : ℕ) (me : ClientId) (work : Work) (sets : List SetOf)
@@ -174,11 +177,21 @@ module _ (Held : Sealed → Type 0) (bounds : ℕ) where
   work_parts state work client is =
       subst (λ (found : Option Work). IfSome found (λ (it : Work). HasOpParts it.op)) is client.work
 
+  -- other marks change nothing of what is kept
+  remarked-true : (state : ClientState) (kept : List Kept) → IsRemarked state.kept kept
+      → IsTrueClient Held bounds state → IsTrueClient Held bounds (record state { kept = kept })
+  remarked-true state kept marked client = record {
+    bounds_are = client.bounds_are;
+    kept = each_remarked Held state.kept kept marked client.kept;
+    work = client.work;
+  }
+
   counted-true : (state : ClientState) (replica : ReplicaId) (number round : ℕ) (verdict : Verdict)
-      → IsTrueClient Held bounds state → AsksFit (counted_in state state.work replica number round verdict).state
-      → IsTrueStep Held bounds (counted_in state state.work replica number round verdict)
-  counted-true state replica number round verdict client =
-      counted_cases state replica number round verdict
+      (culled : List (ObjectId × ReplicaId)) → IsTrueClient Held bounds state
+      → AsksFit (counted_in state state.work replica number round verdict culled).state
+      → IsTrueStep Held bounds (counted_in state state.work replica number round verdict culled)
+  counted-true state replica number round verdict culled client =
+      counted_cases state replica number round verdict culled
       (λ stepped. AsksFit stepped.state → IsTrueStep Held bounds stepped)
       (λ fits. record { state = client; letters = tt })
       (λ work is _ fits.
@@ -194,12 +207,14 @@ module _ (Held : Sealed → Type 0) (bounds : ℕ) where
       record { state = record { bounds_are = client.bounds_are; kept = client.kept; work = tt }; letters = tt })
       (λ work is _ _ fits.
       record { state = record { bounds_are = client.bounds_are; kept = client.kept; work = tt }; letters = tt })
-      (λ work acted is _ _ fits. asked-true state _ (fits _ refl) client (work_parts state work client is))
-      (λ work is _ _ fits.
+      (λ kept work acted marked is _ _ fits.
+      asked-true (record state { kept = kept }) _ (fits _ refl) (remarked-true state kept marked client)
+      (work_parts state work client is))
+      (λ kept work marked is _ _ fits.
       record {
         state = record {
           bounds_are = client.bounds_are;
-          kept = client.kept;
+          kept = each_remarked Held state.kept kept marked client.kept;
           work = work_parts state work client is;
         };
         letters = tt;
@@ -211,7 +226,7 @@ module _ (Held : Sealed → Type 0) (bounds : ℕ) where
   client_frame-true state (frame.Reply replica client number round verdict culled shown mac) true_frame client_is fits =
       let kept : List Kept = keep_all number round shown state.kept in
       cond_both _ _ _ (λ stepped. AsksFit stepped.state → IsTrueStep Held bounds stepped)
-      (λ _. counted-true (record state { kept = kept }) replica number round verdict (record {
+      (λ _. counted-true (record state { kept = kept }) replica number round verdict culled (record {
         bounds_are = client_is.bounds_are;
         kept = keep_all-held number round shown state.kept true_frame client_is.kept;
         work = client_is.work;
@@ -238,9 +253,14 @@ module _ (Held : Sealed → Type 0) (bounds : ℕ) where
       → AsksFit (client_invoke state op).state → IsTrueStep Held bounds (client_invoke state op)
   client_invoke-true state op parts client =
       invoke_cases state op (λ stepped. AsksFit stepped.state → IsTrueStep Held bounds stepped)
-      (λ acted fits. asked-true state _ (fits _ refl) client parts)
-      (λ fits. record {
-        state = record { bounds_are = client.bounds_are; kept = client.kept; work = parts };
+      (λ kept acted marked fits.
+      asked-true (record state { kept = kept }) _ (fits _ refl) (remarked-true state kept marked client) parts)
+      (λ kept marked fits. record {
+        state = record {
+          bounds_are = client.bounds_are;
+          kept = each_remarked Held state.kept kept marked client.kept;
+          work = parts;
+        };
         letters = tt;
       })
 
