@@ -22,8 +22,8 @@ use Rattle.qu_frames.specs.Verdict.{same_verdict}
 use Rattle.qu_client.specs.declared.state.ClientState.{ClientState}
 use Rattle.qu_client.specs.declared.work.Counted.{Counted}
 use Rattle.qu_client.specs.declared.work.Work.{Work}
-use Rattle.qu_client.specs.Steps.{fitting, identical, is_asking, counts, client_invoke, client_step, client_tick}
-use Rattle.qu_client.proofs.Cases.{with_verdict, invoke_cases}
+use Rattle.qu_client.specs.Steps.{fitting, identical, is_asking, counts, client_invoke, client_step, client_tick, with_verdict}
+use Rattle.qu_client.proofs.Cases.{invoke_cases}
 use Rattle.qu_machine.specs.declared.record.OpRecord.{OpRecord}
 use Rattle.qu_trace.specs.declared.event.Event.{Event}
 use Rattle.qu_trace.specs.declared.event.Event.TheVariants.{Invoke, Deliver, Tick, Inject}
@@ -210,7 +210,7 @@ by_letter trace is have recorded one operation among index answer number letter 
     let holds : Counts trace index client.0 state =
     counts_world trace is have index (omega arith) client.0 state found in
     let work : Work = done.work in
-    let replies : List Counted = (with_verdict work done.replica done.verdict).replies in
+    let replies : List Counted = (with_verdict work done.replica done.verdict done.culled).replies in
     let me : state.me ≡ operation.client = client_is state.me client holds.me ∙ ended.is_me in
     let same_work : ended.work ≡ work = same_Some ended.work work (sym ended.under_way ∙ done.under_way) in
     let of_number : work.number ≡ operation.number = ap (λ (it : Work). it.number) (sym same_work) ∙ ended.is_number in
@@ -221,7 +221,8 @@ by_letter trace is have recorded one operation among index answer number letter 
     (record_there.of_number ∙ of_number) in
     let of_op : operation.op ≡ work.op = ap (λ (it : OpRecord). it.op) (sym same_record) ∙ record_there.of_op in
     let answered : All (WasAnswered trace index state.me work.number work.round) replies =
-    with_answered trace is have index letter state.me work done.replica done.number done.round done.verdict done.shown
+    with_answered trace is have index letter state.me work done.replica done.number done.round done.verdict done.culled
+    done.shown
     (sent_before trace is index (omega arith) number letter sent)
     (record { culled = done.culled; mac = done.mac; carries = carries ∙ ap Ok done.is_reply }) done.counting
     (work_answered trace index state.me state.work work done.under_way holds.answered) in
@@ -230,7 +231,7 @@ by_letter trace is have recorded one operation among index answer number letter 
     let answered_so : All (WasAnswered trace index operation.client operation.number work.round) replies =
     subst (λ (it : ℕ). All (WasAnswered trace index operation.client it work.round) replies) of_number answered_me in
     let different : AreDifferent replies =
-    different_more work done.replica done.number done.round done.verdict done.counting
+    different_more work done.replica done.number done.round done.verdict done.culled done.counting
     (sound_work state work holds.sound done.under_way).different in
     let before : index ≡ suc index - 1 = omega arith in
     record {
@@ -259,7 +260,8 @@ by_letter trace is have recorded one operation among index answer number letter 
     }
 
 no_end_of_invocation : (state : ClientState) (op : Op) → (client_invoke state op).ended ≡ None
-no_end_of_invocation state op = invoke_cases state op (λ stepped. stepped.ended ≡ None) (λ acted. refl) refl
+no_end_of_invocation state op = invoke_cases state op (λ stepped. stepped.ended ≡ None)
+    (λ kept acted marked. refl) (λ kept marked. refl)
 
 -- the entry that records the end was made by a letter
 by_entry : (trace : Trace) → IsRun trace → ArePlain trace → WorkIsRecorded trace → IsOneRecord trace

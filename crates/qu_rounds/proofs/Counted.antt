@@ -18,9 +18,9 @@ use Rattle.qu_client.specs.declared.state.Stepped.{Stepped}
 use Rattle.qu_client.specs.declared.work.Counted.{Counted}
 use Rattle.qu_client.specs.declared.work.Work.{Work}
 use Rattle.qu_client.specs.State.{opening_state, keep_all}
-use Rattle.qu_client.specs.Steps.{is_asking, counts, on_frame, on_received, client_step, client_invoke, client_tick}
+use Rattle.qu_client.specs.Steps.{is_asking, counts, on_frame, on_received, client_step, client_invoke, client_tick, with_verdict}
 use Rattle.qu_client.specs.Sound.{IsSound}
-use Rattle.qu_client.proofs.Cases.{with_verdict, counted_cases, invoke_cases}
+use Rattle.qu_client.proofs.Cases.{counted_cases, invoke_cases}
 use Rattle.qu_client.proofs.Laws.{client_step-me, client_step-bounds, client_invoke-me, client_invoke-bounds, IsSound-opening, IsSound-step, IsSound-invoke, other_replica}
 use Rattle.qu_trace.specs.declared.event.Event.{Event}
 use Rattle.qu_trace.specs.declared.trace.Entry.{Entry}
@@ -43,6 +43,7 @@ use Rattle.qu_machine.proofs.Equalities.{client_is}
 use Rattle.qu_frames.specs.Signing.{brought}
 use Rattle.qu_frames.proofs.Signed.{brought_is_decoded}
 use Rattle.qu_base.specs.declared.party.Party.TheVariants as party
+use Rattle.qu_base.specs.declared.party.ObjectId.{ObjectId}
 
 -- the verdict was sent by its replica to this round, before the event of the entry with this index
 pub record WasAnswered (trace : Trace) (before : ℕ) (client : ClientId) (number round : ℕ)
@@ -121,10 +122,12 @@ work_answered trace before client found work is are = subst (WorkAnswered trace 
 -- the verdicts with one more that counts
 pub with_answered : (trace : Trace) → IsRun trace → ArePlain trace → (before : ℕ) (letter : Letter)
     (client : ClientId) (work : Work) (replica : ReplicaId) (number round : ℕ) (verdict : Verdict)
-    (shown : List Sealed) → SentBefore trace before letter → Tells letter replica client number round verdict
-    shown → counts work replica number round ≡ true → AreAnswered trace before client work
-    → AreAnswered trace before client (with_verdict work replica verdict)
-with_answered trace is have before letter client work replica number round verdict shown sent is_reply counting are =
+    (culled : List (ObjectId × ReplicaId)) (shown : List Sealed) → SentBefore trace before letter
+    → Tells letter replica client number round verdict shown → counts work replica number round ≡ true
+    → AreAnswered trace before client work
+    → AreAnswered trace before client (with_verdict work replica verdict culled)
+with_answered trace is have before letter client work replica number round verdict culled shown sent is_reply counting
+    are =
     let first = and_parts (is_asking work.phase) _ counting in
     let second = and_parts (eqb number work.number) _ first.1 in
     let third = and_parts (eqb round work.round) _ second.1 in
@@ -134,9 +137,9 @@ with_answered trace is have before letter client work replica number round verdi
     tells_as letter replica client client number work.number round work.round verdict verdict shown refl numbers
     rounds refl is_reply in
     All-push (WasAnswered trace before client work.number work.round) work.replies
-    (record { replica = replica; verdict = verdict }) are
+    (record { replica = replica; verdict = verdict; culled = culled }) are
     (answered_by trace is have before letter client work.number work.round
-    (record { replica = replica; verdict = verdict }) shown sent this)
+    (record { replica = replica; verdict = verdict; culled = culled }) shown sent this)
 
 -- what a delivered letter makes of them
 answered_frame : (trace : Trace) → IsRun trace → ArePlain trace → (before : ℕ) (letter : Letter)
@@ -153,17 +156,19 @@ answered_frame trace is have before letter state sent are
     tells_as letter replica client state.me number number round round verdict verdict shown
     (client_is client state.me (eqb-true client.0 (state.me).0 mine)) refl refl refl
     (record { culled = culled; mac = mac; carries = is_frame }) in
-    counted_cases (record state { kept = keep_all number round shown state.kept }) replica number round verdict P
+    counted_cases (record state { kept = keep_all number round shown state.kept }) replica number round verdict culled
+    P
     same
     (λ work under_way counting.
-    are_more trace before state.me (with_verdict work replica verdict)
-    (with_answered trace is have before letter state.me work replica number round verdict shown sent is_reply
+    are_more trace before state.me (with_verdict work replica verdict culled)
+    (with_answered trace is have before letter state.me work replica number round verdict culled shown sent is_reply
     counting (work_answered trace before state.me state.work work under_way are)))
     (λ work answer under_way counting fits enough. tt)
     (λ work under_way counting last. tt)
-    (λ work acted under_way counting below. All-nil
+    (λ kept work acted marked under_way counting below. All-nil
     (WasAnswered trace (before + 1) state.me work.number (work.round + 1)))
-    (λ work under_way counting below. All-nil (WasAnswered trace (before + 1) state.me work.number (work.round + 1))))
+    (λ kept work marked under_way counting below. All-nil
+    (WasAnswered trace (before + 1) state.me work.number (work.round + 1))))
     (λ other. same)
 answered_frame trace is have before letter state sent are _ is_frame = work_more trace before state.me state.work are
 
@@ -187,7 +192,8 @@ answered_invoke : (trace : Trace) (before : ℕ) (state : ClientState) (op : Op)
     → WorkAnswered trace before state.me (client_invoke state op).state.work
 answered_invoke trace before state op =
     invoke_cases state op (λ stepped. WorkAnswered trace before state.me stepped.state.work)
-    (λ acted. All-nil (WasAnswered trace before state.me _ _)) (All-nil (WasAnswered trace before state.me _ _))
+    (λ kept acted marked. All-nil (WasAnswered trace before state.me _ _))
+    (λ kept marked. All-nil (WasAnswered trace before state.me _ _))
 
 -- ---- every client of a run
 
@@ -307,13 +313,13 @@ abbrev pub AreDifferent : List Counted → Type 0
 AreDifferent replies = AllPairs (λ (a b : Counted). (a.replica).0 ≢ (b.replica).0) replies
 
 pub different_more : (work : Work) (replica : ReplicaId) (number round : ℕ) (verdict : Verdict)
-    → counts work replica number round ≡ true → AreDifferent work.replies
-    → AreDifferent (with_verdict work replica verdict).replies
-different_more work replica number round verdict counting different =
+    (culled : List (ObjectId × ReplicaId)) → counts work replica number round ≡ true → AreDifferent work.replies
+    → AreDifferent (with_verdict work replica verdict culled).replies
+different_more work replica number round verdict culled counting different =
     let numbered_so = (and_parts (is_asking work.phase) _ counting).1 in
     let of_round = (and_parts (eqb number work.number) _ numbered_so).1 in
     let first : list_any (λ counted. eqb (counted.replica).0 replica.0) work.replies ≡ false =
     not-true _ (and_parts (eqb round work.round) _ of_round).1 in
     all_pairs_push (λ (a b : Counted). (a.replica).0 ≢ (b.replica).0) work.replies
-    (record { replica = replica; verdict = verdict }) different
+    (record { replica = replica; verdict = verdict; culled = culled }) different
     (λ k d within. other_replica work.replies replica k d first within)

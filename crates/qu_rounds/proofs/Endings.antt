@@ -16,8 +16,8 @@ use Rattle.qu_client.specs.declared.state.ClientState.{ClientState}
 use Rattle.qu_client.specs.declared.state.Stepped.{Stepped}
 use Rattle.qu_client.specs.declared.work.Work.{Work}
 use Rattle.qu_client.specs.State.{keep_all}
-use Rattle.qu_client.specs.Steps.{fitting, identical, counts, on_frame, on_received, client_step}
-use Rattle.qu_client.proofs.Cases.{with_verdict, counted_cases}
+use Rattle.qu_client.specs.Steps.{fitting, identical, counts, on_frame, on_received, client_step, with_verdict}
+use Rattle.qu_client.proofs.Cases.{counted_cases}
 use Rattle.qu_machine.specs.declared.record.OpRecord.{OpRecord}
 use Rattle.qu_trace.specs.declared.event.Event.{Event}
 use Rattle.qu_trace.specs.declared.event.Event.TheVariants.{Invoke, Deliver, Tick, Inject}
@@ -155,7 +155,7 @@ pub record ReplyCompletes (state : ClientState) (received : Frame) (answer : Ans
   pub under_way : state.work ≡ Some work
   pub counting : counts work replica number round ≡ true
   pub fits : fitting work.op verdict ≡ Some answer
-  pub enough : quorum state.keys.bounds ≤ identical verdict (with_verdict work replica verdict).replies
+  pub enough : quorum state.keys.bounds ≤ identical verdict (with_verdict work replica verdict culled).replies
 
 same_answer : (first second : Answer) → Some (outcome.Done first) ≡ Some (outcome.Done second) → first ≡ second
 same_answer first second same = cc
@@ -170,7 +170,8 @@ frame_completes state (frame.Reply replica client number round verdict culled sh
     → ReplyCompletes state (frame.Reply replica client number round verdict culled shown mac) answer in
     cond_both (eqb client.0 (state.me).0) _ _ P
     (λ mine.
-    counted_cases (record state { kept = keep_all number round shown state.kept }) replica number round verdict P
+    counted_cases (record state { kept = keep_all number round shown state.kept }) replica number round verdict culled
+    P
     (λ ended. absurd (none-some (outcome.Done answer) ended))
     (λ work under_way counting ended. absurd (none-some (outcome.Done answer) ended))
     (λ work given under_way counting fits enough ended. record {
@@ -190,8 +191,8 @@ frame_completes state (frame.Reply replica client number round verdict culled sh
       enough = enough;
     })
     (λ work under_way counting last ended. absurd (gave_up answer ended))
-    (λ work acted under_way counting below ended. absurd (none-some (outcome.Done answer) ended))
-    (λ work under_way counting below ended. absurd (none-some (outcome.Done answer) ended)))
+    (λ kept work acted marked under_way counting below ended. absurd (none-some (outcome.Done answer) ended))
+    (λ kept work marked under_way counting below ended. absurd (none-some (outcome.Done answer) ended)))
     (λ other ended. absurd (none-some (outcome.Done answer) ended))
     ends
 frame_completes state _ answer ended = absurd (none-some (outcome.Done answer) ended)

@@ -29,17 +29,17 @@ use Rattle.qu_client.specs.declared.state.Stepped.{Stepped}
 use Rattle.qu_client.specs.declared.work.Phase.TheVariants.{Asking, Halted}
 use Rattle.qu_frames.specs.declared.limits.TheConstants.{LAST_ROUND}
 use Rattle.qu_client.specs.declared.work.Work.{Work}
-use Rattle.qu_client.specs.State.{keep_all}
-use Rattle.qu_client.specs.Rounds.{is_act, sets_of, are_full, are_current, request_of, requests_from, asked, halted, begin_full, begin_round}
-use Rattle.qu_client.specs.Steps.{stays, goes_on, ends, fitting, identical, is_hopeless, next_round, judged, is_asking, counts, counted_in, on_frame, on_received, client_step, client_invoke, next_number, first_work}
+use Rattle.qu_client.specs.State.{keep_all, unmarked}
+use Rattle.qu_client.specs.Rounds.{is_act, sets_of, are_full, are_current, request_of, requests_from, asked, halted, begin_full, begin_round, begin_shown, shown_in, operation_objects}
+use Rattle.qu_client.specs.Steps.{stays, goes_on, ends, fitting, identical, is_hopeless, next_round, judged, is_asking, counts, counted_in, on_frame, on_received, client_step, client_invoke, next_number, first_work, with_verdict}
 use Rattle.qu_client.specs.Sound.{IsSound, last_number}
-use Rattle.qu_client.proofs.Cases.{with_verdict}
 use Rattle.qu_runs.specs.Carried.{Asks}
 use Rattle.qu_frames.specs.Formats.{frame_form}
 use Rattle.qu_client.proofs.Laws.{sound_work}
 use Rattle.qu_frames.specs.Signing.{brought, signed, signature}
 use Rattle.qu_seal.specs.Keys.{Ring}
 use Rattle.qu_base.specs.declared.party.Party.TheVariants as party
+use Rattle.qu_client.specs.Leaving.{after_replies}
 
 -- the item stands somewhere in the list
 abbrev pub StandsIn : {X : Type 0} → List X → X → Type 0
@@ -298,8 +298,8 @@ module _ (Sent : Letter → Type 0) (bounds : ℕ) (state : ClientState) (work :
       (λ parts full is. unasked (not_acted (is_act work.op) work.acted (act_of work.op parts is) first))
       (λ acted. absurd (false≢true (sym acted)))
 
-  begin_once : IsOnceIf Sent bounds state.me (goes_on (begin_round state work))
-  begin_once =
+  begin_shown_once : IsOnceIf Sent bounds state.me (goes_on (begin_shown state work))
+  begin_shown_once =
       let sets : List SetOf = sets_of state.keys.bounds state.kept work.op in
       cond_both (are_full state.keys.bounds sets) (begin_full state work sets) (asked state work sets)
       (λ begun. IsOnceIf Sent bounds state.me (goes_on begun))
@@ -308,6 +308,16 @@ module _ (Sent : Letter → Type 0) (bounds : ℕ) (state : ClientState) (work :
       (λ may fits. full_once sets (fits _ refl) (and_parts (are_current state.keys.bounds sets) _ may).1)
       (λ _. halted_once))
       (λ thin fits. thin_once sets (fits _ refl) (ap (λ (size : ℕ). are_full size sets) (sym is_bounds) ∙ thin))
+
+-- a round begins with some entries shown
+begin_once : (Sent : Letter → Type 0) (bounds : ℕ) (state : ClientState) (work : Work)
+    (is_bounds : state.keys.bounds ≡ bounds) (up_to : AreUpTo Sent state.me (last_number state.last_request))
+    (order : last_number state.last_request ≤ work.number)
+    (unasked : IsUnasked Sent bounds state.me work.number work.acted)
+    → IsOnceIf Sent bounds state.me (goes_on (begin_round state work))
+begin_once Sent bounds state work is_bounds up_to order unasked =
+    begin_shown_once Sent bounds (record state { kept = shown_in (operation_objects work.op) state.kept }) work is_bounds
+    up_to order unasked
 
 -- ---- what a client is sent
 
@@ -318,7 +328,9 @@ module _ (Sent : Letter → Type 0) (bounds : ℕ) (state : ClientState) (is_bou
   next_once work order unasked =
       cond_both (leb LAST_ROUND work.round) _ _ (IsOnceIf Sent bounds state.me)
       (λ _. ended_once Sent bounds state work is_bounds up_to order unasked outcome.GaveUp)
-      (λ _. begin_once Sent bounds state (record work { round = work.round + 1 }) is_bounds up_to order unasked)
+      (λ _. begin_once Sent bounds
+      (record state { kept = after_replies state.keys.bounds work.replies state.kept })
+      (record work { round = work.round + 1 }) is_bounds up_to order unasked)
 
   judged_once : (work : Work) (verdict : Verdict) (found : Option Answer)
       → last_number state.last_request ≤ work.number → IsUnasked Sent bounds state.me work.number work.acted
@@ -335,18 +347,18 @@ module _ (Sent : Letter → Type 0) (bounds : ℕ) (state : ClientState) (is_bou
       (λ _. waits_once Sent bounds state work is_bounds up_to order unasked))
 
 counted_once : (Sent : Letter → Type 0) (bounds : ℕ) (state : ClientState) (found : Option Work)
-    (replica : ReplicaId) (number round : ℕ) (verdict : Verdict) → state.work ≡ found → state.keys.bounds ≡ bounds
-    → IsSound state → IsOnce Sent bounds state → IsOnceIf Sent bounds state.me
-    (counted_in state found replica number round verdict)
-counted_once Sent bounds state None replica number round verdict is is_bounds sound once =
+    (replica : ReplicaId) (number round : ℕ) (verdict : Verdict) (culled : List (ObjectId × ReplicaId))
+    → state.work ≡ found → state.keys.bounds ≡ bounds → IsSound state → IsOnce Sent bounds state
+    → IsOnceIf Sent bounds state.me (counted_in state found replica number round verdict culled)
+counted_once Sent bounds state None replica number round verdict culled is is_bounds sound once =
     λ fits. quiet Sent bounds state.me state None once
-counted_once Sent bounds state (Some work) replica number round verdict is is_bounds sound once =
+counted_once Sent bounds state (Some work) replica number round verdict culled is is_bounds sound once =
     cond_both (counts work replica number round) _ _ (IsOnceIf Sent bounds state.me)
     (λ counting.
     let asking : is_asking work.phase ≡ true = (and_parts (is_asking work.phase) _ counting).0 in
     let last : last_number state.last_request ≡ work.number =
     ap last_number ((sound_work state work sound is).asked asking) in
-    judged_once Sent bounds state is_bounds once.up_to (with_verdict work replica verdict) verdict
+    judged_once Sent bounds state is_bounds once.up_to (with_verdict work replica verdict culled) verdict
     (fitting work.op verdict) (omega arith) (once.unasked work is))
     (λ _ fits. quiet Sent bounds state.me state None once)
 
@@ -356,8 +368,8 @@ frame-once : (Sent : Letter → Type 0) (bounds : ℕ) (state : ClientState) (re
 frame-once Sent bounds state (frame.Reply replica client number round verdict culled shown mac) is_bounds sound once =
     let kept : List Kept = keep_all number round shown state.kept in
     cond_both _ _ _ (IsOnceIf Sent bounds state.me)
-    (λ _. counted_once Sent bounds (record state { kept = kept }) state.work replica number round verdict refl
-    is_bounds sound (record { up_to = once.up_to; unasked = once.unasked }))
+    (λ _. counted_once Sent bounds (record state { kept = kept }) state.work replica number round verdict culled
+    refl is_bounds sound (record { up_to = once.up_to; unasked = once.unasked }))
     (λ _ fits. quiet Sent bounds state.me state None once)
 frame-once Sent bounds state _ is_bounds sound once = λ fits. quiet Sent bounds state.me state None once
 
@@ -388,7 +400,8 @@ pub client_invoke-once : (Sent : Letter → Type 0) (bounds : ℕ) (state : Clie
     → IsOnceIf Sent bounds state.me (client_invoke state operation)
 client_invoke-once Sent bounds state operation is_bounds once =
     let next : next_number state.last_request ≡ last_number state.last_request + 1 = next_is state.last_request in
-    begin_once Sent bounds state (first_work operation (next_number state.last_request)) is_bounds once.up_to
+    begin_once Sent bounds (record state { kept = unmarked state.kept })
+    (first_work operation (next_number state.last_request)) is_bounds once.up_to
     (omega arith)
     (λ _ letter sent sets parts is.
     let early : next_number state.last_request ≤ last_number state.last_request =

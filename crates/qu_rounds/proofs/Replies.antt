@@ -141,7 +141,7 @@ step_replies : (bound : ℕ) (state : ClientState) (text : List ℕ) → All (Re
 step_replies bound state text =
     let none : All (RepliesWithin bound) [] = All-nil (RepliesWithin bound) in
     step_cases state (λ stepped. All (RepliesWithin bound) stepped.letters)
-    none (λ _. none) (λ _ _ _ _ _ _ _ _. none) (λ _ _. none)
+    none (λ _. none) (λ _ _ _ _ _ _ _ _ _. none) (λ _ _. none)
     (λ kept work replies acted is asking below. by_client bound state.keys 0 (replicas state.keys.bounds) state.me _ _)
     (λ _ _ _ _ _ _. none)
     text
@@ -150,7 +150,8 @@ invoke_replies : (bound : ℕ) (state : ClientState) (op : Op) → All (RepliesW
     (client_invoke state op).letters
 invoke_replies bound state op =
     invoke_cases state op (λ stepped. All (RepliesWithin bound) stepped.letters)
-    (λ acted. by_client bound state.keys 0 (replicas state.keys.bounds) state.me _ _) (All-nil (RepliesWithin bound))
+    (λ kept acted marked. by_client bound state.keys 0 (replicas state.keys.bounds) state.me _ _)
+    (λ kept marked. All-nil (RepliesWithin bound))
 
 -- each reply among a run's letters is from one of its replicas
 pub replies_within : (trace : Trace) → IsRun trace → ArePlain trace → (index : ℕ) (entry : Entry)

@@ -201,11 +201,11 @@ module _ (trace : Trace) (count begun : ℕ) (state : ClientState) (sound : IsSo
       held.asked (and_parts (is_asking work.phase) _ counting).0 in
       ap last_number last ∙ (working work is).latest
 
-  counted_step : (replica : ReplicaId) (number round : ℕ) (verdict : Verdict)
-      → AsksFit (counted_in state state.work replica number round verdict).state
-      → IsStepAt trace count begun state.me (counted_in state state.work replica number round verdict)
-  counted_step replica number round verdict =
-      counted_cases state replica number round verdict
+  counted_step : (replica : ReplicaId) (number round : ℕ) (verdict : Verdict) (culled : List (ObjectId × ReplicaId))
+      → AsksFit (counted_in state state.work replica number round verdict culled).state
+      → IsStepAt trace count begun state.me (counted_in state state.work replica number round verdict culled)
+  counted_step replica number round verdict culled =
+      counted_cases state replica number round verdict culled
       (λ stepped. AsksFit stepped.state → IsStepAt trace count begun state.me stepped)
       (λ fits. record { at_work = at; letters = none_asked })
       (λ work is counting fits.
@@ -219,12 +219,12 @@ module _ (trace : Trace) (count begun : ℕ) (state : ClientState) (sound : IsSo
         at_work = ended work replica number round is counting;
         letters = none_asked;
       })
-      (λ work acted is counting below fits. record {
+      (λ kept work acted marked is counting below fits. record {
         at_work = record { latest = (working work is).latest; request = (working work is).request };
         letters = requests_asked trace count state.keys 0 (replicas state.keys.bounds) state.me _ _ (fits _ refl)
             (working work is).request;
       })
-      (λ work is counting below fits.
+      (λ kept work marked is counting below fits.
       record {
         at_work = record { latest = (working work is).latest; request = (working work is).request };
         letters = none_asked;
@@ -237,7 +237,7 @@ frame_at trace count begun state (frame.Reply replica client number round verdic
     cond_both (eqb client.0 (state.me).0) _ _
     (λ stepped. AsksFit stepped.state → IsStepAt trace count begun state.me stepped)
     (λ _. counted_step trace count begun (record state { kept = keep_all number round shown state.kept }) sound at
-    replica number round verdict)
+    replica number round verdict culled)
     (λ _ fit. record { at_work = at; letters = All-nil (IsAsked trace count) })
     fits
 frame_at trace count begun state _ sound at fits = record { at_work = at; letters = All-nil (IsAsked trace count) }
@@ -293,12 +293,12 @@ module _ (trace : Trace) (count begun : ℕ) (state : ClientState) (op : Op)
       (client_invoke state op)
   invoke_at =
       invoke_cases state op (λ stepped. AsksFit stepped.state → IsStepAt trace count (begun + 1) state.me stepped)
-      (λ acted fits. record {
+      (λ kept acted marked fits. record {
         at_work = record { latest = next_is state.last_request begun last; request = next_request };
         letters = requests_asked trace count state.keys 0 (replicas state.keys.bounds) state.me _ _ (fits _ refl)
             next_request;
       })
-      (λ fits. record {
+      (λ kept marked fits. record {
         at_work = record {
           latest = next_is state.last_request begun last;
           request = next_request;

@@ -16,9 +16,9 @@ use Rattle.qu_client.specs.declared.state.Stepped.{Stepped}
 use Rattle.qu_client.specs.declared.work.Phase.TheVariants.{Asking, Halted}
 use Rattle.qu_client.specs.declared.work.Work.{Work}
 use Rattle.qu_client.specs.Rounds.{sets_of, request_of, requests_from, asked, halted}
-use Rattle.qu_client.specs.Steps.{stays, goes_on, client_step, client_invoke, next_number, first_work}
+use Rattle.qu_client.specs.Steps.{stays, goes_on, client_step, client_invoke, next_number, first_work, with_verdict}
 use Rattle.qu_client.specs.Sound.{last_number}
-use Rattle.qu_client.proofs.Cases.{with_verdict, step_cases, invoke_cases}
+use Rattle.qu_client.proofs.Cases.{step_cases, invoke_cases}
 use Rattle.qu_rounds.proofs.OnceSent.{StandsIn, none_stands, AreUpTo, OrNew, IsSameRequest, same_request, request_is, next_is}
 use Rattle.qu_runs.specs.Carried.{Asks}
 use Rattle.qu_frames.specs.Formats.{frame_form}
@@ -171,9 +171,9 @@ client_step-round Sent state text within =
     step_cases state (IsRoundIf Sent)
     (λ fits. quiet Sent state None within)
     (λ kept fits. quiet Sent (record state { kept = kept }) None within)
-    (λ kept work replica number round verdict is counting fits.
-    quiet Sent (record state { kept = kept; work = Some (with_verdict work replica verdict) }) None
-    (λ found same. within_as Sent state.me (with_verdict work replica verdict) found same (within work is)))
+    (λ kept work replica number round verdict culled is counting fits.
+    quiet Sent (record state { kept = kept; work = Some (with_verdict work replica verdict culled) }) None
+    (λ found same. within_as Sent state.me (with_verdict work replica verdict culled) found same (within work is)))
     (λ kept end fits. quiet Sent (record state { kept = kept; work = None }) (Some end)
     (λ found same. absurd (none-some found same)))
     (λ kept work replies acted is asking more fits.
@@ -198,10 +198,11 @@ client_invoke-round Sent state operation up_to =
     up_to letter sent (next_number state.last_request) round sets asks is in
     omega arith in
     invoke_cases state operation (IsRoundIf Sent)
-    (λ acted fits. asked_round Sent state
+    (λ kept acted marked fits. asked_round Sent (record state { kept = kept })
     (record (first_work operation (next_number state.last_request)) { acted = acted }) none
-    (sets_of state.keys.bounds state.kept operation) (fits _ refl))
-    (λ fits. halted_round Sent state (first_work operation (next_number state.last_request)) none)
+    (sets_of state.keys.bounds kept operation) (fits _ refl))
+    (λ kept marked fits. halted_round Sent (record state { kept = kept })
+    (first_work operation (next_number state.last_request)) none)
 
 -- ---- letters of others
 
