@@ -96,11 +96,12 @@ requests keys replica (suc count) me work sets =
 
 invoke_requests : (state : ClientState) (op : Op) → SendsNoReply (client_invoke state op)
 invoke_requests state op =
-    invoke_cases state op SendsNoReply (λ acted. requests state.keys 0 (replicas state.keys.bounds) state.me _ _) tt
+    invoke_cases state op SendsNoReply
+    (λ kept acted marked. requests state.keys 0 (replicas state.keys.bounds) state.me _ _) (λ kept marked. tt)
 
 step_requests : (state : ClientState) (text : List ℕ) → SendsNoReply (client_step state text)
 step_requests state text =
-    step_cases state SendsNoReply tt (λ kept. tt) (λ kept work replica number round verdict is counting. tt)
+    step_cases state SendsNoReply tt (λ kept. tt) (λ kept work replica number round verdict culled is counting. tt)
     (λ kept end. tt)
     (λ kept work replies acted is asking more. requests state.keys 0 (replicas state.keys.bounds) state.me _ _)
     (λ kept work replies is asking more. tt) text
