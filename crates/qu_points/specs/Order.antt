@@ -1,16 +1,22 @@
 -- The order of a run's points: where each update and each completed query took effect.
-use Rattle.std.specs.Prelude.{◌≡◌, ℕ, Bool, true, false, ◌==◌, ◌&&◌, ◌||◌, ◌<◌, ◌≤◌, nat_lt, List, [], ◌∷◌, length, Option, None, Some, IsTrue, Contains}
+use Rattle.std.specs.Prelude.{◌≡◌, ◌⊎◌, ℕ, Bool, true, false, ◌&&◌, ◌<◌, ◌≤◌, List, [], ◌∷◌, length, Option, None, Some, IsTrue, Contains}
+use Rattle.std.specs.declared.cmp.Ordering.{Ordering}
+use Rattle.std.specs.Ordering.{nat_cmp, ordering_then, is_lt}
+use Rattle.std.specs.Cmp.Lexicographic.{slice_cmp}
 use Rattle.qu_base.specs.declared.party.ClientId.{ClientId}
 use Rattle.qu_base.specs.declared.party.ObjectId.{ObjectId}
+use Rattle.qu_base.specs.declared.party.Party.TheVariants as party
 use Rattle.qu_objects.specs.declared.act.Method.{Method}
 use Rattle.qu_objects.specs.declared.op.Op.{Op}
 use Rattle.qu_objects.specs.declared.op.Op.TheVariants as op
 use Rattle.qu_objects.specs.declared.op.Outcome.{Outcome}
 use Rattle.qu_objects.specs.declared.op.Outcome.TheVariants as outcome
-use Rattle.qu_objects.specs.Digesting.{act_digest}
+use Rattle.qu_frames.specs.Body.{body_of}
+use Rattle.qu_frames.specs.Formats.{body_form}
 use Rattle.qu_machine.specs.declared.record.OpRecord.{OpRecord}
 use Rattle.qu_machine.specs.declared.record.Point.{Point}
 use Rattle.qu_trace.specs.declared.trace.Trace.{Trace}
+use Rattle.qu_trace.specs.Faulty.{is_faulty}
 use Rattle.qu_trace.specs.Operation.{operations_of}
 use Rattle.qu_world.specs.State.{numbered}
 use Rattle.qu_runs.specs.Decided.{TookEffect}
@@ -24,9 +30,8 @@ pub record DecidesAt (trace : Trace) (client : ClientId) (number : ℕ) (parts :
     (event : ℕ) : Type 0 where
   pub handled : IsHandled trace client number parts
   pub happened : event ≤ length trace.entries
-  pub by_then : TookEffect trace event client (act_digest client number parts)
-  pub not_before : (earlier : ℕ) → earlier < event
-      → ¬ (TookEffect trace earlier client (act_digest client number parts))
+  pub by_then : TookEffect trace event client number parts
+  pub not_before : (earlier : ℕ) → earlier < event → ¬ (TookEffect trace earlier client number parts)
 
 -- ---- queries
 
@@ -55,22 +60,42 @@ abbrev pub effect_of : Trace → OpRecord → ℕ → Op → Type 0
 effect_of trace operation event (op.Act parts) = DecidesAt trace operation.client operation.number parts event
 effect_of trace operation event (op.Query query) = query_effect trace operation event operation.reply
 
--- a point is that of an operation of the trace, at the event at which it took effect
-pub record IsPoint (trace : Trace) (point : Point) : Type 0 where
+-- a point of a correct client is that of an operation of the trace, at the event at which it took effect
+pub record IsOperationPoint (trace : Trace) (point : Point) : Type 0 where
   pub operation : OpRecord
   pub of_trace : Contains (operations_of trace.entries) operation
   pub client : operation.client ≡ point.client
   pub number : operation.number ≡ point.number
   pub op : operation.op ≡ point.op
-  pub correct : false ≡ point.faulty
+  pub correct : is_faulty trace.setup (party.Client point.client) ≡ false
+  pub mark : point.faulty ≡ false
   pub effect : effect_of trace operation point.event operation.op
 
--- by event; points of one event go by client, then number
+-- a point of a faulty client is that of an update of this client, at the event at which it took effect
+pub record IsFaultyPoint (trace : Trace) (point : Point) : Type 0 where
+  pub parts : List (ObjectId × Method)
+  pub op : point.op ≡ op.Act parts
+  pub declared : is_faulty trace.setup (party.Client point.client) ≡ true
+  pub mark : point.faulty ≡ true
+  pub effect : DecidesAt trace point.client point.number parts point.event
+
+abbrev pub IsPoint : Trace → Point → Type 0
+IsPoint trace point = IsOperationPoint trace point ⊎ IsFaultyPoint trace point
+
+-- the bytes by which a request asks for an operation
+abbrev pub body_text : Op → List ℕ
+body_text op = (body_form []).spell (body_of op)
+
+-- by event; points of one event go by client, then number, then the bytes of what is asked for
+abbrev pub point_cmp : Point → Point → Ordering
+point_cmp a b =
+    ordering_then (nat_cmp a.event b.event)
+    (ordering_then (nat_cmp (a.client).0 (b.client).0)
+    (ordering_then (nat_cmp a.number b.number)
+    (slice_cmp nat_cmp (body_text a.op) (body_text b.op))))
+
 abbrev pub is_earlier : Point → Point → Bool
-is_earlier a b =
-    nat_lt a.event b.event
-    || (a.event == b.event
-    && (nat_lt (a.client).0 (b.client).0 || ((a.client).0 == (b.client).0 && nat_lt a.number b.number)))
+is_earlier a b = is_lt (point_cmp a b)
 
 unfoldable pub are_in_order : List Point → Bool
 are_in_order [] = true

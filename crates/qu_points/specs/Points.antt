@@ -1,15 +1,17 @@
 -- The points of some operations of a trace, in their order.
-use Rattle.std.specs.Prelude.{◌≡◌, ℕ, Bool, false, ◌==◌, ◌&&◌, ◌+◌, if◌then◌else◌, List, [], ◌∷◌, min, position, Option, None, Some, option_map, Result, Ok, Err, IsTrue, Contains, ◌⊎◌}
-use Rattle.std.specs.List.{list_any, filter_map}
+use Rattle.std.specs.Prelude.{◌≡◌, ℕ, Bool, true, not, ◌==◌, ◌&&◌, ◌+◌, if◌then◌else◌, List, [], ◌∷◌, ◌++◌, min, position, Option, None, Some, option_map, Result, Ok, Err, IsTrue, Contains, ◌⊎◌}
+use Rattle.std.specs.List.{AllPairs, list_any, filter_map}
 use Rattle.std.specs.Option.{option_eq}
 use Rattle.qu_base.specs.declared.bad_text.BadText.{BadText}
 use Rattle.qu_base.specs.declared.party.ClientId.{ClientId}
 use Rattle.qu_base.specs.declared.party.Digest.{Digest}
 use Rattle.qu_base.specs.declared.party.ObjectId.{ObjectId}
+use Rattle.qu_base.specs.declared.party.Party.TheVariants as party
 use Rattle.qu_stamp.specs.Stamp.{same_digest}
 use Rattle.qu_objects.specs.declared.act.Method.{Method}
 use Rattle.qu_objects.specs.declared.op.Op.TheVariants as op
-use Rattle.qu_objects.specs.Digesting.{act_digest}
+use Rattle.qu_objects.specs.Digesting.{act_digest, PartsFit}
+use Rattle.qu_objects.specs.Parts.{are_parts}
 use Rattle.qu_frames.specs.declared.frame.Body.{Body}
 use Rattle.qu_frames.specs.declared.frame.Body.TheVariants as body
 use Rattle.qu_frames.specs.declared.frame.Frame.{Frame}
@@ -20,12 +22,15 @@ use Rattle.qu_machine.specs.declared.record.OpRecord.{OpRecord}
 use Rattle.qu_machine.specs.declared.record.Point.{Point}
 use Rattle.qu_machine.specs.PointTests.{same_op}
 use Rattle.qu_trace.specs.declared.trace.Entry.{Entry}
+use Rattle.qu_trace.specs.declared.trace.Setup.{Setup}
 use Rattle.qu_trace.specs.declared.trace.Trace.{Trace}
+use Rattle.qu_trace.specs.Faulty.{is_faulty}
 use Rattle.qu_points.specs.declared.answers.Answered.{Answered}
 use Rattle.qu_points.specs.declared.tracked.Tracked.{Tracked}
 use Rattle.qu_runs.specs.Digested.{Request, handled_by}
 use Rattle.qu_runs.specs.Answers.{answers}
-use Rattle.qu_points.specs.Order.{effect_of, is_earlier, are_in_order}
+use Rattle.qu_runs.specs.Decided.{is_on}
+use Rattle.qu_points.specs.Order.{effect_of, body_text, is_earlier, are_in_order}
 
 -- ---- updates
 
@@ -55,14 +60,15 @@ handled_acts trace = filter_map (act_at trace) trace.entries
 abbrev pub is_act : ClientId → ℕ → List (ObjectId × Method) → NamedAct → Bool
 is_act client number parts act = (act.0).0 == client.0 && (act.1 == number && same_op (op.Act act.2) (op.Act parts))
 
--- the candidate is one of the update of this client whose digest is `act`
-abbrev pub is_of_update : ClientId → Digest → Tracked → Bool
-is_of_update client act tracked =
-    (tracked.candidate.stamp.client).0 == client.0 && option_eq same_digest tracked.candidate.stamp.act (Some act)
+-- the candidate is one of the update of this client and these parts whose digest is `act`, on one of its objects
+abbrev pub is_of_update : ClientId → List (ObjectId × Method) → Digest → Tracked → Bool
+is_of_update client parts act tracked =
+    is_on tracked.object parts
+    && ((tracked.candidate.stamp.client).0 == client.0 && option_eq same_digest tracked.candidate.stamp.act (Some act))
 
 -- the mark of the candidate, where it is one of this update
-abbrev pub mark_of : ClientId → Digest → Tracked → Option ℕ
-mark_of client act tracked = if is_of_update client act tracked then tracked.decided else None
+abbrev pub mark_of : ClientId → List (ObjectId × Method) → Digest → Tracked → Option ℕ
+mark_of client parts act tracked = if is_of_update client parts act tracked then tracked.decided else None
 
 -- the earlier of two events, where there are two
 abbrev pub earlier_of : Option ℕ → Option ℕ → Option ℕ
@@ -71,15 +77,16 @@ earlier_of (Some first) None = Some first
 earlier_of (Some first) (Some second) = Some (min first second)
 
 -- the first event after which a candidate of this update was decided
-unfoldable pub first_mark : ClientId → Digest → List Tracked → Option ℕ
-first_mark client act [] = None
-first_mark client act (tracked ∷ later) =
-    earlier_of (mark_of client act tracked) (first_mark client act later)
+unfoldable pub first_mark : ClientId → List (ObjectId × Method) → Digest → List Tracked → Option ℕ
+first_mark client parts act [] = None
+first_mark client parts act (tracked ∷ later) =
+    earlier_of (mark_of client parts act tracked) (first_mark client parts act later)
 
 -- the same of the update that this client asks for under this number, where it is among the handled acts
 abbrev pub act_mark : ClientId → ℕ → List (ObjectId × Method) → List NamedAct → List Tracked → Option ℕ
 act_mark client number parts acts tracked =
-    if list_any (is_act client number parts) acts then first_mark client (act_digest client number parts) tracked
+    if list_any (is_act client number parts) acts
+    then first_mark client parts (act_digest client number parts) tracked
     else None
 
 -- ---- queries
@@ -114,25 +121,68 @@ has_answered asked rounds = list_any (is_answered asked) rounds
 abbrev pub first_answer : Answered → List (List Answered) → Option ℕ
 first_answer asked answers = option_map (λ index. index + 1) (position (has_answered asked) answers)
 
--- ---- the order
+-- ---- what may have a point
+
+-- an act of a faulty client, as an operation that began before the first event and did not end
+abbrev pub as_operation : NamedAct → OpRecord
+as_operation act = record { client = act.0; number = act.1; op = op.Act act.2; invoked = 0; reply = None }
 
 -- the second is another operation
 abbrev pub AreApart : OpRecord → OpRecord → Type 0
 AreApart first second = (first.client).0 ≡ (second.client).0 → first.number ≡ second.number → ⊥
 
+-- the second is another operation, or asks for something else by the same client and number
+abbrev pub AreDistinct : OpRecord → OpRecord → Type 0
+AreDistinct first second = (first.client).0 ≡ (second.client).0 → first.number ≡ second.number
+    → body_text first.op ≡ body_text second.op → ⊥
+
+-- the client of an operation is correct
+abbrev pub IsOfCorrect : Setup → OpRecord → Type 0
+IsOfCorrect setup operation = is_faulty setup (party.Client operation.client) ≡ false
+
+-- it is an act of a faulty client, among these
+pub record IsFaultyAct (setup : Setup) (acts : List NamedAct) (operation : OpRecord) : Type 0 where
+  pub act : NamedAct
+  pub of_list : Contains acts act
+  pub declared : is_faulty setup (party.Client act.0) ≡ true
+  pub is : operation ≡ as_operation act
+
+-- the operations, and besides them the acts of faulty clients among these, each once
+pub record AddsFaultyActs (setup : Setup) (acts : List NamedAct) (old new : List OpRecord) : Type 0 where
+  pub distinct : AllPairs AreDistinct new
+  pub sound : (operation : OpRecord) → Contains new operation → Contains old operation ⊎ IsFaultyAct setup acts operation
+  pub kept : (operation : OpRecord) → Contains old operation → Contains new operation
+  pub complete : (act : NamedAct) → Contains acts act → is_faulty setup (party.Client act.0) ≡ true
+      → Contains new (as_operation act)
+
+-- an act of a faulty client that is none of the earlier ones, as an operation
+abbrev pub new_act : Setup → List NamedAct → NamedAct → List OpRecord
+new_act setup earlier act =
+    if is_faulty setup (party.Client act.0) && not (list_any (is_act act.0 act.1 act.2) earlier)
+    then as_operation act ∷ []
+    else []
+
+-- the numbers of an act fit their bytes
+abbrev pub ActFits : NamedAct → Type 0
+ActFits act = IsTrue (are_parts act.2) × PartsFit act.2
+
+-- ---- the order
+
 -- the point of an operation at this event
-abbrev pub point_at : OpRecord → ℕ → Point
-point_at operation event =
-    record { event = event; client = operation.client; number = operation.number; op = operation.op; faulty = false }
+abbrev pub point_at : Setup → OpRecord → ℕ → Point
+point_at setup operation event = record {
+  event = event;
+  client = operation.client;
+  number = operation.number;
+  op = operation.op;
+  faulty = is_faulty setup (party.Client operation.client);
+}
 
 -- a point of one of these operations
 pub record IsPointOf (trace : Trace) (operations : List OpRecord) (point : Point) : Type 0 where
   pub operation : OpRecord
   pub of_list : Contains operations operation
-  pub client : operation.client ≡ point.client
-  pub number : operation.number ≡ point.number
-  pub op : operation.op ≡ point.op
-  pub correct : false ≡ point.faulty
+  pub is_point : point ≡ point_at trace.setup operation point.event
   pub effect : effect_of trace operation point.event operation.op
 
 pub record ArePointsOf (trace : Trace) (operations : List OpRecord) (points : List Point) : Type 0 where
@@ -149,5 +199,6 @@ with_point point (first ∷ later) =
 -- the point of the operation is added, where it took effect
 abbrev pub AddsPoint : Trace → OpRecord → List Point → List Point → Type 0
 AddsPoint trace operation old new =
-    ((event : ℕ) × effect_of trace operation event operation.op × (new ≡ with_point (point_at operation event) old))
+    ((event : ℕ) × effect_of trace operation event operation.op
+    × (new ≡ with_point (point_at trace.setup operation event) old))
     ⊎ (((event : ℕ) → ¬ (effect_of trace operation event operation.op)) × (new ≡ old))

@@ -3,6 +3,7 @@ ghost use Rattle.std.specs.Option.{option_copied};
 ghost use Rattle.qu_frames.specs.Decoding.{decoded};
 ghost use Rattle.qu_world.specs.State.{numbered};
 ghost use Rattle.qu_runs.specs.Answers.{delivered_round, round_in};
+ghost use Rattle.qu_runs.specs.Decided.{is_on};
 ghost use Rattle.qu_points.specs.Order.{query_effect, effect_of, AnswersFirst};
 ghost use Rattle.qu_points.specs.Facts.{AreFacts};
 ghost use Rattle.qu_points.specs.Points.{mark_of, earlier_of, first_mark, act_mark, answered_at};
@@ -11,7 +12,7 @@ use super::acts::is_handled;
 use super::answers::{Answered, first_answer, round_answered};
 use super::facts::Facts;
 use super::tracked::Tracked;
-use qu_base::{ClientId, Digest, List, NoMemory};
+use qu_base::{ClientId, Digest, List, NoMemory, ObjectId};
 use qu_machine::OpRecord;
 use qu_objects::{Act, Op, Outcome, act_digest};
 use qu_trace::{Entry, Event, Trace};
@@ -20,26 +21,33 @@ use std::alloc::Global;
 
 /// The first event after which a candidate of the update with this digest was decided.
 #[tactic(auto, using(crate::proofs::Firsts::first_mark_more, crate::proofs::Firsts::first_mark_end))]
-fn first_mark(tracked: &[Tracked], client: ClientId, act: Digest) -> Option<u64>
-    ensures { result ≡ first_mark client act tracked.now }
+fn first_mark(tracked: &[Tracked], client: ClientId, act: &Act, digest: Digest) -> Option<u64>
+    ensures { result ≡ first_mark client act.now digest tracked.now }
 {
     let mut first = None;
     for candidate in tracked {
-        first = earlier(first, mark_of(candidate, client, act));
+        first = earlier(first, mark_of(candidate, client, act, digest));
     }
     first
 }
 
 /// The mark of the candidate, where it is one of this update.
-fn mark_of(tracked: &Tracked, client: ClientId, act: Digest) -> Option<u64>
-    ensures { result ≡ mark_of client act tracked.now }
+fn mark_of(tracked: &Tracked, client: ClientId, act: &Act, digest: Digest) -> Option<u64>
+    ensures { result ≡ mark_of client act.now digest tracked.now }
 {
     let stamp = &tracked.candidate.stamp;
-    if stamp.client == client && stamp.act == Some(act) {
+    if is_on(tracked.object, act) && stamp.client == client && stamp.act == Some(digest) {
         tracked.decided
     } else {
         None
     }
+}
+
+/// Whether the object is one of those that the act names.
+fn is_on(object: ObjectId, act: &Act) -> bool
+    ensures { result ≡ is_on object act.now }
+{
+    act.parts().iter().any(|part| part.0 == object)
 }
 
 /// The earlier of two events, where there are two.
@@ -89,7 +97,7 @@ fn act_mark(
         return Ok(None);
     }
     let digest = act_digest(alloc, operation.client, operation.number, act)?;
-    Ok(first_mark(tracked, operation.client, digest))
+    Ok(first_mark(tracked, operation.client, act, digest))
 }
 
 /// The event at which a query took effect, None where it did not complete.

@@ -3,12 +3,15 @@
 
 mod acts;
 mod answers;
+mod before;
 mod effects;
 mod facts;
+mod faulty;
 mod news;
 mod order;
 mod replay;
 mod tracked;
 mod tracker;
 
+pub use faulty::parts_fit;
 pub use order::printed_order;
