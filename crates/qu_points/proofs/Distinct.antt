@@ -11,7 +11,7 @@ use Rattle.qu_trace.specs.declared.event.Event.{Event}
 use Rattle.qu_trace.specs.declared.event.Event.TheVariants.{Invoke, Deliver, Tick, Inject}
 use Rattle.qu_trace.specs.declared.trace.Entry.{Entry}
 use Rattle.qu_trace.specs.Operation.{invokes, begun_by, record_of, begins_at, operations_from, operations_of}
-use Rattle.qu_points.specs.Points.{AreApart}
+use Rattle.qu_points.specs.Points.{AreApart, AreDistinct}
 use Rattle.qu_machine.proofs.Equalities.{client_is}
 
 -- an operation that began after these entries has a later number than all operations of its client there
@@ -102,3 +102,7 @@ are_operations earlier at (entry ∷ later) =
 
 pub operations_apart : (entries : List Entry) → AllPairs AreApart (operations_of entries)
 operations_apart entries = (are_operations [] 1 entries).apart
+
+pub operations_distinct : (entries : List Entry) → AllPairs AreDistinct (operations_of entries)
+operations_distinct entries i j default order below clients numbers bodies =
+    operations_apart entries i j default order below clients numbers

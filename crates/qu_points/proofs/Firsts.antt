@@ -5,6 +5,8 @@ use Rattle.std.proofs.lemmas.Option.{none-some, same_Some}
 use Rattle.std.proofs.lemmas.List.{drop_more, drop_all}
 use Rattle.qu_base.specs.declared.party.ClientId.{ClientId}
 use Rattle.qu_base.specs.declared.party.Digest.{Digest}
+use Rattle.qu_base.specs.declared.party.ObjectId.{ObjectId}
+use Rattle.qu_objects.specs.declared.act.Method.{Method}
 use Rattle.qu_points.specs.declared.tracked.Tracked.{Tracked}
 use Rattle.qu_points.specs.Points.{is_of_update, mark_of, earlier_of, first_mark}
 
@@ -21,39 +23,39 @@ earlier_none None = refl
 earlier_none (Some a) = refl
 
 -- one candidate more
-pub first_mark_more : (client : ClientId) (act : Digest) (all : List Tracked) (index : ℕ) (default : Tracked)
+pub first_mark_more : (client : ClientId) (parts : List (ObjectId × Method)) (act : Digest) (all : List Tracked) (index : ℕ) (default : Tracked)
     (so_far : Option ℕ) → index < length all
-    → earlier_of (earlier_of so_far (mark_of client act (get_or all index default)))
-    (first_mark client act (drop (index + 1) all)) ≡ earlier_of so_far (first_mark client act (drop index all))
+    → earlier_of (earlier_of so_far (mark_of client parts act (get_or all index default)))
+    (first_mark client parts act (drop (index + 1) all)) ≡ earlier_of so_far (first_mark client parts act (drop index all))
 unfolding first_mark
-first_mark_more client act all index default so_far below =
-    earlier_assoc so_far (mark_of client act (get_or all index default))
-    (first_mark client act (drop (index + 1) all)) ∙
-    ap (λ (it : List Tracked). earlier_of so_far (first_mark client act it)) (sym (drop_more all index default below))
+first_mark_more client parts act all index default so_far below =
+    earlier_assoc so_far (mark_of client parts act (get_or all index default))
+    (first_mark client parts act (drop (index + 1) all)) ∙
+    ap (λ (it : List Tracked). earlier_of so_far (first_mark client parts act it)) (sym (drop_more all index default below))
 
-pub first_mark_end : (client : ClientId) (act : Digest) (all : List Tracked) (index : ℕ) (so_far : Option ℕ)
-    → length all ≤ index → earlier_of so_far (first_mark client act (drop index all)) ≡ so_far
+pub first_mark_end : (client : ClientId) (parts : List (ObjectId × Method)) (act : Digest) (all : List Tracked) (index : ℕ) (so_far : Option ℕ)
+    → length all ≤ index → earlier_of so_far (first_mark client parts act (drop index all)) ≡ so_far
 unfolding first_mark
-first_mark_end client act all index so_far past =
-    ap (λ (it : List Tracked). earlier_of so_far (first_mark client act it)) (drop_all index all past)
+first_mark_end client parts act all index so_far past =
+    ap (λ (it : List Tracked). earlier_of so_far (first_mark client parts act it)) (drop_all index all past)
     ∙ earlier_none so_far
 
 -- ---- what the first mark is
 
 -- a candidate of the update with this mark
-pub record HasMark (client : ClientId) (act : Digest) (all : List Tracked) (event : ℕ) : Type 0 where
+pub record HasMark (client : ClientId) (parts : List (ObjectId × Method)) (act : Digest) (all : List Tracked) (event : ℕ) : Type 0 where
   pub place : ℕ
   pub below : place < length all
   pub found : Tracked
   pub at : get_or all place found ≡ found
-  pub of_update : is_of_update client act found ≡ true
+  pub of_update : is_of_update client parts act found ≡ true
   pub mark : found.decided ≡ Some event
 
-mark_of_some : (client : ClientId) (act : Digest) (tracked : Tracked) (event : ℕ)
-    → mark_of client act tracked ≡ Some event → (is_of_update client act tracked ≡ true)
+mark_of_some : (client : ClientId) (parts : List (ObjectId × Method)) (act : Digest) (tracked : Tracked) (event : ℕ)
+    → mark_of client parts act tracked ≡ Some event → (is_of_update client parts act tracked ≡ true)
     × (tracked.decided ≡ Some event)
-mark_of_some client act tracked event mark =
-    elim (cases_Bool (is_of_update client act tracked)) [
+mark_of_some client parts act tracked event mark =
+    elim (cases_Bool (is_of_update client parts act tracked)) [
       | inl of_it ↦ (of_it, sym (ap (λ (test : Bool). cond test tracked.decided None) of_it) ∙ mark)
       | inr other ↦ absurd (none-some event (sym (ap (λ (test : Bool). cond test tracked.decided None) other) ∙ mark))
     ]
@@ -72,9 +74,9 @@ earlier_cases (Some a) (Some b) event is =
           inl (ap (λ (it : ℕ). Some it) (sym least) ∙ is)
     ]
 
-has_mark-later : (client : ClientId) (act : Digest) (first : Tracked) (later : List Tracked) (event : ℕ)
-    → HasMark client act later event → HasMark client act (first ∷ later) event
-has_mark-later client act first later event has = record {
+has_mark-later : (client : ClientId) (parts : List (ObjectId × Method)) (act : Digest) (first : Tracked) (later : List Tracked) (event : ℕ)
+    → HasMark client parts act later event → HasMark client parts act (first ∷ later) event
+has_mark-later client parts act first later event has = record {
   place = suc has.place;
   below = omega (arith, has.below);
   found = has.found;
@@ -83,17 +85,17 @@ has_mark-later client act first later event has = record {
   mark = has.mark;
 }
 
-pub first_mark_found : (client : ClientId) (act : Digest) (all : List Tracked) (event : ℕ)
-    → first_mark client act all ≡ Some event → HasMark client act all event
+pub first_mark_found : (client : ClientId) (parts : List (ObjectId × Method)) (act : Digest) (all : List Tracked) (event : ℕ)
+    → first_mark client parts act all ≡ Some event → HasMark client parts act all event
 unfolding first_mark
-first_mark_found client act [] event is = absurd (none-some event is)
-first_mark_found client act (tracked ∷ later) event is =
-    elim (earlier_cases (mark_of client act tracked) (first_mark client act later) event is) [
+first_mark_found client parts act [] event is = absurd (none-some event is)
+first_mark_found client parts act (tracked ∷ later) event is =
+    elim (earlier_cases (mark_of client parts act tracked) (first_mark client parts act later) event is) [
       | inl here ↦
-          let parts : (is_of_update client act tracked ≡ true) × (tracked.decided ≡ Some event) =
-          mark_of_some client act tracked event here in
-          record { place = 0; below = omega arith; found = tracked; at = refl; of_update = parts.0; mark = parts.1 }
-      | inr there ↦ has_mark-later client act tracked later event (first_mark_found client act later event there)
+          let both : (is_of_update client parts act tracked ≡ true) × (tracked.decided ≡ Some event) =
+          mark_of_some client parts act tracked event here in
+          record { place = 0; below = omega arith; found = tracked; at = refl; of_update = both.0; mark = both.1 }
+      | inr there ↦ has_mark-later client parts act tracked later event (first_mark_found client parts act later event there)
     ]
 
 -- there is a first mark, and it is not after this one
@@ -116,15 +118,15 @@ earlier_right (Some a) (Some b) event up_to =
     let order : up_to.0 ≤ event = up_to.2 in
     (min a b, refl, omega arith)
 
-pub first_mark_least : (client : ClientId) (act : Digest) (all : List Tracked) (place : ℕ) (found : Tracked)
-    (event : ℕ) → place < length all → get_or all place found ≡ found → is_of_update client act found ≡ true
-    → found.decided ≡ Some event → IsUpTo (first_mark client act all) event
+pub first_mark_least : (client : ClientId) (parts : List (ObjectId × Method)) (act : Digest) (all : List Tracked) (place : ℕ) (found : Tracked)
+    (event : ℕ) → place < length all → get_or all place found ≡ found → is_of_update client parts act found ≡ true
+    → found.decided ≡ Some event → IsUpTo (first_mark client parts act all) event
 unfolding first_mark
-first_mark_least client act [] place found event below at of_it mark = absurd (omega arith)
-first_mark_least client act (tracked ∷ later) zero found event below at of_it mark =
-    let here : mark_of client act tracked ≡ Some event =
-    ap (λ (it : Tracked). mark_of client act it) at ∙ ap (λ (test : Bool). cond test found.decided None) of_it ∙ mark in
-    earlier_left (mark_of client act tracked) (first_mark client act later) event (event, here, omega arith)
-first_mark_least client act (tracked ∷ later) (suc place) found event below at of_it mark =
-    earlier_right (mark_of client act tracked) (first_mark client act later) event
-    (first_mark_least client act later place found event (omega arith) at of_it mark)
+first_mark_least client parts act [] place found event below at of_it mark = absurd (omega arith)
+first_mark_least client parts act (tracked ∷ later) zero found event below at of_it mark =
+    let here : mark_of client parts act tracked ≡ Some event =
+    ap (λ (it : Tracked). mark_of client parts act it) at ∙ ap (λ (test : Bool). cond test found.decided None) of_it ∙ mark in
+    earlier_left (mark_of client parts act tracked) (first_mark client parts act later) event (event, here, omega arith)
+first_mark_least client parts act (tracked ∷ later) (suc place) found event below at of_it mark =
+    earlier_right (mark_of client parts act tracked) (first_mark client parts act later) event
+    (first_mark_least client parts act later place found event (omega arith) at of_it mark)

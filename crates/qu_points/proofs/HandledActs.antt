@@ -1,5 +1,5 @@
 -- The acts that replicas handled, as they are listed: each with its client and its number.
-use Rattle.std.proofs.Common.{◌≡◌, ℕ, Bool, true, List, [], ◌∷◌, Option, None, Some, refl, ap, ◌∙◌, arith, inl, inr}
+use Rattle.std.proofs.Common.{◌≡◌, ℕ, Bool, true, List, [], ◌∷◌, Option, None, Some, refl, ap, subst, ◌∙◌, arith, inl, inr}
 use Rattle.std.specs.Prelude.{◌==◌, ◌&&◌, Contains}
 use Rattle.std.specs.List.{list_any, filter_map, cons_option}
 use Rattle.std.proofs.lemmas.Bool.{false≢true, or_cases, or_left, or_right, and_parts, and_from, eq-eqb, eqb-true}
@@ -11,7 +11,7 @@ use Rattle.qu_history.specs.declared.sets.SetOf.{SetOf}
 use Rattle.qu_objects.specs.declared.act.Method.{Method}
 use Rattle.qu_objects.specs.declared.op.Op.TheVariants as op
 use Rattle.qu_machine.specs.PointTests.{same_op}
-use Rattle.qu_machine.proofs.Equalities.{decides_op, client_is}
+use Rattle.qu_machine.proofs.Equalities.{Passes, passes_from_any, decides_op, client_is}
 use Rattle.qu_frames.specs.declared.frame.Body.{Body}
 use Rattle.qu_frames.specs.declared.frame.Body.TheVariants as body
 use Rattle.qu_trace.specs.declared.trace.Trace.{Trace}
@@ -147,3 +147,40 @@ among_handled trace client number parts some =
             body = body.Act (acts i);
           }));
     }
+
+-- ---- listed acts
+
+act_is : (act other : NamedAct) → is_act act.0 act.1 act.2 other ≡ true → other ≡ act
+act_is act other same =
+    let one : (((other.0).0 == (act.0).0) ≡ true) × ((other.1 == act.1 && same_op (op.Act other.2) (op.Act act.2)) ≡ true) =
+    and_parts _ _ same in
+    let two : ((other.1 == act.1) ≡ true) × (same_op (op.Act other.2) (op.Act act.2) ≡ true) = and_parts _ _ one.1 in
+    let client : other.0 ≡ act.0 = client_is other.0 act.0 (eqb-true _ _ one.0) in
+    let number : other.1 ≡ act.1 = eqb-true _ _ two.0 in
+    let parts : other.2 ≡ act.2 = equal_parts other.2 act.2 two.1 in
+    (λ i. (client i, number i, parts i))
+
+pub listed : (acts : List NamedAct) (act : NamedAct) → list_any (is_act act.0 act.1 act.2) acts ≡ true
+    → Contains acts act
+listed acts act some =
+    let it : Passes (is_act act.0 act.1 act.2) acts = passes_from_any (is_act act.0 act.1 act.2) acts some in
+    subst (λ (one : NamedAct). Contains acts one) (act_is act it.found it.passes) it.of_list
+
+pub among : (acts : List NamedAct) (act : NamedAct) → Contains acts act
+    → list_any (is_act act.0 act.1 act.2) acts ≡ true
+among [] act held = absurd (omega (arith, held.1))
+among (first ∷ later) act held =
+    elim (Contains-append_cases (first ∷ []) later act held) [
+      | inl here ↦
+          ap (λ (it : NamedAct). list_any (is_act act.0 act.1 act.2) (it ∷ later)) (only_one first act here) ∙
+          or_left (is_act act.0 act.1 act.2 act) (list_any (is_act act.0 act.1 act.2) later)
+          (and_from _ _ (eq-eqb (act.0).0 (act.0).0 refl)
+          (and_from _ _ (eq-eqb act.1 act.1 refl) (parts-self act.2)))
+      | inr there ↦ or_right (is_act act.0 act.1 act.2 first) (list_any (is_act act.0 act.1 act.2) later)
+          (among later act there)
+    ]
+
+pub handled_listed : (trace : Trace) (client : ClientId) (number : ℕ) (parts : List (ObjectId × Method))
+    → IsHandled trace client number parts → Contains (handled_acts trace) (client, number, parts)
+handled_listed trace client number parts handled =
+    listed (handled_acts trace) (client, number, parts) (handled_among trace client number parts handled)

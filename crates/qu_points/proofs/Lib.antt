@@ -15,3 +15,7 @@ pub mod Rising
 pub mod HandledActs
 pub mod Filtered
 pub mod Folding
+pub mod Correct
+pub mod Bodies
+pub mod FaultyActs
+pub mod Compared

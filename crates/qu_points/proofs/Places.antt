@@ -1,9 +1,9 @@
 -- Where in a list a test holds first.
-use Rattle.std.proofs.Common.{◌≡◌, ℕ, ◌+◌, ◌<◌, ◌≤◌, Bool, false, not, cond, List, [], ◌∷◌, length, get_or, None, Some, ap, ◌∙◌, arith, inl, inr}
-use Rattle.std.specs.Prelude.{position, unwrap_or}
+use Rattle.std.proofs.Common.{◌≡◌, ℕ, ◌+◌, ◌<◌, ◌≤◌, Bool, true, false, not, cond, List, [], ◌∷◌, length, get_or, drop, None, ap, sym, ◌∙◌, arith, inl, inr}
+use Rattle.std.specs.Prelude.{position}
 use Rattle.std.specs.List.{position_or_len}
-use Rattle.std.proofs.lemmas.Bool.{cases_Bool, cases_lt, lt-ltb, le-ltb}
-use Rattle.std.proofs.lemmas.List.{get_or_default}
+use Rattle.std.proofs.lemmas.Bool.{cases_Bool}
+use Rattle.std.proofs.lemmas.List.{get_or_default, drop_more}
 use Rattle.qu_machine.proofs.Firsts as firsts
 use Rattle.qu_machine.proofs.Firsts.{at_contains}
 
@@ -29,16 +29,32 @@ place_within test (first ∷ later) =
           omega arith
     ]
 
--- the place, with the length where the test holds nowhere
-pub unwrapped_place : {X : Type 0} (test : X → Bool) (all : List X) → unwrap_or (position test all)
-    (length all) ≡ position_or_len test all
-unwrapped_place test all =
-    elim (cases_lt (position_or_len test all) (length all)) [
-      | inl inside ↦ ap (λ (it : Bool). unwrap_or (cond it (Some (position_or_len test all)) None) (length all))
-          (lt-ltb _ _ inside)
-      | inr past ↦
-          let within : position_or_len test all ≤ length all = place_within test all in
-          let same : length all ≡ position_or_len test all = omega arith in
-          ap (λ (it : Bool). unwrap_or (cond it (Some (position_or_len test all)) None) (length all))
-          (le-ltb _ _ past) ∙ same
-    ]
+-- ---- a search from the front
+
+module _ {X : Type 0} (test : X → Bool) (all : List X) (index : ℕ)
+    (so_far : position_or_len test all ≡ index + position_or_len test (drop index all)) where
+  -- it ends where the test holds
+  pub place_here : (item : X) → index < length all → item ≡ get_or all index item → test item ≡ true
+      → position_or_len test all ≡ index
+  place_here item below is here =
+      let found : position_or_len test (drop index all) ≡ 0 =
+      ap (position_or_len test) (drop_more all index item below)
+      ∙ ap (λ (it : Bool). cond (not it) (1 + position_or_len test (drop (index + 1) all)) 0)
+      (ap test (sym is) ∙ here) in
+      omega arith
+
+  -- it goes on where it does not
+  pub place_next : (item : X) → index < length all → item ≡ get_or all index item → test item ≡ false
+      → position_or_len test all ≡ (index + 1) + position_or_len test (drop (index + 1) all)
+  place_next item below is not_here =
+      let found : position_or_len test (drop index all) ≡ 1 + position_or_len test (drop (index + 1) all) =
+      ap (position_or_len test) (drop_more all index item below)
+      ∙ ap (λ (it : Bool). cond (not it) (1 + position_or_len test (drop (index + 1) all)) 0)
+      (ap test (sym is) ∙ not_here) in
+      omega arith
+
+  -- at the end it holds nowhere
+  pub place_past : length all ≤ index → length all ≡ position_or_len test all
+  place_past past =
+      let within : position_or_len test all ≤ length all = place_within test all in
+      omega arith

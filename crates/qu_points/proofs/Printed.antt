@@ -1,16 +1,19 @@
 -- The points of the operations of a trace, one operation after another.
-use Rattle.std.proofs.Common.{◌≡◌, ℕ, ◌+◌, ◌<◌, ◌≤◌, List, [], ◌∷◌, ◌++◌, length, get_or, take, refl, sym, ap, subst, ◌∙◌, arith, inl, inr, get_or-take}
+use Rattle.std.proofs.Common.{◌≡◌, ℕ, ◌+◌, ◌<◌, ◌≤◌, true, false, List, [], ◌∷◌, ◌++◌, length, get_or, take, refl, sym, ap, subst, ◌∙◌, arith, inl, inr, get_or-take}
 use Rattle.std.specs.Prelude.{Contains}
 use Rattle.std.specs.List.{All, AllPairs}
 use Rattle.std.proofs.lemmas.List.{take_more, take_all, length-take-le, get_or_default}
 use Rattle.std.proofs.lemmas.List.Elements.{All-contains, Contains-append_left, Contains-push, Contains-push_cases}
 use Rattle.qu_base.specs.declared.party.ClientId.{ClientId}
+use Rattle.qu_base.specs.declared.party.Party.TheVariants as party
 use Rattle.qu_machine.specs.declared.record.OpRecord.{OpRecord}
 use Rattle.qu_machine.specs.declared.record.Point.{Point}
 use Rattle.qu_trace.specs.declared.trace.Trace.{Trace}
+use Rattle.qu_trace.specs.Faulty.{is_faulty}
 use Rattle.qu_trace.specs.Operation.{operations_of}
-use Rattle.qu_points.specs.Order.{effect_of, are_in_order, IsPrintedOrder}
-use Rattle.qu_points.specs.Points.{AreApart, point_at, IsPointOf, ArePointsOf, AddsPoint, with_point}
+use Rattle.qu_points.specs.Order.{DecidesAt, effect_of, body_text, is_earlier, are_in_order, IsOperationPoint, IsFaultyPoint, IsPoint, IsPrintedOrder}
+use Rattle.qu_points.specs.Points.{NamedAct, as_operation, handled_acts, AreDistinct, IsOfCorrect, IsFaultyAct, AddsFaultyActs, point_at, IsPointOf, ArePointsOf, AddsPoint, with_point}
+use Rattle.qu_points.proofs.HandledActs.{handled_listed}
 use Rattle.qu_points.proofs.Taking.{effect_once}
 use Rattle.qu_points.proofs.Sorted.{is_earlier-other, contains_with_point, with_point_contains, with_point_keeps, in_order-with_point}
 use Rattle.qu_runs.proofs.Small.{same_point}
@@ -33,10 +36,7 @@ point_later : (trace : Trace) (before : List OpRecord) (operation : OpRecord) (p
 point_later trace before operation point is = record {
   operation = is.operation;
   of_list = Contains-append_left before (operation ∷ []) is.operation is.of_list;
-  client = is.client;
-  number = is.number;
-  op = is.op;
-  correct = is.correct;
+  is_point = is.is_point;
   effect = is.effect;
 }
 
@@ -56,10 +56,7 @@ points_skip trace before operation points are none = record {
         (record {
           operation = is.operation;
           of_list = earlier;
-          client = is.client;
-          number = is.number;
-          op = is.op;
-          correct = is.correct;
+          is_point = is.is_point;
           effect = is.effect;
         })
     | inr same ↦ absurd (none point.event (effect_along trace is.operation operation point.event (sym same) is.effect))
@@ -69,61 +66,62 @@ points_skip trace before operation points are none = record {
 -- the point of the operation is that at the event at which it took effect
 point_is : (trace : Trace) (before : List OpRecord) (operation : OpRecord) (event : ℕ) (point : Point)
     → effect_of trace operation event operation.op → (is : IsPointOf trace (before ++ operation ∷ []) point)
-    → operation ≡ is.operation → point_at operation event ≡ point
+    → operation ≡ is.operation → point_at trace.setup operation event ≡ point
 point_is trace before operation event point effect is same =
-    same_point (point_at operation event) point
+    ap (point_at trace.setup operation)
     (effect_once trace operation event point.event operation.op effect
     (effect_along trace is.operation operation point.event (sym same) is.effect))
-    (ap (λ (it : OpRecord). it.client) same ∙ is.client)
-    (ap (λ (it : OpRecord). it.number) same ∙ is.number)
-    (ap (λ (it : OpRecord). it.op) same ∙ is.op)
-    is.correct
+    ∙ ap (λ (it : OpRecord). point_at trace.setup it point.event) same ∙ sym is.is_point
+
+-- points of distinct operations are one before the other
+points_differ : (trace : Trace) (first second : Point) (operation other : OpRecord) (event turn : ℕ)
+    → first ≡ point_at trace.setup operation event → second ≡ point_at trace.setup other turn
+    → AreDistinct operation other → is_earlier first second ≡ false → is_earlier second first ≡ true
+points_differ trace first second operation other event turn is besides distinct not_before =
+    is_earlier-other first second not_before (λ clients numbers bodies.
+    distinct (ap (λ (it : Point). (it.client).0) (sym is) ∙ clients ∙ ap (λ (it : Point). (it.client).0) besides)
+    (ap (λ (it : Point). it.number) (sym is) ∙ numbers ∙ ap (λ (it : Point). it.number) besides)
+    (ap (λ (it : Point). body_text it.op) (sym is) ∙ bodies ∙ ap (λ (it : Point). body_text it.op) besides))
 
 points_add : (trace : Trace) (before : List OpRecord) (operation : OpRecord) (event : ℕ) (points : List Point)
-    → ArePointsOf trace before points → All (λ first. AreApart first operation) before
+    → ArePointsOf trace before points → All (λ first. AreDistinct first operation) before
     → effect_of trace operation event operation.op → ArePointsOf trace (before ++ operation ∷ [])
-    (with_point (point_at operation event) points)
-points_add trace before operation event points are apart effect = record {
-  in_order = in_order-with_point (point_at operation event) points are.in_order
-      (λ other held not_before. is_earlier-other other (point_at operation event) not_before
-      (λ same_client same_number.
+    (with_point (point_at trace.setup operation event) points)
+points_add trace before operation event points are distinct effect = record {
+  in_order = in_order-with_point (point_at trace.setup operation event) points are.in_order
+      (λ other held not_before.
       let is : IsPointOf trace before other = are.sound other held in
-      All-contains (λ first. AreApart first operation) before is.operation apart is.of_list
-      (ap (λ (it : ClientId). it.0) is.client ∙ same_client) (is.number ∙ same_number)));
-  sound = λ point held. elim (contains_with_point (point_at operation event) points point held) [
+      points_differ trace other (point_at trace.setup operation event) is.operation operation other.event event
+      is.is_point refl
+      (All-contains (λ first. AreDistinct first operation) before is.operation distinct is.of_list) not_before);
+  sound = λ point held. elim (contains_with_point (point_at trace.setup operation event) points point held) [
     | inl same ↦ subst (λ (it : Point). IsPointOf trace (before ++ operation ∷ []) it) same (record {
       operation = operation;
       of_list = Contains-push before operation;
-      client = refl;
-      number = refl;
-      op = refl;
-      correct = refl;
+      is_point = refl;
       effect = effect;
     })
     | inr there ↦ point_later trace before operation point (are.sound point there)
   ];
   complete = λ point is. elim (Contains-push_cases before operation is.operation is.of_list) [
-    | inl earlier ↦ with_point_keeps (point_at operation event) points point
+    | inl earlier ↦ with_point_keeps (point_at trace.setup operation event) points point
         (are.complete point
         (record {
           operation = is.operation;
           of_list = earlier;
-          client = is.client;
-          number = is.number;
-          op = is.op;
-          correct = is.correct;
+          is_point = is.is_point;
           effect = is.effect;
         }))
-    | inr same ↦ subst (λ (it : Point). Contains (with_point (point_at operation event) points) it)
+    | inr same ↦ subst (λ (it : Point). Contains (with_point (point_at trace.setup operation event) points) it)
         (point_is trace before operation event point effect is same)
-        (with_point_contains (point_at operation event) points)
+        (with_point_contains (point_at trace.setup operation event) points)
   ];
 }
 
-apart_before : (operations : List OpRecord) (index : ℕ) (default : OpRecord) → AllPairs AreApart operations
-    → index < length operations → All (λ first. AreApart first (get_or operations index default))
+distinct_before : (operations : List OpRecord) (index : ℕ) (default : OpRecord) → AllPairs AreDistinct operations
+    → index < length operations → All (λ first. AreDistinct first (get_or operations index default))
     (take index operations)
-apart_before operations index default apart below place other before =
+distinct_before operations index default apart below place other before =
     let size : length (take index operations) ≡ index = length-take-le index operations (omega arith) in
     let earlier : place < index = omega arith in
     let first : get_or (take index operations) place other ≡ get_or operations place other =
@@ -134,16 +132,16 @@ apart_before operations index default apart below place other before =
 
 -- one operation more
 pub points_next : (trace : Trace) (operations : List OpRecord) (index : ℕ) (operation : OpRecord)
-    (old new : List Point) → AllPairs AreApart operations → index < length operations
+    (old new : List Point) → AllPairs AreDistinct operations → index < length operations
     → operation ≡ get_or operations index operation → ArePointsOf trace (take index operations) old
     → AddsPoint trace operation old new → ArePointsOf trace (take (index + 1) operations) new
 points_next trace operations index operation old new apart below is are adds =
     let before : List OpRecord = take index operations in
     let more : take (index + 1) operations ≡ before ++ operation ∷ [] =
     take_more operations index operation below ∙ ap (λ (it : OpRecord). before ++ it ∷ []) (sym is) in
-    let others : All (λ first. AreApart first operation) before =
-    subst (λ (it : OpRecord). All (λ first. AreApart first it) before) (sym is)
-    (apart_before operations index operation apart below) in
+    let others : All (λ first. AreDistinct first operation) before =
+    subst (λ (it : OpRecord). All (λ first. AreDistinct first it) before) (sym is)
+    (distinct_before operations index operation apart below) in
     subst (λ (it : List OpRecord). ArePointsOf trace it new) (sym more) (elim adds [
       | inl added ↦ subst (ArePointsOf trace (before ++ operation ∷ [])) (sym added.2)
           (points_add trace before operation added.0 old are others added.1)
@@ -157,7 +155,7 @@ points_all trace operations index points past are =
     subst (λ (it : List OpRecord). ArePointsOf trace it points) (take_all index operations past) are
 
 pub adds_some : (trace : Trace) (operation : OpRecord) (event : ℕ) (point : Point) (old new : List Point)
-    → effect_of trace operation event operation.op → point ≡ point_at operation event → new ≡ with_point point old
+    → effect_of trace operation event operation.op → point ≡ point_at trace.setup operation event → new ≡ with_point point old
     → AddsPoint trace operation old new
 adds_some trace operation event point old new effect is added =
     inl (event, effect, added ∙ ap (λ (it : Point). with_point it old) is)
@@ -166,29 +164,88 @@ pub adds_none : (trace : Trace) (operation : OpRecord) (old new : List Point)
     → ((event : ℕ) → ¬ (effect_of trace operation event operation.op)) → new ≡ old → AddsPoint trace operation old new
 adds_none trace operation old new none same = inr (none, same)
 
--- the points of all operations of a trace are its printed order
-pub printed : (trace : Trace) (operations : List OpRecord) (points : List Point)
-    → operations ≡ operations_of trace.entries → ArePointsOf trace operations points → IsPrintedOrder trace points
-printed trace operations points is are = record {
-  in_order = are.in_order;
-  sound = λ point held.
-      let it : IsPointOf trace operations point = are.sound point held in
+-- ---- the printed order
+
+module _ (trace : Trace) (acts : List NamedAct) (operations : List OpRecord) (acts_are : acts ≡ handled_acts trace)
+    (correct : All (IsOfCorrect trace.setup) (operations_of trace.entries))
+    (adds : AddsFaultyActs trace.setup acts (operations_of trace.entries) operations) where
+  marked : (point : Point) (operation : OpRecord) → point ≡ point_at trace.setup operation point.event
+      → is_faulty trace.setup (party.Client operation.client) ≡ point.faulty
+  marked point operation is = sym (ap (λ (it : Point). it.faulty) is)
+
+  -- a point of a correct client
+  operation_point : (point : Point) (is : IsPointOf trace operations point)
+      → Contains (operations_of trace.entries) is.operation → IsOperationPoint trace point
+  operation_point point is among =
+      let operation : OpRecord = is.operation in
+      let own : IsOfCorrect trace.setup operation =
+      All-contains (IsOfCorrect trace.setup) (operations_of trace.entries) operation correct among in
+      let client : operation.client ≡ point.client = sym (ap (λ (it : Point). it.client) is.is_point) in
       record {
-        operation = it.operation;
-        of_trace = subst (λ (all : List OpRecord). Contains all it.operation) is it.of_list;
-        client = it.client;
-        number = it.number;
-        op = it.op;
-        correct = it.correct;
-        effect = it.effect;
-      };
-  complete = λ point it. are.complete point (record {
-    operation = it.operation;
-    of_list = subst (λ (all : List OpRecord). Contains all it.operation) (sym is) it.of_trace;
-    client = it.client;
-    number = it.number;
-    op = it.op;
-    correct = it.correct;
-    effect = it.effect;
-  });
-}
+        operation = operation;
+        of_trace = among;
+        client = client;
+        number = sym (ap (λ (it : Point). it.number) is.is_point);
+        op = sym (ap (λ (it : Point). it.op) is.is_point);
+        correct = ap (λ (it : ClientId). is_faulty trace.setup (party.Client it)) (sym client) ∙ own;
+        mark = sym (marked point operation is.is_point) ∙ own;
+        effect = is.effect;
+      }
+
+  -- a point of a faulty client
+  faulty_point : (point : Point) (is : IsPointOf trace operations point)
+      → IsFaultyAct trace.setup acts is.operation → IsFaultyPoint trace point
+  faulty_point point is it =
+      let same : point ≡ point_at trace.setup (as_operation it.act) point.event =
+      is.is_point ∙ ap (λ (one : OpRecord). point_at trace.setup one point.event) it.is in
+      let client : (it.act).0 ≡ point.client = sym (ap (λ (one : Point). one.client) same) in
+      let number : (it.act).1 ≡ point.number = sym (ap (λ (one : Point). one.number) same) in
+      record {
+        parts = (it.act).2;
+        op = ap (λ (one : Point). one.op) same;
+        declared = ap (λ (one : ClientId). is_faulty trace.setup (party.Client one)) (sym client) ∙ it.declared;
+        mark = ap (λ (one : Point). one.faulty) same ∙ it.declared;
+        effect = subst (λ (one : ClientId). DecidesAt trace one point.number (it.act).2 point.event) client
+            (subst (λ (one : ℕ). DecidesAt trace (it.act).0 one (it.act).2 point.event) number
+            (effect_along trace is.operation (as_operation it.act) point.event it.is is.effect));
+      }
+
+  point_found : (point : Point) → IsPointOf trace operations point → IsPoint trace point
+  point_found point is =
+      elim (adds.sound is.operation is.of_list) [
+        | inl among ↦ inl (operation_point point is among)
+        | inr act ↦ inr (faulty_point point is act)
+      ]
+
+  of_operation : (point : Point) → IsOperationPoint trace point → IsPointOf trace operations point
+  of_operation point is = record {
+    operation = is.operation;
+    of_list = adds.kept is.operation is.of_trace;
+    is_point = same_point point (point_at trace.setup is.operation point.event) refl (sym is.client) (sym is.number)
+        (sym is.op)
+        (is.mark ∙ sym is.correct
+        ∙ ap (λ (it : ClientId). is_faulty trace.setup (party.Client it)) (sym is.client));
+    effect = is.effect;
+  }
+
+  of_faulty : (point : Point) → IsFaultyPoint trace point → IsPointOf trace operations point
+  of_faulty point is =
+      let act : NamedAct = (point.client, point.number, is.parts) in
+      record {
+        operation = as_operation act;
+        of_list = adds.complete act
+            (subst (λ (all : List NamedAct). Contains all act) (sym acts_are)
+            (handled_listed trace point.client point.number is.parts (is.effect).handled)) is.declared;
+        is_point = same_point point (point_at trace.setup (as_operation act) point.event) refl refl refl is.op
+            (is.mark ∙ sym is.declared);
+        effect = is.effect;
+      }
+
+  -- the points of all operations of a trace and of the acts of faulty clients are its printed order
+  pub printed : (points : List Point) → ArePointsOf trace operations points → IsPrintedOrder trace points
+  printed points are = record {
+    in_order = are.in_order;
+    sound = λ point held. point_found point (are.sound point held);
+    complete = λ point it. are.complete point
+        (elim it [ inl operation ↦ of_operation point operation | inr faulty ↦ of_faulty point faulty ]);
+  }

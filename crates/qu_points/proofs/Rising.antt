@@ -1,6 +1,8 @@
 -- The events of points in order rise, where no two points have one event.
 use Rattle.std.proofs.Common.{◌≡◌, ℕ, zero, suc, ◌+◌, ◌<◌, ◌≤◌, true, IsTrue, List, [], ◌∷◌, length, get_or, map, inl, inr, sym, ap, subst, ◌∙◌, arith}
 use Rattle.std.specs.Prelude.{Contains}
+use Rattle.std.specs.declared.cmp.Ordering.{Ordering}
+use Rattle.std.specs.Ordering.{nat_cmp, ordering_then, is_lt}
 use Rattle.std.proofs.lemmas.Bool.{false≢true, cases_lt, and_parts}
 use Rattle.std.proofs.lemmas.Bool.Decides.{nat_tests}
 use Rattle.qu_machine.specs.declared.record.Point.{Point}
@@ -8,13 +10,17 @@ use Rattle.qu_machine.specs.Serial.{IsRising}
 use Rattle.qu_points.specs.Order.{is_earlier, are_in_order}
 use Rattle.qu_points.proofs.Sorted.{contains_first, contains_later, is_earlier-self}
 
+not_after : (first second : ℕ) (later : Ordering) → is_lt (ordering_then (nat_cmp first second) later) ≡ true
+    → first ≤ second
+not_after first second later before = grind (arith, nat_tests)
+
 event_not_after : (first second : Point) → is_earlier first second ≡ true → first.event ≤ second.event
-event_not_after first second earlier = grind (arith, nat_tests)
+event_not_after first second earlier = not_after first.event second.event _ earlier
 
 event_before : (first second : Point) → is_earlier first second ≡ true
     → (first.event ≡ second.event → first ≡ second) → first.event < second.event
 event_before first second earlier one =
-    let not_after : first.event ≤ second.event = event_not_after first second earlier in
+    let order : first.event ≤ second.event = event_not_after first second earlier in
     elim (cases_lt first.event second.event) [
       | inl before ↦ before
       | inr not_before ↦

@@ -4,37 +4,76 @@ use Rattle.std.proofs.Math.Numerals.{one-add}
 use Rattle.std.specs.Prelude.{Contains}
 use Rattle.std.specs.List.{All, position_or_len}
 use Rattle.std.proofs.lemmas.Bool.{false≢true, cases_Bool, and_parts, and_from}
-use Rattle.std.proofs.lemmas.Bool.Decides.{nat_tests}
+use Rattle.std.specs.declared.cmp.Ordering.{Ordering}
+use Rattle.std.specs.declared.cmp.Ordering.TheVariants.{Less, Equal, Greater}
+use Rattle.std.specs.Ordering.{nat_cmp, ordering_then, ordering_reverse, is_lt, is_eq}
+use Rattle.std.specs.Cmp.{IsTotalOrder}
+use Rattle.std.specs.Cmp.Lexicographic.{slice_cmp}
+use Rattle.std.proofs.lemmas.Cmp.{nat_cmp_total, nat_list_cmp_total, on_total, then_total, tied_itself}
+use Rattle.std.proofs.lemmas.Map.Lookups.{exact_unsigned, exact_bytes}
 use Rattle.std.proofs.lemmas.List.Elements.{All-nil, All-cons}
 use Rattle.qu_machine.specs.declared.record.Point.{Point}
-use Rattle.qu_points.specs.Order.{is_earlier, are_in_order}
+use Rattle.qu_points.specs.Order.{body_text, point_cmp, is_earlier, are_in_order}
 use Rattle.qu_points.specs.Points.{with_point}
 
 -- ---- the order of two points
 
+abbrev asked_cmp : Point → Point → Ordering
+asked_cmp a b = slice_cmp nat_cmp (body_text a.op) (body_text b.op)
+
+points_total : IsTotalOrder point_cmp
+points_total =
+    then_total (on_total (λ (point : Point). point.event) nat_cmp_total)
+    (then_total (on_total (λ (point : Point). (point.client).0) nat_cmp_total)
+    (then_total (on_total (λ (point : Point). point.number) nat_cmp_total)
+    (on_total (λ (point : Point). body_text point.op) nat_list_cmp_total)))
+
+is_Less : (order : Ordering) → is_lt order ≡ true → order ≡ Less
+is_Less Less less = refl
+is_Less Equal less = absurd (false≢true less)
+is_Less Greater less = absurd (false≢true less)
+
 pub is_earlier-self : (a : Point) → is_earlier a a ≡ false
-is_earlier-self a = grind (arith, nat_tests)
+is_earlier-self a = ap is_lt (tied_itself points_total a)
 
 pub is_earlier-chain : (a b c : Point) → is_earlier a b ≡ true → is_earlier b c ≡ true → is_earlier a c ≡ true
-is_earlier-chain a b c ab bc = grind (arith, nat_tests)
+is_earlier-chain a b c ab bc =
+    ap is_lt (points_total.trans a b c (is_Less (point_cmp a b) ab) (is_Less (point_cmp b c) bc))
 
 is_earlier-not_back : (a b : Point) → is_earlier a b ≡ true → is_earlier b a ≡ false
-is_earlier-not_back a b ab = grind (arith, nat_tests)
+is_earlier-not_back a b ab =
+    elim (cases_Bool (is_earlier b a)) [
+      | inl back ↦ absurd (false≢true (sym (is_earlier-self a) ∙ is_earlier-chain a b a ab back))
+      | inr not_back ↦ not_back
+    ]
 
--- two points of different operations are one before the other
+-- neither is earlier
+level : (order : Ordering) → is_lt order ≡ false → is_lt (ordering_reverse order) ≡ false → order ≡ Equal
+level Less one two = absurd (false≢true (sym one))
+level Equal one two = refl
+level Greater one two = absurd (false≢true (sym two))
+
+both_equal : (first later : Ordering) → ordering_then first later ≡ Equal → (first ≡ Equal) × (later ≡ Equal)
+both_equal Less later is = absurd (false≢true (ap is_eq is))
+both_equal Equal later is = (refl, is)
+both_equal Greater later is = absurd (false≢true (ap is_eq is))
+
+-- two points that differ in client, number or what is asked for are one before the other
 pub is_earlier-other : (a b : Point) → is_earlier a b ≡ false
-    → ((a.client).0 ≡ (b.client).0 → a.number ≡ b.number → ⊥) → is_earlier b a ≡ true
+    → ((a.client).0 ≡ (b.client).0 → a.number ≡ b.number → body_text a.op ≡ body_text b.op → ⊥)
+    → is_earlier b a ≡ true
 is_earlier-other a b not_before apart =
     elim (cases_Bool (is_earlier b a)) [
       | inl before ↦ before
       | inr not_after ↦
-          let same : ((a.client).0 ≡ (b.client).0) × (a.number ≡ b.number) = level a b not_before not_after in
-          absurd (apart same.0 same.1)
+          let same : point_cmp a b ≡ Equal =
+          level (point_cmp a b) not_before (ap is_lt (sym (points_total.antisymm b a)) ∙ not_after) in
+          let event : _ = both_equal (nat_cmp a.event b.event) _ same in
+          let client : _ = both_equal (nat_cmp (a.client).0 (b.client).0) _ event.1 in
+          let number : _ = both_equal (nat_cmp a.number b.number) (asked_cmp a b) client.1 in
+          absurd (apart (exact_unsigned (a.client).0 (b.client).0 client.0)
+          (exact_unsigned a.number b.number number.0) (exact_bytes (body_text a.op) (body_text b.op) number.1))
     ]
-  where
-    level : (a b : Point) → is_earlier a b ≡ false → is_earlier b a ≡ false → ((a.client).0 ≡ (b.client).0)
-        × (a.number ≡ b.number)
-    level a b one two = (grind (arith, nat_tests), grind (arith, nat_tests))
 
 -- ---- membership
 

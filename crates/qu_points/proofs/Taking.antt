@@ -1,6 +1,6 @@
 -- Where updates and queries took effect.
 use Rattle.std.proofs.Common.{◌≡◌, ℕ, zero, suc, ◌+◌, ◌<◌, ◌≤◌, Bool, true, false, cond, List, [], ◌∷◌, length, get_or, Option, None, Some, refl, sym, ap, subst, ◌∙◌, arith, inl, inr, add-one}
-use Rattle.std.specs.Prelude.{position, slice_get, option_map, ◌==◌, Result, Ok, Err, IfOk}
+use Rattle.std.specs.Prelude.{position, slice_get, option_map, ◌==◌, ◌&&◌, Result, Ok, Err, IfOk}
 use Rattle.std.specs.Option.{MatchOption, option_eq}
 use Rattle.std.proofs.lemmas.Bool.{false≢true, cases_Bool, cases_lt, cases_order, and_parts, and_from, eq-eqb}
 use Rattle.std.proofs.lemmas.Bool.Decides.{nat_tests}
@@ -29,7 +29,7 @@ use Rattle.qu_runs.specs.Digested.{IsHandled}
 use Rattle.qu_points.specs.declared.tracked.Tracked.{Tracked}
 use Rattle.qu_runs.specs.Accepted.{is_accepted}
 use Rattle.qu_points.specs.Tracker.{TellsFirst, TellsOf, Tracks}
-use Rattle.qu_runs.specs.Decided.{TookEffect}
+use Rattle.qu_runs.specs.Decided.{is_on, TookEffect}
 use Rattle.qu_runs.specs.Times.{world_after}
 use Rattle.qu_points.specs.Order.{DecidesAt, AnswersFirst, completed_effect, query_effect, effect_of}
 use Rattle.qu_runs.specs.Answers.{delivered_round, sends_answer, answers_at}
@@ -64,8 +64,8 @@ module _ (trace : Trace) (tracked : List Tracked) (tracks : Tracks trace (length
   digest = act_digest client number parts
 
   -- an update that took effect has a first mark, by then
-  took_marks : (event : ℕ) → event ≤ length trace.entries → TookEffect trace event client digest
-      → IsUpTo (first_mark client digest tracked) event
+  took_marks : (event : ℕ) → event ≤ length trace.entries → TookEffect trace event client number parts
+      → IsUpTo (first_mark client parts digest tracked) event
   took_marks event happened took =
       let count : ℕ = length trace.entries in
       let held : is_accepted (world_after trace event) took.object took.candidate ≡ true =
@@ -87,34 +87,39 @@ module _ (trace : Trace) (tracked : List Tracked) (tracks : Tracks trace (length
       ∙ ap (λ (it : ClientId). it.0) took.of_client in
       let of_act : stands.found.candidate.stamp.act ≡ Some digest =
       ap (λ (it : Candidate). it.stamp.act) stands.candidate_is ∙ took.of_act in
-      let of_update : is_of_update client digest stands.found ≡ true =
-      and_from _ _ (eq-eqb _ _ of_client) (act_is_same stands.found.candidate.stamp.act digest of_act) in
-      let first : IsUpTo (first_mark client digest tracked) mark.0 =
-      first_mark_least client digest tracked stands.place stands.found mark.0 stands.below stands.at of_update
+      let of_update : is_of_update client parts digest stands.found ≡ true =
+      and_from _ _ (ap (λ (it : ObjectId). is_on it parts) stands.object_is ∙ took.named)
+      (and_from _ _ (eq-eqb _ _ of_client) (act_is_same stands.found.candidate.stamp.act digest of_act)) in
+      let first : IsUpTo (first_mark client parts digest tracked) mark.0 =
+      first_mark_least client parts digest tracked stands.place stands.found mark.0 stands.below stands.at of_update
       mark.1 in
       let order : mark.0 ≤ event = mark.2 in
       let least : first.0 ≤ mark.0 = first.2 in
       (first.0, first.1, omega arith)
 
   -- the first mark is where the update took effect
-  pub decides_at : IsHandled trace client number parts → (event : ℕ) → first_mark client digest tracked ≡ Some
+  pub decides_at : IsHandled trace client number parts → (event : ℕ) → first_mark client parts digest tracked ≡ Some
       event → DecidesAt trace client number parts event
   decides_at handled event is =
       let count : ℕ = length trace.entries in
-      let has : HasMark client digest tracked event = first_mark_found client digest tracked event is in
+      let has : HasMark client parts digest tracked event = first_mark_found client parts digest tracked event is in
       let tells : TellsOf trace (count + 1) has.found =
       subst (TellsOf trace (count + 1)) has.at (tracks.marks has.place has.found has.below) in
       let first : TellsFirst trace (count + 1) has.found.object has.found.candidate (Some event) =
       subst (λ (mark : Option ℕ). TellsFirst trace (count + 1) has.found.object has.found.candidate mark) has.mark
       tells in
       let within : event < count + 1 = first.0 in
+      let on : (is_on has.found.object parts ≡ true)
+      × (((has.found.candidate.stamp.client).0 == client.0
+      && option_eq same_digest has.found.candidate.stamp.act (Some digest)) ≡ true) = and_parts _ _ has.of_update in
       let of : (((has.found.candidate.stamp.client).0 == client.0) ≡ true)
-      × (option_eq same_digest has.found.candidate.stamp.act (Some digest) ≡ true) = and_parts _ _ has.of_update in
+      × (option_eq same_digest has.found.candidate.stamp.act (Some digest) ≡ true) = and_parts _ _ on.1 in
       record {
         handled = handled;
         happened = omega arith;
         by_then = record {
           object = has.found.object;
+          named = on.0;
           candidate = has.found.candidate;
           is_decided = first.1;
           of_client = same_client has.found.candidate.stamp.client client of.0;
@@ -126,18 +131,18 @@ module _ (trace : Trace) (tracked : List Tracked) (tracks : Tracks trace (length
       same_client : (first second : ClientId) → (first.0 == second.0) ≡ true → first ≡ second
       same_client first second alike = grind (arith, nat_tests)
 
-      not_earlier : (event : ℕ) → first_mark client digest tracked ≡ Some event → (earlier : ℕ) → earlier < event
-          → IsUpTo (first_mark client digest tracked) earlier → ⊥
+      not_earlier : (event : ℕ) → first_mark client parts digest tracked ≡ Some event → (earlier : ℕ) → earlier < event
+          → IsUpTo (first_mark client parts digest tracked) earlier → ⊥
       not_earlier event is earlier before up_to =
           let same : event ≡ up_to.0 = same_Some event up_to.0 (sym is ∙ up_to.1) in
           let order : up_to.0 ≤ earlier = up_to.2 in
           absurd (omega arith)
 
   -- where there is none it took no effect
-  pub decides_nowhere : first_mark client digest tracked ≡ None → (event : ℕ)
+  pub decides_nowhere : first_mark client parts digest tracked ≡ None → (event : ℕ)
       → ¬ (DecidesAt trace client number parts event)
   decides_nowhere none event decides =
-      let up_to : IsUpTo (first_mark client digest tracked) event = took_marks event decides.happened decides.by_then in
+      let up_to : IsUpTo (first_mark client parts digest tracked) event = took_marks event decides.happened decides.by_then in
       none-some up_to.0 (sym none ∙ up_to.1)
 
 -- ---- queries
@@ -278,7 +283,7 @@ IsEffect trace operation what found =
 
 acted : (trace : Trace) (tracked : List Tracked) → Tracks trace (length trace.entries) tracked
     → (client : ClientId) (number : ℕ) (parts : List (ObjectId × Method)) → IsHandled trace client number parts
-    → (found : Option ℕ) → first_mark client (act_digest client number parts) tracked ≡ found
+    → (found : Option ℕ) → first_mark client parts (act_digest client number parts) tracked ≡ found
     → MatchOption found ((event : ℕ) → ¬ (DecidesAt trace client number parts event))
     (λ event. DecidesAt trace client number parts event)
 acted trace tracked tracks client number parts handled None is =
@@ -298,14 +303,14 @@ marked trace tracked tracks operation parts found mark =
           acted trace tracked tracks operation.client operation.number parts
           (among_handled trace operation.client operation.number parts there) found
           (sym (ap (λ (test : Bool). cond test
-          (first_mark operation.client (act_digest operation.client operation.number parts) tracked) None)
+          (first_mark operation.client parts (act_digest operation.client operation.number parts) tracked) None)
           there) ∙ mark)
       | inr not_there ↦
           subst (λ it. MatchOption it
           ((event : ℕ) → ¬ (DecidesAt trace operation.client operation.number parts event))
           (λ event. DecidesAt trace operation.client operation.number parts event))
           (sym (ap (λ (test : Bool). cond test
-          (first_mark operation.client (act_digest operation.client operation.number parts) tracked) None)
+          (first_mark operation.client parts (act_digest operation.client operation.number parts) tracked) None)
           not_there) ∙ mark)
           (λ event decides. false≢true
           (sym not_there ∙ handled_among trace operation.client operation.number parts decides.handled))

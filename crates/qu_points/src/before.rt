@@ -31,6 +31,7 @@ fn event_order(first: &Point, second: &Point) -> Ordering
 }
 
 /// Whether the bytes that ask for the first operation stand before those that ask for the second.
+#[tactic(auto, using(crate::proofs::Compared::told_before))]
 fn asks_before(alloc: Global, first: &Op, second: &Op) -> Result<bool, NoMemory>
     ensures { IfOk result
         (λ before. before ≡ is_lt (slice_cmp nat_cmp (body_text first.now) (body_text second.now))) }

@@ -1,6 +1,4 @@
-use Rattle.std.proofs.Common.{false, refl, ap, subst}
-use Rattle.qu_objects.specs.declared.op.Op.{Op}
-use Rattle.qu_machine.specs.declared.record.Point.{Point}
+use Rattle.std.proofs.Common.{refl, subst}
 use Rattle.qu_points.proofs.Printed.{adds_some, adds_none}
 use Rattle.qu_points.proofs.Taking.{IsEffect}
 use Rattle.qu_points.proofs.order.add_point.Goals as goal
@@ -9,14 +7,13 @@ pub returns-in_ok-insert : goal.returns-in_ok-insert
 returns-in_ok-insert c =
     adds_some c.args.trace.now c.args.operation.now c.in-Some.event _ c.args.points.now.items c.insert.new.points.items
     (subst (IsEffect c.args.trace.now c.args.operation.now c.args.operation.now.op) c.in-Some.is c.in_ok-found.ensures)
-    (ap (λ (op : Op).
-    (let point : Point = record {
+    (λ i. record {
       event = c.in-Some.event;
       client = c.args.operation.now.client;
       number = c.args.operation.now.number;
-      op = op;
-      faulty = false;
-    } in point)) c.in_ok-copy.ensures)
+      op = c.in_ok-copy.ensures i;
+      faulty = c.is_faulty.ensures i;
+    })
     c.in_ok-insert.ensures
 
 pub returns-in_default : goal.returns-in_default

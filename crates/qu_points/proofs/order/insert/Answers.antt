@@ -9,9 +9,9 @@ pub returns : goal.returns
 returns c =
     let points : List Point = c.args.points.now.items in
     let slice : c.as_slice.result.now ≡ points = c.as_slice.ensures.value in
-    let found : c.place_of-place.result ≡ position_or_len (λ first. not (is_earlier first c.args.point))
-    c.as_slice.result.now = c.place_of-place.ensures.value in
-    let place : c.place_of-place.result ≡ position_or_len (λ first. not (is_earlier first c.args.point)) points =
+    let found : c.in_ok-place.place ≡ position_or_len (λ first. not (is_earlier first c.args.point))
+    c.as_slice.result.now = c.in_ok-place.ensures.value in
+    let place : c.in_ok-place.place ≡ position_or_len (λ first. not (is_earlier first c.args.point)) points =
     found ∙ ap (λ (it : List Point). position_or_len (λ first. not (is_earlier first c.args.point)) it) slice in
     c.in_ok-insert.ensures.items ∙
     ap (λ (at : ℕ). take at points ++ c.args.point ∷ drop at points) place ∙

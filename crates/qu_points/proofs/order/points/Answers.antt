@@ -13,7 +13,7 @@ pub loop-operation-preserved : goal.loop-operation-preserved
 loop-operation-preserved c =
     points_next c.args.trace.now c.args.operations.now c.loop-operation.operation-index c.operation-item.result
     c.loop-operation.points.items c.add_point.new.points.items
-    c.requires.apart c.loop-operation-test.true c.operation-item.is c.loop-operation.invariant c.in_ok-add_point.ensures
+    c.requires.distinct c.loop-operation-test.true c.operation-item.is c.loop-operation.invariant c.in_ok-add_point.ensures
 
 pub returns : goal.returns
 returns c =
