@@ -1,7 +1,9 @@
 -- The point of an update is at the step that decides it.
 use Rattle.std.proofs.Common.{◌≡◌, ℕ, zero, suc, ◌-◌, ◌<◌, ◌≤◌, true, List, length, refl, sym, subst, ◌∙◌, arith, inl, inr}
 use Rattle.std.specs.Prelude.{Contains}
+use Rattle.std.specs.List.{All}
 use Rattle.std.proofs.lemmas.Bool.{false≢true, cases_Bool}
+use Rattle.std.proofs.lemmas.List.Elements.{All-contains}
 use Rattle.qu_base.specs.declared.party.ObjectId.{ObjectId}
 use Rattle.qu_stamp.specs.declared.candidate.Candidate.{Candidate}
 use Rattle.qu_stamp.specs.Stamp.{is_below}
@@ -16,7 +18,6 @@ use Rattle.qu_objects.specs.declared.act.Method.{Method}
 use Rattle.qu_objects.specs.declared.kind.Value.{Value}
 use Rattle.qu_objects.specs.declared.op.Op.{Op}
 use Rattle.qu_objects.specs.declared.op.Op.TheVariants as op
-use Rattle.qu_objects.specs.Digesting.{act_digest}
 use Rattle.qu_machine.specs.declared.record.OpRecord.{OpRecord}
 use Rattle.qu_machine.specs.declared.record.Point.{Point}
 use Rattle.qu_machine.specs.Machine.{act_values}
@@ -26,11 +27,12 @@ use Rattle.qu_trace.specs.Operation.{operations_of}
 use Rattle.qu_runs.specs.Decided.{TookEffect}
 use Rattle.qu_runs.specs.Digested.{IsHandled, IsMadeFor}
 use Rattle.qu_runs.specs.Setting.{setting}
-use Rattle.qu_points.specs.Order.{DecidesAt, effect_of, IsPoint, IsPrintedOrder}
-use Rattle.qu_points.specs.Points.{point_at}
+use Rattle.qu_points.specs.Order.{DecidesAt, effect_of, IsOperationPoint}
+use Rattle.qu_points.specs.Points.{IsOfCorrect, point_at}
 use Rattle.qu_values.specs.Updates.{Update, IsOf, IsEverAccepted}
 use Rattle.qu_grounds.specs.Parts.{Names}
 use Rattle.qu_points.proofs.Folding.{IsQuestion}
+use Rattle.qu_safety.proofs.NoFaulty.{IsOperationOrder, on_named}
 use Rattle.qu_values.proofs.MachineValues.{IsValues, object_known, known_object, stay, change}
 use Rattle.qu_values.proofs.OneAct.{ActsAreOne, one_made_for}
 use Rattle.qu_values.proofs.Updates.{last_is, acts, one_of, opening_no_act}
@@ -39,7 +41,7 @@ use Rattle.qu_values.proofs.UpdateFacts.{MadeFor, UpdateFacts}
 -- the operation has a point, which is before the event of its reply
 pub record StandsBefore (trace : Trace) (operation : OpRecord) (reply : ℕ) : Type 0 where
   pub point : Point
-  pub is_point : IsPoint trace point
+  pub is_point : IsOperationPoint trace point
   pub stands : Stands operation point
   pub before : point.event < reply
 
@@ -60,7 +62,7 @@ module _ (trace : Trace) (laws : Laws (setting trace)) (joint : Joint (setting t
 
   effect_by : (time : ℕ) → time ≤ length trace.entries → (update : Update)
       → IsHandled trace update.client update.number update.parts
-      → TookEffect trace time update.client (act_digest update.client update.number update.parts)
+      → TookEffect trace time update.client update.number update.parts
       → HasEffect time update
   unfolding setting
   effect_by time within update handled took =
@@ -162,6 +164,7 @@ module _ (trace : Trace) (laws : Laws (setting trace)) (joint : Joint (setting t
           after = it.decided;
           before = λ already. decides.not_before time (omega arith) (record {
             object = it.object;
+            named = on_named update.parts it.object (it.is_of).names;
             candidate = it.candidate;
             is_decided = already;
             of_client = ((it.is_of).made).of_client;
@@ -186,6 +189,7 @@ module _ (trace : Trace) (laws : Laws (setting trace)) (joint : Joint (setting t
         happened = omega (arith, last_is trace, within);
         by_then = record {
           object = object;
+          named = on_named update.parts object is_of.names;
           candidate = candidate;
           is_decided = turn.after;
           of_client = (is_of.made).of_client;
@@ -202,17 +206,18 @@ module _ (trace : Trace) (laws : Laws (setting trace)) (joint : Joint (setting t
 
   -- the point of an operation at a step that decides its update
   pub turn_point : (operation : OpRecord) → Contains (operations_of trace.entries) operation
-      → (parts : List (ObjectId × Method)) → operation.op ≡ op.Act parts
+      → IsOfCorrect trace.setup operation → (parts : List (ObjectId × Method)) → operation.op ≡ op.Act parts
       → (time : ℕ) (object : ObjectId) (candidate : Candidate)
       → IsOf trace (record { client = operation.client; number = operation.number; parts = parts }) object candidate
-      → IsDecidedBy (setting trace) time object candidate → IsPoint trace (point_at operation (suc time))
-  turn_point operation among parts is_act time object candidate is_of turn = record {
+      → IsDecidedBy (setting trace) time object candidate → IsOperationPoint trace (point_at trace.setup operation (suc time))
+  turn_point operation among own parts is_act time object candidate is_of turn = record {
     operation = operation;
     of_trace = among;
     client = refl;
     number = refl;
     op = refl;
-    correct = refl;
+    correct = own;
+    mark = own;
     effect = subst (λ (it : Op). effect_of trace operation (suc time) it) (sym is_act)
         (turn_decides (record { client = operation.client; number = operation.number; parts = parts }) time object
         candidate is_of turn);
@@ -220,11 +225,11 @@ module _ (trace : Trace) (laws : Laws (setting trace)) (joint : Joint (setting t
 
   -- an operation of which a candidate is decided before its reply has a point before it
   pub act_has_point : (operation : OpRecord) → Contains (operations_of trace.entries) operation
-      → (parts : List (ObjectId × Method)) → operation.op ≡ op.Act parts
+      → IsOfCorrect trace.setup operation → (parts : List (ObjectId × Method)) → operation.op ≡ op.Act parts
       → (reply : ℕ) → 1 ≤ reply → reply ≤ length trace.entries → (object : ObjectId) (candidate : Candidate)
       → IsOf trace (record { client = operation.client; number = operation.number; parts = parts }) object candidate
       → IsDecided (setting trace) (reply - 1) object candidate → StandsBefore trace operation reply
-  act_has_point operation among parts is_act reply begins ends object candidate is_of decided =
+  act_has_point operation among own parts is_act reply begins ends object candidate is_of decided =
       let first : DecidedBefore (reply - 1) object candidate =
       decided_first (reply - 1) (omega (arith, last_is trace, ends)) object candidate
       (acts trace
@@ -232,9 +237,9 @@ module _ (trace : Trace) (laws : Laws (setting trace)) (joint : Joint (setting t
       in
       let earlier : first.time < reply - 1 = first.earlier in
       record {
-        point = point_at operation (suc first.time);
-        is_point = turn_point operation among parts is_act first.time object candidate is_of first.turn;
-        stands = record { correct = refl; client = refl; number = refl; op = refl };
+        point = point_at trace.setup operation (suc first.time);
+        is_point = turn_point operation among own parts is_act first.time object candidate is_of first.turn;
+        stands = record { correct = own; client = refl; number = refl; op = refl };
         before = omega arith;
       }
 
@@ -248,28 +253,31 @@ module _ (trace : Trace) (laws : Laws (setting trace)) (joint : Joint (setting t
   Values time values = IsValues trace laws joint one_act facts time values
 
   -- an event without a point of an update leaves the values
-  pub quiet_values : (order : List Point) → IsPrintedOrder trace order → (time : ℕ) (values : List Value)
+  pub quiet_values : (order : List Point) → IsOperationOrder trace order
+      → All (IsOfCorrect trace.setup) (operations_of trace.entries) → (time : ℕ) (values : List Value)
       → time < length trace.entries → Values time values
       → ((point : Point) → Contains order point → point.event ≡ suc time → IsQuestion point.op)
       → Values (suc time) values
-  quiet_values order printed time values within are quiet =
+  quiet_values order printed correct time values within are quiet =
       stay trace laws joint one_act facts time (omega (arith, last_is trace, within)) values are
       (λ object act is_act turn.
       let made : MadeFor trace object act =
       facts.made object act (accepted_by (suc time) (omega (arith, last_is trace, within)) object act turn.after) is_act
       in
       no_question (made.operation).op made.parts made.is_act
-      (quiet (point_at made.operation (suc time))
-      (printed.complete (point_at made.operation (suc time))
-      (turn_point made.operation made.of_trace made.parts made.is_act time object act made.is_of turn)) refl))
+      (quiet (point_at trace.setup made.operation (suc time))
+      (printed.complete (point_at trace.setup made.operation (suc time))
+      (turn_point made.operation made.of_trace
+      (All-contains (IsOfCorrect trace.setup) (operations_of trace.entries) made.operation correct made.of_trace)
+      made.parts made.is_act time object act made.is_of turn)) refl))
 
   -- one with such a point does what the update does
-  pub loud_values : (order : List Point) → IsPrintedOrder trace order → (time : ℕ) (values : List Value) (point : Point)
+  pub loud_values : (order : List Point) → IsOperationOrder trace order → (time : ℕ) (values : List Value) (point : Point)
       (parts : List (ObjectId × Method)) → time < length trace.entries → Values time values
       → Contains order point → point.event ≡ suc time → point.op ≡ op.Act parts
       → Values (suc time) (act_values values parts)
   loud_values order printed time values point parts within are contained at is =
-      let it : IsPoint trace point = printed.sound point contained in
+      let it : IsOperationPoint trace point = printed.sound point contained in
       let operation : OpRecord = it.operation in
       let decides : DecidesAt trace operation.client operation.number parts (suc time) =
       subst (λ (event : ℕ). DecidesAt trace operation.client operation.number parts event) at

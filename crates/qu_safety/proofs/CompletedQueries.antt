@@ -58,8 +58,9 @@ use Rattle.qu_rounds.specs.Invocations.{IsRequestOf}
 use Rattle.qu_runs.specs.Answers.{is_answer, answers, sends_answer, answers_at}
 use Rattle.qu_runs.specs.Times.{world_after}
 use Rattle.qu_runs.proofs.Settings.{acceptors_are, acceptors_counted}
-use Rattle.qu_points.specs.Order.{AnswersFirst, query_effect, effect_of, IsPoint}
-use Rattle.qu_points.specs.Points.{point_at}
+use Rattle.qu_points.specs.Order.{AnswersFirst, query_effect, effect_of, IsOperationPoint}
+use Rattle.qu_points.proofs.Correct.{operations_correct}
+use Rattle.qu_points.specs.Points.{IsOfCorrect, point_at}
 use Rattle.qu_values.specs.Replies.{IsReplyTo, HasTold, TellsQuery}
 use Rattle.qu_values.specs.Updates.{IsEverAccepted}
 use Rattle.qu_values.specs.Values.{HasVersion}
@@ -285,10 +286,11 @@ pub record CompletedQuery (trace : Trace) (operation : OpRecord) (reply : ℕ) (
 
 -- the point of a completed query is at the event at which it took effect
 pub point_of_query : (trace : Trace) (operation : OpRecord) → Contains (operations_of trace.entries) operation
-    → (reply : ℕ) (answer : Answer) → operation.reply ≡ Some (reply, outcome.Done answer)
+    → IsOfCorrect trace.setup operation → (reply : ℕ) (answer : Answer) → operation.reply ≡ Some (reply, outcome.Done answer)
     → (at : CompletedQuery trace operation reply answer)
-    → IsPoint trace (point_at operation at.event) × Stands operation (point_at operation at.event)
-point_of_query trace operation among reply answer replied at =
+    → IsOperationPoint trace (point_at trace.setup operation at.event)
+    × Stands operation (point_at trace.setup operation at.event)
+point_of_query trace operation among own reply answer replied at =
     let effect : query_effect trace operation at.event operation.reply =
     subst (query_effect trace operation at.event) (sym replied) at.first in (
       record {
@@ -297,10 +299,11 @@ point_of_query trace operation among reply answer replied at =
         client = refl;
         number = refl;
         op = refl;
-        correct = refl;
+        correct = own;
+        mark = own;
         effect = subst (effect_of trace operation at.event) (sym at.is_query) effect;
       },
-      record { correct = refl; client = refl; number = refl; op = refl },
+      record { correct = own; client = refl; number = refl; op = refl },
     )
 
 module _ (trace : Trace) (is_run : IsRun trace) (have : ArePlain trace) (laws : Laws (setting trace))
@@ -594,9 +597,12 @@ module _ (trace : Trace) (is_run : IsRun trace) (have : ArePlain trace) (laws : 
             ]
 
     -- the query has its point at that event
-    pub query_has_point : (point : Point) × IsPoint trace point × Stands operation point × (point.event < reply)
+    pub query_has_point : (point : Point) × IsOperationPoint trace point × Stands operation point × (point.event < reply)
     query_has_point =
         let at : CompletedQuery trace operation reply answer = completed_query in
-        let is : IsPoint trace (point_at operation at.event) × Stands operation (point_at operation at.event) =
-        point_of_query trace operation among reply answer replied at in
-        (point_at operation at.event, is.0, is.1, at.before)
+        let is : IsOperationPoint trace (point_at trace.setup operation at.event)
+        × Stands operation (point_at trace.setup operation at.event) =
+        point_of_query trace operation among
+        (All-contains (IsOfCorrect trace.setup) (operations_of trace.entries) operation
+        (operations_correct trace is_run) among) reply answer replied at in
+        (point_at trace.setup operation at.event, is.0, is.1, at.before)

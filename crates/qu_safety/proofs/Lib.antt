@@ -1,4 +1,5 @@
 pub mod Along
+pub mod NoFaulty
 pub mod PointEvents
 pub mod SerialFields
 pub mod CompletedQueries

@@ -47,7 +47,7 @@ use Rattle.qu_runs.specs.Digested.{IsMadeFor}
 use Rattle.qu_grounds.specs.Grounds.{Accepts, IsDelivered}
 use Rattle.qu_rounds.specs.Invocations.{IsRequestOf}
 use Rattle.qu_runs.specs.Times.{world_after}
-use Rattle.qu_points.specs.Order.{AnswersFirst, query_effect, effect_of, IsPoint}
+use Rattle.qu_points.specs.Order.{AnswersFirst, query_effect, effect_of, IsOperationPoint}
 use Rattle.qu_runs.specs.Answers.{is_answer, answers, sends_answer}
 use Rattle.qu_values.specs.Replies.{IsReplyTo}
 use Rattle.qu_runs.specs.Plain.{ArePlain}
@@ -107,7 +107,7 @@ reply_in client number round letter answer = reply_in_read client number round l
 -- ---- one point
 
 -- an operation has one point
-pub one_point : (trace : Trace) (first second : Point) → IsPoint trace first → IsPoint trace second → first.client
+pub one_point : (trace : Trace) (first second : Point) → IsOperationPoint trace first → IsOperationPoint trace second → first.client
     ≡ second.client → first.number ≡ second.number → first ≡ second
 one_point trace first second one two same_client same_number =
     let same : one.operation ≡ two.operation =
@@ -120,7 +120,7 @@ one_point trace first second one two same_client same_number =
     (effect_once trace two.operation first.event second.event two.operation.op effect two.effect)
     same_client same_number
     (sym one.op ∙ ap (λ (it : OpRecord). it.op) same ∙ two.op)
-    (sym one.correct ∙ two.correct)
+    (one.mark ∙ sym two.mark)
 
 -- ---- what an event hands over
 
@@ -351,11 +351,11 @@ module _ (trace : Trace) (is_run : IsRun trace) (have : ArePlain trace) where
         }
     takes_at operation event (op.Query query) is effect = query_takes operation event query is operation.reply effect
 
-    point_takes : (point : Point) → (is : IsPoint trace point) → TakesAt point.event is.operation
+    point_takes : (point : Point) → (is : IsOperationPoint trace point) → TakesAt point.event is.operation
     point_takes point is = takes_at is.operation point.event is.operation.op refl is.effect
 
     -- a point is at an event of the trace
-    pub point_bounds : (point : Point) → IsPoint trace point → (1 ≤ point.event) × (point.event ≤ length trace.entries)
+    pub point_bounds : (point : Point) → IsOperationPoint trace point → (1 ≤ point.event) × (point.event ≤ length trace.entries)
     point_bounds point is =
         let it : TakesAt point.event is.operation = point_takes point is in
         let event : point.event ≡ suc it.time = it.is_after in
@@ -369,7 +369,7 @@ module _ (trace : Trace) (is_run : IsRun trace) (have : ArePlain trace) where
         (asks_for trace is_run have time operation among asked).begun
 
     -- the operation of a point began before
-    pub begun_before : (point : Point) → (is : IsPoint trace point) → is.operation.invoked < point.event
+    pub begun_before : (point : Point) → (is : IsOperationPoint trace point) → is.operation.invoked < point.event
     begun_before point is =
         let it : TakesAt point.event is.operation = point_takes point is in
         let event : point.event ≡ suc it.time = it.is_after in
@@ -411,7 +411,7 @@ module _ (trace : Trace) (is_run : IsRun trace) (have : ArePlain trace) where
         (same.0, same.1)
 
     -- points differ in their events
-    pub points_apart : (first second : Point) → IsPoint trace first → IsPoint trace second
+    pub points_apart : (first second : Point) → IsOperationPoint trace first → IsOperationPoint trace second
         → first.event ≡ second.event → first ≡ second
     points_apart first second one two same =
         let it : TakesAt first.event one.operation = point_takes first one in

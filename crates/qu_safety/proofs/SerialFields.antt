@@ -1,4 +1,4 @@
--- A printed order holds operations of its trace alone, each once and after it began.
+-- An order of operations holds those of its trace alone, each once and after it began.
 use Rattle.std.proofs.Common.{◌≡◌, ℕ, zero, suc, ◌<◌, true, false, List, [], ◌∷◌, Some, sym, ap, subst, ◌∙◌, arith, inl, inr}
 use Rattle.std.specs.Prelude.{slice_get, Contains}
 use Rattle.std.proofs.lemmas.Bool.{false≢true, cases_order}
@@ -16,8 +16,9 @@ use Rattle.qu_chain.specs.Joint.{Joint}
 use Rattle.qu_runs.specs.Setting.{setting}
 use Rattle.qu_values.proofs.UpdateFacts.{UpdateFacts}
 use Rattle.qu_values.proofs.OneAct.{ActsAreOne}
-use Rattle.qu_points.specs.Order.{is_earlier, are_in_order, IsPoint, IsPrintedOrder}
+use Rattle.qu_points.specs.Order.{is_earlier, are_in_order, IsOperationPoint}
 use Rattle.qu_runs.specs.Plain.{ArePlain}
+use Rattle.qu_safety.proofs.NoFaulty.{IsOperationOrder}
 use Rattle.qu_safety.proofs.PointEvents.{begun_before, one_point}
 use Rattle.qu_points.proofs.Recorded.{recorded_op}
 use Rattle.qu_points.proofs.Sorted.{is_earlier-self, is_earlier-chain, in_order_parts, in_order_tail}
@@ -61,17 +62,17 @@ one_place points at other point order here there =
       ]
     ]
 
--- ---- what a printed order holds
+-- ---- what an order of operations holds
 
-module _ (trace : Trace) (order : List Point) (is_order : IsPrintedOrder trace order) where
-  pub point_at_place : (at : ℕ) (point : Point) → slice_get order at ≡ Some point → IsPoint trace point
+module _ (trace : Trace) (order : List Point) (is_order : IsOperationOrder trace order) where
+  pub point_at_place : (at : ℕ) (point : Point) → slice_get order at ≡ Some point → IsOperationPoint trace point
   point_at_place at point there = is_order.sound point (contains_at order at point there)
 
   -- each point is one of the operations
   pub points_known : (at : ℕ) (point : Point) → slice_get order at ≡ Some point → point.faulty ≡ false → IsKnown
       (operations_of trace.entries) point
   points_known at point there correct =
-      let is : IsPoint trace point = point_at_place at point there in
+      let is : IsOperationPoint trace point = point_at_place at point there in
       record {
         operation = is.operation;
         of_list = is.of_trace;
@@ -82,11 +83,11 @@ module _ (trace : Trace) (order : List Point) (is_order : IsPrintedOrder trace o
   -- no point is that of a faulty client
   pub points_faulty : (at : ℕ) (point : Point) → slice_get order at ≡ Some point → point.faulty ≡ true
       → IsLoneUpdate order at point
-  points_faulty at point there faulty = absurd (false≢true ((point_at_place at point there).correct ∙ faulty))
+  points_faulty at point there faulty = absurd (false≢true (sym (point_at_place at point there).mark ∙ faulty))
 
   -- the operation that stands at a place is that of the point
   pub stands_of : (operation : OpRecord) → Contains (operations_of trace.entries) operation → (point : Point)
-      → Stands operation point → (is : IsPoint trace point) → is.operation ≡ operation
+      → Stands operation point → (is : IsOperationPoint trace point) → is.operation ≡ operation
   stands_of operation of_trace point stands is =
       recorded_op trace is.operation operation is.of_trace of_trace
       (ap (λ (it : ClientId). it.0) (is.client ∙ sym stands.client)) (is.number ∙ sym stands.number)
@@ -107,7 +108,7 @@ module _ (trace : Trace) (order : List Point) (is_order : IsPrintedOrder trace o
     stand_at_most_once operation of_trace = record {
       alone = stands_alone operation;
       after = λ at point here.
-          let is : IsPoint trace point = point_at_place at point here.there in
+          let is : IsOperationPoint trace point = point_at_place at point here.there in
           subst (λ (it : OpRecord). it.invoked < point.event) (stands_of operation of_trace point here.stands is)
           (begun_before trace is_run have one_act laws joint facts point is);
     }

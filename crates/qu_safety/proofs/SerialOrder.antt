@@ -1,7 +1,8 @@
--- The printed order of a run is a serial order of its operations.
+-- The order of the points of its operations is a serial order of the operations of a run.
 use Rattle.std.proofs.Common.{◌≡◌, ℕ, zero, suc, ◌-◌, ◌<◌, ◌≤◌, List, [], ◌∷◌, length, take, Some, refl, sym, ap, subst, ◌∙◌, arith}
 use Rattle.std.specs.Prelude.{slice_get, slice_index_or, Contains}
 use Rattle.std.specs.List.{AllZip}
+use Rattle.std.proofs.lemmas.List.Elements.{All-contains}
 use Rattle.qu_base.specs.declared.party.ObjectId.{ObjectId}
 use Rattle.qu_stamp.specs.declared.candidate.Candidate.{Candidate}
 use Rattle.qu_chain.specs.Laws.{Laws}
@@ -28,12 +29,14 @@ use Rattle.qu_trace.specs.Operation.{operations_of}
 use Rattle.qu_world.specs.Run.{IsRun}
 use Rattle.qu_runs.specs.Plain.{ArePlain}
 use Rattle.qu_runs.specs.Setting.{setting}
-use Rattle.qu_points.specs.Order.{DecidesAt, effect_of, IsPoint, IsPrintedOrder}
-use Rattle.qu_points.specs.Points.{point_at}
+use Rattle.qu_points.specs.Order.{DecidesAt, effect_of, IsOperationPoint}
+use Rattle.qu_points.specs.Points.{IsOfCorrect, point_at}
+use Rattle.qu_points.proofs.Correct.{operations_correct}
 use Rattle.qu_points.proofs.Rising.{rising_from_order}
 use Rattle.qu_rounds.proofs.OneRound.{one_round_request}
 use Rattle.qu_values.specs.Updates.{Update, IsOf}
 use Rattle.qu_values.specs.Values.{HasVersion}
+use Rattle.qu_safety.proofs.NoFaulty.{IsOperationOrder}
 use Rattle.qu_safety.proofs.ActPoints.{StandsBefore, IsTurnOf, turn_of, act_has_point, quiet_values, loud_values}
 use Rattle.qu_safety.proofs.CompletedActs.{CompletedAct, completed_act}
 use Rattle.qu_safety.proofs.CompletedQueries.{CompletedQuery, HasTopValue, completed_query, point_of_query, query_has_point}
@@ -62,7 +65,12 @@ place_of order point held = record { at = held.0; there = index_in order held.0 
 
 module _ (trace : Trace) (is_run : IsRun trace) (have : ArePlain trace) (one_act : ActsAreOne trace)
     (laws : Laws (setting trace)) (joint : Joint (setting trace)) (facts : UpdateFacts trace) (order : List Point)
-    (printed : IsPrintedOrder trace order) where
+    (printed : IsOperationOrder trace order) where
+  -- the client of an operation is correct
+  own : (operation : OpRecord) → Contains (operations_of trace.entries) operation → IsOfCorrect trace.setup operation
+  own operation among =
+      All-contains (IsOfCorrect trace.setup) (operations_of trace.entries) operation (operations_correct trace is_run) among
+
   rising : IsRising order
   rising = rising_from_order order printed.in_order
       (λ first second one two same.
@@ -80,7 +88,7 @@ module _ (trace : Trace) (is_run : IsRun trace) (have : ArePlain trace) (one_act
       fold_along trace.setup.kinds order (length trace.entries) (IsValues trace laws joint one_act facts) rising
       (λ it held. point_bounds trace is_run have one_act laws joint facts it (printed.sound it held))
       (first_values trace laws joint one_act facts)
-      (quiet_values trace laws joint one_act facts order printed)
+      (quiet_values trace laws joint one_act facts order printed (operations_correct trace is_run))
       (loud_values trace laws joint one_act facts order printed)
       at point there time same
 
@@ -107,7 +115,7 @@ module _ (trace : Trace) (is_run : IsRun trace) (have : ArePlain trace) (one_act
   stands_before operation among reply answer replied (op.Act act) is =
       let it : CompletedAct trace operation reply answer =
       completed_act trace is_run have laws joint facts operation among reply answer replied act is in
-      act_has_point trace laws joint one_act facts operation among it.parts it.is_act reply it.begins it.within
+      act_has_point trace laws joint one_act facts operation among (own operation among) it.parts it.is_act reply it.begins it.within
       it.object it.candidate it.is_of it.decided
   stands_before operation among reply answer replied (op.Query query) is =
       let found =
@@ -174,7 +182,7 @@ module _ (trace : Trace) (is_run : IsRun trace) (have : ArePlain trace) (one_act
       → StandsAt operation order at point → (time : ℕ) → point.event ≡ suc time
       → answer_at trace.setup.kinds order at point ≡ answer
   act_answers operation reply answer among completes act is_act at point here time same =
-      let it : IsPoint trace point = point_at_place trace order printed at point here.there in
+      let it : IsOperationPoint trace point = point_at_place trace order printed at point here.there in
       let done : CompletedAct trace operation reply answer =
       completed_act trace is_run have laws joint facts operation among reply answer completes act is_act in
       let operations : it.operation ≡ operation = stands_of trace order printed operation among point here.stands it in
@@ -205,10 +213,10 @@ module _ (trace : Trace) (is_run : IsRun trace) (have : ArePlain trace) (one_act
       let done : CompletedQuery trace operation reply answer =
       completed_query trace is_run have laws joint facts (completion trace is_run have)
       (one_round_request trace is_run have) operation among reply answer completes query is_query in
-      let there : IsPoint trace (point_at operation done.event) × Stands operation (point_at operation done.event) =
-      point_of_query trace operation among reply answer completes done in
-      let same : point ≡ point_at operation done.event =
-      one_point trace point (point_at operation done.event) (point_at_place trace order printed at point here.there)
+      let there : IsOperationPoint trace (point_at trace.setup operation done.event) × Stands operation (point_at trace.setup operation done.event) =
+      point_of_query trace operation among (own operation among) reply answer completes done in
+      let same : point ≡ point_at trace.setup operation done.event =
+      one_point trace point (point_at trace.setup operation done.event) (point_at_place trace order printed at point here.there)
       there.0 (sym (here.stands).client) (sym (here.stands).number) in
       let event : point.event ≡ suc done.time = ap (λ (it : Point). it.event) same ∙ done.is_after in
       let bounds : (1 ≤ point.event) × (point.event ≤ length trace.entries) =

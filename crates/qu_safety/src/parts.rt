@@ -1,9 +1,9 @@
 ghost use Rattle.std.specs.Prelude.{◌<◌, ◌^◌, length};
-ghost use Rattle.qu_objects.specs.Digesting.{MethodFits, PartsFit};
 ghost use Rattle.qu_runs.specs.Plain.{HaveParts, HasEventParts};
 
-use qu_base::{ClientId, ObjectId};
-use qu_objects::{Method, Op};
+use qu_base::ClientId;
+use qu_objects::Op;
+use qu_points::parts_fit;
 use qu_trace::{Entry, Event};
 
 /// Each operation that begins has parts, and its numbers fit their bytes; and a run that is in memory has fewer
@@ -38,20 +38,4 @@ fn client_fits(client: ClientId)
     ensures { client.0 < 2 ^ 16 }
 {
     let _ = client.0;
-}
-
-fn parts_fit(parts: &[(ObjectId, Method)])
-    ensures { PartsFit parts.now }
-{
-    for (_, method) in parts {
-        method_fits(*method);
-    }
-}
-
-fn method_fits(method: Method)
-    ensures { MethodFits method }
-{
-    match method {
-        Method::Add(_) | Method::Take(_) => {}
-    }
 }

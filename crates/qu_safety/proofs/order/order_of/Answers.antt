@@ -23,6 +23,7 @@ use Rattle.qu_grounds.proofs.Named.{stamps_name}
 use Rattle.qu_values.proofs.OneAct.{ActsAreOne, acts_are_one}
 use Rattle.qu_values.proofs.UpdateFacts.{UpdateFacts}
 use Rattle.qu_values.proofs.UpdatesOfRuns.{update_facts}
+use Rattle.qu_safety.proofs.NoFaulty.{handled_correct, no_points_of_faulty, operation_order}
 use Rattle.qu_safety.proofs.SerialOrder.{serial}
 use Rattle.qu_safety.proofs.order.order_of.Goals as goal
 
@@ -68,7 +69,9 @@ returns-clause-serial c =
     (operations_of c.args.trace.now.entries) order)
     (λ order printed premises silent.
     let it : Grounded c.args.trace.now = grounded c premises silent in
-    serial c.args.trace.now c.requires it.plain it.one_act it.laws it.joint it.facts order printed)
+    serial c.args.trace.now c.requires it.plain it.one_act it.laws it.joint it.facts order
+    (operation_order c.args.trace.now
+    (no_points_of_faulty c.args.trace.now (handled_correct c.args.trace.now c.requires it.plain)) order printed))
     c.printed_order.ensures
 
 pub returns-clause-chained : goal.returns-clause-chained
