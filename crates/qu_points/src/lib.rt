@@ -15,3 +15,6 @@ mod tracker;
 
 pub use faulty::parts_fit;
 pub use order::printed_order;
+
+#[cfg(test)]
+mod tests;
