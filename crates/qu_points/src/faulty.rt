@@ -62,7 +62,7 @@ fn acts_fit(acts: &[(ClientId, u64, Act)])
     }
 }
 
-/// The same of the parts of an act.
+/// The numbers of the parts of an act fit their bytes. Types keep this, and nothing is computed.
 pub fn parts_fit(parts: &[(ObjectId, Method)])
     ensures { PartsFit parts.now }
 {

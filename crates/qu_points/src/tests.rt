@@ -1,4 +1,7 @@
 //! That the update of a faulty client has its point, with its mark.
+ghost use Rattle.std.specs.Prelude.{◌≤◌, count_by};
+ghost use Rattle.qu_trace.specs.Faulty.{is_replica};
+
 use crate::printed_order;
 use qu_base::{Bounds, ClientId, List, ObjectId, Party};
 use qu_machine::Point;
@@ -9,7 +12,9 @@ use std::alloc::Global;
 use std::test::Fail;
 
 /// A world of six replicas, one client and one counter.
-fn started(alloc: Global, liars: List<Party>) -> Result<World, Fail> {
+fn started(alloc: Global, liars: List<Party>) -> Result<World, Fail>
+    requires { count_by is_replica liars ≤ 1 }
+{
     let bounds = Bounds::new(1)?;
     let kinds = List::one(alloc, KindName::Counter)?;
     let setup = Setup {
