@@ -1,0 +1,24 @@
+use super::{reply_of, sealed_for};
+use qu_base::{Bounds, ClientId, List, ObjectId, Party, ReplicaId};
+use qu_frames::{Frame, Refusal, Verdict, receive};
+use qu_history::History;
+use qu_seal::KeyRing;
+use std::test::Fail;
+
+#[test]
+fn a_client_takes_a_made_reply(rt: HostRuntime) -> Result<(), Fail> {
+    let alloc = rt.alloc();
+    let keys = KeyRing::derive(7, &Bounds::new(1)?, 2);
+    let me = ReplicaId(5);
+    let history = History::opening(alloc, ObjectId(0), me)?;
+    let sealed = sealed_for(alloc, &keys, me, &history, &[ReplicaId(2)])?;
+    assert!(rt; sealed.is_right(alloc, ReplicaId(2), &keys)?);
+    assert!(rt; !sealed.is_right(alloc, ReplicaId(3), &keys)?);
+    let verdict = Verdict::Refused(Refusal::Thin(ObjectId(0)));
+    let shown = List::one(alloc, sealed)?;
+    let text = reply_of(alloc, &keys, me, ClientId(2), 4, 3, verdict, shown)?;
+    let taken = receive(alloc, &keys, Party::Client(ClientId(2)), text.as_slice())?;
+    assert!(rt; matches!(taken, Some(Frame::Reply { replica: ReplicaId(5), number: 4, round: 3, .. })));
+    assert!(rt; receive(alloc, &keys, Party::Client(ClientId(1)), text.as_slice())?.is_none());
+    Ok(())
+}
