@@ -16,13 +16,14 @@ abbrev pub is_one_of : List ReplicaId → ℕ → Bool
 is_one_of good number = list_any (λ (other : ReplicaId). other.0 == number) good
 
 -- the HMAC of a digest for the replica with this number: right for the chosen ones, and else zero bytes
-abbrev pub mac_for : Ring → ReplicaId → List ReplicaId → Digest → ℕ → List ℕ
+unfoldable pub mac_for : Ring → ReplicaId → List ReplicaId → Digest → ℕ → List ℕ
 mac_for ring me good text number =
     if is_one_of good number then seal_of ring (Replica me) (Replica (record { 0 = number })) text else blank_mac
 
 -- one for each replica
 unfoldable pub authenticator_for : Ring → ReplicaId → List ReplicaId → Digest → List (List ℕ)
-authenticator_for ring me good text = map (mac_for ring me good text) (range_with_len 0 (replicas ring.bounds))
+authenticator_for ring me good text =
+    map (λ number. mac_for ring me good text number) (range_with_len 0 (replicas ring.bounds))
 
 -- the history with these HMACs by this replica
 abbrev pub sealed_for : Ring → ReplicaId → List ReplicaId → ObjectHistory → Sealed

@@ -1,9 +1,11 @@
 //! What a faulty replica can make: histories and replies of its choice, under the keys that it has.
 #![tactic(auto)]
 
+mod naming;
 mod replying;
 mod sealing;
 
+pub use naming::in_name_of;
 pub use replying::reply_of;
 pub use sealing::sealed_for;
 

@@ -1,5 +1,5 @@
 ghost use Rattle.std.specs.Prelude.{◌≡◌, IfOk};
-ghost use Rattle.qu_adversary.specs.Sealing.{mac_for, authenticator_for, sealed_for};
+ghost use Rattle.qu_adversary.specs.Sealing.{is_one_of, mac_for, authenticator_for, sealed_for};
 
 use qu_base::{Digest, List, NoMemory, Party, ReplicaId};
 use qu_frames::blank_mac;
@@ -45,19 +45,21 @@ fn authenticator_for(
 }
 
 /// The HMAC for the replica with this number.
-fn mac_for(
-    keys: &KeyRing,
-    me: ReplicaId,
-    good: &[ReplicaId],
-    number: u8,
-    text: &Digest,
-) -> [u8; 32]
+#[tactic(auto, unfolding(crate::specs::Sealing::mac_for))]
+fn mac_for(keys: &KeyRing, me: ReplicaId, good: &[ReplicaId], number: u8, text: &Digest) -> [u8; 32]
     ensures { result ≡ mac_for keys.now me good.now text.now number }
 {
-    if good.iter().any(|other| other.0 == number) {
+    if is_one_of(good, number) {
         let other = Party::Replica(ReplicaId(number));
         keys.seal_for(Party::Replica(me), other, text)
     } else {
         blank_mac()
     }
+}
+
+/// Whether the replica with this number is one of these.
+fn is_one_of(good: &[ReplicaId], number: u8) -> bool
+    ensures { result ≡ is_one_of good.now number }
+{
+    good.iter().any(|other| other.0 == number)
 }

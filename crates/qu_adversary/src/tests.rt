@@ -18,7 +18,17 @@ fn a_client_takes_a_made_reply(rt: HostRuntime) -> Result<(), Fail> {
     let shown = List::one(alloc, sealed)?;
     let text = reply_of(alloc, &keys, me, ClientId(2), 4, 3, verdict, shown)?;
     let taken = receive(alloc, &keys, Party::Client(ClientId(2)), text.as_slice())?;
-    assert!(rt; matches!(taken, Some(Frame::Reply { replica: ReplicaId(5), number: 4, round: 3, .. })));
+    assert!(rt;
+        matches!(
+            taken,
+            Some(Frame::Reply {
+                replica: ReplicaId(5),
+                number: 4,
+                round: 3,
+                ..
+            })
+        )
+    );
     assert!(rt; receive(alloc, &keys, Party::Client(ClientId(1)), text.as_slice())?.is_none());
     Ok(())
 }

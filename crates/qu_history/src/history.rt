@@ -170,15 +170,6 @@ impl History {
         })
     }
 
-    /// The same candidates, as another replica's.
-    pub fn of_replica(&self, alloc: Global, replica: ReplicaId) -> Result<History, NoMemory>
-        ensures { IfOk result (λ history. history ≡ record self.now { replica = replica }) }
-    {
-        let mut history = self.copy(alloc)?;
-        history.replica = replica;
-        Ok(history)
-    }
-
     /// The history at the front of a text. After a refusal, and without memory, the text is as before.
     #[tactic(auto, using(crate::proofs::Forms::history_read))]
     pub fn read(alloc: Global, text: &mut Cursor) -> Result<History, ReadFail>

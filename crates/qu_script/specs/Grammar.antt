@@ -1,31 +1,29 @@
 -- What the lines of a script say.
-use Rattle.std.specs.Prelude.{ℕ, ◌&&◌, ◌≤◌, nat_le, List, [], ◌∷◌, Option, None, Some, if◌then◌else◌, codes}
+use Rattle.std.specs.Prelude.{ℕ, ◌≤◌, List, [], ◌∷◌, Option, None, Some, if◌then◌else◌, codes}
 use Rattle.std.specs.Option.{option_map, option_and_then}
 use Rattle.std.specs.Str.{bytes_eq}
 use Rattle.qu_base.specs.declared.limits.TheConstants.{LAST_CLIENT, MOST_FAULTS}
+use Rattle.qu_base.specs.declared.party.ClientId.{ClientId}
 use Rattle.qu_base.specs.declared.party.ObjectId.{ObjectId}
 use Rattle.qu_objects.specs.declared.act.Method.{Method}
 use Rattle.qu_objects.specs.declared.act.Method.TheVariants.{Add, Take}
 use Rattle.qu_objects.specs.declared.query.Ask.TheVariants.{Read}
 use Rattle.qu_objects.specs.declared.op.Op.{Op}
 use Rattle.qu_objects.specs.declared.op.Op.TheVariants as op
+use Rattle.qu_trace.specs.declared.trace.Setup.{Setup}
 use Rattle.qu_script.specs.declared.line.Line.{Line}
 use Rattle.qu_script.specs.declared.line.Line.TheVariants.{Call, Deliver, Flow}
 use Rattle.qu_script.specs.declared.setup.SetupLine.{SetupLine}
 use Rattle.qu_script.specs.declared.setup.SetupLine.TheVariants.{Bounds, Seed, Clients, Object}
-use Rattle.qu_script.specs.Text.{number_of}
+use Rattle.qu_script.specs.Injecting.{inject_of, fake_of}
+use Rattle.qu_script.specs.Parties.{client_in}
+use Rattle.qu_script.specs.Text.{number_of, number_in}
 
 -- ---- numbers
 
 -- the greatest number that a word may write
 abbrev pub greatest_number : ℕ
 greatest_number = 0xffff_ffff_ffff_ffff
-
--- a number from a least to a greatest one
-abbrev pub number_in : ℕ → ℕ → List ℕ → Option ℕ
-number_in least greatest word =
-    option_and_then (λ number. if nat_le least number && nat_le number greatest then Some number else None)
-    (number_of word)
 
 -- one such number, and no word behind it
 unfoldable pub only_number : ℕ → ℕ → List (List ℕ) → Option ℕ
@@ -102,15 +100,15 @@ op_of (verb ∷ words) =
     else (if bytes_eq verb (codes "take") then option_map (λ amount. update_by (Take amount)) (amount_of words)
     else (if bytes_eq verb (codes "read") then option_map (λ number. read_op) (only_number 0 0 words) else None))
 
-abbrev pub call_by : Option ℕ → Option Op → Option Line
+abbrev pub call_by : Option ClientId → Option Op → Option Line
 call_by None op = None
 call_by (Some client) None = None
-call_by (Some client) (Some op) = Some (Call (record { 0 = client }) op)
+call_by (Some client) (Some op) = Some (Call client op)
 
 -- `C OP`, where there are so many clients
 unfoldable pub call_of : ℕ → List (List ℕ) → Option Line
 call_of clients [] = None
-call_of clients (client ∷ words) = call_by (number_in 1 clients client) (op_of words)
+call_of clients (client ∷ words) = call_by (client_in clients client) (op_of words)
 
 -- `L L ..`, at least one letter
 unfoldable pub deliver_of : List (List ℕ) → Option Line
@@ -122,10 +120,12 @@ unfoldable pub flow_of : List (List ℕ) → Option Line
 flow_of [] = Some (Flow None)
 flow_of (word ∷ words) = option_map (λ count. Flow (Some count)) (only_number 0 greatest_number (word ∷ words))
 
--- `call C OP`, `deliver L L ..`, `flow` or `flow N`
-unfoldable pub line_of_words : ℕ → List (List ℕ) → Option Line
-line_of_words clients [] = None
-line_of_words clients (verb ∷ words) =
-    if bytes_eq verb (codes "call") then call_of clients words
+-- a line behind the setup, by its first word
+unfoldable pub line_of_words : Setup → List (List ℕ) → Option Line
+line_of_words setup [] = None
+line_of_words setup (verb ∷ words) =
+    if bytes_eq verb (codes "call") then call_of setup.clients words
     else (if bytes_eq verb (codes "deliver") then deliver_of words
-    else (if bytes_eq verb (codes "flow") then flow_of words else None))
+    else (if bytes_eq verb (codes "flow") then flow_of words
+    else (if bytes_eq verb (codes "inject") then inject_of setup words
+    else (if bytes_eq verb (codes "fake") then fake_of setup words else None))))

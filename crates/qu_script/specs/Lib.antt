@@ -1,6 +1,11 @@
 pub mod Text
 pub mod Read
+pub mod Parties
 pub mod Grammar
+pub mod Injecting
+pub mod Liars
 pub mod Script
+pub mod Letters
+pub mod Fake
 pub mod Events
 pub mod Player

@@ -1,5 +1,6 @@
 -- What a script says: its setup, and the lines behind it, or the first line that cannot stand.
 use Rattle.std.specs.Prelude.{◌≡◌, ℕ, ◌+◌, nat_lt, List, [], ◌∷◌, length, Option, None, Some, Result, Ok, Err, if◌then◌else◌}
+use Rattle.qu_base.specs.declared.party.Party.{Party}
 use Rattle.qu_objects.specs.declared.kind.KindName.TheVariants.{Counter}
 use Rattle.qu_trace.specs.declared.trace.Setup.{Setup}
 use Rattle.qu_script.specs.declared.bad.Bad.{Bad}
@@ -13,6 +14,7 @@ use Rattle.qu_script.specs.declared.bad.ScriptFail.TheVariants as fails
 use Rattle.qu_script.specs.declared.setup.SetupLine.{SetupLine}
 use Rattle.qu_script.specs.declared.setup.SetupLine.TheVariants.{Bounds, Seed, Clients, Object}
 use Rattle.qu_script.specs.Grammar.{setup_number, line_of_words}
+use Rattle.qu_script.specs.Liars.{liars_from}
 
 abbrev pub then_good : {X Y : Type 0} → Result X Bad → (X → Result Y Bad) → Result Y Bad
 then_good (Ok x) f = f x
@@ -31,26 +33,32 @@ expect line number [] = unknown_line number
 expect line number (text ∷ texts) = then_good (or_unknown number (setup_number line (words_of text)))
     (λ found. Ok (found, texts))
 
--- the lines of these texts, of which the first has this number, where there are so many clients
-unfoldable pub lines_from : ℕ → ℕ → List (List ℕ) → Result (List (ℕ × Line)) Bad
-lines_from clients number [] = Ok []
-lines_from clients number (text ∷ texts) =
-    then_good (or_unknown number (line_of_words clients (words_of text))) (λ line.
-    then_good (lines_from clients (number + 1) texts) (λ lines. Ok ((number, line) ∷ lines)))
+-- the lines of these texts, of which the first has this number, behind this setup
+unfoldable pub lines_from : Setup → ℕ → List (List ℕ) → Result (List (ℕ × Line)) Bad
+lines_from setup number [] = Ok []
+lines_from setup number (text ∷ texts) =
+    then_good (or_unknown number (line_of_words setup (words_of text))) (λ line.
+    then_good (lines_from setup (number + 1) texts) (λ lines. Ok ((number, line) ∷ lines)))
 
-abbrev pub setup_of : ℕ → ℕ → ℕ → Setup
-setup_of bounds seed clients =
-    record { bounds = bounds; seed = seed; clients = clients; kinds = Counter ∷ []; liars = [] }
+abbrev pub setup_of : ℕ → ℕ → ℕ → List Party → Setup
+setup_of bounds seed clients liars =
+    record { bounds = bounds; seed = seed; clients = clients; kinds = Counter ∷ []; liars = liars }
 
--- four setup lines in their order, and then event lines
+-- the event lines behind this setup, which ends with the faulty parties
+abbrev pub script_with : Setup → List (List ℕ) → Result Script Bad
+script_with setup texts =
+    then_good (lines_from setup (5 + length setup.liars) texts) (λ lines.
+    Ok (record { setup = setup; lines = lines }))
+
+-- four setup lines in their order, the faulty replicas, and then event lines
 unfoldable pub script_from : List (List ℕ) → Result Script Bad
 script_from texts =
     then_good (expect Bounds 1 texts) (λ bounds.
     then_good (expect Seed 2 bounds.1) (λ seed.
     then_good (expect Clients 3 seed.1) (λ clients.
     then_good (expect Object 4 clients.1) (λ object.
-    then_good (lines_from clients.0 5 object.1) (λ lines.
-    Ok (record { setup = setup_of bounds.0 seed.0 clients.0; lines = lines }))))))
+    let liars = liars_from bounds.0 0 bounds.0 object.1 in
+    script_with (setup_of bounds.0 seed.0 clients.0 liars.0) liars.1))))
 
 -- a script of too many bytes is refused at once
 unfoldable pub script_of : List ℕ → Result Script Bad

@@ -15,6 +15,9 @@ pub enum BadKind {
     NoSuchLetter,
     /// In the run, the client that the line calls has an operation under way.
     Busy,
+    /// In the run, the client for which the line makes a reply has sent no request, or the replica that
+    /// the line echoes has sent the client no reply.
+    NoRequest,
     /// In the run, the line would make one event more than a run may have.
     TooManyEvents,
     /// In the run, the letters before the line have as many bytes as they may.

@@ -4,10 +4,16 @@
 mod bad;
 mod call;
 mod cut;
+mod fake;
+mod hexadecimal;
+mod injecting;
+mod letters;
+mod liars;
 mod limits;
 mod line;
 mod number;
 mod numbers;
+mod parties;
 mod player;
 mod read;
 mod run;
@@ -16,7 +22,7 @@ mod waiting;
 
 pub use bad::{Bad, BadKind, ScriptFail};
 pub use limits::{SCRIPT_LIMIT, limits_are_these};
-pub use line::{Line, Script};
+pub use line::{How, Line, Script};
 pub use read::read_script;
 pub use run::run_script;
 pub use setup::SetupLine;

@@ -1,9 +1,20 @@
 ghost use Rattle.std.specs.Prelude.{◌≡◌, IfOk};
 
-use qu_base::{ClientId, List, NoMemory};
+use qu_base::{ClientId, List, NoMemory, Party, ReplicaId};
 use qu_objects::Op;
 use qu_trace::Setup;
 use std::alloc::Global;
+
+/// What a made reply shows, and its verdict.
+#[derive(Clone, Copy, Debug, PartialEq, Eq)]
+pub enum How {
+    /// The histories that this correct replica has now.
+    Show(ReplicaId),
+    /// What the last reply of this correct replica to the client said.
+    Echo(ReplicaId),
+    /// Histories with a candidate of the greatest time.
+    Far,
+}
 
 /// What a line of a script says.
 #[derive(Debug, Drop)]
@@ -12,9 +23,14 @@ pub enum Line {
     Call(ClientId, Op),
     /// These letters are delivered, in this order.
     Deliver(List<u64>),
-    /// The lowest letter that was not delivered is delivered, again and again: so many times at
-    /// most, or until there is none.
+    /// The lowest letter to a correct party that was not delivered is delivered, again and again: so
+    /// many times at most, or until there is none.
     Flow(Option<u64>),
+    /// These bytes reach a party.
+    Inject(Party, List<u8>),
+    /// A reply reaches the client as the replica's, whose HMACs for these replicas are right: for
+    /// all of them where none are listed.
+    Fake(ReplicaId, ClientId, How, Option<List<ReplicaId>>),
 }
 
 impl Line {
@@ -26,6 +42,11 @@ impl Line {
             Line::Call(client, op) => Line::Call(*client, op.copy(alloc)?),
             Line::Deliver(letters) => Line::Deliver(letters.copy(alloc)?),
             Line::Flow(most) => Line::Flow(*most),
+            Line::Inject(party, text) => Line::Inject(*party, text.copy(alloc)?),
+            Line::Fake(replica, client, how, Some(good)) => {
+                Line::Fake(*replica, *client, *how, Some(good.copy(alloc)?))
+            }
+            Line::Fake(replica, client, how, None) => Line::Fake(*replica, *client, *how, None),
         })
     }
 }

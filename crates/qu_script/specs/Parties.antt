@@ -1,0 +1,58 @@
+-- The parties that words of a script name, and the bytes that a word spells.
+use Rattle.std.specs.Prelude.{ℕ, ◌-◌, ◌&&◌, List, [], ◌∷◌, Option, None, Some, if◌then◌else◌, codes, Result, Ok, Err}
+use Rattle.std.specs.Option.{option_map, option_and_then}
+use Rattle.std.specs.Str.{bytes_eq}
+use Rattle.hex.specs.Hex.{decode_of}
+use Rattle.hex.specs.declared.error.FromHexError.{FromHexError}
+use Rattle.qu_base.specs.declared.party.ClientId.{ClientId}
+use Rattle.qu_base.specs.declared.party.Party.{Party}
+use Rattle.qu_base.specs.declared.party.Party.TheVariants as party
+use Rattle.qu_base.specs.declared.party.ReplicaId.{ReplicaId}
+use Rattle.qu_base.specs.Bounds.{replicas}
+use Rattle.qu_trace.specs.declared.trace.Setup.{Setup}
+use Rattle.qu_trace.specs.Faulty.{is_faulty}
+use Rattle.qu_script.specs.Text.{number_in}
+
+-- ---- parties
+
+-- a replica with a number that is not below this one, where so many may lie
+abbrev pub replica_from : ℕ → ℕ → List ℕ → Option ReplicaId
+replica_from least bounds word = option_map (λ number. record { 0 = number })
+    (number_in least (replicas bounds - 1) word)
+
+-- a client, where there are so many
+abbrev pub client_in : ℕ → List ℕ → Option ClientId
+client_in clients word = option_map (λ number. record { 0 = number }) (number_in 1 clients word)
+
+-- a correct replica
+abbrev pub if_correct : Setup → ReplicaId → Option ReplicaId
+if_correct setup me = if is_faulty setup (party.Replica me) then None else Some me
+
+abbrev pub correct_replica : Setup → List ℕ → Option ReplicaId
+correct_replica setup word = option_and_then (if_correct setup) (replica_from 0 setup.bounds word)
+
+-- `replica R` or `client C`
+unfoldable pub party_in : Setup → List ℕ → List ℕ → Option Party
+party_in setup kind word =
+    if bytes_eq kind (codes "replica")
+    then option_map (λ me. party.Replica me) (replica_from 0 setup.bounds word)
+    else (if bytes_eq kind (codes "client") then option_map (λ me. party.Client me) (client_in setup.clients word)
+    else None)
+
+-- replicas, one for each word
+unfoldable pub replicas_of : ℕ → List (List ℕ) → Option (List ReplicaId)
+replicas_of bounds [] = Some []
+replicas_of bounds (word ∷ words) =
+    option_and_then (λ me. option_map (λ more. me ∷ more) (replicas_of bounds words)) (replica_from 0 bounds word)
+
+-- ---- bytes
+
+abbrev pub if_decoded : Result (List ℕ) FromHexError → Option (List ℕ)
+if_decoded (Ok bytes) = Some bytes
+if_decoded (Err why) = None
+
+-- two hexadecimal digits for each byte, or `-` for none
+unfoldable pub bytes_of : List ℕ → Option (List ℕ)
+bytes_of [] = None
+bytes_of (digit ∷ digits) =
+    if bytes_eq (digit ∷ digits) (codes "-") then Some [] else if_decoded (decode_of (digit ∷ digits))
