@@ -1,4 +1,3 @@
 pub mod EndFacts
 pub mod ScriptFacts
 pub mod TransferFacts
-pub mod Premises

@@ -14,6 +14,7 @@ fn kind_words(kind: BadKind) -> &'static str
         BadKind::UnknownLine => "unknown line",
         BadKind::NoSuchLetter => "no such letter",
         BadKind::Busy => "busy",
+        BadKind::NoRequest => "no request",
         BadKind::TooManyEvents => "too many events",
         BadKind::TooManyBytes => "too many bytes",
     }

@@ -1,7 +1,10 @@
 pub mod TextFacts
 pub mod NumberFacts
+pub mod ReplicaFacts
 pub mod RangeFacts
+pub mod LiarFacts
 pub mod ScriptFacts
+pub mod LetterFacts
 pub mod Scripted
 pub mod WaitingFacts
 pub mod RunFacts

@@ -61,12 +61,12 @@ deliveries_end number world letters index past = at_drop_all (deliveries_made nu
 -- ---- flow
 
 flow_step : (number left : ℕ) (world : WorldState) → flow_made number (suc left) world
-    ≡ if_waiting world (lowest_waiting world.entries)
+    ≡ if_waiting world (lowest_waiting world)
     (λ letter. then_good (event_made number world (event.Deliver letter)) (λ after. flow_made number left after))
 unfolding flow_made
 flow_step number left world = refl
 
-flow_delivers : (number left letter : ℕ) (world : WorldState) → lowest_waiting world.entries ≡ Some letter
+flow_delivers : (number left letter : ℕ) (world : WorldState) → lowest_waiting world ≡ Some letter
     → flow_made number (suc left) world ≡ then_good (event_made number world (event.Deliver letter))
     (λ after. flow_made number left after)
 flow_delivers number left letter world is =
@@ -75,7 +75,7 @@ flow_delivers number left letter world is =
     (λ letter. then_good (event_made number world (event.Deliver letter)) (λ after. flow_made number left after))) is
 
 pub flow_more : (number left count letter : ℕ) (world after : WorldState) → count ≡ suc left
-    → lowest_waiting world.entries ≡ Some letter
+    → lowest_waiting world ≡ Some letter
     → event_made number world (event.Deliver letter) ≡ Ok after → flow_made number left after ≡ flow_made number
     count world
 flow_more number left count letter world after is waits made =
@@ -84,7 +84,7 @@ flow_more number left count letter world after is waits made =
     ∙ ap (λ (it : Result WorldState Bad). then_good it (λ after. flow_made number left after)) made)
 
 pub flow_stop : (number left count letter : ℕ) (world : WorldState) (fail : ScriptFail)
-    (meant : Result WorldState Bad) → count ≡ suc left → lowest_waiting world.entries ≡ Some letter
+    (meant : Result WorldState Bad) → count ≡ suc left → lowest_waiting world ≡ Some letter
     → flow_made number count world ≡ meant → Fails fail (event_made number world (event.Deliver letter))
     → Fails fail meant
 flow_stop number left count letter world fail meant is waits same here =
@@ -92,7 +92,7 @@ flow_stop number left count letter world fail meant is waits same here =
     ∙ ap (λ (it : ℕ). flow_made number it world) (sym is) ∙ same)
     (fails_then fail (event_made number world (event.Deliver letter)) (λ after. flow_made number left after) here)
 
-pub flow_rests : (number count : ℕ) (world : WorldState) → lowest_waiting world.entries ≡ None
+pub flow_rests : (number count : ℕ) (world : WorldState) → lowest_waiting world ≡ None
     → flow_made number count world ≡ Ok world
 unfolding flow_made
 flow_rests number zero world none = refl

@@ -1,5 +1,6 @@
 -- Facts on the lines of a script.
 use Rattle.std.proofs.Common.{◌≡◌, ℕ, ◌+◌, length, List, [], ◌∷◌, ◌++◌, None, Some, Result, Ok, Err, refl, sym, ap, ◌∙◌, append_assoc, append-nil}
+use Rattle.qu_trace.specs.declared.trace.Setup.{Setup}
 use Rattle.qu_script.specs.declared.line.Line.{Line}
 use Rattle.qu_script.specs.declared.bad.Bad.{Bad}
 use Rattle.qu_script.specs.declared.bad.BadKind.TheVariants.{UnknownLine}
@@ -44,19 +45,19 @@ pub ruleset expect_facts = (expects_none, expects_found, expects_other)
 -- ---- event lines
 
 -- the lines so far with those of the texts
-abbrev pub lines_with : ℕ → List (ℕ × Line) → ℕ → List (List ℕ) → Result (List (ℕ × Line)) Bad
-lines_with clients lines number texts = then_good (lines_from clients number texts) (λ more. Ok (lines ++ more))
+abbrev pub lines_with : Setup → List (ℕ × Line) → ℕ → List (List ℕ) → Result (List (ℕ × Line)) Bad
+lines_with setup lines number texts = then_good (lines_from setup number texts) (λ more. Ok (lines ++ more))
 
-lines_from-cons : (clients number : ℕ) (text : List ℕ) (texts : List (List ℕ)) → lines_from clients number
+lines_from-cons : (setup : Setup) (number : ℕ) (text : List ℕ) (texts : List (List ℕ)) → lines_from setup number
     (text ∷ texts)
-    ≡ then_good (or_unknown number (line_of_words clients (words_of text)))
-    (λ line. then_good (lines_from clients (number + 1) texts) (λ lines. Ok ((number, line) ∷ lines)))
+    ≡ then_good (or_unknown number (line_of_words setup (words_of text)))
+    (λ line. then_good (lines_from setup (number + 1) texts) (λ lines. Ok ((number, line) ∷ lines)))
 unfolding lines_from
-lines_from-cons clients number text texts = refl
+lines_from-cons setup number text texts = refl
 
-lines_from-nil : (clients number : ℕ) → lines_from clients number [] ≡ Ok []
+lines_from-nil : (setup : Setup) (number : ℕ) → lines_from setup number [] ≡ Ok []
 unfolding lines_from
-lines_from-nil clients number = refl
+lines_from-nil setup number = refl
 
 onto_back : (lines : List (ℕ × Line)) (line : ℕ × Line) (rest : Result (List (ℕ × Line)) Bad)
     → then_good (then_good rest (λ more. Ok (line ∷ more))) (λ more. Ok (lines ++ more)) ≡ then_good rest
@@ -64,29 +65,29 @@ onto_back : (lines : List (ℕ × Line)) (line : ℕ × Line) (rest : Result (Li
 onto_back lines line (Ok more) = ap Ok (sym (append_assoc lines (line ∷ []) more))
 onto_back lines line (Err bad) = refl
 
-pub lines_more : (clients : ℕ) (lines : List (ℕ × Line)) (line : Line) (number : ℕ) (text : List ℕ)
-    (rest after : List (List ℕ)) → rest ≡ text ∷ after → line_of_words clients (words_of text) ≡ Some line
-    → lines_with clients (lines ++ (number, line) ∷ []) (number + 1) after ≡ lines_with clients lines number rest
-lines_more clients lines line number text rest after cut read =
-    sym (ap (lines_with clients lines number) cut
+pub lines_more : (setup : Setup) (lines : List (ℕ × Line)) (line : Line) (number : ℕ) (text : List ℕ)
+    (rest after : List (List ℕ)) → rest ≡ text ∷ after → line_of_words setup (words_of text) ≡ Some line
+    → lines_with setup (lines ++ (number, line) ∷ []) (number + 1) after ≡ lines_with setup lines number rest
+lines_more setup lines line number text rest after cut read =
+    sym (ap (lines_with setup lines number) cut
     ∙ ap (λ found. then_good found (λ more. Ok (lines ++ more)))
-    (lines_from-cons clients number text after
+    (lines_from-cons setup number text after
     ∙ ap (λ o. then_good (or_unknown number o)
-    (λ line. then_good (lines_from clients (number + 1) after) (λ lines. Ok ((number, line) ∷ lines)))) read)
-    ∙ onto_back lines (number, line) (lines_from clients (number + 1) after))
+    (λ line. then_good (lines_from setup (number + 1) after) (λ lines. Ok ((number, line) ∷ lines)))) read)
+    ∙ onto_back lines (number, line) (lines_from setup (number + 1) after))
 
-pub lines_stop : (clients : ℕ) (lines : List (ℕ × Line)) (number : ℕ) (text : List ℕ) (rest after : List (List ℕ))
-    → rest ≡ text ∷ after → line_of_words clients (words_of text) ≡ None
-    → lines_with clients lines number rest ≡ Err (record { line = number; kind = UnknownLine })
-lines_stop clients lines number text rest after cut read =
-    ap (lines_with clients lines number) cut
+pub lines_stop : (setup : Setup) (lines : List (ℕ × Line)) (number : ℕ) (text : List ℕ) (rest after : List (List ℕ))
+    → rest ≡ text ∷ after → line_of_words setup (words_of text) ≡ None
+    → lines_with setup lines number rest ≡ Err (record { line = number; kind = UnknownLine })
+lines_stop setup lines number text rest after cut read =
+    ap (lines_with setup lines number) cut
     ∙ ap (λ found. then_good found (λ more. Ok (lines ++ more)))
-    (lines_from-cons clients number text after
+    (lines_from-cons setup number text after
     ∙ ap (λ o. then_good (or_unknown number o)
-    (λ line. then_good (lines_from clients (number + 1) after) (λ lines. Ok ((number, line) ∷ lines)))) read)
+    (λ line. then_good (lines_from setup (number + 1) after) (λ lines. Ok ((number, line) ∷ lines)))) read)
 
-pub lines_end : (clients : ℕ) (lines : List (ℕ × Line)) (number : ℕ) (rest : List (List ℕ)) → rest ≡ []
-    → lines_with clients lines number rest ≡ Ok lines
-lines_end clients lines number rest none =
-    ap (lines_with clients lines number) none ∙ ap (λ found. then_good found (λ more. Ok (lines ++ more)))
-    (lines_from-nil clients number) ∙ ap Ok (append-nil lines)
+pub lines_end : (setup : Setup) (lines : List (ℕ × Line)) (number : ℕ) (rest : List (List ℕ)) → rest ≡ []
+    → lines_with setup lines number rest ≡ Ok lines
+lines_end setup lines number rest none =
+    ap (lines_with setup lines number) none ∙ ap (λ found. then_good found (λ more. Ok (lines ++ more)))
+    (lines_from-nil setup number) ∙ ap Ok (append-nil lines)

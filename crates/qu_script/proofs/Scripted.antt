@@ -1,6 +1,6 @@
--- No line of a script injects bytes, so a script's run has no injection.
+-- Where no line of a script injects bytes, its run has no injection.
 use Rattle.std.proofs.Common.{◌≡◌, ℕ, zero, suc, true, false, not, IsTrue, List, [], ◌∷◌, ◌++◌, Option, None, Some, Result, Ok, Err, refl, sym, ap, subst, ◌∙◌}
-use Rattle.std.proofs.lemmas.Bool.{and_from}
+use Rattle.std.proofs.lemmas.Bool.{and_from, and_parts, false≢true}
 use Rattle.std.proofs.lemmas.List.Folds.{list_all-append}
 use Rattle.qu_trace.specs.declared.event.Event.{Event}
 use Rattle.qu_trace.specs.declared.event.Event.TheVariants as event
@@ -15,10 +15,10 @@ use Rattle.qu_world.specs.Run.{trace_of}
 use Rattle.qu_world.proofs.RunLaws.{Records, step_records}
 use Rattle.qu_script.specs.declared.bad.Bad.{Bad}
 use Rattle.qu_script.specs.declared.line.Line.{Line}
-use Rattle.qu_script.specs.declared.line.Line.TheVariants.{Call, Deliver, Flow}
+use Rattle.qu_script.specs.declared.line.Line.TheVariants.{Call, Deliver, Flow, Inject, Fake}
 use Rattle.qu_script.specs.declared.line.Script.{Script}
 use Rattle.qu_script.specs.Script.{then_good}
-use Rattle.qu_script.specs.Events.{unless_refused, event_made, deliveries_made, lowest_waiting, if_waiting, flow_made, flow_count, line_made, lines_made}
+use Rattle.qu_script.specs.Events.{unless_refused, event_made, deliveries_made, lowest_waiting, if_waiting, flow_made, flow_count, injects_none, inject_none, line_made, lines_made}
 
 -- nothing was injected so far
 IsScripted : List Entry → Type 0
@@ -84,36 +84,42 @@ flow_keeps : (number count : ℕ) (world : WorldState) → IsScripted world.entr
 unfolding flow_made Keeps
 flow_keeps number zero world before = before
 flow_keeps number (suc count) world before =
-    waiting_keeps world (lowest_waiting world.entries) _ before (λ letter.
+    waiting_keeps world (lowest_waiting world) _ before (λ letter.
     then_keeps (event_made number world (event.Deliver letter)) (λ after. flow_made number count after)
     (event_keeps number world (event.Deliver letter) refl before)
     (λ after is. flow_keeps number count after is))
 
-line_keeps : (number : ℕ) (line : Line) (world : WorldState) → IsScripted world.entries
+line_keeps : (number : ℕ) (line : Line) (world : WorldState) → injects_none line ≡ true → IsScripted world.entries
     → Keeps (line_made number world line)
-line_keeps number (Call client op) world before = event_keeps number world (event.Invoke client op) refl before
-line_keeps number (Deliver letters) world before = deliveries_keep number letters world before
-line_keeps number (Flow count) world before = flow_keeps number (flow_count count) world before
+line_keeps number (Call client op) world none before = event_keeps number world (event.Invoke client op) refl before
+line_keeps number (Deliver letters) world none before = deliveries_keep number letters world before
+line_keeps number (Flow count) world none before = flow_keeps number (flow_count count) world before
+line_keeps number (Inject who text) world none before = absurd (false≢true none)
+line_keeps number (Fake me client how good) world none before = absurd (false≢true none)
 
-lines_keep : (lines : List (ℕ × Line)) (world : WorldState) → IsScripted world.entries → Keeps (lines_made world lines)
-unfolding lines_made Keeps
-lines_keep [] world before = before
-lines_keep (line ∷ lines) world before =
-    then_keeps (line_made line.0 world line.1) (λ after. lines_made after lines) (line_keeps line.0 line.1 world before)
-    (λ after is. lines_keep lines after is)
+lines_keep : (lines : List (ℕ × Line)) (world : WorldState) → inject_none lines ≡ true → IsScripted world.entries
+    → Keeps (lines_made world lines)
+unfolding lines_made inject_none Keeps
+lines_keep [] world none before = before
+lines_keep (line ∷ lines) world none before =
+    let parts : (injects_none line.1 ≡ true) × (inject_none lines ≡ true) = and_parts _ _ none in
+    then_keeps (line_made line.0 world line.1) (λ after. lines_made after lines)
+    (line_keeps line.0 line.1 world parts.0 before)
+    (λ after is. lines_keep lines after parts.1 is)
 
 -- ---- a script
 
-made_scripted : (start made : WorldState) (lines : List (ℕ × Line)) → IsScripted start.entries
-    → lines_made start lines ≡ Ok made → IsScripted made.entries
+made_scripted : (start made : WorldState) (lines : List (ℕ × Line)) → inject_none lines ≡ true
+    → IsScripted start.entries → lines_made start lines ≡ Ok made → IsScripted made.entries
 unfolding Keeps
-made_scripted start made lines before is = subst Keeps is (lines_keep lines start before)
+made_scripted start made lines none before is = subst Keeps is (lines_keep lines start none before)
 
 -- the trace of a world that the lines of a script made
 pub run_made : (script : Script) (start made : WorldState) (lines : List (ℕ × Line)) (trace : Trace)
     → start ≡ opening_world script.setup → lines ≡ script.lines → lines_made start lines ≡ Ok made
-    → trace ≡ trace_of made → IsTrue (no_injection trace.entries)
+    → trace ≡ trace_of made → IsTrue (inject_none script.lines) → IsTrue (no_injection trace.entries)
 unfolding IsScripted no_injection
-run_made script start made lines trace opens are is traced =
+run_made script start made lines trace opens are is traced none =
     let begins : IsScripted start.entries = ap (λ (world : WorldState). no_injection world.entries) opens in
-    ap (λ (it : Trace). no_injection it.entries) traced ∙ made_scripted start made lines begins is
+    ap (λ (it : Trace). no_injection it.entries) traced
+    ∙ made_scripted start made lines (ap inject_none are ∙ none) begins is

@@ -102,9 +102,12 @@ told_of world me client objects (Echo source) =
     option_map (λ reply. (reply.0, map (λ object. echoed reply.1 me object) objects)) (last_reply world source client)
 told_of world me client objects Far = Some (thin objects, map (λ object. far_history me object) objects)
 
+unfoldable pub all_replicas : ℕ → List ReplicaId
+all_replicas bounds = map (λ number. record { 0 = number }) (range_with_len 0 (replicas bounds))
+
 -- the replicas that are named, and all of them where none are
 abbrev pub reached : ℕ → Option (List ReplicaId) → List ReplicaId
-reached bounds None = map (λ number. record { 0 = number }) (range_with_len 0 (replicas bounds))
+reached bounds None = all_replicas bounds
 reached bounds (Some good) = good
 
 -- the histories with HMACs that are right for these replicas, in an answer to this request

@@ -1,11 +1,12 @@
 -- What the steps of running do, for the contracts of private functions.
 use Rattle.std.specs.Prelude.{◌≤◌, ℕ, List}
 use Rattle.qu_trace.specs.declared.trace.Entry.{Entry}
+use Rattle.qu_trace.specs.declared.trace.Setup.{Setup}
 use Rattle.qu_world.specs.declared.fail.WorldFail.{WorldFail}
 use Rattle.qu_world.specs.declared.fail.WorldFail.TheVariants as fail
 use Rattle.qu_script.specs.declared.bad.ScriptFail.{ScriptFail}
 use Rattle.qu_script.specs.declared.bad.ScriptFail.TheVariants as fails
-use Rattle.qu_script.specs.Events.{kind_of, AreDelivered}
+use Rattle.qu_script.specs.Events.{kind_of, ArePassed}
 
 -- how a fail of the world is told of the line with this number
 abbrev pub told_of : ℕ → WorldFail → ScriptFail
@@ -18,6 +19,6 @@ told_of number fail.TooManyBytes = fails.Bad (record { line = number; kind = kin
 told_of number fail.NoMemory = fails.NoMemory
 
 -- a search for a letter that waits may begin at this one
-pub record MayBeginAt (entries : List Entry) (next : ℕ) : Type 0 where
+pub record MayBeginAt (setup : Setup) (entries : List Entry) (next : ℕ) : Type 0 where
   pub is_letter : 1 ≤ next
-  pub delivered : AreDelivered entries next
+  pub passed : ArePassed setup entries next

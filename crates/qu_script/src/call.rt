@@ -3,26 +3,32 @@ ghost use Rattle.qu_script.specs.Grammar.{amount_of, update_by, read_op, op_of, 
 
 use super::Line;
 use super::cut::next_word;
+use super::injecting::{read_fake, read_inject};
 use super::numbers::{read_number_in, read_numbers, read_only_number};
-use qu_base::{ClientId, List, NoMemory, ObjectId};
+use super::parties::read_client;
+use qu_base::{List, NoMemory, ObjectId};
 use qu_objects::{Act, Ask, Method, Op, Query};
+use qu_trace::Setup;
 use std::alloc::Global;
 
-/// Reads the words of an event line, where there are so many clients. `None` where they have no
-/// known form.
+/// Reads the words of a line behind this setup. `None` where they have no known form.
 #[tactic(auto, unfolding(crate::specs::Grammar::line_of_words))]
-pub fn read_event(alloc: Global, clients: u16, words: &[&[u8]]) -> Result<Option<Line>, NoMemory>
-    ensures { IfOk result (λ line. line ≡ line_of_words clients (map (λ word. word.now) words.now)) }
+pub fn read_event(alloc: Global, setup: &Setup, words: &[&[u8]]) -> Result<Option<Line>, NoMemory>
+    ensures { IfOk result (λ line. line ≡ line_of_words setup.now (map (λ word. word.now) words.now)) }
 {
     let Some((verb, rest)) = next_word(words) else {
         return Ok(None);
     };
     if verb == b"call".as_slice() {
-        read_call(alloc, clients, rest)
+        read_call(alloc, setup.clients, rest)
     } else if verb == b"deliver".as_slice() {
         read_deliver(alloc, rest)
     } else if verb == b"flow".as_slice() {
         Ok(read_flow(rest))
+    } else if verb == b"inject".as_slice() {
+        read_inject(alloc, setup, rest)
+    } else if verb == b"fake".as_slice() {
+        read_fake(alloc, setup, rest)
     } else {
         Ok(None)
     }
@@ -36,11 +42,11 @@ fn read_call(alloc: Global, clients: u16, words: &[&[u8]]) -> Result<Option<Line
     let Some((client, rest)) = next_word(words) else {
         return Ok(None);
     };
-    let Some(client) = read_number_in(1, u64::from(clients), client) else {
+    let Some(client) = read_client(clients, client) else {
         return Ok(None);
     };
     match read_operation(alloc, rest)? {
-        Some(op) => Ok(Some(Line::Call(ClientId(client as u16), op))),
+        Some(op) => Ok(Some(Line::Call(client, op))),
         None => Ok(None),
     }
 }

@@ -1,8 +1,10 @@
 //! Replies that are made for a client, as a replica's.
-ghost use Rattle.std.specs.Prelude.{◌≡◌, ◌≤◌, map, IfOk};
-ghost use Rattle.qu_base.specs.declared.limits.TheConstants.{LAST_CLIENT};
+ghost use Rattle.std.specs.Prelude.{◌≡◌, map, find, IfOk};
+ghost use Rattle.std.specs.Option.{option_copied};
+ghost use Rattle.qu_frames.specs.Formats.{objects_in_sets};
+ghost use Rattle.qu_adversary.specs.Sealing.{sealed_for};
 ghost use Rattle.qu_world.specs.State.{ring_of};
-ghost use Rattle.qu_script.specs.Fake.{last_request, last_reply, thin, shown_now, echoed, far_candidate, far_history, told_of, reached, answer_text, fake_of};
+ghost use Rattle.qu_script.specs.Fake.{last_request, last_reply, thin, shown_now, is_of, echoed, far_candidate, far_history, told_of, all_replicas, reached, answer_text, fake_of};
 
 use super::How;
 use super::letters::last_sent;
@@ -12,7 +14,6 @@ use qu_frames::{Frame, Refusal, Verdict, decode};
 use qu_history::{AddFail, History, Sealed, Sets};
 use qu_seal::KeyRing;
 use qu_stamp::{Candidate, LAST_TIME, Stamp};
-use qu_trace::Setup;
 use qu_world::World;
 use std::alloc::Global;
 
@@ -47,9 +48,27 @@ pub fn fake(
     };
     let keys = keys_of(world);
     let good = reached(alloc, &keys.bounds(), good)?;
-    let shown = sealed_all(alloc, &keys, me, good.as_slice(), histories.as_slice())?;
-    let text = reply_of(alloc, &keys, me, client, asked.number, asked.round, verdict, shown)?;
+    let text = answer(alloc, &keys, me, client, good.as_slice(), &asked, verdict, &histories)?;
     Ok(Some(text))
+}
+
+/// The bytes of the answer to a request.
+#[tactic(auto, unfolding(crate::specs::Fake::answer_text))]
+fn answer(
+    alloc: Global,
+    keys: &KeyRing,
+    me: ReplicaId,
+    client: ClientId,
+    good: &[ReplicaId],
+    asked: &Asked,
+    verdict: Verdict,
+    histories: &List<History>,
+) -> Result<List<u8>, NoMemory>
+    ensures { IfOk result
+        (λ text. text ≡ answer_text keys.now me client good.now asked.now (verdict, histories.now)) }
+{
+    let shown = sealed_all(alloc, keys, me, good, histories.as_slice())?;
+    reply_of(alloc, keys, me, client, asked.number, asked.round, verdict, shown)
 }
 
 /// The keys of a run.
@@ -276,8 +295,9 @@ fn reached(
     }
 }
 
+#[tactic(auto, unfolding(crate::specs::Fake::all_replicas))]
 fn all_replicas(alloc: Global, bounds: &Bounds) -> Result<List<ReplicaId>, NoMemory>
-    ensures { IfOk result (λ found. found ≡ reached bounds.now None) }
+    ensures { IfOk result (λ all. all ≡ all_replicas bounds.now) }
 {
     let mut all = List::new(alloc);
     for number in 0..bounds.n() {

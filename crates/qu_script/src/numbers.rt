@@ -1,5 +1,6 @@
 ghost use Rattle.std.specs.Prelude.{◌≡◌, map, IfOk};
-ghost use Rattle.qu_script.specs.Grammar.{number_in, only_number, numbers_of};
+ghost use Rattle.qu_script.specs.Grammar.{only_number, numbers_of};
+ghost use Rattle.qu_script.specs.Text.{number_in};
 
 use super::number::read_number;
 use qu_base::{List, NoMemory};

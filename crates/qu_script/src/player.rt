@@ -1,12 +1,13 @@
 ghost use Rattle.std.specs.Prelude.{◌≡◌, IfOk};
 ghost use Rattle.qu_world.specs.State.{opening_world};
 ghost use Rattle.qu_world.specs.Run.{IsRun, IsSetup, trace_of};
-ghost use Rattle.qu_script.specs.Events.{event_made, deliveries_made, flow_made, line_made, lines_made, lowest_waiting, MakesWorld};
+ghost use Rattle.qu_script.specs.Events.{event_made, deliveries_made, flow_made, fake_made, line_made, lines_made, lowest_waiting, MakesWorld};
 ghost use Rattle.qu_script.specs.Player.{told_of};
 
+use super::fake::fake;
 use super::waiting::find_waiting;
 use super::{Bad, BadKind, Line, ScriptFail};
-use qu_base::NoMemory;
+use qu_base::{ClientId, List, NoMemory, Party};
 use qu_trace::{Event, Setup, Trace};
 use qu_world::{EVENT_LIMIT, World, WorldFail};
 use std::alloc::Global;
@@ -16,7 +17,7 @@ use std::marker::Model;
 #[derive(Drop)]
 pub struct Player {
     world: World,
-    /// Every letter below this one was delivered.
+    /// Every letter below this one was delivered, or goes to a faulty party.
     next: u64,
 }
 
@@ -28,7 +29,7 @@ impl Model for Player {
 
     ghost view = { λ player. player.world };
 
-    ghost invariant = { λ player. MayBeginAt player.world.entries player.next };
+    ghost invariant = { λ player. MayBeginAt player.world.setup player.world.entries player.next };
 }
 
 impl Player {
@@ -72,6 +73,32 @@ impl Player {
             Line::Flow(Some(count)) => self.flow(number, *count),
             // One event more than a run may have ends each flow.
             Line::Flow(None) => self.flow(number, EVENT_LIMIT as u64 + 1),
+            Line::Inject(party, text) => {
+                let text = text.copy(alloc)?;
+                self.make_event(number, Event::Inject(*party, text))
+            }
+            Line::Fake(me, client, how, good) => {
+                let text = fake(alloc, &self.world, *me, *client, *how, good)?;
+                self.hand(number, *client, text)
+            }
+        }
+    }
+
+    /// Hands a made reply to a client.
+    fn hand(
+        &mut self,
+        number: u64,
+        client: ClientId,
+        text: Option<List<u8>>,
+    ) -> Result<(), ScriptFail>
+        ensures { MakesWorld result self.new (fake_made number self.old client text) }
+    {
+        match text {
+            Some(text) => self.make_event(number, Event::Inject(Party::Client(client), text)),
+            None => Err(ScriptFail::Bad(Bad {
+                line: number,
+                kind: BadKind::NoRequest,
+            })),
         }
     }
 
@@ -98,13 +125,13 @@ impl Player {
         Ok(())
     }
 
-    /// The lowest letter that no event has delivered.
+    /// The lowest letter to a correct party that no event has delivered.
     fn waiting(&mut self) -> Result<Option<u64>, NoMemory>
-        ensures found { IfOk result (λ found. found ≡ lowest_waiting self.old.entries) }
+        ensures found { IfOk result (λ found. found ≡ lowest_waiting self.old) }
         ensures same { self.new ≡ self.old }
     {
-        let entries = self.world.trace().entries.as_slice();
-        let (next, found) = find_waiting(entries, self.next)?;
+        let trace = self.world.trace();
+        let (next, found) = find_waiting(&trace.setup, trace.entries.as_slice(), self.next)?;
         self.next = next;
         Ok(found)
     }

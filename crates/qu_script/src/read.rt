@@ -1,4 +1,4 @@
-ghost use Rattle.std.specs.Prelude.{◌≡◌, ◌<◌, ◌≤◌, ◌+◌, ◌^◌, length, IfOk, IfErr};
+ghost use Rattle.std.specs.Prelude.{◌≡◌, ◌<◌, ◌≤◌, ◌+◌, ◌^◌, length, IfOk};
 ghost use Rattle.qu_base.specs.declared.limits.TheConstants.{LAST_CLIENT, MOST_FAULTS};
 ghost use Rattle.qu_script.specs.Grammar.{IsInRange};
 ghost use Rattle.qu_script.specs.Text.{lines_of};
@@ -7,9 +7,10 @@ ghost use Rattle.qu_world.specs.Run.{IsSetup};
 
 use super::call::read_event;
 use super::cut::{cut_line, cut_words};
+use super::liars::read_liars;
 use super::setup::read_setup;
 use super::{Bad, BadKind, Line, SCRIPT_LIMIT, Script, ScriptFail, SetupLine};
-use qu_base::{Bounds, List};
+use qu_base::{Bounds, List, NoMemory, Party};
 use qu_objects::KindName;
 use qu_trace::Setup;
 use std::alloc::Global;
@@ -50,12 +51,12 @@ fn expect_setup(
 /// Reads event lines, of which the first has this number.
 fn read_lines(
     alloc: Global,
-    clients: u16,
+    setup: &Setup,
     first: u64,
     text: &[u8],
 ) -> Result<List<(u64, Line)>, ScriptFail>
     requires { first + length text.now < 2 ^ 62 }
-    ensures { Gives (λ lines. lines) result (lines_from clients first (lines_of text.now)) }
+    ensures { Gives (λ lines. lines) result (lines_from setup.now first (lines_of text.now)) }
 {
     let mut lines = List::new(alloc);
     let mut number = first;
@@ -63,7 +64,7 @@ fn read_lines(
     'lines: while !rest.is_empty() {
         let (line, after) = cut_line(rest);
         let words = cut_words(alloc, line)?;
-        let Some(line) = read_event(alloc, clients, words.as_slice())? else {
+        let Some(line) = read_event(alloc, setup, words.as_slice())? else {
             return Err(unknown_line(number));
         };
         lines.push((number, line))?;
@@ -73,7 +74,7 @@ fn read_lines(
     Ok(lines)
 }
 
-/// Reads a script: four setup lines, and event lines behind them.
+/// Reads a script: four setup lines, the faulty replicas, and event lines behind them.
 ///
 /// A text of more than 16 MiB is refused at line 1; else the first line of no known form is, and a
 /// setup line that is missing at the end counts as one.
@@ -92,31 +93,45 @@ pub fn read_script(alloc: Global, text: &[u8]) -> Result<Script, ScriptFail>
     let (seed, rest) = expect_setup(alloc, SetupLine::Seed, 2, rest)?;
     let (clients, rest) = expect_setup(alloc, SetupLine::Clients, 3, rest)?;
     let (_object, rest) = expect_setup(alloc, SetupLine::Object, 4, rest)?;
-    let clients = clients as u16;
-    let lines = read_lines(alloc, clients, 5, rest)?;
-    let setup = make_setup(alloc, faults as u8, seed, clients)?;
+    let bounds = bounds_of(faults as u8);
+    let (liars, rest) = read_liars(alloc, &bounds, rest)?;
+    let first = 5 + liars.len() as u64;
+    let setup = make_setup(alloc, bounds, seed, clients as u16, liars)?;
+    let lines = read_lines(alloc, &setup, first, rest)?;
     Ok(Script { setup, lines })
 }
 
-/// The setup of one counter.
-fn make_setup(alloc: Global, faults: u8, seed: u64, clients: u16) -> Result<Setup, ScriptFail>
-    requires faults { (1 ≤ faults) × (faults ≤ MOST_FAULTS) }
-    requires clients { clients ≤ LAST_CLIENT }
-    ensures value { IfOk result (λ setup. setup ≡ setup_of faults seed clients) }
-    ensures limits { IfOk result IsSetup }
-    ensures no_memory { IfErr result (λ fail. fail ≡ ScriptFail.NoMemory) }
+fn bounds_of(faults: u8) -> Bounds
+    requires { (1 ≤ faults) × (faults ≤ MOST_FAULTS) }
+    ensures { result ≡ faults }
 {
-    let bounds = match Bounds::new(faults) {
+    match Bounds::new(faults) {
         Ok(bounds) => bounds,
         Err(_) => unreachable!(),
-    };
-    let mut kinds = List::new(alloc);
-    kinds.push(KindName::Counter)?;
+    }
+}
+
+/// The setup of one counter.
+#[tactic(auto, using(crate::proofs::LiarFacts::few_replicas))]
+fn make_setup(
+    alloc: Global,
+    bounds: Bounds,
+    seed: u64,
+    clients: u16,
+    liars: List<Party>,
+) -> Result<Setup, NoMemory>
+    requires faults { (1 ≤ bounds) × (bounds ≤ MOST_FAULTS) }
+    requires clients { clients ≤ LAST_CLIENT }
+    requires few { length liars ≤ bounds }
+    ensures value { IfOk result (λ setup. setup ≡ setup_of bounds seed clients liars) }
+    ensures limits { IfOk result IsSetup }
+{
+    let kinds = List::one(alloc, KindName::Counter)?;
     Ok(Setup {
         bounds,
         seed,
         clients,
         kinds,
-        liars: List::new(alloc),
+        liars,
     })
 }

@@ -2,7 +2,7 @@ ghost use Rattle.std.specs.Prelude.{IfOk, IsTrue};
 ghost use Rattle.qu_trace.specs.Injections.{no_injection};
 ghost use Rattle.qu_world.specs.Run.{IsRun, IsSetup};
 ghost use Rattle.qu_script.specs.Script.{Gives};
-ghost use Rattle.qu_script.specs.Events.{run_of};
+ghost use Rattle.qu_script.specs.Events.{inject_none, run_of};
 
 use super::player::Player;
 use super::{Script, ScriptFail};
@@ -11,14 +11,15 @@ use std::alloc::Global;
 
 /// Runs a script: its lines make events one after another, and the trace records them.
 ///
-/// The first line with an event that the world refuses ends the run, and is told with the reason. No
-/// line injects bytes.
+/// The first line with an event that the world refuses, or with a reply that cannot be made, ends the
+/// run, and is told with the reason. Bytes are injected by lines that say so alone.
 #[tactic(auto, unfolding(crate::specs::Events::run_of))]
 pub fn run_script(alloc: Global, script: &Script) -> Result<Trace, ScriptFail>
     requires { IsSetup script.now.setup }
     ensures value { Gives (λ trace. trace) result (run_of script.now) }
     ensures run { IfOk result IsRun }
-    ensures scripted { IfOk result (λ trace. IsTrue (no_injection trace.entries)) }
+    ensures scripted { IsTrue (inject_none script.now.lines)
+        → IfOk result (λ trace. IsTrue (no_injection trace.entries)) }
 {
     let setup = script.setup.copy(alloc)?;
     let mut player = Player::start(alloc, setup)?;

@@ -1,7 +1,6 @@
--- The report has an order that is serial where the premise on digests holds.
+-- The report has an order that is serial where the premises hold.
 use Rattle.std.proofs.Common.{ap, ◌∙◌}
 use Rattle.qu_print.specs.Report.{report_of}
-use Rattle.qu_cli.proofs.Premises.{meets}
 use Rattle.qu_cli.proofs.EndFacts.{tells_report}
 use Rattle.qu_cli.proofs.simulation.told_text.Goals as goal
 
@@ -10,7 +9,7 @@ returns-in_ok-text-in-Sim c = let trace = c.args.trace.now in let order = c.in_o
     tells_report _ _ _ c.in-Sim.is (record {
       order = order.order;
       ordered = order.ensures.printed;
-      serial = λ no_collision. order.ensures.serial (meets trace c.requires.scripted no_collision);
-      chained = λ no_collision. order.ensures.chained (meets trace c.requires.scripted no_collision);
+      serial = order.ensures.serial;
+      chained = order.ensures.chained;
       tells = c.in_ok-text-in-Sim.ensures ∙ ap (report_of trace) c.as_slice.ensures;
     })

@@ -8,7 +8,7 @@ use Rattle.qu_script.proofs.read.read_lines.Given as goal
 abbrev pub invariant-lines : goal.invariant-lines
 invariant-lines l = record {
   few : l.number + length l.rest ≤ l.fn.first + length l.fn.text;
-  read : lines_with l.fn.clients l.lines l.number (lines_of l.rest) ≡ lines_from l.fn.clients l.fn.first
+  read : lines_with l.setup l.lines l.number (lines_of l.rest) ≡ lines_from l.setup l.fn.first
       (lines_of l.fn.text);
 }
 

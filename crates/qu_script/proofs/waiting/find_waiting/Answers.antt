@@ -4,12 +4,12 @@ use Rattle.qu_trace.specs.Letters.{letters_of}
 use Rattle.qu_script.proofs.WaitingFacts.{found_within, found_past, waiting_found, waiting_none}
 use Rattle.qu_script.proofs.waiting.find_waiting.Goals as goal
 
-pub returns-then-not-was_delivered-clause-found : goal.returns-then-not-was_delivered-clause-found
-returns-then-not-was_delivered-clause-found c =
-    waiting_found c.args.entries.now c.search.next c.search.invariant
+pub returns-then-not-is_passed-clause-found : goal.returns-then-not-is_passed-clause-found
+returns-then-not-is_passed-clause-found c =
+    waiting_found c.args.setup.now c.args.entries.now c.search.next c.search.invariant
     (found_within (letters_of c.args.entries.now) c.search.next c.letter_at.result c.letter_at.ensures
     (sym c.is_some.ensures ∙ c.search-test.true))
-    (sym c.was_delivered.ensures ∙ c.if-not-was_delivered.true)
+    (sym c.is_passed.ensures ∙ c.if-not-is_passed.true)
 
 pub search-smaller : goal.search-smaller
 search-smaller c =
@@ -20,6 +20,6 @@ search-smaller c =
 
 pub returns-clause-found : goal.returns-clause-found
 returns-clause-found c =
-    waiting_none c.args.entries.now c.search.next c.search.invariant
+    waiting_none c.args.setup.now c.args.entries.now c.search.next c.search.invariant
     (found_past (letters_of c.args.entries.now) c.search.next c.letter_at.result c.letter_at.ensures
     (sym c.is_some.ensures ∙ c.search-test.false) c.search.invariant.is_letter)

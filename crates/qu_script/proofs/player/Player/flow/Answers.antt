@@ -16,8 +16,8 @@ pub returns-in_err-make_event : goal.returns-in_err-make_event
 returns-in_err-make_event c =
     let is : c.from_residual-in_err-make_event.result ≡ Err c.in_err-make_event.field-0.0 = search rules in
     let left : c.args.count - c.loop-index.index ≡ suc (c.args.count - (c.loop-index.index + 1)) = omega arith in
-    let waits : lowest_waiting c.waiting.new.self.entries ≡ Some c.in-Some.letter =
-    ap (λ (world : WorldState). lowest_waiting world.entries) c.waiting.ensures.same
+    let waits : lowest_waiting c.waiting.new.self ≡ Some c.in-Some.letter =
+    ap (λ (world : WorldState). lowest_waiting world) c.waiting.ensures.same
     ∙ sym c.in_ok-letter.ensures.found ∙ c.in-Some.is in
     fails_with c.from_residual-in_err-make_event.result c.in_err-make_event.field-0.0 c.make_event.new.self _ is
     (flow_stop c.args.number (c.args.count - (c.loop-index.index + 1)) (c.args.count - c.loop-index.index)
@@ -29,8 +29,8 @@ returns-in_err-make_event c =
 pub loop-index-preserved : goal.loop-index-preserved
 loop-index-preserved c =
     let left : c.args.count - c.loop-index.index ≡ suc (c.args.count - (c.loop-index.index + 1)) = omega arith in
-    let waits : lowest_waiting c.waiting.new.self.entries ≡ Some c.in-Some.letter =
-    ap (λ (world : WorldState). lowest_waiting world.entries) c.waiting.ensures.same
+    let waits : lowest_waiting c.waiting.new.self ≡ Some c.in-Some.letter =
+    ap (λ (world : WorldState). lowest_waiting world) c.waiting.ensures.same
     ∙ sym c.in_ok-letter.ensures.found ∙ c.in-Some.is in
     flow_more c.args.number (c.args.count - (c.loop-index.index + 1)) (c.args.count - c.loop-index.index)
     c.in-Some.letter c.waiting.new.self c.make_event.new.self left waits c.in_ok-make_event.ensures
