@@ -149,7 +149,7 @@ fn make_scripted(
     Ok(())
 }
 
-/// Makes the call or the deliveries of a line.
+/// Makes the call, the deliveries or the injection of a line.
 fn make_all(
     alloc: Global,
     line: &Line,
@@ -162,7 +162,12 @@ fn make_all(
             Ok(make(alloc, world, event, out)?)
         }
         Line::Deliver(letters) => Ok(deliver(alloc, letters.as_slice(), world, out)?),
+        Line::Inject(to, text) => {
+            let event = Event::Inject(*to, text.copy(alloc)?);
+            Ok(make(alloc, world, event, out)?)
+        }
         Line::Flow(_) => Err(NoAnswer::Flow),
+        Line::Fake(..) => Err(NoAnswer::Made),
     }
 }
 

@@ -20,6 +20,8 @@ pub enum NoAnswer {
     Part,
     /// A line `flow` where events are made one by one.
     Flow,
+    /// A line `fake` there.
+    Made,
     /// A script or an event that is refused.
     Event,
 }
@@ -34,6 +36,7 @@ impl NoAnswer {
             NoAnswer::Bytes => "bytes are not written so",
             NoAnswer::Part => "the bytes are refused",
             NoAnswer::Flow => "the letters have to be named",
+            NoAnswer::Made => "no reply is made here",
             NoAnswer::Event => "a script or an event is refused",
         }
     }

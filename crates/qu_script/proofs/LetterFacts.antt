@@ -1,7 +1,8 @@
 -- Facts on the last letter of a party.
 use Rattle.std.proofs.Common.{◌≡◌, ℕ, ◌+◌, ◌<◌, ◌≤◌, List, [], ◌∷◌, length, get_or, drop, true, false, Option, None, Some, refl, sym, ap, ◌∙◌}
 use Rattle.std.specs.Prelude.{if◌then◌else◌}
-use Rattle.std.specs.Option.{option_or}
+use Rattle.std.specs.Borrow.{Bor}
+use Rattle.std.specs.Option.{option_or, option_copied}
 use Rattle.std.proofs.lemmas.List.{at_drop_more, at_drop_all}
 use Rattle.qu_base.specs.declared.party.Party.{Party}
 use Rattle.qu_frames.specs.declared.frame.Letter.{Letter}
@@ -112,4 +113,9 @@ pub letters_start : (from : Party) (to : Option Party) (letters : List Letter)
 letters_start from to letters = or_none (last_of from to letters)
 
 pub ruleset letter_facts = (letter_found, letter_passed, letters_end, letters_start)
-pub ruleset sent_facts = (sent_more, sent_end, sent_start)
+
+-- what was found is seen by its value
+pub copied_or : {X : Type 0} (a b : Option (Bor X)) → option_copied (option_or a b) ≡ option_or (option_copied a)
+    (option_copied b)
+copied_or None b = refl
+copied_or (Some x) b = refl

@@ -1,5 +1,5 @@
 -- Facts on the lines that list faulty replicas.
-use Rattle.std.proofs.Common.{◌≡◌, ℕ, zero, suc, ◌+◌, ◌≤◌, List, [], ◌∷◌, ◌++◌, length, Option, None, Some, refl, sym, ap, ◌∙◌, append_assoc, append-nil, arith}
+use Rattle.std.proofs.Common.{◌≡◌, ℕ, suc, ◌+◌, ◌≤◌, List, [], ◌∷◌, ◌++◌, length, Option, None, Some, refl, sym, ap, ◌∙◌, append_assoc, append-nil, arith}
 use Rattle.std.specs.Prelude.{count_by}
 use Rattle.std.specs.Option.{option_map}
 use Rattle.std.proofs.lemmas.List.Sums.{count_by-le-length}
@@ -8,7 +8,7 @@ use Rattle.qu_base.specs.declared.party.Party.TheVariants as party
 use Rattle.qu_base.specs.declared.party.ReplicaId.{ReplicaId}
 use Rattle.qu_trace.specs.Faulty.{is_replica}
 use Rattle.qu_script.specs.Text.{lines_of, words_of}
-use Rattle.qu_script.specs.Liars.{liar_of, first_liar, with_liar, or_no_liar, liars_from}
+use Rattle.qu_script.specs.Liars.{liar_of, first_liar, or_no_liar, liars_from}
 use Rattle.qu_script.proofs.TextFacts.{lines_of-nil}
 
 -- ---- the first line

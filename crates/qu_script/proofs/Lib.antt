@@ -5,6 +5,7 @@ pub mod RangeFacts
 pub mod LiarFacts
 pub mod ScriptFacts
 pub mod LetterFacts
+pub mod FarFacts
 pub mod Scripted
 pub mod WaitingFacts
 pub mod RunFacts

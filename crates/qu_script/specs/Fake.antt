@@ -58,21 +58,24 @@ as_mine me object None = opening_of me object
 as_mine me object (Some history) = record history { replica = me }
 
 -- the history of an object that a replica has now
-abbrev pub shown_now : WorldState → ReplicaId → ReplicaId → ObjectId → ObjectHistory
+unfoldable pub shown_now : WorldState → ReplicaId → ReplicaId → ObjectId → ObjectHistory
 shown_now world source me object = as_mine me object (history_at world source object)
 
 abbrev pub is_of : ObjectId → Sealed → Bool
 is_of object sealed = ((sealed.history).object).0 == object.0
 
 -- the history of an object among these
-abbrev pub echoed : List Sealed → ReplicaId → ObjectId → ObjectHistory
+unfoldable pub echoed : List Sealed → ReplicaId → ObjectId → ObjectHistory
 echoed shown me object = as_mine me object (option_map (λ (sealed : Sealed). sealed.history) (find (is_of object) shown))
 
 -- an update of client 1 at the greatest time, upon the opening candidate
 abbrev pub far_candidate : Candidate
 far_candidate = record {
   stamp = record {
-    time = 2 ^ 62; barrier = false; client = record { 0 = 1 }; act = None;
+    time = 2 ^ 62;
+    barrier = false;
+    client = record { 0 = 1 };
+    act = None;
     set = record { 0 = repeat 32 (255 ∷ []) };
   };
   prior = opening_stamp;
@@ -102,8 +105,11 @@ told_of world me client objects (Echo source) =
     option_map (λ reply. (reply.0, map (λ object. echoed reply.1 me object) objects)) (last_reply world source client)
 told_of world me client objects Far = Some (thin objects, map (λ object. far_history me object) objects)
 
+abbrev pub numbered_replica : ℕ → ReplicaId
+numbered_replica number = record { 0 = number }
+
 unfoldable pub all_replicas : ℕ → List ReplicaId
-all_replicas bounds = map (λ number. record { 0 = number }) (range_with_len 0 (replicas bounds))
+all_replicas bounds = map (λ number. numbered_replica number) (range_with_len 0 (replicas bounds))
 
 -- the replicas that are named, and all of them where none are
 abbrev pub reached : ℕ → Option (List ReplicaId) → List ReplicaId

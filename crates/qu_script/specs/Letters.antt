@@ -1,5 +1,5 @@
 -- The last letters of a party.
-use Rattle.std.specs.Prelude.{ℕ, Bool, ◌&&◌, List, [], ◌∷◌, Option, None, Some, if◌then◌else◌}
+use Rattle.std.specs.Prelude.{Bool, ◌&&◌, List, [], ◌∷◌, Option, None, Some, if◌then◌else◌}
 use Rattle.std.specs.Option.{option_or}
 use Rattle.qu_base.specs.declared.party.Party.{Party}
 use Rattle.qu_frames.specs.declared.frame.Letter.{Letter}

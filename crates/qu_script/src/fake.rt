@@ -43,12 +43,22 @@ pub fn fake(
     let Some(asked) = last_request(alloc, world, client)? else {
         return Ok(None);
     };
-    let Some((verdict, histories)) = told(alloc, world, me, client, asked.objects.as_slice(), how)? else {
+    let Some((verdict, histories)) = told(alloc, world, me, client, asked.objects.as_slice(), how)?
+    else {
         return Ok(None);
     };
     let keys = keys_of(world);
     let good = reached(alloc, &keys.bounds(), good)?;
-    let text = answer(alloc, &keys, me, client, good.as_slice(), &asked, verdict, &histories)?;
+    let text = answer(
+        alloc,
+        &keys,
+        me,
+        client,
+        good.as_slice(),
+        &asked,
+        verdict,
+        &histories,
+    )?;
     Ok(Some(text))
 }
 
@@ -68,7 +78,16 @@ fn answer(
         (λ text. text ≡ answer_text keys.now me client good.now asked.now (verdict, histories.now)) }
 {
     let shown = sealed_all(alloc, keys, me, good, histories.as_slice())?;
-    reply_of(alloc, keys, me, client, asked.number, asked.round, verdict, shown)
+    reply_of(
+        alloc,
+        keys,
+        me,
+        client,
+        asked.number,
+        asked.round,
+        verdict,
+        shown,
+    )
 }
 
 /// The keys of a run.
@@ -88,9 +107,20 @@ fn last_request(alloc: Global, world: &World, client: ClientId) -> Result<Option
         return Ok(None);
     };
     match decode(alloc, letter.text.as_slice()) {
-        Ok(Frame::Request { number, round, sets, .. }) => {
+        Ok(
+            Frame::Request {
+                number,
+                round,
+                sets,
+                ..
+            },
+        ) => {
             let objects = objects_of(alloc, &sets)?;
-            Ok(Some(Asked { number, round, objects }))
+            Ok(Some(Asked {
+                number,
+                round,
+                objects,
+            }))
         }
         Ok(_) | Err(ReadFail::Bad(_)) => Ok(None),
         Err(ReadFail::NoMemory) => Err(NoMemory),
@@ -188,6 +218,7 @@ fn show_all(
     Ok(histories)
 }
 
+#[tactic(auto, unfolding(crate::specs::Fake::shown_now))]
 fn show(
     alloc: Global,
     world: &World,
@@ -220,6 +251,7 @@ fn echo_all(
     Ok(histories)
 }
 
+#[tactic(auto, unfolding(crate::specs::Fake::echoed))]
 fn echo(
     alloc: Global,
     shown: &[Sealed],
@@ -261,7 +293,8 @@ fn far(alloc: Global, me: ReplicaId, object: ObjectId) -> Result<History, NoMemo
     match history.add(far_candidate()) {
         Ok(()) => Ok(history),
         Err(AddFail::NoMemory) => Err(NoMemory),
-        Err(AddFail::NotLater(_) | AddFail::HistoryFull) => unreachable!(),
+        Err(AddFail::NotLater(_)) => unreachable!(),
+        Err(AddFail::HistoryFull) => unreachable!(),
     }
 }
 

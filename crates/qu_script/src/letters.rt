@@ -8,15 +8,13 @@ use qu_frames::Letter;
 use qu_trace::Entry;
 
 /// The last letter of a party, and to a party where one is named, that was sent at these events.
-#[tactic(auto, using(crate::proofs::LetterFacts::sent_facts))]
+#[tactic(auto, using(crate::proofs::LetterFacts::sent_end, crate::proofs::LetterFacts::sent_start))]
 pub fn last_sent(entries: &[Entry], from: Party, to: Option<Party>) -> Option<&Letter>
     ensures { option_copied result ≡ last_sent from to entries.now }
 {
     let mut found = None;
     for entry in entries {
-        if let Some(letter) = last_of(entry.letters.as_slice(), from, to) {
-            found = Some(letter);
-        }
+        found = last_of(entry.letters.as_slice(), from, to).or(found);
     }
     found
 }

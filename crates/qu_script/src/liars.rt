@@ -24,9 +24,10 @@ pub fn read_liars<'a>(
     let mut least = 0;
     let mut rest = text;
     for index in 0..bounds.b() {
-        let Some((me, after)) = next_liar(alloc, bounds, least, rest)? else {
+        let Some(next) = next_liar(alloc, bounds, least, rest)? else {
             return Ok((liars, rest));
         };
+        let (me, after) = next;
         liars.push(Party::Replica(me))?;
         least = u64::from(me.0) + 1;
         rest = after;
@@ -63,7 +64,8 @@ fn read_liar(bounds: &Bounds, least: u64, words: &[&[u8]]) -> Option<ReplicaId>
     ensures { result ≡ liar_of bounds.now least (map (λ word. word.now) words.now) }
 {
     match words {
-        [faulty, replica, word] if *faulty == b"faulty".as_slice() && *replica == b"replica".as_slice() => {
+        [faulty, replica, word]
+            if *faulty == b"faulty".as_slice() && *replica == b"replica".as_slice() => {
             read_replica(bounds, least, word)
         }
         _ => None,
