@@ -12,4 +12,6 @@ opening_below = refl
 
 pub far_above : is_below (latest (opening ∷ [])) far_candidate.stamp ≡ true
 unfolding last_from
-far_above = ap (λ stamp. is_below stamp far_candidate.stamp) (latest_is_last (opening ∷ []) is_history_opening) ∙ opening_below
+far_above =
+    ap (λ stamp. is_below stamp far_candidate.stamp) (latest_is_last (opening ∷ []) is_history_opening)
+    ∙ opening_below

@@ -41,7 +41,8 @@ liars_from-suc bounds least count texts = refl
 
 pub liars_more : (bounds : ℕ) (liars : List Party) (least left count : ℕ) (texts later : List (List ℕ))
     (me : ReplicaId) → count ≡ suc left → first_liar bounds least texts ≡ Some (me, later)
-    → liars_with bounds (liars ++ party.Replica me ∷ []) (me.0 + 1) left later ≡ liars_with bounds liars least count texts
+    → liars_with bounds (liars ++ party.Replica me ∷ []) (me.0 + 1) left later ≡ liars_with bounds liars least count
+    texts
 liars_more bounds liars least left count texts later me is found =
     sym (ap (λ (it : ℕ). liars_with bounds liars least it texts) is
     ∙ ap (onto liars) (liars_from-suc bounds least left texts

@@ -66,7 +66,8 @@ is_of object sealed = ((sealed.history).object).0 == object.0
 
 -- the history of an object among these
 unfoldable pub echoed : List Sealed → ReplicaId → ObjectId → ObjectHistory
-echoed shown me object = as_mine me object (option_map (λ (sealed : Sealed). sealed.history) (find (is_of object) shown))
+echoed shown me object =
+    as_mine me object (option_map (λ (sealed : Sealed). sealed.history) (find (is_of object) shown))
 
 -- an update of client 1 at the greatest time, upon the opening candidate
 abbrev pub far_candidate : Candidate
@@ -100,7 +101,8 @@ last_reply world source client = option_and_then (λ letter. reply_in (decoded l
 -- verdict and histories, as this replica tells them of these objects
 unfoldable pub told_of : WorldState → ReplicaId → ClientId → List ObjectId → How
     → Option (Verdict × List ObjectHistory)
-told_of world me client objects (Show source) = Some (thin objects, map (λ object. shown_now world source me object) objects)
+told_of world me client objects (Show source) =
+    Some (thin objects, map (λ object. shown_now world source me object) objects)
 told_of world me client objects (Echo source) =
     option_map (λ reply. (reply.0, map (λ object. echoed reply.1 me object) objects)) (last_reply world source client)
 told_of world me client objects Far = Some (thin objects, map (λ object. far_history me object) objects)

@@ -15,4 +15,5 @@ unreachable-requires c =
     never_early c.args.history.now.candidates c.as_slice-candidates.result.now c.loop-place.named.candidates
     c.loop-place.place _ (rw (sym c.candidates.ensures.value) c.candidates.ensures.rising) same
     (ap (λ (it : ObjectHistory). it.candidates) c.loop-place.invariant)
-    (omega (arith, c.loop-place.auto.place)) (omega (arith, c.loop-place-test.true, c.len-place-end.ensures.value)) early
+    (omega (arith, c.loop-place.auto.place)) (omega (arith, c.loop-place-test.true, c.len-place-end.ensures.value))
+    early

@@ -9,7 +9,9 @@ pub loop-number-preserved : goal.loop-number-preserved
 loop-number-preserved c =
     c.in_ok-push.ensures.ok
     ∙ ap (λ (macs : List (List ℕ)). macs ++ c.mac_for.result ∷ []) c.loop-number.invariant
-    ∙ ap (λ (mac : List ℕ). map (λ number. mac_for c.args.keys.now c.args.me c.args.good.now c.args.text.now number) (range_with_len 0 c.loop-number.number) ++ mac ∷ []) c.mac_for.ensures
+    ∙ ap (λ (mac : List ℕ).
+    map (λ number. mac_for c.args.keys.now c.args.me c.args.good.now c.args.text.now number)
+    (range_with_len 0 c.loop-number.number) ++ mac ∷ []) c.mac_for.ensures
     ∙ sym (map-range_with_len_more
     (λ number. mac_for c.args.keys.now c.args.me c.args.good.now c.args.text.now number)
     0 c.loop-number.number c.loop-number.number (omega arith))

@@ -7,4 +7,5 @@ use Rattle.qu_script.proofs.letters.last_of.Given as goal
 
 abbrev pub invariant-loop-letter : goal.invariant-loop-letter
 invariant-loop-letter l =
-    last_or l.fn.from l.fn.to (option_copied l.found) (drop l.letter-index l.letters) ≡ last_of l.fn.from l.fn.to l.letters
+    last_or l.fn.from l.fn.to (option_copied l.found) (drop l.letter-index l.letters) ≡ last_of l.fn.from l.fn.to
+    l.letters

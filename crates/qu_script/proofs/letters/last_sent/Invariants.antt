@@ -7,4 +7,5 @@ use Rattle.qu_script.proofs.letters.last_sent.Given as goal
 
 abbrev pub invariant-loop-entry : goal.invariant-loop-entry
 invariant-loop-entry l =
-    sent_or l.fn.from l.fn.to (option_copied l.found) (drop l.entry-index l.entries) ≡ last_sent l.fn.from l.fn.to l.entries
+    sent_or l.fn.from l.fn.to (option_copied l.found) (drop l.entry-index l.entries) ≡ last_sent l.fn.from l.fn.to
+    l.entries
