@@ -1,16 +1,15 @@
 -- A run has one answer.
-use Rattle.std.proofs.Common.{◌≡◌, ℕ, zero, suc, ◌+◌, ◌<◌, ◌≤◌, List, length, Option, None, Some, refl, ap, subst, ◌∙◌, inl, inr, arith}
+use Rattle.std.proofs.Common.{◌≡◌, ℕ, zero, suc, ◌+◌, ◌<◌, ◌≤◌, Option, None, Some, refl, ap, subst, ◌∙◌, inl, inr, arith}
 use Rattle.std.specs.Prelude.{slice_get, Contains}
 use Rattle.std.proofs.lemmas.Bool.{cases_lt}
 use Rattle.qu_trace.specs.declared.trace.Entry.{Entry}
 use Rattle.qu_trace.specs.declared.trace.Trace.{Trace}
-use Rattle.qu_world.specs.State.{numbered}
 use Rattle.qu_runs.specs.Digested.{Text, texts_at, digested}
 use Rattle.qu_runs.specs.Premises.{MeetsPremises}
 use Rattle.qu_runs.proofs.Small.{contains_mapped}
 use Rattle.qu_premise.specs.declared.premises.Premises.{Premises}
 use Rattle.qu_premise.specs.declared.premises.Premises.TheVariants.{Hold, Forged, Collide}
-use Rattle.qu_premise.specs.Answer.{UnforgedAt, texts_of_entry, texts_by, DoCollide, IsFirstForged, IsFirstCollision, IsAnswer}
+use Rattle.qu_premise.specs.Answer.{texts_of_entry, texts_by, DoCollide, IsFirstForged, IsFirstCollision, IsAnswer}
 use Rattle.qu_premise.proofs.Lists.{contained}
 
 -- ---- what the premises say of one event
