@@ -227,6 +227,17 @@ fn put_shown(shown: &[Sealed], out: &mut String) -> Result<(), AllocError> {
     Ok(())
 }
 
+/// The replica that sends, and of which version.
+fn put_version(
+    replica: ReplicaId,
+    object: ObjectId,
+    stamp: &Stamp,
+    out: &mut String,
+) -> Result<(), AllocError> {
+    write!(out, "r{} {} at ", replica.0, object.0)?;
+    put_stamp(stamp, out)
+}
+
 pub fn put_frame(frame: &Frame, out: &mut String) -> Result<(), AllocError> {
     match frame {
         Frame::Request {
@@ -260,6 +271,27 @@ pub fn put_frame(frame: &Frame, out: &mut String) -> Result<(), AllocError> {
             out.push_str(" ")?;
             put_culled(culled.as_slice(), out)?;
             put_shown(shown.as_slice(), out)
+        }
+        Frame::Fetch {
+            replica,
+            object,
+            stamp,
+            ..
+        } => {
+            out.push_str("fetch ")?;
+            put_version(*replica, *object, stamp, out)
+        }
+        Frame::Fetched {
+            replica,
+            object,
+            stamp,
+            state,
+            ..
+        } => {
+            out.push_str("fetched ")?;
+            put_version(*replica, *object, stamp, out)?;
+            out.push_str(" ")?;
+            put_state(state, out)
         }
     }
 }

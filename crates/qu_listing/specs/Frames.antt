@@ -7,15 +7,19 @@ use Rattle.qu_base.specs.declared.party.ClientId.{ClientId}
 use Rattle.qu_base.specs.declared.party.ObjectId.{ObjectId}
 use Rattle.qu_base.specs.declared.party.ReplicaId.{ReplicaId}
 use Rattle.qu_base.specs.declared.party.Party.TheVariants.{Replica}
+use Rattle.qu_stamp.specs.declared.stamp.Stamp.{Stamp}
+use Rattle.qu_objects.specs.declared.kind.Value.{Value}
+use Rattle.qu_objects.specs.declared.kind.Value.TheVariants.{Counter}
+use Rattle.qu_objects.specs.declared.state.ObjState.{ObjState}
 use Rattle.qu_history.specs.declared.sealed.Sealed.{Sealed}
 use Rattle.qu_history.specs.declared.sets.SetOf.{SetOf}
 use Rattle.qu_frames.specs.declared.frame.Body.{Body}
 use Rattle.qu_frames.specs.declared.frame.Body.TheVariants.{Act, Ask}
 use Rattle.qu_frames.specs.declared.frame.Frame.{Frame}
-use Rattle.qu_frames.specs.declared.frame.Frame.TheVariants.{Request, Reply}
+use Rattle.qu_frames.specs.declared.frame.Frame.TheVariants.{Request, Reply, Fetch, Fetched}
 use Rattle.qu_print.specs.Words.{name_text}
 use Rattle.qu_listing.specs.Names.{party_text, object_text, count_text}
-use Rattle.qu_listing.specs.Verdicts.{verdict_text}
+use Rattle.qu_listing.specs.Verdicts.{stamp_text, verdict_text}
 
 -- ---- what a request shows
 
@@ -44,6 +48,21 @@ shown_text sealed =
     codes ", shows " ++ object_text (sealed.history).object
     ++ codes " with " ++ count_text (length (sealed.history).candidates) (codes "candidate")
 
+-- ---- versions
+
+abbrev pub version_text : ObjectId → Stamp → List ℕ
+version_text object stamp = object_text object ++ codes " at " ++ stamp_text stamp
+
+abbrev pub value_text : Value → List ℕ
+value_text (Counter value) = codes "counter " ++ decimal value
+
+-- the value, of how many clients something is kept, and how many links there are
+abbrev pub state_text : ObjState → List ℕ
+state_text state =
+    codes ", " ++ value_text state.value
+    ++ codes ", " ++ count_text (length state.kept) (codes "client")
+    ++ codes ", " ++ count_text (length state.links) (codes "link")
+
 -- ---- frames
 
 -- operation and round
@@ -56,6 +75,9 @@ frame_text (Request client number round sets body mac) =
 frame_text (Reply replica client number round verdict culled shown mac) =
     codes "reply " ++ asked_text client number round ++ verdict_text verdict
     ++ flat_map culled_text culled ++ flat_map shown_text shown
+frame_text (Fetch replica object stamp mac) = codes "fetch " ++ version_text object stamp
+frame_text (Fetched replica object stamp state mac) =
+    codes "fetched " ++ version_text object stamp ++ state_text state
 
 -- what a text is decoded to
 abbrev pub carried_text : Result Frame BadText → List ℕ

@@ -1,12 +1,14 @@
 ghost use Rattle.std.specs.Prelude.{◌≡◌, ◌++◌, OnOk, string_bytes};
-ghost use Rattle.qu_listing.specs.Frames.{showers_text, body_text, asked_text, frame_text};
+ghost use Rattle.qu_listing.specs.Frames.{showers_text, body_text, version_text, state_text, asked_text, frame_text};
 
 use super::names::{put_count, put_object, put_party};
 use super::told::{Told, put_all};
-use super::verdicts::put_verdict;
+use super::verdicts::{put_stamp, put_verdict};
 use qu_base::{ClientId, NoMemory, ObjectId, Party, ReplicaId};
 use qu_frames::{Body, Frame};
 use qu_history::{Sealed, SetOf};
+use qu_objects::{ObjState, Value};
+use qu_stamp::Stamp;
 
 impl Told for SetOf {
     ghost use Rattle.qu_listing.specs.Frames.{set_text};
@@ -82,7 +84,41 @@ pub fn put_frame(text: &mut String, frame: &Frame) -> Result<(), NoMemory>
             put_all(text, culled.as_slice())?;
             put_all(text, shown.as_slice())
         }
+        Frame::Fetch { object, stamp, .. } => {
+            text.push_str("fetch ")?;
+            put_version(text, *object, stamp)
+        }
+        Frame::Fetched {
+            object,
+            stamp,
+            state,
+            ..
+        } => {
+            text.push_str("fetched ")?;
+            put_version(text, *object, stamp)?;
+            put_state(text, state)
+        }
     }
+}
+
+/// Writes which version it is about.
+fn put_version(text: &mut String, object: ObjectId, stamp: &Stamp) -> Result<(), NoMemory>
+    ensures { OnOk result (string_bytes text.new ≡ string_bytes text.old ++ version_text object stamp.now) }
+{
+    put_object(text, object)?;
+    text.push_str(" at ")?;
+    put_stamp(text, stamp)
+}
+
+/// Writes the value of a state, of how many clients it keeps something, and how many links it has.
+fn put_state(text: &mut String, state: &ObjState) -> Result<(), NoMemory>
+    ensures { OnOk result (string_bytes text.new ≡ string_bytes text.old ++ state_text state.now) }
+{
+    let Value::Counter(value) = state.value;
+    write!(text, ", counter {value}, ")?;
+    put_count(text, state.kept.len(), "client")?;
+    text.push_str(", ")?;
+    put_count(text, state.links.len(), "link")
 }
 
 /// Writes which operation it is about, and which round of it.

@@ -112,7 +112,7 @@ fn class_word(class: ClassCode) -> &'static str
 
 /// Writes a stamp's time, whether it is that of a barrier, and its client.
 #[tactic(auto, unfolding(crate::specs::Verdicts::stamp_text))]
-fn put_stamp(text: &mut String, stamp: &Stamp) -> Result<(), NoMemory>
+pub fn put_stamp(text: &mut String, stamp: &Stamp) -> Result<(), NoMemory>
     ensures { OnOk result (string_bytes text.new ≡ string_bytes text.old ++ stamp_text stamp.now) }
 {
     let time = stamp.time;

@@ -89,9 +89,6 @@ reply_is letter replica other client replied number turn round verdict shown is 
 
 reply_in_read : (client : ClientId) (number round : ℕ) (letter : Letter) (read : Result Frame BadText)
     → decoded letter.text ≡ read → is_answer client number round read ≡ true → IsReplyIn client number round letter
-reply_in_read client number round letter (Err bad) is answer = absurd (false≢true answer)
-reply_in_read client number round letter (Ok (frame.Request other asked turn sets asks mac)) is answer = absurd
-    (false≢true answer)
 reply_in_read client number round letter (Ok
     (frame.Reply replica other replied turn verdict culled shown mac)) is answer =
     let parts : ((other.0 == client.0) ≡ true) × ((replied == number && turn == round) ≡ true) = and_parts _ _ answer in
@@ -99,6 +96,7 @@ reply_in_read client number round letter (Ok
     reply_is letter replica other client replied number turn round verdict shown
     (record { culled = culled; mac = mac; carries = is }) (client_is other client (eqb-true _ _ parts.0))
     (eqb-true _ _ more.0) (eqb-true _ _ more.1)
+reply_in_read client number round letter _ is answer = absurd (false≢true answer)
 
 pub reply_in : (client : ClientId) (number round : ℕ) (letter : Letter) → answers client number round letter ≡ true
     → IsReplyIn client number round letter
