@@ -123,6 +123,8 @@ asks_entries : (setup : Setup) (shown : List Shown) (me : ReplicaId) (sent : Fra
 asks_entries setup shown me (frame.Request client number round sets body mac) =
     asks_in setup shown me sets (list_all (is_known setup) sets)
 asks_entries setup shown me (frame.Reply replica client number round verdict left histories mac) = refl
+asks_entries setup shown me (frame.Fetch replica object stamp mac) = refl
+asks_entries setup shown me (frame.Fetched replica object stamp state mac) = refl
 
 handled_in : (setup : Setup) (shown : List Shown) (me : ReplicaId) (sent : Frame) (handles : Bool)
     → (handles && asks_unshown setup shown me sent) ≡ list_any (is_unshown setup shown me)

@@ -7,8 +7,8 @@ use Rattle.qu_trace.specs.declared.trace.Trace.{Trace}
 use Rattle.qu_runs.specs.Digested.{Text, texts_at, digested}
 use Rattle.qu_runs.specs.Premises.{MeetsPremises}
 use Rattle.qu_runs.proofs.Small.{contains_mapped}
-use Rattle.qu_premise.specs.declared.premises.Premises.{Premises}
-use Rattle.qu_premise.specs.declared.premises.Premises.TheVariants.{Hold, Forged, Collide}
+use Rattle.qu_trace.specs.declared.premises.Premises.{Premises}
+use Rattle.qu_trace.specs.declared.premises.Premises.TheVariants.{Hold, Forged, Collide}
 use Rattle.qu_premise.specs.Answer.{texts_of_entry, texts_by, DoCollide, IsFirstForged, IsFirstCollision, IsAnswer}
 use Rattle.qu_premise.proofs.Lists.{contained}
 

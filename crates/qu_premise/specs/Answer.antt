@@ -7,8 +7,8 @@ use Rattle.qu_world.specs.State.{numbered}
 use Rattle.qu_runs.specs.Digested.{Text, texts_at}
 use Rattle.qu_runs.specs.Premises.{IsUnforgedAt, MeetsPremises}
 use Rattle.qu_runs.specs.Times.{world_after}
-use Rattle.qu_premise.specs.declared.premises.Premises.{Premises}
-use Rattle.qu_premise.specs.declared.premises.Premises.TheVariants.{Hold, Forged, Collide}
+use Rattle.qu_trace.specs.declared.premises.Premises.{Premises}
+use Rattle.qu_trace.specs.declared.premises.Premises.TheVariants.{Hold, Forged, Collide}
 
 -- ---- the first event that hands over what is forged
 

@@ -92,7 +92,7 @@ has_unshown setup shown me set = list_any (is_unshown setup shown me) set.entrie
 abbrev pub asks_unshown : Setup → List Shown → ReplicaId → Frame → Bool
 asks_unshown setup shown me (frame.Request client number round sets body mac) =
     list_all (is_known setup) sets && list_any (has_unshown setup shown me) sets
-asks_unshown setup shown me (frame.Reply replica client number round verdict left histories mac) = false
+asks_unshown setup shown me _ = false
 
 abbrev pub shows_unshown : Setup → List Shown → Party → Frame → Bool
 shows_unshown setup shown (party.Replica me) sent = is_handler setup me && asks_unshown setup shown me sent

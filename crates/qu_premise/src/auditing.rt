@@ -1,6 +1,6 @@
 ghost use Rattle.std.specs.Prelude.{◌≡◌, ◌<◌, ◌+◌, length, take, IfOk, MatchOption};
 ghost use Rattle.qu_world.specs.Run.{IsRun};
-ghost use Rattle.qu_premise.specs.declared.premises.Premises.{Premises as Answer};
+ghost use Rattle.qu_trace.specs.declared.premises.Premises.{Premises as Answer};
 ghost use Rattle.qu_premise.specs.Answer.{IsAnswer};
 ghost use Rattle.qu_premise.specs.Past.{IsPast};
 

@@ -5,13 +5,12 @@
 mod auditing;
 mod digests;
 mod forging;
-mod premises;
 mod shown;
 mod text;
 mod texts;
 
 pub use auditing::audit;
-pub use premises::Premises;
+pub use qu_trace::Premises;
 
 #[cfg(test)]
 mod tests;

@@ -81,7 +81,7 @@ pub fn shown_by(alloc: Global, letter: &Letter) -> Result<List<Sealed>, NoMemory
 {
     match decode(alloc, letter.text.as_slice()) {
         Ok(Frame::Reply { shown, .. }) => Ok(shown),
-        Ok(Frame::Request { .. }) | Err(ReadFail::Bad(_)) => Ok(List::new(alloc)),
+        Ok(_) | Err(ReadFail::Bad(_)) => Ok(List::new(alloc)),
         Err(ReadFail::NoMemory) => Err(NoMemory),
     }
 }

@@ -102,7 +102,7 @@ pub record IsMadeFor (trace : Trace) (candidate : Candidate) (client : ClientId)
 abbrev pub entries_in : Setup → Frame → List Sealed
 entries_in setup (frame.Request client number round sets body mac) =
     if list_all (is_known setup) sets then flat_map (λ (set : SetOf). set.entries) sets else []
-entries_in setup (frame.Reply replica client number round verdict left shown mac) = []
+entries_in setup _ = []
 
 abbrev pub entries_brought : Setup → Option Frame → List Sealed
 entries_brought setup None = []
@@ -116,9 +116,8 @@ entries_to setup text (party.Client me) = []
 
 -- the histories that a decoded reply shows
 abbrev pub shown_in : Result Frame BadText → List Sealed
-shown_in (Ok (frame.Request client number round sets body mac)) = []
 shown_in (Ok (frame.Reply replica client number round verdict left shown mac)) = shown
-shown_in (Err bad) = []
+shown_in _ = []
 
 -- those that a letter shows
 abbrev pub shown_by : Letter → List Sealed
