@@ -10,6 +10,7 @@ use super::output::Output;
 use super::refusal::refusal_line;
 use qu_base::{List, NoMemory};
 use qu_listing::{digests_text, events_text};
+use qu_premise::audit;
 use qu_print::report_text;
 use qu_safety::order_of;
 use qu_script::{ScriptFail, read_script, run_script};
@@ -37,8 +38,9 @@ fn told_text(alloc: Global, command: Command, trace: &Trace) -> Result<List<u8>,
 {
     match command {
         Command::Sim => {
+            let premises = audit(alloc, trace)?;
             let order = order_of(alloc, trace)?;
-            let text = report_text(alloc, trace, order.as_slice())?;
+            let text = report_text(alloc, trace, &premises, order.as_slice())?;
             Ok(text)
         }
         Command::Events => {
