@@ -158,8 +158,7 @@ begun_stores : (trace : Trace) (me : ReplicaId) (object : ObjectId) (candidate :
     (opening_state me (ring_of trace.setup) (kinds_at trace.setup me.0)) candidate
 begun_stores trace me object candidate begun =
     subst (Stores trace object (opening_state me (ring_of trace.setup) (kinds_at trace.setup me.0)))
-    begun.alone
-    (
+    begun.alone (
       fresh_version begun.kind,
       begun.fresh,
       HasVersion.of_opening object begun.kind (kept_kinds trace.setup me.0 object.0 begun.kind begun.is_kind),
