@@ -1,2 +1,3 @@
 pub mod Sealing
+pub mod Fetched
 pub mod Replying

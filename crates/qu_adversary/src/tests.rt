@@ -1,8 +1,9 @@
-use super::{reply_of, sealed_for};
+use super::{fetched_of, reply_of, sealed_for};
 use qu_base::{Bounds, ClientId, List, ObjectId, Party, ReplicaId};
 use qu_frames::{Frame, Refusal, Verdict, receive};
 use qu_history::History;
 use qu_seal::KeyRing;
+use qu_stamp::Stamp;
 use std::test::Fail;
 
 #[test]
@@ -30,5 +31,27 @@ fn a_client_takes_a_made_reply(rt: HostRuntime) -> Result<(), Fail> {
         )
     );
     assert!(rt; receive(alloc, &keys, Party::Client(ClientId(1)), text.as_slice())?.is_none());
+    Ok(())
+}
+
+#[test]
+fn a_replica_takes_what_was_made_as_fetched(rt: HostRuntime) -> Result<(), Fail> {
+    let alloc = rt.alloc();
+    let keys = KeyRing::derive(7, &Bounds::new(1)?, 2);
+    let (me, to) = (ReplicaId(5), ReplicaId(2));
+    let stamp = Stamp::opening();
+    let counter = [1, 0, 0, 0, 0, 0, 0, 0, 7, 0, 0];
+    let text = fetched_of(alloc, &keys, me, to, ObjectId(0), &stamp, &counter)?;
+    let taken = receive(alloc, &keys, Party::Replica(to), text.as_slice())?;
+    assert!(rt;
+        matches!(
+            taken,
+            Some(Frame::Fetched {
+                replica: ReplicaId(5),
+                ..
+            })
+        )
+    );
+    assert!(rt; receive(alloc, &keys, Party::Replica(ReplicaId(3)), text.as_slice())?.is_none());
     Ok(())
 }
