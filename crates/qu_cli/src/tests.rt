@@ -70,7 +70,7 @@ fn each_call_moves_what_it_can(rt: HostRuntime) -> Result<(), Fail> {
     let mut output = small_sink(rt.alloc());
     let status = qu(rt.alloc(), &words, &mut input, &mut output).status;
     assert!(rt; status == 0 && input.whole && output.whole);
-    assert!(rt; input.source.calls() == 6 && output.sink.calls() == 15);
-    assert!(rt; output.sink.taken().len() == 58);
+    assert!(rt; input.source.calls() == 6 && output.sink.calls() == 18);
+    assert!(rt; output.sink.taken().len() == 72);
     Ok(())
 }
