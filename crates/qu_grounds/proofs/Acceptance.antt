@@ -9,7 +9,7 @@ use Rattle.qu_stamp.specs.declared.stamp.Stamp.{Stamp}
 use Rattle.qu_stamp.specs.declared.candidate.Candidate.{Candidate}
 use Rattle.qu_stamp.specs.Stamp.{is_below}
 use Rattle.qu_history.specs.declared.sets.SetOf.{SetOf}
-use Rattle.qu_grounds.specs.Whole.{IsWhole, TakesWhole}
+use Rattle.qu_history.specs.Culling.{culled}
 use Rattle.qu_history.specs.History.{ObjectHistory}
 use Rattle.qu_history.specs.Sets.{latest_of}
 use Rattle.qu_objects.specs.declared.act.Method.{Method}
@@ -32,7 +32,7 @@ use Rattle.qu_replica.specs.State.{ReplicaState, candidates_in, own_candidates, 
 use Rattle.qu_replica.specs.Rows.{Asked, asked_of, asked_at, refuse, shown_of, base_of, base_version, fresh_stamp, fresh_on, row_unknown, row_thin, row_retry, row_current, row_method, row_version, row_time, row_full, row_done, row_told, first_given, decide_act, decide_ask, decision_on}
 use Rattle.qu_replica.specs.Step.{carried_out, on_frame}
 use Rattle.qu_replica.specs.Versions.{version_at}
-use Rattle.qu_replica.specs.Growth.{MayAccept, MayAcceptAll, MayDecide}
+use Rattle.qu_replica.specs.Growth.{HasParts, MayAccept, MayAcceptAll, MayDecide}
 use Rattle.qu_replica.proofs.Accepting.{other_history}
 use Rattle.qu_replica.proofs.Allowed.{decision_on-may, no_first}
 use Rattle.qu_replica.proofs.Carried.{performed_one, done_one}
@@ -239,26 +239,27 @@ pub stays : (state new : ReplicaState) (accepted : List Accepted) → new ≡ ac
 unfolding accept_all
 stays state new accepted is_new none = is_new ∙ ap (accept_all state) none
 
-moves : (state new : ReplicaState) (client : ClientId) (number round : ℕ) (sets : List SetOf) (mac : List ℕ)
-    (part : ObjectId × Method) (accepted : List Accepted) → IsWhole state sets
-    → MayAcceptAll state accepted → MakesOne state (asked_of client number sets (body.Act (part ∷ []))) part
+moves : (state new : ReplicaState) (client : ClientId) (number round : ℕ) (sent : List SetOf) (mac : List ℕ)
+    (part : ObjectId × Method) (accepted : List Accepted)
+    → MayAcceptAll state accepted → MakesOne state (asked_at state client number sent (body.Act (part ∷ []))) part
     accepted → new ≡ accept_all state accepted
-    → Accepts state new (frame.Request client number round sets (body.Act (part ∷ [])) mac)
+    → Accepts state new (frame.Request client number round sent (body.Act (part ∷ [])) mac)
 unfolding accept_all
-moves state new client number round sets mac part accepted whole may made is_new =
+moves state new client number round sent mac part accepted may made is_new =
     let one : Accepted = record { object = part.0; candidate = made.candidate; state = made.version } in
     let is_one : new ≡ accept state one = is_new ∙ ap (accept_all state) made.alone in
     let may_one : MayAccept state one = subst (MayAcceptAll state) made.alone may in
-    let asked : Asked = asked_of client number sets (body.Act (part ∷ [])) in
+    let asked : Asked = asked_at state client number sent (body.Act (part ∷ [])) in
     record {
       client = client;
       number = number;
       round = round;
-      sets = sets;
+      sent = sent;
+      sets = culled state.keys state.me sent;
+      culls = refl;
       parts = part ∷ [];
       mac = mac;
       is_request = refl;
-      whole = whole;
       candidates = λ object. made.candidate;
       added = λ object names. subst
           (λ (it : ObjectId). own_candidates new it ≡ own_candidates state it ++ made.candidate ∷ [])
@@ -285,11 +286,11 @@ moves state new client number round sets mac part accepted whole may made is_new
     }
 
 act_moves : (state : ReplicaState) (client : ClientId) (number round : ℕ) (sets : List SetOf) (mac : List ℕ)
-    (part : ObjectId × Method) → TakesWhole state (frame.Request client number round sets (body.Act (part ∷ [])) mac)
+    (part : ObjectId × Method) → HasParts (frame.Request client number round sets (body.Act (part ∷ [])) mac)
     → ((on_frame state (frame.Request client number round sets (body.Act (part ∷ [])) mac)).0 ≡ state)
     ⊎ Accepts state (on_frame state (frame.Request client number round sets (body.Act (part ∷ [])) mac)).0
     (frame.Request client number round sets (body.Act (part ∷ [])) mac)
-act_moves state client number round sets mac part taken =
+act_moves state client number round sets mac part parts =
     let asked : Asked = asked_at state client number sets (body.Act (part ∷ [])) in
     let decision : Decision = decide_act state asked (part ∷ []) (part.0 ∷ []) in
     let new : ReplicaState = (carried_out state client number round sets decision).0 in
@@ -297,23 +298,21 @@ act_moves state client number round sets mac part taken =
     elim (act_accepts state asked part) [
       | inl none ↦ inl (stays state new (accepted_in decision) is_new none)
       | inr made ↦
-          inr (moves state new client number round sets mac part (accepted_in decision) taken.whole
-          (may_accept state decision (decision_on-may state asked (body.Act (part ∷ [])) taken.parts))
-          (subst (λ (shown : List SetOf). MakesOne state (asked_of client number shown (body.Act (part ∷ []))) part
-          (accepted_in decision)) taken.whole made) is_new)
+          inr (moves state new client number round sets mac part (accepted_in decision)
+          (may_accept state decision (decision_on-may state asked (body.Act (part ∷ [])) parts)) made is_new)
     ]
 
 -- a step leaves a replica as it is, or adds candidates for which there are grounds
-pub step_moves : (state : ReplicaState) (received : Frame) → TakesWhole state received
+pub step_moves : (state : ReplicaState) (received : Frame) → HasParts received
     → ((on_frame state received).0 ≡ state) ⊎ Accepts state (on_frame state received).0 received
-step_moves state (frame.Request client number round sets (body.Act []) mac) taken = absurd (false≢true taken.parts)
-step_moves state (frame.Request client number round sets (body.Act (part ∷ [])) mac) taken =
-    act_moves state client number round sets mac part taken
-step_moves state (frame.Request client number round sets (body.Act (first ∷ second ∷ later)) mac) taken =
-    absurd (false≢true taken.parts)
-step_moves state (frame.Request client number round sets (body.Ask asks) mac) taken =
+step_moves state (frame.Request client number round sets (body.Act []) mac) parts = absurd (false≢true parts)
+step_moves state (frame.Request client number round sets (body.Act (part ∷ [])) mac) parts =
+    act_moves state client number round sets mac part parts
+step_moves state (frame.Request client number round sets (body.Act (first ∷ second ∷ later)) mac) parts =
+    absurd (false≢true parts)
+step_moves state (frame.Request client number round sets (body.Ask asks) mac) parts =
     let asked : Asked = asked_at state client number sets (body.Ask asks) in
     let decision : Decision = decision_on state asked (body.Ask asks) in
     inl (stays state (carried_out state client number round sets decision).0 (accepted_in decision)
     (carried state client number round sets decision) (ask_accepts state asked asks _))
-step_moves state _ taken = inl refl
+step_moves state _ parts = inl refl

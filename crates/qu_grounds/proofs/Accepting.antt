@@ -24,7 +24,7 @@ use Rattle.qu_runs.specs.Plain.{ArePlain}
 use Rattle.qu_grounds.specs.Grounds.{IsDelivered}
 use Rattle.qu_runs.proofs.Befores.{WasBefore, was_before}
 use Rattle.qu_grounds.proofs.Happenings.{event_accepts}
-use Rattle.qu_grounds.proofs.WholeSets.{sent_is_whole}
+use Rattle.qu_grounds.proofs.Views.{sent_has_parts}
 use Rattle.qu_runs.proofs.WorldGrowth.{world_after-next}
 use Rattle.qu_runs.proofs.OpeningReplicas.{opening_holds}
 
@@ -69,8 +69,7 @@ step_at trace is_run have at within place new is_new object =
       old = before.old;
       is_old = before.is_old;
       adds = event_accepts (world_after trace at) event place before.old new before.is_old found
-          (λ number letter sent. sent_is_whole trace is_run have at (omega arith) place before.old before.is_old
-          number letter sent)
+          (λ number letter sent. sent_has_parts trace is_run have at (omega arith) number letter sent)
           (have.plain_at at some_entry within) object;
     }
 

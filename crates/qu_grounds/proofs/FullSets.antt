@@ -7,7 +7,9 @@ use Rattle.std.proofs.lemmas.Option.{none-some, same_Some}
 use Rattle.qu_base.specs.declared.party.ClientId.{ClientId}
 use Rattle.qu_base.specs.declared.party.ObjectId.{ObjectId}
 use Rattle.qu_base.specs.declared.party.Party.{Party}
+use Rattle.qu_base.specs.declared.party.ReplicaId.{ReplicaId}
 use Rattle.qu_base.specs.Bounds.{quorum}
+use Rattle.qu_seal.specs.Keys.{Ring}
 use Rattle.qu_stamp.specs.declared.candidate.Candidate.{Candidate}
 use Rattle.qu_history.specs.declared.sets.SetOf.{SetOf}
 use Rattle.qu_history.specs.Culling.{culled}
@@ -77,6 +79,15 @@ not_unknown state asked none =
     all_pass (λ (set : SetOf). refusal.UnknownObject set.object)
     (λ (set : SetOf). nat_le (length state.histories) (set.object).0) asked.sets none
 
+-- culling leaves no object out
+pub culled_had : (state : ReplicaState) (keys : Ring) (me : ReplicaId) (sets : List SetOf)
+    → are_had state (culled keys me sets) ≡ are_had state sets
+unfolding culled
+culled_had state keys me [] = refl
+culled_had state keys me (set ∷ later) =
+    ap (λ (rest : Bool). not (nat_le (length state.histories) (set.object).0) && rest)
+    (culled_had state keys me later)
+
 -- what the sets are of a request upon which something is accepted
 pub record IsUpon (state : ReplicaState) (sets : List SetOf) : Type 0 where
   pub had : are_had state sets ≡ true
@@ -119,8 +130,8 @@ act_step_upon state client number round sets parts mac object candidate added =
 upon_by : (old new : ReplicaState) (taken : Frame) (object : ObjectId) (accepts : Accepts old new taken)
     → Names accepts.parts object → (on_frame old taken).0 ≡ new → IsUpon old accepts.sets
 upon_by old new taken object accepts names is =
-    subst (IsUpon old) accepts.whole
-    (act_step_upon old accepts.client accepts.number accepts.round accepts.sets accepts.parts
+    subst (IsUpon old) accepts.culls
+    (act_step_upon old accepts.client accepts.number accepts.round accepts.sent accepts.parts
     accepts.mac object (accepts.candidates object)
     (ap (λ (it : Frame). own_candidates (on_frame old it).0 object) (sym accepts.is_request)
     ∙ ap (λ (it : ReplicaState). own_candidates it object) is ∙ accepts.added object names))

@@ -39,11 +39,10 @@ use Rattle.qu_world.specs.Run.{IsRun}
 use Rattle.qu_runs.specs.Digested.{Request, is_known, request_to, request_by, handled_by, IsHandled, IsMadeFor, request_brought}
 use Rattle.qu_grounds.specs.Grounds.{Accepts, IsDelivered}
 use Rattle.qu_grounds.specs.Parts.{Names}
-use Rattle.qu_grounds.specs.Whole.{IsWhole}
 use Rattle.qu_runs.specs.Times.{world_after}
 use Rattle.qu_grounds.proofs.Accepting.{some_entry, Acceptance}
 use Rattle.qu_runs.proofs.OpeningReplicas.{all_replicas, keys_are, me_is}
-use Rattle.qu_grounds.proofs.FullSets.{IsUpon, are_had, delivered_upon}
+use Rattle.qu_grounds.proofs.FullSets.{IsUpon, are_had, culled_had, delivered_upon}
 use Rattle.qu_runs.proofs.Objects.{run_has, found_within}
 use Rattle.qu_runs.proofs.Recording.{letter_stays}
 use Rattle.qu_runs.proofs.WorldGrowth.{world_after-next}
@@ -87,21 +86,22 @@ request_offered trace is_run time within (Tick client) to text none = absurd (no
 request_offered trace is_run time within (Inject who other) to text hands =
     ap (λ (it : Party × List ℕ). request_to trace.setup it.1 it.0) (same_Some (who, other) (to, text) hands)
 
--- a replica handles a request that shows it objects that it has
+-- a replica handles a request that shows it objects that it has, with its sets culled
 pub request_handled : (trace : Trace) → IsRun trace → (time : ℕ) → time < length trace.entries → (event : Event)
     → (place : ℕ) (old : ReplicaState) → slice_get (world_after trace time).replicas place ≡ Some old
     → (letter : Letter) → handed (world_after trace time) event ≡ Some (letter.to, letter.text)
     → letter.to ≡ party.Replica (record { 0 = place })
-    → (request : Request) (round : ℕ) (mac : List ℕ)
-    → Brings old letter (frame.Request request.client request.number round request.sets request.body mac)
-    → are_had old request.sets ≡ true → IsWhole old request.sets
+    → (request : Request) (round : ℕ) (sent : List SetOf) (mac : List ℕ)
+    → Brings old letter (frame.Request request.client request.number round sent request.body mac)
+    → are_had old sent ≡ true → culled old.keys old.me sent ≡ request.sets
     → handled_by trace event ≡ Some request
-request_handled trace is_run time within event place old is_old letter hands to request round mac brings had whole =
+request_handled trace is_run time within event place old is_old letter hands to request round sent mac brings had
+    culls =
     let few : length old.histories ≤ length trace.setup.kinds =
     found_within (length trace.setup.kinds) (world_after trace time).replicas place old (run_has trace time)
     is_old in
-    let known : list_all (is_known trace.setup) request.sets ≡ true =
-    all_known trace.setup (length old.histories) few request.sets had in
+    let known : list_all (is_known trace.setup) sent ≡ true =
+    all_known trace.setup (length old.histories) few sent had in
     let there : place < length (world_after trace time).replicas =
     slice_get_within (world_after trace time).replicas place old is_old in
     let all : length (world_after trace time).replicas ≡ replicas trace.setup.bounds = all_replicas trace time in
@@ -124,28 +124,30 @@ request_handled trace is_run time within event place old is_old letter hands to 
     (sym (me_is trace time place old is_old)) ∙
     ap (request_brought trace.setup old.me) brings ∙
     ap (λ (test : Bool). cond test
-    (Some (record request { sets = culled (ring_of trace.setup) old.me request.sets })) None) known ∙
-    ap (λ (keys : Ring). Some (record request { sets = culled keys old.me request.sets }))
+    (Some (record request { sets = culled (ring_of trace.setup) old.me sent })) None) known ∙
+    ap (λ (keys : Ring). Some (record request { sets = culled keys old.me sent }))
     (sym (keys_are trace time place old is_old)) ∙
-    ap (λ (sets : List SetOf). Some (record request { sets = sets })) whole
+    ap (λ (sets : List SetOf). Some (record request { sets = sets })) culls
 
 pub handled_upon : (trace : Trace) → IsRun trace → (time : ℕ) → time < length trace.entries → (entry : Entry)
     → Contains trace.entries entry
     → (place : ℕ) (old : ReplicaState) → slice_get (world_after trace time).replicas place ≡ Some old
     → (letter : Letter) → handed (world_after trace time) entry.event ≡ Some (letter.to, letter.text)
     → letter.to ≡ party.Replica (record { 0 = place })
-    → (client : ClientId) (number round : ℕ) (sets : List SetOf) (parts : List (ObjectId × Method)) (mac : List ℕ)
-    → Brings old letter (frame.Request client number round sets (body.Act parts) mac) → are_had old sets ≡ true
-    → IsWhole old sets → IsHandled trace client number parts
-handled_upon trace is_run time within entry of_trace place old is_old letter hands to client number round sets
-    parts mac brings had whole = record {
+    → (client : ClientId) (number round : ℕ) (sent : List SetOf) (parts : List (ObjectId × Method)) (mac : List ℕ)
+    → Brings old letter (frame.Request client number round sent (body.Act parts) mac) → are_had old sent ≡ true
+    → IsHandled trace client number parts
+handled_upon trace is_run time within entry of_trace place old is_old letter hands to client number round sent
+    parts mac brings had =
+    let sets : List SetOf = culled old.keys old.me sent in
+    record {
       entry = entry;
       of_trace = of_trace;
       sets = sets;
       handled =
           request_handled trace is_run time within entry.event place old is_old letter hands to
-          (record { client = client; number = number; sets = sets; body = body.Act parts }) round mac brings had
-          whole;
+          (record { client = client; number = number; sets = sets; body = body.Act parts }) round sent mac brings had
+          refl;
     }
 
 -- the request upon which a replica accepts a candidate
@@ -164,9 +166,11 @@ upon_handled trace is_run time within event place old new is_old is_new object d
     let one : Accepts old new delivered.carried = delivered.accepts in
     let upon : IsUpon old one.sets = delivered_upon (world_after trace time) event place old new object delivered
     is_old is_new in
+    let had : are_had old one.sent ≡ true =
+    sym (culled_had old old.keys old.me one.sent) ∙ ap (are_had old) one.culls ∙ upon.had in
     request_handled trace is_run time within event place old is_old delivered.letter delivered.is_handed delivered.to
-    (request_upon old new delivered.carried one) one.round one.mac
-    (delivered.brings ∙ ap (λ (it : Frame). Some it) one.is_request) upon.had one.whole
+    (request_upon old new delivered.carried one) one.round one.sent one.mac
+    (delivered.brings ∙ ap (λ (it : Frame). Some it) one.is_request) had one.culls
 
 pub handled : (trace : Trace) → IsRun trace → (time : ℕ) → time < length trace.entries → (entry : Entry)
     → Contains trace.entries entry → (event : Event) → event ≡ entry.event → (place : ℕ) (old new : ReplicaState)

@@ -13,7 +13,7 @@ use Rattle.qu_base.specs.declared.party.ReplicaId.{ReplicaId}
 use Rattle.qu_frames.specs.declared.frame.Frame.{Frame}
 use Rattle.qu_frames.specs.declared.frame.Letter.{Letter}
 use Rattle.qu_replica.specs.State.{ReplicaState, own_candidates}
-use Rattle.qu_grounds.specs.Whole.{TakesWhole}
+use Rattle.qu_replica.specs.Growth.{HasParts}
 use Rattle.qu_replica.specs.Step.{on_received, replica_step}
 use Rattle.qu_client.specs.declared.state.ClientState.{ClientState}
 use Rattle.qu_client.specs.declared.state.Stepped.{Stepped}
@@ -72,7 +72,7 @@ record IsAccepted (read : Option Frame) (old new : ReplicaState) : Type 0 where
   is_frame : read ≡ Some frame
   accepts : Accepts old new frame
 
-text_moves : (old : ReplicaState) (read : Option Frame) → ((frame : Frame) → read ≡ Some frame → TakesWhole old frame)
+text_moves : (old : ReplicaState) (read : Option Frame) → ((frame : Frame) → read ≡ Some frame → HasParts frame)
     → ((on_received old read).0 ≡ old) ⊎ IsAccepted read old (on_received old read).0
 text_moves old (Some frame) parts =
     elim (step_moves old frame (parts frame refl)) [
@@ -83,7 +83,7 @@ text_moves old None parts = inl refl
 
 replica_takes : (world : WorldState) (event : Event) (me : ReplicaId) (text : List ℕ)
     (found : Option ReplicaState) (place : ℕ) (old new : ReplicaState)
-    → slice_get world.replicas me.0 ≡ found → ((frame : Frame) → decoded text ≡ Ok frame → TakesWhole old frame)
+    → slice_get world.replicas me.0 ≡ found → ((frame : Frame) → decoded text ≡ Ok frame → HasParts frame)
     → slice_get world.replicas place ≡ Some old → slice_get (at_replica world event me text found).replicas
     place ≡ Some new
     → (new ≡ old) ⊎ IsTaken me text place old new
@@ -118,7 +118,7 @@ replica_takes world event me text (Some state) place old new is_found parts is_o
 letter_taken : (world : WorldState) (event : Event) (number : ℕ) (letter : Letter) (to : Party) (place : ℕ)
     (old new : ReplicaState)
     → letter_of world number ≡ Some letter → handed world event ≡ Some (letter.to, letter.text) → letter.to ≡ to
-    → ((carried : Frame) → Carries letter carried → TakesWhole old carried)
+    → ((carried : Frame) → Carries letter carried → HasParts carried)
     → slice_get world.replicas place ≡ Some old → slice_get (received world event to letter.text).replicas
     place ≡ Some new
     → (new ≡ old) ⊎ IsMoved world event place old new
@@ -145,7 +145,7 @@ letter_taken world event number letter (party.Replica me) place old new is_lette
 letter_delivered : (world : WorldState) (number : ℕ) → AtCorrect world (Deliver number) → (found : Option Letter)
     (place : ℕ) (old new : ReplicaState)
     → letter_of world number ≡ found
-    → ((letter : Letter) → found ≡ Some letter → (carried : Frame) → Carries letter carried → TakesWhole old carried)
+    → ((letter : Letter) → found ≡ Some letter → (carried : Frame) → Carries letter carried → HasParts carried)
     → slice_get world.replicas place ≡ Some old → slice_get (delivered world (Deliver number) found).replicas
     place ≡ Some new
     → (new ≡ old) ⊎ IsMoved world (Deliver number) place old new
@@ -170,7 +170,7 @@ moves_cases world event place old new is_old step =
 pub event_moves : (world : WorldState) (event : Event) (place : ℕ) (old new : ReplicaState)
     → slice_get world.replicas place ≡ Some old → slice_get (world_step world event).replicas place ≡ Some new
     → ((number : ℕ) (letter : Letter) → letter_of world number ≡ Some letter → (carried : Frame)
-    → Carries letter carried → TakesWhole old carried)
+    → Carries letter carried → HasParts carried)
     → IsPlain world event → (new ≡ old) ⊎ IsMoved world event place old new
 event_moves world (Invoke client op) place old new is_old is_new parts plain =
     moves_cases world (Invoke client op) place old new is_old (λ correct is.
@@ -185,6 +185,8 @@ event_moves world (Inject to text) place old new is_old is_new parts plain =
     (λ is. inl (stays world.replicas world.replicas place old new refl is_old is))
     (λ number letter is_letter hands is. letter_taken world (Inject letter.to letter.text) number letter letter.to
     place old new is_letter hands refl (parts number letter is_letter) is_old is)
+    (λ me made hands is. inl (client_stays world (Inject (party.Client me) text) me
+    (λ (state : ClientState). client_step state text) (numbered world.clients me.0) place old new is_old is))
     plain is_new
 event_moves world (Tick client) place old new is_old is_new parts plain =
     moves_cases world (Tick client) place old new is_old (λ correct is.
@@ -195,7 +197,7 @@ event_moves world (Tick client) place old new is_old is_new parts plain =
 pub event_accepts : (world : WorldState) (event : Event) (place : ℕ) (old new : ReplicaState)
     → slice_get world.replicas place ≡ Some old → slice_get (world_step world event).replicas place ≡ Some new
     → ((number : ℕ) (letter : Letter) → letter_of world number ≡ Some letter → (carried : Frame)
-    → Carries letter carried → TakesWhole old carried)
+    → Carries letter carried → HasParts carried)
     → IsPlain world event → (object : ObjectId) → (own_candidates new object ≡ own_candidates old object)
     ⊎ IsDelivered world event place old new object
 event_accepts world event place old new is_old is_new parts plain object =

@@ -20,7 +20,7 @@ use Rattle.qu_objects.specs.Kind.{fresh_value}
 use Rattle.qu_frames.specs.declared.frame.Frame.{Frame}
 use Rattle.qu_frames.specs.declared.frame.Letter.{Letter}
 use Rattle.qu_replica.specs.State.{ReplicaState, candidates_in, own_candidates, opening_histories, opening_versions, opening_state}
-use Rattle.qu_grounds.specs.Whole.{TakesWhole}
+use Rattle.qu_replica.specs.Growth.{HasParts}
 use Rattle.qu_replica.specs.Versions.{version_at}
 use Rattle.qu_trace.specs.declared.event.Event.{Event}
 use Rattle.qu_world.specs.State.{WorldState, letter_of}
@@ -129,7 +129,7 @@ still_of_held old new received accepts are = record {
 pub event_of_held : (world : WorldState) (event : Event) (place : ℕ) (old new : ReplicaState)
     → slice_get world.replicas place ≡ Some old → slice_get (world_step world event).replicas place ≡ Some new
     → ((number : ℕ) (letter : Letter) → letter_of world number ≡ Some letter → (carried : Frame)
-    → Carries letter carried → TakesWhole old carried)
+    → Carries letter carried → HasParts carried)
     → IsPlain world event
     → AreOfHeld old → AreOfHeld new
 event_of_held world event place old new is_old is_new parts plain are =

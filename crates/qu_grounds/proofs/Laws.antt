@@ -38,7 +38,8 @@ use Rattle.qu_history.specs.Sets.{entries_of, method_at}
 use Rattle.qu_history.proofs.Rising.{holds_pushed}
 use Rattle.qu_stamp.specs.Stamp.{is_below}
 use Rattle.qu_stamp.proofs.Order.{is_below-self}
-use Rattle.qu_grounds.proofs.Acceptors.{method_is_shown}
+use Rattle.qu_grounds.proofs.Acceptors.{more_at, method_is_shown}
+use Rattle.qu_history.specs.declared.sets.SetOf.{SetOf}
 use Rattle.qu_runs.proofs.Handing.{one_hand}
 use Rattle.qu_stamp.specs.Candidate.{opening}
 use Rattle.qu_history.specs.History.{holds}
@@ -54,17 +55,6 @@ use Rattle.qu_runs.specs.Times.{world_after}
 use Rattle.qu_base.specs.declared.party.Party.TheVariants as party
 use Rattle.qu_frames.specs.declared.frame.Frame.TheVariants as frame
 use Rattle.qu_frames.specs.declared.frame.Body.TheVariants as body
-
--- ---- the numbers
-
-more_at : (object : ObjectId) (candidate : Candidate) (olds news : List ReplicaState) (place : ℕ)
-    → AllZip AcceptsMore olds news
-    → test_at (accepts object candidate) olds place ≡ true → test_at (accepts object candidate) news place ≡ true
-more_at object candidate [] news place more accepted = absurd (false≢true accepted)
-more_at object candidate (old ∷ olds) [] place more accepted = absurd more
-more_at object candidate (old ∷ olds) (new ∷ news) zero more accepted = more.0 object candidate accepted
-more_at object candidate (old ∷ olds) (new ∷ news) (suc place) more accepted =
-    more_at object candidate olds news place more.1 accepted
 
 -- ---- letters
 
@@ -103,31 +93,26 @@ module _ (trace : Trace) (is_run : IsRun trace) (have : ArePlain trace) where
   acceptance_of time object place candidate new =
       acceptance trace is_run have time new.step object place candidate new.after new.before
 
-  -- the base of what is accepted was accepted by a quorum
+  -- the base of what is accepted was accepted by so many that with the faulty ones they are a quorum
   base_shown : (time : ℕ) (object : ObjectId) (place : ℕ) (candidate : Candidate) → time < length trace.entries
       → (accepted : Acceptance trace time object place candidate)
       → quorum trace.setup.bounds
-      ≤ acceptors (setting trace) time object (((accepted.delivered).accepts).bases object)
+      ≤ acceptors (setting trace) time object (((accepted.delivered).accepts).bases object) + (setting trace).faults
   base_shown time object place candidate within accepted =
       let delivered : IsDelivered (world_after trace time) accepted.event place accepted.old accepted.new object =
       accepted.delivered in
       let one : Accepts accepted.old accepted.new delivered.carried = delivered.accepts in
       let act : Body = body.Act one.parts in
       let below : time ≤ length trace.entries = omega arith in
-      let view : IsOfKept trace time one.sets act =
+      let view : IsOfKept trace time one.sent act =
       view_of_request trace is_run have time below delivered.number delivered.letter delivered.is_letter one.client
-      one.number one.round one.sets act
-      (asks_so delivered.letter delivered.carried one.client one.number one.round one.sets act one.mac
+      one.number one.round one.sent act
+      (asks_so delivered.letter delivered.carried one.client one.number one.round one.sent act one.mac
       (brings_carries accepted.old delivered.letter delivered.carried delivered.brings) one.is_request) in
-      let shown : quorum trace.setup.bounds
-      ≤ count_by (accepts object (one.bases object)) (world_after trace time).replicas =
-      method_is_shown trace is_run time below one.sets act view object (one.bases object)
-      (ap (λ (bounds : ℕ). method_at bounds (entries_of object one.sets))
-      (sym (bounds_are trace time place accepted.old accepted.is_old)) ∙ (one.grounds object delivered.names).method) in
-      let counted : acceptors (setting trace) time object (one.bases object)
-      ≡ count_by (accepts object (one.bases object)) (world_after trace time).replicas =
-      acceptors_are trace time object (one.bases object) in
-      omega (arith, shown, counted)
+      method_is_shown trace time one.sent act view (accepted.old).keys (accepted.old).me object (one.bases object)
+      (ap (λ (sets : List SetOf). method_at trace.setup.bounds (entries_of object sets)) one.culls
+      ∙ ap (λ (bounds : ℕ). method_at bounds (entries_of object one.sets))
+      (sym (bounds_are trace time place accepted.old accepted.is_old)) ∙ (one.grounds object delivered.names).method)
 
   start : (object : ObjectId) (place : ℕ) (candidate : Candidate)
       → (setting trace).accepted 0 object place candidate ≡ true → candidate ≡ opening
@@ -234,8 +219,9 @@ module _ (trace : Trace) (is_run : IsRun trace) (have : ArePlain trace) where
       let why : IsGround accepted.old (asked_of one.client one.number one.sets (body.Act one.parts)) object
       (one.candidates object) base = one.grounds object (accepted.delivered).names in
       let within : time < length trace.entries = new.step in
-      let shown : quorum trace.setup.bounds ≤ acceptors (setting trace) time object base =
+      let shown : quorum trace.setup.bounds ≤ acceptors (setting trace) time object base + (setting trace).faults =
       base_shown time object place candidate within accepted in
+      let few : (setting trace).faults ≤ trace.setup.bounds = sizes.borne in
       let thresholds : AreThresholds trace.setup.bounds =
       are_thresholds trace.setup.bounds (is_run.setup).some_faults in
       let who : Acceptor (setting trace) time object base = acceptor (setting trace) time object base (omega arith) in

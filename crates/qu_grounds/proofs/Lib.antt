@@ -7,7 +7,6 @@ pub mod HeldVersions
 pub mod OwnHistories
 pub mod TrueLetters
 pub mod Views
-pub mod WholeSets
 pub mod Acceptors
 pub mod Accepting
 pub mod HeldInRuns

@@ -16,6 +16,7 @@ use Rattle.qu_frames.specs.declared.frame.Body.TheVariants as body
 use Rattle.qu_frames.specs.declared.frame.Frame.{Frame}
 use Rattle.qu_frames.specs.Formats.{frame_form}
 use Rattle.qu_replica.specs.Rows.{asked_of, fresh_stamp}
+use Rattle.qu_replica.proofs.FitCulled.{culled-fits}
 use Rattle.qu_replica.proofs.FitSteps.{request-fits}
 use Rattle.qu_trace.specs.declared.trace.Trace.{Trace}
 use Rattle.qu_world.specs.State.{WorldState}
@@ -39,7 +40,7 @@ abbrev text_of : List SetOf → Text
 text_of sets = record { tag = SETS_TAG; bytes = sets_text sets }
 
 module _ (trace : Trace) (is_run : IsRun trace) (plain : ArePlain trace) where
-  -- the sets upon which a candidate was accepted
+  -- the culled sets upon which a candidate was accepted
   abbrev sets_upon : (object : ObjectId) (candidate : Candidate) → Origin trace (length trace.entries) object
       candidate → List SetOf
   sets_upon object candidate it = ((it.delivered).accepts).sets
@@ -53,8 +54,10 @@ module _ (trace : Trace) (is_run : IsRun trace) (plain : ArePlain trace) where
       carried_in_run trace is_run plain it.past (omega arith) (it.delivered).number (it.delivered).letter
       (it.delivered).is_letter (it.delivered).carried
       (brings_carries it.old (it.delivered).letter (it.delivered).carried (it.delivered).brings) in
-      (request-fits one.client one.number one.round one.sets (body.Act one.parts) one.mac
-      (subst (λ (sent : Frame). frame_form.Fits sent) one.is_request fits)).shown
+      subst sets_form.Fits one.culls
+      (culled-fits (it.old).keys (it.old).me one.sent
+      (request-fits one.client one.number one.round one.sent (body.Act one.parts) one.mac
+      (subst (λ (sent : Frame). frame_form.Fits sent) one.is_request fits)).shown)
 
   sets_digested : (object : ObjectId) (candidate : Candidate)
       (it : Origin trace (length trace.entries) object candidate) → Contains (digested trace)

@@ -1,5 +1,5 @@
--- In every run each history that stands in a letter or with a client was held by its replica before, which sealed
--- it; so that nothing of a request is culled.
+-- In every run each history that stands in a letter or with a client was held by its replica before, if that is
+-- correct.
 use Rattle.qu_world.proofs.Steps.{AtCorrect, step_cases}
 use Rattle.qu_world.specs.Step.{moved}
 use Rattle.std.proofs.Common.{◌≡◌, ℕ, zero, suc, ◌+◌, ◌<◌, ◌≤◌, IsTrue, List, [], ◌∷◌, ◌++◌, length, get_or, Option, None, Some, Ok, refl, sym, ap, subst, ◌∙◌, arith, add-one}
@@ -168,23 +168,25 @@ module _ (Held : Sealed → Type 0) (bounds : ℕ) where
       step_cases (λ (made : WorldState). IsFitStep world made → HasHeld made → IsTrueWorld Held bounds made) world event
       (λ fits now. unchanged-true world event before) step
 
-  -- `now` says that what the replicas have after the step counts as held
+  -- `now` says that what the replicas have after the step counts as held, and `of_faulty` so of what a faulty one shows
   world_step-true : (world : WorldState) (event : Event) → IsPlain world event
+      → ((me : ClientId) (text : List ℕ) → IsOfFaulty world (party.Client me) text → (sent : Frame)
+      → decoded text ≡ Ok sent → IsTrueFrame Held bounds sent)
       → IsFitStep world (world_step world event) → IsTrueWorld Held bounds world
       → HasHeld (world_step world event) → IsTrueWorld Held bounds (world_step world event)
-  world_step-true world (Invoke client op) parts fits before now =
+  world_step-true world (Invoke client op) parts of_faulty fits before now =
       step_true world (Invoke client op) before (λ correct fits has.
       at_client-true world (Invoke client op) client (λ (state : ClientState). client_invoke state op)
       (numbered world.clients client.0) refl
       (λ state is. client_invoke-true Held bounds state op parts.1 is) fits before) fits now
-  world_step-true world (Deliver number) parts fits before now =
+  world_step-true world (Deliver number) parts of_faulty fits before now =
       step_true world (Deliver number) before (λ correct fits.
       delivered-true world (Deliver number) number (letter_of world number) refl fits before) fits now
-  world_step-true world (Tick client) parts fits before now =
+  world_step-true world (Tick client) parts of_faulty fits before now =
       step_true world (Tick client) before (λ correct fits has.
       at_client-true world (Tick client) client client_tick (numbered world.clients client.0) refl
       (λ state is fit. record { state = is; letters = tt }) fits before) fits now
-  world_step-true world (Inject to text) plain fits before now =
+  world_step-true world (Inject to text) plain of_faulty fits before now =
       injected_cases world to text
       (λ (event : Event) (new : WorldState). IsFitStep world new → HasHeld new → IsTrueWorld Held bounds new)
       (λ fit has. unchanged-true world (Inject to text) before)
@@ -192,6 +194,10 @@ module _ (Held : Sealed → Type 0) (bounds : ℕ) where
       received-true world (Inject letter.to letter.text) letter.to letter.text
       (each_numbered (IsTrueLetter Held bounds) (letters_of world.entries) number letter before.letters sent)
       (λ me state taken found carries. fit.answers me state found number letter taken sent carries) fit before has)
+      (λ me made hands fit has.
+      at_client-true world (Inject (party.Client me) text) me (λ (state : ClientState). client_step state text)
+      (numbered world.clients me.0) refl
+      (λ state client. client_step-true Held bounds state text (of_faulty me text made) client) fit before)
       plain fits now
 
   opening_clients-true : (keys : Ring) → keys.bounds ≡ bounds → (number count : ℕ)
@@ -213,10 +219,9 @@ opening_world-true Held setup = record {
 
 -- ---- all worlds of a run
 
--- a sealed history that its replica had by then, and sealed
-pub record WasShown (trace : Trace) (count : ℕ) (sealed : Sealed) : Type 0 where
-  pub held : WasHeld trace count sealed.history
-  pub is_sealed : IsSealedBy (ring_of trace.setup) sealed
+-- a sealed history that its replica had by then, if that is correct
+abbrev pub IsTrueOf : Trace → ℕ → Sealed → Type 0
+IsTrueOf trace count sealed = HeldIfCorrect trace count sealed.history
 
 pub held-later : (trace : Trace) (count later : ℕ) (history : ObjectHistory) → count ≤ later
     → WasHeld trace count history → WasHeld trace later history
@@ -224,43 +229,93 @@ held-later trace count later history order was =
     let earlier : was.past ≤ count = was.earlier in
     record { past = was.past; earlier = omega arith; held = was.held }
 
-shown-later : (trace : Trace) (count later : ℕ) (sealed : Sealed) → count ≤ later
-    → WasShown trace count sealed → WasShown trace later sealed
-shown-later trace count later sealed order was =
-    record { held = held-later trace count later sealed.history order was.held; is_sealed = was.is_sealed }
+true-later : (trace : Trace) (count later : ℕ) (sealed : Sealed) → count ≤ later
+    → IsTrueOf trace count sealed → IsTrueOf trace later sealed
+true-later trace count later sealed order was = λ good. held-later trace count later sealed.history order (was good)
+
+-- each history of a reply is of the replica that it is from
+own_history : (replica : ReplicaId) (least : ℕ) (sealed : Sealed) → (shown_by replica least).Fits sealed
+    → ((sealed.history).replica).0 ≡ replica.0
+unfolding shown_by
+own_history replica least sealed fits = eqb-true _ _ fits.0.1.0.1
+
+own_histories : (trace : Trace) (count : ℕ) (replica : ReplicaId) → is_good trace.setup replica.0 ≡ false
+    → (least : ℕ) (shown : List Sealed) → FitsFrom (shown_by replica) next_object least shown
+    → AllByRecursion (IsTrueOf trace count) shown
+own_histories trace count replica faulty least [] fits = tt
+own_histories trace count replica faulty least (sealed ∷ later) fits = (
+  λ good. absurd (false≢true (sym faulty
+      ∙ ap (is_good trace.setup) (sym (own_history replica least sealed fits.0)) ∙ good)),
+  own_histories trace count replica faulty (next_object sealed) later fits.1,
+)
+
+-- what a faulty replica shows are no histories of correct ones
+shown_by_faulty : (trace : Trace) (count : ℕ) (replica : ReplicaId) → is_good trace.setup replica.0 ≡ false
+    → (shown : List Sealed) → (shown_form replica).Fits shown → AllByRecursion (IsTrueOf trace count) shown
+unfolding shown_form
+shown_by_faulty trace count replica faulty shown fits = own_histories trace count replica faulty 0 shown fits.1.1
+
+frame_of_faulty : (trace : Trace) (count : ℕ) (taken : Frame) (source : ReplicaId)
+    → sender taken ≡ party.Replica source → is_faulty trace.setup (party.Replica source) ≡ true
+    → frame_form.Fits taken → IsTrueFrame (IsTrueOf trace count) trace.setup.bounds taken
+unfolding frame_form kind_form reply_frame
+frame_of_faulty trace count (frame.Request client number round sets body mac) source from faulty fits = absurd cc
+frame_of_faulty trace count (frame.Reply replica client number round verdict culled shown mac) source from faulty
+    fits =
+    let same : replica ≡ source = same_source replica source from in
+    let not_good : is_good trace.setup replica.0 ≡ false =
+    ap (λ (it : ReplicaId). is_good trace.setup it.0) same ∙ ap not faulty in
+    shown_by_faulty trace count replica not_good shown fits.1.1.1.1.1.1.1.1.0
+  where
+    same_source : (first second : ReplicaId) → party.Replica first ≡ party.Replica second → first ≡ second
+    same_source first second same = cc
+frame_of_faulty trace count (frame.Fetch replica object stamp mac) source from faulty fits = tt
+frame_of_faulty trace count (frame.Fetched replica object stamp version mac) source from faulty fits = tt
+
+one_decoded : (text : List ℕ) (first second : Frame) → decoded text ≡ Ok first → decoded text ≡ Ok second
+    → first ≡ second
+one_decoded text first second one other =
+    let same : Ok first ≡ Ok second = sym one ∙ other in
+    cc
+
+of_faulty_replica : (trace : Trace) (count later : ℕ) (me : ClientId) (text : List ℕ)
+    → IsOfFaulty (world_after trace count) (party.Client me) text → (sent : Frame) → decoded text ≡ Ok sent
+    → IsTrueFrame (IsTrueOf trace later) trace.setup.bounds sent
+of_faulty_replica trace count later me text made sent is =
+    let taken : made.taken ≡ sent =
+    one_decoded text made.taken sent (brought_is_decoded (ring_of (world_after trace count).setup) (party.Client me) text
+    made.taken made.brings) is in
+    frame_of_faulty trace later sent made.source (ap sender (sym taken) ∙ made.from)
+    (ap (λ (setup : Setup). is_faulty setup (party.Replica made.source)) (sym (setup_after trace count)) ∙ made.faulty)
+    (decoded_is_spelled text sent made.bytes is).0
 
 true_next : (trace : Trace) (count : ℕ) → IsRun trace → ArePlain trace → count < length trace.entries
-    → IsTrueWorld (WasShown trace count) trace.setup.bounds (world_after trace count)
-    → IsTrueWorld (WasShown trace (count + 1)) trace.setup.bounds (world_after trace (count + 1))
+    → IsTrueWorld (IsTrueOf trace count) trace.setup.bounds (world_after trace count)
+    → IsTrueWorld (IsTrueOf trace (count + 1)) trace.setup.bounds (world_after trace (count + 1))
 true_next trace count is_run parts below before =
     let default : Entry = some_entry trace.entries (omega arith) in
     let event : Event = (get_or trace.entries count default).event in
     let next : world_after trace (count + 1) ≡ world_step (world_after trace count) event =
     world_after-next trace count default below in
-    subst (IsTrueWorld (WasShown trace (count + 1)) trace.setup.bounds) (sym next)
-    (world_step-true (WasShown trace (count + 1)) trace.setup.bounds (world_after trace count) event
-    (parts.plain_at count default below)
+    subst (IsTrueWorld (IsTrueOf trace (count + 1)) trace.setup.bounds) (sym next)
+    (world_step-true (IsTrueOf trace (count + 1)) trace.setup.bounds (world_after trace count) event
+    (parts.plain_at count default below) (of_faulty_replica trace count (count + 1))
     (subst (IsFitStep (world_after trace count)) next (fit_step trace is_run parts count below))
-    (world-more (WasShown trace count) (WasShown trace (count + 1)) trace.setup.bounds (world_after trace count)
-    (λ sealed was. shown-later trace count (count + 1) sealed (omega arith) was) before)
-    (λ place state history is_state found. record {
-      held = record {
-        past = count + 1;
-        earlier = omega arith;
-        held = ap (λ (world : WorldState). history_at world history.replica history.object) next ∙ found;
-      };
-      is_sealed = ap (λ (keys : Ring). sealed_by keys history)
-          (keys_are trace (count + 1) place state
-          (ap (λ (world : WorldState). slice_get world.replicas place) next ∙ is_state));
+    (world-more (IsTrueOf trace count) (IsTrueOf trace (count + 1)) trace.setup.bounds (world_after trace count)
+    (λ sealed was. true-later trace count (count + 1) sealed (omega arith) was) before)
+    (λ place state history is_state found good. record {
+      past = count + 1;
+      earlier = omega arith;
+      held = ap (λ (world : WorldState). history_at world history.replica history.object) next ∙ found;
     }))
 
 pub true_world : (trace : Trace) → IsRun trace → ArePlain trace → (count : ℕ) → count ≤ length trace.entries
-    → IsTrueWorld (WasShown trace count) trace.setup.bounds (world_after trace count)
+    → IsTrueWorld (IsTrueOf trace count) trace.setup.bounds (world_after trace count)
 true_world trace is_run parts zero within =
-    subst (IsTrueWorld (WasShown trace 0) trace.setup.bounds) (sym (world_after-none trace))
-    (opening_world-true (WasShown trace 0) trace.setup)
+    subst (IsTrueWorld (IsTrueOf trace 0) trace.setup.bounds) (sym (world_after-none trace))
+    (opening_world-true (IsTrueOf trace 0) trace.setup)
 true_world trace is_run parts (suc count) within =
-    subst (λ (at : ℕ). IsTrueWorld (WasShown trace at) trace.setup.bounds (world_after trace at)) (add-one count)
+    subst (λ (at : ℕ). IsTrueWorld (IsTrueOf trace at) trace.setup.bounds (world_after trace at)) (add-one count)
     (true_next trace count is_run parts (omega arith) (true_world trace is_run parts count (omega arith)))
 
 -- ---- what letters show
@@ -278,32 +333,29 @@ module _ (trace : Trace) (is_run : IsRun trace) (have : ArePlain trace) (count :
     (within : count ≤ length trace.entries) (number : ℕ) (letter : Letter)
     (sent : letter_of (world_after trace count) number ≡ Some letter) where
   true_frame : (carried : Frame) → Carries letter carried
-      → IsTrueFrame (WasShown trace count) trace.setup.bounds carried
+      → IsTrueFrame (IsTrueOf trace count) trace.setup.bounds carried
   true_frame =
-      each_numbered (IsTrueLetter (WasShown trace count) trace.setup.bounds)
+      each_numbered (IsTrueLetter (IsTrueOf trace count) trace.setup.bounds)
       (letters_of (world_after trace count).entries) number letter
       (true_world trace is_run have count within).letters sent
 
   -- the parts of each frame that is sent are those of an act or a query
   pub sent_has_parts : (carried : Frame) → Carries letter carried → HasParts carried
-  sent_has_parts carried carries = made_parts (WasShown trace count) trace.setup.bounds carried
+  sent_has_parts carried carries = made_parts (IsTrueOf trace count) trace.setup.bounds carried
       (true_frame carried carries)
 
   module _ (client : ClientId) (asked round : ℕ) (sets : List SetOf) (body : Body)
       (is : Asks letter client asked round sets body) where
-    -- the sets of a request show what its client kept, and all of that was held
+    -- the sets of a request show what its client kept, and all of that was held, where it is of correct replicas
     pub view_of_request : IsOfKept trace count sets body
     view_of_request =
-        let made : IsMadeOf (WasShown trace count) trace.setup.bounds sets body =
+        let made : IsMadeOf (IsTrueOf trace count) trace.setup.bounds sets body =
         true_frame (frame.Request client asked round sets body is.mac) is.carries in
         record {
           kept = made.kept;
           op = made.op;
           parts = made.parts;
-          held = each_weaker (λ (it : Kept). WasShown trace count it.sealed)
-              (λ (it : Kept). WasHeld trace count (it.sealed).history) made.kept (λ it was. was.held) made.held;
-          sealed = each_weaker (λ (it : Kept). WasShown trace count it.sealed)
-              (λ (it : Kept). IsSealedBy (ring_of trace.setup) it.sealed) made.kept (λ it was. was.is_sealed) made.held;
+          held = made.held;
           sets_are = made.sets_are;
           body_is = made.body_is;
         }

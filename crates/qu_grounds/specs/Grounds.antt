@@ -6,6 +6,7 @@ use Rattle.qu_base.specs.declared.party.Party.TheVariants as party
 use Rattle.qu_stamp.specs.declared.candidate.Candidate.{Candidate}
 use Rattle.qu_stamp.specs.Stamp.{is_below}
 use Rattle.qu_history.specs.declared.sets.SetOf.{SetOf}
+use Rattle.qu_history.specs.Culling.{culled}
 use Rattle.qu_history.specs.Sets.{entries_of, latest_of, method_at}
 use Rattle.qu_objects.specs.declared.act.Method.{Method}
 use Rattle.qu_objects.specs.declared.version.Version.{Version}
@@ -22,7 +23,6 @@ use Rattle.qu_trace.specs.declared.event.Event.{Event}
 use Rattle.qu_world.specs.State.{WorldState, letter_of}
 use Rattle.qu_runs.specs.Carried.{handed, Brings}
 use Rattle.qu_grounds.specs.Parts.{Names, values_of}
-use Rattle.qu_grounds.specs.Whole.{IsWhole}
 
 -- why a replica in this state accepts a candidate on an object upon a request: the sets show a base that
 -- a quorum holds and that nothing shown is above, and the replica itself has nothing above what is shown
@@ -58,11 +58,13 @@ pub record Accepts (old new : ReplicaState) (received : Frame) : Type 0 where
   pub client : ClientId
   pub number : ℕ
   pub round : ℕ
+  -- the sets of the request, and what the replica keeps of them in culling
+  pub sent : List SetOf
   pub sets : List SetOf
+  pub culls : culled old.keys old.me sent ≡ sets
   pub parts : List (ObjectId × Method)
   pub mac : List ℕ
-  pub is_request : received ≡ frame.Request client number round sets (body.Act parts) mac
-  pub whole : IsWhole old sets
+  pub is_request : received ≡ frame.Request client number round sent (body.Act parts) mac
   pub candidates : ObjectId → Candidate
   pub added : (object : ObjectId) → Names parts object
       → own_candidates new object ≡ own_candidates old object ++ candidates object ∷ []

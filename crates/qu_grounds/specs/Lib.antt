@@ -1,6 +1,5 @@
 pub mod Views
 pub mod Parts
-pub mod Whole
 pub mod Grounds
 pub mod Chained
 pub mod Origins

@@ -11,7 +11,7 @@ use Rattle.qu_grounds.specs.Chained.{last_world}
 use Rattle.qu_runs.specs.Accepted.{is_accepted}
 use Rattle.qu_grounds.specs.Origins.{Origin}
 
--- the histories of the object that the request showed upon which the candidate was accepted
+-- the histories of the object that the request showed upon which the candidate was accepted, as its replica culled them
 abbrev pub shown_to : (trace : Trace) (count : ℕ) (object : ObjectId) (candidate : Candidate)
     → Origin trace count object candidate → List ObjectHistory
 shown_to trace count object candidate origin = entries_of object ((origin.delivered).accepts).sets

@@ -120,28 +120,6 @@ filtered P Q test (item ∷ items) each all =
     cond_both (test item) (item ∷ filter test items) (filter test items) (All Q)
     (λ here. All-cons Q item (filter test items) (each item (All-head P item items all) here) rest) (λ _. rest)
 
-agreeing_replied : (trace : Trace) (before : ℕ) (client : ClientId) (number round : ℕ) (verdict : Verdict)
-    (replies : List Counted) → All (WasAnswered trace before client number round) replies
-    → All (Replied trace before client number round verdict) (agreeing verdict replies)
-agreeing_replied trace before client number round verdict replies all =
-    let P : ℕ → Type 0 = Replied trace before client number round verdict in
-    All-map P name_of (filter (agrees verdict) replies)
-    (filtered (WasAnswered trace before client number round) (λ counted. P (name_of counted)) (agrees verdict) replies
-    (λ counted answered same. record {
-      at = answered.at;
-      earlier = answered.earlier;
-      replied = record {
-        entry = answered.entry;
-        is_entry = answered.is_entry;
-        letter = answered.letter;
-        sent = answered.sent;
-        told = counted.verdict;
-        shown = answered.shown;
-        is_reply = answered.is_reply;
-        same = same;
-      };
-    }) all)
-
 agreeing_within : (trace : Trace) (before : ℕ) (client : ClientId) (number round : ℕ) (verdict : Verdict)
     (replies : List Counted) → All (WasAnswered trace before client number round) replies
     → All (λ (member : ℕ). member < replicas trace.setup.bounds) (agreeing verdict replies)
@@ -151,12 +129,85 @@ agreeing_within trace before client number round verdict replies all =
     (filtered (WasAnswered trace before client number round) (λ counted. P (name_of counted)) (agrees verdict)
     replies (λ counted answered same. answered.within) all)
 
+-- where they are correct they sent it
+agreeing_replied : (trace : Trace) (before : ℕ) (client : ClientId) (number round : ℕ) (verdict : Verdict)
+    (replies : List Counted) → All (WasAnswered trace before client number round) replies
+    → All (λ (member : ℕ). is_good trace.setup member ≡ true
+    → Replied trace before client number round verdict member) (agreeing verdict replies)
+agreeing_replied trace before client number round verdict replies all =
+    let P : ℕ → Type 0 = λ member. is_good trace.setup member ≡ true
+    → Replied trace before client number round verdict member in
+    All-map P name_of (filter (agrees verdict) replies)
+    (filtered (WasAnswered trace before client number round) (λ counted. P (name_of counted)) (agrees verdict) replies
+    (λ counted answered same good.
+    let it : WasTold trace before client number round counted = answered.told good in
+    record {
+      at = it.at;
+      earlier = it.earlier;
+      replied = record {
+        entry = it.entry;
+        is_entry = it.is_entry;
+        letter = it.letter;
+        sent = it.sent;
+        told = counted.verdict;
+        shown = it.shown;
+        is_reply = it.is_reply;
+        same = same;
+      };
+    }) all)
+
+-- ---- the correct ones among them
+
+split_length : {X : Type 0} (test : X → Bool) (items : List X)
+    → length items ≡ length (filter test items) + length (filter (λ item. not (test item)) items)
+split_length test [] = refl
+split_length test (item ∷ later) =
+    let rest : length later ≡ length (filter test later) + length (filter (λ it. not (test it)) later) =
+    split_length test later in
+    by (test item) rest
+  where
+    by : (here : Bool) → length later ≡ length (filter test later) + length (filter (λ it. not (test it)) later)
+        → suc (length later) ≡ length (cond here (item ∷ filter test later) (filter test later))
+        + length (cond (not here) (item ∷ filter (λ it. not (test it)) later) (filter (λ it. not (test it)) later))
+    by true rest = omega arith
+    by false rest = omega arith
+
+-- whatever is among filtered numbers passes the test
+filtered_passes : (test : ℕ → Bool) (members : List ℕ) (index : ℕ) → is_among (filter test members) index ≡ true
+    → test index ≡ true
+filtered_passes test [] index among = absurd (false≢true among)
+filtered_passes test (member ∷ later) index among = by (test member) refl among
+  where
+    by : (here : Bool) → test member ≡ here
+        → is_among (cond here (member ∷ filter test later) (filter test later)) index ≡ true → test index ≡ true
+    by false is among = filtered_passes test later index among
+    by true is among = elim (or_cases (member == index) (is_among (filter test later) index) among) [
+      | inl here ↦ ap test (sym (eqb-true member index here)) ∙ is
+      | inr there ↦ filtered_passes test later index there
+    ]
+
+-- of different members below a bound, those that fail a test are at most as many as all that fail it
+correct_many : (n : ℕ) (test : ℕ → Bool) (members : List ℕ) → AllPairs (λ (a b : ℕ). a ≢ b) members
+    → All (λ (member : ℕ). member < n) members
+    → length members ≤ length (filter test members) + count n (λ index. not (test index))
+correct_many n test members different within =
+    let fails : ℕ → Bool = λ index. not (test index) in
+    let split : length members ≡ length (filter test members) + length (filter fails members) =
+    split_length test members in
+    let few : length (filter fails members) ≤ count n (is_among (filter fails members)) =
+    members_count n (filter fails members) (AllPairs-filter (λ (a b : ℕ). a ≢ b) fails members different)
+    (filtered (λ (it : ℕ). it < n) (λ (it : ℕ). it < n) fails members (λ it below failing. below) within) in
+    let more : count n (is_among (filter fails members)) ≤ count n fails =
+    count-more n (is_among (filter fails members)) fails
+    (λ index low among. filtered_passes fails members index among) in
+    omega (arith, split, few, more)
+
 -- ---- the event that completed
 
--- a delivered reply gives its round
-reply_round : (letter : Letter) (received : Frame) (round : ℕ) → Carries letter received
-    → round_in (Ok received) ≡ Some round → round_of (Some letter) ≡ Some round
-reply_round letter received round is gives = ap round_in is ∙ gives
+-- a reply gives its round
+reply_round : (text : List ℕ) (received : Frame) (round : ℕ) → decoded text ≡ Ok received
+    → round_in (Ok received) ≡ Some round → round_in (decoded text) ≡ Some round
+reply_round text received round is gives = ap round_in is ∙ gives
 
 -- a verdict that counts is of the round under way
 counting_round : (work : Work) (replica : ReplicaId) (number round : ℕ) → counts work replica number round ≡ true
@@ -192,20 +243,20 @@ round_handed trace is index within entry to text given =
     by_event (Inject who other) hands =
         ap (λ (it : Party × List ℕ). round_in (decoded it.1)) (same_Some (who, other) (to, text) hands)
 
--- the letter at this event completed the operation that its client had under way
-by_letter : (trace : Trace) → IsRun trace → ArePlain trace → WorkIsRecorded trace → IsOneRecord trace
+-- the text at this event completed the operation that its client had under way
+by_text : (trace : Trace) → IsRun trace → ArePlain trace → WorkIsRecorded trace → IsOneRecord trace
     → (operation : OpRecord) → Contains (operations_of trace.entries) operation → (index : ℕ) (answer : Answer)
-    → (number : ℕ) (letter : Letter) (client : ClientId) (state : ClientState) (made : Entry)
-    → handed (world_after trace index) made.event ≡ Some (letter.to, letter.text)
+    → (text : List ℕ) (client : ClientId) (state : ClientState) (made : Entry)
+    → IsFrom (world_after trace index) client text
+    → handed (world_after trace index) made.event ≡ Some (party.Client client, text)
     → slice_get trace.entries index ≡ Some made
-    → letter_of (world_after trace index) number ≡ Some letter → numbered (world_after trace index).clients
-    client.0 ≡ Some state
-    → EndedBy operation.client client operation.number state.work (client_step state letter.text).ended
+    → numbered (world_after trace index).clients client.0 ≡ Some state
+    → EndedBy operation.client client operation.number state.work (client_step state text).ended
     (outcome.Done answer)
-    → (carried : Frame) → Carries letter carried → ReplyCompletes state carried answer
+    → (carried : Frame) → decoded text ≡ Ok carried → ReplyCompletes state carried answer
     → IsCompleted trace operation (suc index) answer
-by_letter trace is have recorded one operation among index answer number letter client state made hands is_entry
-    sent found ended carried carries done =
+by_text trace is have recorded one operation among index answer text client state made from hands is_entry
+    found ended carried carries done =
     let below : index < length trace.entries = slice_get_within trace.entries index made is_entry in
     let holds : Counts trace index client.0 state =
     counts_world trace is have index (omega arith) client.0 state found in
@@ -220,11 +271,12 @@ by_letter trace is have recorded one operation among index answer number letter 
     one record_there.operation operation record_there.of_trace among (record_there.of_client ∙ ended.is_me)
     (record_there.of_number ∙ of_number) in
     let of_op : operation.op ≡ work.op = ap (λ (it : OpRecord). it.op) (sym same_record) ∙ record_there.of_op in
+    let is_reply : decoded text ≡ Ok (frame.Reply done.replica state.me done.number done.round done.verdict done.culled
+    done.shown done.mac) = carries ∙ ap Ok done.is_reply in
     let answered : All (WasAnswered trace index state.me work.number work.round) replies =
-    with_answered trace is have index letter state.me work done.replica done.number done.round done.verdict done.culled
-    done.shown
-    (sent_before trace is index (omega arith) number letter sent)
-    (record { culled = done.culled; mac = done.mac; carries = carries ∙ ap Ok done.is_reply }) done.counting
+    with_answered trace index state.me work done.replica done.number done.round done.verdict done.culled
+    (answers_from trace is have index (omega arith) client text from done.replica state.me done.number done.round
+    done.verdict done.culled done.shown done.mac is_reply) done.counting
     (work_answered trace index state.me state.work work done.under_way holds.answered) in
     let answered_me : All (WasAnswered trace index operation.client work.number work.round) replies =
     subst (λ (it : ClientId). All (WasAnswered trace index it work.number work.round) replies) me answered in
@@ -234,36 +286,55 @@ by_letter trace is have recorded one operation among index answer number letter 
     different_more work done.replica done.number done.round done.verdict done.culled done.counting
     (sound_work state work holds.sound done.under_way).different in
     let before : index ≡ suc index - 1 = omega arith in
+    let agree : List ℕ = agreeing done.verdict replies in
+    let good : ℕ → Bool = is_good trace.setup in
+    let apart : AllPairs (λ (a b : ℕ). a ≢ b) agree = agreeing_different done.verdict replies different in
+    let known : All (λ (member : ℕ). member < replicas trace.setup.bounds) agree =
+    agreeing_within trace index operation.client operation.number work.round done.verdict replies answered_so in
+    let told : All (λ (member : ℕ). good member ≡ true
+    → Replied trace index operation.client operation.number work.round done.verdict member) agree =
+    agreeing_replied trace index operation.client operation.number work.round done.verdict replies answered_so in
     record {
       round = work.round;
       verdict = done.verdict;
       fits = ap (λ (it : Op). fitting it done.verdict) of_op ∙ done.fits;
       delivered =
           ap (delivered_round trace) is_entry ∙
-          round_handed trace is index (omega arith) made letter.to letter.text hands ∙
-          reply_round letter (frame.Reply done.replica state.me done.number done.round done.verdict done.culled
-          done.shown done.mac) work.round (carries ∙ ap Ok done.is_reply)
+          round_handed trace is index (omega arith) made (party.Client client) text hands ∙
+          reply_round text (frame.Reply done.replica state.me done.number done.round done.verdict done.culled
+          done.shown done.mac) work.round is_reply
           (ap (λ (it : ℕ). Some it) (counting_round work done.replica done.number done.round done.counting));
-      members = agreeing done.verdict replies;
-      different = agreeing_different done.verdict replies different;
+      members = filter good agree;
+      different = AllPairs-filter (λ (a b : ℕ). a ≢ b) good agree apart;
       enough =
           let enough : quorum state.keys.bounds ≤ identical done.verdict replies = done.enough in
-          let number_is : length (agreeing done.verdict replies) ≡ identical done.verdict replies =
-          agreeing_number done.verdict replies in
-          subst (λ (bounds : ℕ). quorum bounds ≤ length (agreeing done.verdict replies)) holds.bounds (omega arith);
+          let number_is : length agree ≡ identical done.verdict replies = agreeing_number done.verdict replies in
+          let many : quorum trace.setup.bounds ≤ length agree =
+          subst (λ (bounds : ℕ). quorum bounds ≤ length agree) holds.bounds (omega arith) in
+          let correct : length agree ≤ length (filter good agree)
+          + count (replicas trace.setup.bounds) (λ index. not (good index)) =
+          correct_many (replicas trace.setup.bounds) good agree apart known in
+          let few : count (replicas trace.setup.bounds) (λ index. not (good index)) ≤ trace.setup.bounds =
+          few_faulty trace.setup (replicas trace.setup.bounds) (is.setup).few in
+          omega (arith, many, correct, few);
       replied =
           subst (λ (it : ℕ). All (Replied trace it operation.client operation.number work.round done.verdict)
-          (agreeing done.verdict replies)) before
-          (agreeing_replied trace index operation.client operation.number work.round done.verdict replies answered_so);
-      within = agreeing_within trace index operation.client operation.number work.round done.verdict replies
-          answered_so;
+          (filter good agree)) before
+          (filtered (λ (member : ℕ). good member ≡ true
+          → Replied trace index operation.client operation.number work.round done.verdict member)
+          (Replied trace index operation.client operation.number work.round done.verdict) good agree
+          (λ member replied is_good. replied is_good) told);
+      within = filtered (λ (member : ℕ). member < replicas trace.setup.bounds)
+          (λ (member : ℕ). member < replicas trace.setup.bounds) good agree (λ member below is_good. below) known;
+      correct = filtered (λ (member : ℕ). member < replicas trace.setup.bounds)
+          (λ (member : ℕ). good member ≡ true) good agree (λ member below is_good. is_good) known;
     }
 
 no_end_of_invocation : (state : ClientState) (op : Op) → (client_invoke state op).ended ≡ None
 no_end_of_invocation state op = invoke_cases state op (λ stepped. stepped.ended ≡ None)
     (λ kept acted marked. refl) (λ kept marked. refl)
 
--- the entry that records the end was made by a letter
+-- the entry that records the end was made by a text
 by_entry : (trace : Trace) → IsRun trace → ArePlain trace → WorkIsRecorded trace → IsOneRecord trace
     → (operation : OpRecord) → Contains (operations_of trace.entries) operation → (index : ℕ) (answer : Answer)
     (entry : Entry) → slice_get trace.entries index ≡ Some entry → outcome_in operation.client operation.number
@@ -280,22 +351,23 @@ by_entry trace is have recorded one operation among index answer entry is_entry 
     let ended : EndedBy operation.client client operation.number state.work (client_invoke state op).ended how =
     ended_so operation.client client operation.number state.work (client_invoke state op).ended how ends in
     absurd (none-some how (sym (no_end_of_invocation state op) ∙ ended.is_end)))
-    (λ event number letter client state sent hands found there ends.
-    let ended : EndedBy operation.client client operation.number state.work (client_step state letter.text).ended
-    how = ended_so operation.client client operation.number state.work (client_step state letter.text).ended
+    (λ event text client state from hands found there ends.
+    let ended : EndedBy operation.client client operation.number state.work (client_step state text).ended
+    how = ended_so operation.client client operation.number state.work (client_step state text).ended
     how ends in
-    let text : TextCompletes state (brought state.keys (party.Client state.me) letter.text) answer =
-    completes state letter.text answer ended.is_end in
-    by_letter trace is have recorded one operation among index answer number letter client state _ hands there
-    sent found ended text.carried
-    (brought_is_decoded state.keys (party.Client state.me) letter.text text.carried text.is_frame) text.completes)
+    let completing : TextCompletes state (brought state.keys (party.Client state.me) text) answer =
+    completes state text answer ended.is_end in
+    by_text trace is have recorded one operation among index answer text client state _ from hands there
+    found ended completing.carried
+    (brought_is_decoded state.keys (party.Client state.me) text completing.carried completing.is_frame)
+    completing.completes)
     (λ client state found there ends.
     let ended : EndedBy operation.client client operation.number state.work (client_tick state).ended how =
     ended_so operation.client client operation.number state.work (client_tick state).ended how ends in
     absurd (none-some how ended.is_end))
     is_entry
 
--- a completed operation was answered by a quorum of different replicas with one verdict, in one round
+-- a completed operation was answered by so many different correct replicas with one verdict, in one round
 pub completed : (trace : Trace) → IsRun trace → ArePlain trace → WorkIsRecorded trace → IsOneRecord trace
     → (operation : OpRecord) → Contains (operations_of trace.entries) operation → (event : ℕ) (answer : Answer)
     → operation.reply ≡ Some (event, outcome.Done answer) → IsCompleted trace operation event answer

@@ -1,4 +1,4 @@
--- The verdicts that a client counts were sent by replicas, to the round that is under way.
+-- The verdicts of correct replicas that a client counts were sent by them, to the round that is under way.
 use Rattle.std.proofs.Common.{◌≡◌, ◌≢◌, ℕ, zero, suc, ◌+◌, ◌<◌, ◌≤◌, true, false, eqb, List, length, get_or, Option, None, Some, IfSome, refl, sym, ap, subst, ◌∙◌, arith, inl, inr, add-one, slice_get, All, AllPairs, Contains}
 use Rattle.std.specs.List.{list_any}
 use Rattle.std.proofs.lemmas.Bool.{not-true, and_parts, eqb-true, cond_both}
@@ -46,7 +46,7 @@ use Rattle.qu_base.specs.declared.party.Party.TheVariants as party
 use Rattle.qu_base.specs.declared.party.ObjectId.{ObjectId}
 
 -- the verdict was sent by its replica to this round, before the event of the entry with this index
-pub record WasAnswered (trace : Trace) (before : ℕ) (client : ClientId) (number round : ℕ)
+pub record WasTold (trace : Trace) (before : ℕ) (client : ClientId) (number round : ℕ)
     (counted : Counted) : Type 0 where
   pub at : ℕ
   pub earlier : at < before
@@ -56,24 +56,34 @@ pub record WasAnswered (trace : Trace) (before : ℕ) (client : ClientId) (numbe
   pub sent : Contains entry.letters letter
   pub shown : List Sealed
   pub is_reply : Tells letter counted.replica client number round counted.verdict shown
+
+-- so it was, if its replica is correct
+pub record WasAnswered (trace : Trace) (before : ℕ) (client : ClientId) (number round : ℕ)
+    (counted : Counted) : Type 0 where
   pub within : (counted.replica).0 < replicas trace.setup.bounds
+  pub told : is_good trace.setup (counted.replica).0 ≡ true → WasTold trace before client number round counted
 
 answered_more : (trace : Trace) (before : ℕ) (client : ClientId) (number round : ℕ) (counted : Counted)
     → WasAnswered trace before client number round counted → WasAnswered trace (before + 1) client number round counted
 answered_more trace before client number round counted answered = record {
-  at = answered.at;
-  earlier = let earlier : answered.at < before = answered.earlier in omega arith;
-  entry = answered.entry;
-  is_entry = answered.is_entry;
-  letter = answered.letter;
-  sent = answered.sent;
-  shown = answered.shown;
-  is_reply = answered.is_reply;
   within = answered.within;
+  told = λ good.
+      let it : WasTold trace before client number round counted = answered.told good in
+      let earlier : it.at < before = it.earlier in
+      record {
+        at = it.at;
+        earlier = omega arith;
+        entry = it.entry;
+        is_entry = it.is_entry;
+        letter = it.letter;
+        sent = it.sent;
+        shown = it.shown;
+        is_reply = it.is_reply;
+      };
 }
 
 -- a delivered reply was sent so
-pub answered_by : (trace : Trace) → IsRun trace → ArePlain trace → (before : ℕ) (letter : Letter)
+answered_by : (trace : Trace) → IsRun trace → ArePlain trace → (before : ℕ) (letter : Letter)
     (client : ClientId) (number round : ℕ) (counted : Counted) (shown : List Sealed)
     → SentBefore trace before letter → Tells letter counted.replica client number round counted.verdict shown
     → WasAnswered trace before client number round counted
@@ -84,16 +94,90 @@ answered_by trace is have before letter client number round counted shown sent i
     let from : RepliesWithin (replicas trace.setup.bounds) letter =
     All-contains (RepliesWithin (replicas trace.setup.bounds)) entry.letters letter replies sent.there.sent in
     record {
-      at = sent.at;
-      earlier = sent.earlier;
-      entry = entry;
-      is_entry = sent.there.is_entry;
-      letter = letter;
-      sent = sent.there.sent;
-      shown = shown;
-      is_reply = is_reply;
       within = from counted.replica client number round counted.verdict shown is_reply;
+      told = λ good. record {
+        at = sent.at;
+        earlier = sent.earlier;
+        entry = entry;
+        is_entry = sent.there.is_entry;
+        letter = letter;
+        sent = sent.there.sent;
+        shown = shown;
+        is_reply = is_reply;
+      };
     }
+
+-- whoever is brought a frame shares a key with its sender
+sender_known : (ring : Ring) (to : Party) (text : List ℕ) (taken : Frame) → brought ring to text ≡ Some taken
+    → has_party ring (sender taken) ≡ true
+unfolding brought
+sender_known ring to text taken brings = by (decoded text) brings
+  where
+    keyed : (test : Bool) (found : Frame) → (if test then Some found else None) ≡ Some taken
+        → (test ≡ true) × (found ≡ taken)
+    keyed true found is = (refl, same_Some found taken is)
+    keyed false found is = absurd (none-some taken is)
+
+    has_key : (frame : Frame) → is_signed ring to text frame ≡ true → has_party ring (sender frame) ≡ true
+    unfolding is_signed verifies
+    has_key frame signed = (and_parts _ _ (and_parts _ _ signed).0).0
+
+    by : (read : Result Frame BadText) → if_signed ring to text read ≡ Some taken → has_party ring (sender taken) ≡ true
+    by (Ok frame) is =
+        let it : (is_signed ring to text frame ≡ true) × (frame ≡ taken) = keyed (is_signed ring to text frame) frame is in
+        ap (λ (found : Frame). has_party ring (sender found)) (sym it.1) ∙ has_key frame it.0
+    by (Err bad) is = absurd (none-some taken is)
+
+-- each reply that the text is was sent so
+abbrev pub AreAnswers : Trace → ℕ → List ℕ → Type 0
+AreAnswers trace before text =
+    (replica : ReplicaId) (client : ClientId) (number round : ℕ) (verdict : Verdict)
+    (culled : List (ObjectId × ReplicaId)) (shown : List Sealed) (mac : List ℕ)
+    → decoded text ≡ Ok (frame.Reply replica client number round verdict culled shown mac)
+    → WasAnswered trace before client number round
+    (record { replica = replica; verdict = verdict; culled = culled })
+
+same_taken : (text : List ℕ) (first second : Frame) → decoded text ≡ Ok first → decoded text ≡ Ok second
+    → first ≡ second
+same_taken text first second one other =
+    let same : Ok first ≡ Ok second = sym one ∙ other in
+    cc
+
+-- the replica of a reply that a faulty one made is within the bounds
+known_within : (trace : Trace) (before : ℕ) (replica : ReplicaId)
+    → has_party (ring_of (world_after trace before).setup) (party.Replica replica) ≡ true
+    → replica.0 < replicas trace.setup.bounds
+known_within trace before replica known =
+    ltb-true _ _ (ap (λ (setup : Setup). nat_lt replica.0 (replicas setup.bounds)) (sym (setup_after trace before)) ∙ known)
+
+-- what a faulty replica made is of itself
+answers_of_faulty : (trace : Trace) (before : ℕ) (me : ClientId) (text : List ℕ)
+    → IsOfFaulty (world_after trace before) (party.Client me) text → AreAnswers trace before text
+answers_of_faulty trace before me text made replica client number round verdict culled shown mac is =
+    let world : WorldState = world_after trace before in
+    let taken : made.taken ≡ frame.Reply replica client number round verdict culled shown mac =
+    same_taken text made.taken (frame.Reply replica client number round verdict culled shown mac)
+    (brought_is_decoded (ring_of world.setup) (party.Client me) text made.taken made.brings) is in
+    let sent_by : party.Replica replica ≡ sender made.taken = ap sender (sym taken) in
+    let faulty : is_faulty trace.setup (party.Replica replica) ≡ true =
+    ap (λ (setup : Setup). is_faulty setup (party.Replica replica)) (sym (setup_after trace before))
+    ∙ ap (is_faulty world.setup) (sent_by ∙ made.from) ∙ made.faulty in
+    record {
+      within = known_within trace before replica
+          (ap (has_party (ring_of world.setup)) sent_by
+          ∙ sender_known (ring_of world.setup) (party.Client me) text made.taken made.brings);
+      told = λ good. absurd (false≢true (sym (ap not faulty) ∙ good));
+    }
+
+pub answers_from : (trace : Trace) → IsRun trace → ArePlain trace → (before : ℕ) → before ≤ length trace.entries
+    → (me : ClientId) (text : List ℕ) → IsFrom (world_after trace before) me text → AreAnswers trace before text
+answers_from trace is have before within me text (inl sent) replica client number round verdict culled shown mac
+    carries =
+    answered_by trace is have before sent.letter client number round
+    (record { replica = replica; verdict = verdict; culled = culled }) shown
+    (sent_before trace is before within sent.number sent.letter sent.is_letter)
+    (record { culled = culled; mac = mac; carries = ap decoded sent.text_is ∙ carries })
+answers_from trace is have before within me text (inr made) = answers_of_faulty trace before me text made
 
 -- ---- the verdicts of the operation under way
 
@@ -120,48 +204,44 @@ pub work_answered : (trace : Trace) (before : ℕ) (client : ClientId) (found : 
 work_answered trace before client found work is are = subst (WorkAnswered trace before client) is are
 
 -- the verdicts with one more that counts
-pub with_answered : (trace : Trace) → IsRun trace → ArePlain trace → (before : ℕ) (letter : Letter)
-    (client : ClientId) (work : Work) (replica : ReplicaId) (number round : ℕ) (verdict : Verdict)
-    (culled : List (ObjectId × ReplicaId)) (shown : List Sealed) → SentBefore trace before letter
-    → Tells letter replica client number round verdict shown → counts work replica number round ≡ true
+pub with_answered : (trace : Trace) (before : ℕ) (client : ClientId) (work : Work) (replica : ReplicaId)
+    (number round : ℕ) (verdict : Verdict) (culled : List (ObjectId × ReplicaId))
+    → WasAnswered trace before client number round
+    (record { replica = replica; verdict = verdict; culled = culled }) → counts work replica number round ≡ true
     → AreAnswered trace before client work
     → AreAnswered trace before client (with_verdict work replica verdict culled)
-with_answered trace is have before letter client work replica number round verdict culled shown sent is_reply counting
-    are =
+with_answered trace before client work replica number round verdict culled answered counting are =
     let first = and_parts (is_asking work.phase) _ counting in
     let second = and_parts (eqb number work.number) _ first.1 in
     let third = and_parts (eqb round work.round) _ second.1 in
     let numbers : number ≡ work.number = eqb-true number work.number second.0 in
     let rounds : round ≡ work.round = eqb-true round work.round third.0 in
-    let this : Tells letter replica client work.number work.round verdict shown =
-    tells_as letter replica client client number work.number round work.round verdict verdict shown refl numbers
-    rounds refl is_reply in
-    All-push (WasAnswered trace before client work.number work.round) work.replies
-    (record { replica = replica; verdict = verdict; culled = culled }) are
-    (answered_by trace is have before letter client work.number work.round
-    (record { replica = replica; verdict = verdict; culled = culled }) shown sent this)
+    let counted : Counted = record { replica = replica; verdict = verdict; culled = culled } in
+    All-push (WasAnswered trace before client work.number work.round) work.replies counted are
+    (subst (λ (it : ℕ). WasAnswered trace before client work.number it counted) rounds
+    (subst (λ (it : ℕ). WasAnswered trace before client it round counted) numbers answered))
 
--- what a delivered letter makes of them
-answered_frame : (trace : Trace) → IsRun trace → ArePlain trace → (before : ℕ) (letter : Letter)
-    (state : ClientState) → SentBefore trace before letter → WorkAnswered trace before state.me state.work
-    → (received : Frame) → Carries letter received → WorkAnswered trace (before + 1) state.me
-    (on_frame state received).state.work
-answered_frame trace is have before letter state sent are
+-- what a text makes of them
+answered_frame : (trace : Trace) (before : ℕ) (text : List ℕ) (state : ClientState) → AreAnswers trace before text
+    → WorkAnswered trace before state.me state.work → (received : Frame) → decoded text ≡ Ok received
+    → WorkAnswered trace (before + 1) state.me (on_frame state received).state.work
+answered_frame trace before text state answers are
     (frame.Reply replica client number round verdict culled shown mac) is_frame =
     let P : Stepped → Type 0 = λ stepped. WorkAnswered trace (before + 1) state.me stepped.state.work in
     let same : WorkAnswered trace (before + 1) state.me state.work = work_more trace before state.me state.work are in
+    let counted : Counted = record { replica = replica; verdict = verdict; culled = culled } in
     cond_both (eqb client.0 (state.me).0) _ _ P
     (λ mine.
-    let is_reply : Tells letter replica state.me number round verdict shown =
-    tells_as letter replica client state.me number number round round verdict verdict shown
-    (client_is client state.me (eqb-true client.0 (state.me).0 mine)) refl refl refl
-    (record { culled = culled; mac = mac; carries = is_frame }) in
+    let answered : WasAnswered trace before state.me number round counted =
+    subst (λ (it : ClientId). WasAnswered trace before it number round counted)
+    (client_is client state.me (eqb-true client.0 (state.me).0 mine))
+    (answers replica client number round verdict culled shown mac is_frame) in
     counted_cases (record state { kept = keep_all number round shown state.kept }) replica number round verdict culled
     P
     same
     (λ work under_way counting.
     are_more trace before state.me (with_verdict work replica verdict culled)
-    (with_answered trace is have before letter state.me work replica number round verdict culled shown sent is_reply
+    (with_answered trace before state.me work replica number round verdict culled answered
     counting (work_answered trace before state.me state.work work under_way are)))
     (λ work answer under_way counting fits enough. tt)
     (λ work under_way counting last. tt)
@@ -170,23 +250,22 @@ answered_frame trace is have before letter state sent are
     (λ kept work marked under_way counting below. All-nil
     (WasAnswered trace (before + 1) state.me work.number (work.round + 1))))
     (λ other. same)
-answered_frame trace is have before letter state sent are _ is_frame = work_more trace before state.me state.work are
+answered_frame trace before text state answers are _ is_frame = work_more trace before state.me state.work are
 
-answered_brought : (trace : Trace) → IsRun trace → ArePlain trace → (before : ℕ) (letter : Letter)
-    (state : ClientState) → SentBefore trace before letter → WorkAnswered trace before state.me state.work
-    → (found : Option Frame) → brought state.keys (party.Client state.me) letter.text ≡ found
+answered_brought : (trace : Trace) (before : ℕ) (text : List ℕ) (state : ClientState) → AreAnswers trace before text
+    → WorkAnswered trace before state.me state.work
+    → (found : Option Frame) → brought state.keys (party.Client state.me) text ≡ found
     → WorkAnswered trace (before + 1) state.me (on_received state found).state.work
-answered_brought trace is have before letter state sent are (Some taken) brings =
-    answered_frame trace is have before letter state sent are taken
-    (brought_is_decoded state.keys (party.Client state.me) letter.text taken brings)
-answered_brought trace is have before letter state sent are None brings = work_more trace before state.me state.work are
+answered_brought trace before text state answers are (Some taken) brings =
+    answered_frame trace before text state answers are taken
+    (brought_is_decoded state.keys (party.Client state.me) text taken brings)
+answered_brought trace before text state answers are None brings = work_more trace before state.me state.work are
 
-answered_step : (trace : Trace) → IsRun trace → ArePlain trace → (before : ℕ) (letter : Letter)
-    (state : ClientState) → SentBefore trace before letter → WorkAnswered trace before state.me state.work
-    → WorkAnswered trace (before + 1) state.me (client_step state letter.text).state.work
-answered_step trace is have before letter state sent are =
-    answered_brought trace is have before letter state sent are
-    (brought state.keys (party.Client state.me) letter.text) refl
+answered_step : (trace : Trace) (before : ℕ) (text : List ℕ) (state : ClientState) → AreAnswers trace before text
+    → WorkAnswered trace before state.me state.work
+    → WorkAnswered trace (before + 1) state.me (client_step state text).state.work
+answered_step trace before text state answers are =
+    answered_brought trace before text state answers are (brought state.keys (party.Client state.me) text) refl
 
 answered_invoke : (trace : Trace) (before : ℕ) (state : ClientState) (op : Op)
     → WorkAnswered trace before state.me (client_invoke state op).state.work
@@ -261,13 +340,13 @@ counts_step trace is have before within each event plain =
     (counts_moved trace before client.0 state (client_invoke state op).state (client_invoke-me state op)
     (client_invoke-bounds state op)
     (IsSound-invoke state op) (answered_invoke trace (before + 1) state op) holds))
-    (λ event number letter client state sent hands found.
+    (λ event text client state from hands found.
     let holds : Counts trace before client.0 state = each client.0 state found in
-    counts_with trace before client.0 clients (client_step state letter.text).state each
-    (counts_moved trace before client.0 state (client_step state letter.text).state
-    (client_step-me state letter.text) (client_step-bounds state letter.text)
-    (IsSound-step state letter.text holds.sound)
-    (answered_step trace is have before letter state (sent_before trace is before within number letter sent)
+    counts_with trace before client.0 clients (client_step state text).state each
+    (counts_moved trace before client.0 state (client_step state text).state
+    (client_step-me state text) (client_step-bounds state text)
+    (IsSound-step state text holds.sound)
+    (answered_step trace before text state (answers_from trace is have before within client text from)
     holds.answered) holds))
     (λ client state found.
     counts_with trace before client.0 clients (client_tick state).state each
@@ -290,7 +369,7 @@ counts_opening trace (suc place) state found =
     } in
     subst (Counts trace 0 (suc place)) (sym opens) holds
 
--- in every world of a run each client counts only what was sent to it
+-- in every world of a run each client counts only what was sent to it, or what faulty replicas made
 pub counts_world : (trace : Trace) → IsRun trace → ArePlain trace → (count : ℕ) → count ≤ length trace.entries
     → Each (Counts trace count) (world_after trace count).clients
 counts_world trace is have zero within =

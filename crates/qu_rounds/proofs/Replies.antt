@@ -168,7 +168,7 @@ replies_within trace is have index entry is_entry =
     (brings_carries state letter taken brings))
     (replica_within trace index me.0 state found))
     (λ client op state found. invoke_replies bound state op)
-    (λ event number letter client state sent hands found. step_replies bound state letter.text)
+    (λ event text client state from hands found. step_replies bound state text)
     (λ client state found. none)
 
 -- ---- where a letter was sent

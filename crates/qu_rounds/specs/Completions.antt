@@ -1,5 +1,6 @@
--- What a completed operation rests upon: the answers of a quorum to one of its rounds.
-use Rattle.std.specs.Prelude.{◌≡◌, ◌≢◌, ℕ, ◌-◌, ◌<◌, ◌≤◌, true, List, length, slice_get, Some, All, AllPairs, Contains}
+-- What a completed operation rests upon: the answers of a quorum to one of its rounds, up to b of which may be of faulty
+-- replicas.
+use Rattle.std.specs.Prelude.{◌≡◌, ◌≢◌, ℕ, ◌+◌, ◌-◌, ◌<◌, ◌≤◌, true, List, length, slice_get, Some, All, AllPairs, Contains}
 use Rattle.qu_base.specs.declared.party.ClientId.{ClientId}
 use Rattle.qu_base.specs.Bounds.{replicas, quorum}
 use Rattle.qu_history.specs.declared.sealed.Sealed.{Sealed}
@@ -11,6 +12,7 @@ use Rattle.qu_client.specs.Steps.{fitting}
 use Rattle.qu_machine.specs.declared.record.OpRecord.{OpRecord}
 use Rattle.qu_trace.specs.declared.trace.Entry.{Entry}
 use Rattle.qu_trace.specs.declared.trace.Trace.{Trace}
+use Rattle.qu_trace.specs.Faulty.{is_good}
 use Rattle.qu_world.specs.State.{numbered}
 use Rattle.qu_runs.specs.Carried.{Tells}
 use Rattle.qu_runs.specs.Answers.{delivered_round}
@@ -35,8 +37,8 @@ pub record Replied (trace : Trace) (before : ℕ) (client : ClientId) (number ro
   pub earlier : at < before
   pub replied : RepliedAt trace at client number round verdict replica
 
--- a quorum of different replicas answered the round that completed the operation, all with this
--- verdict
+-- different correct replicas answered the round that completed the operation, all with this verdict; with b more they
+-- are a quorum
 pub record IsCompleted (trace : Trace) (operation : OpRecord) (event : ℕ) (answer : Answer) : Type 0 where
   pub round : ℕ
   pub verdict : Verdict
@@ -44,6 +46,7 @@ pub record IsCompleted (trace : Trace) (operation : OpRecord) (event : ℕ) (ans
   pub delivered : delivered_round trace (numbered trace.entries event) ≡ Some round
   pub members : List ℕ
   pub different : AllPairs (λ (a b : ℕ). a ≢ b) members
-  pub enough : quorum trace.setup.bounds ≤ length members
+  pub enough : quorum trace.setup.bounds ≤ length members + trace.setup.bounds
   pub replied : All (Replied trace (event - 1) operation.client operation.number round verdict) members
   pub within : All (λ (member : ℕ). member < replicas trace.setup.bounds) members
+  pub correct : All (λ (member : ℕ). is_good trace.setup member ≡ true) members

@@ -29,7 +29,7 @@ one_bit : (first second : Bool) → cond (first || second) 1 0 ≤ cond first 1 
 one_bit true second = omega arith
 one_bit false second = omega arith
 
-either_counted : (n : ℕ) (first second : ℕ → Bool)
+pub either_counted : (n : ℕ) (first second : ℕ → Bool)
     → count n (λ number. first number || second number) ≤ count n first + count n second
 unfolding count
 either_counted zero first second = omega arith

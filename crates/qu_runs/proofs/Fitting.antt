@@ -1,4 +1,4 @@
--- In a run without injections all that is sent fits its format.
+-- In a run all that is sent fits its format.
 use Rattle.qu_world.proofs.Steps.{step_cases}
 use Rattle.std.proofs.Common.{◌≡◌, ℕ, zero, suc, ◌+◌, ◌<◌, ◌≤◌, ◌^◌, List, [], ◌∷◌, ◌++◌, length, get_or, Option, None, Some, Ok, IsTrue, refl, sym, subst, arith, add-one, inl, inr}
 use Rattle.std.specs.Prelude.{slice_get}
@@ -15,6 +15,7 @@ use Rattle.qu_objects.specs.declared.kind.KindName.{KindName}
 use Rattle.qu_frames.specs.declared.frame.Frame.{Frame}
 use Rattle.qu_frames.specs.declared.frame.Frame.TheVariants as frame
 use Rattle.qu_frames.specs.declared.frame.Letter.{Letter}
+use Rattle.qu_frames.proofs.Decoded.{decoded_is_spelled}
 use Rattle.qu_frames.specs.Formats.{frame_form}
 use Rattle.qu_frames.specs.Decoding.{decoded}
 use Rattle.qu_replica.specs.declared.decision.Decision.{Decision}
@@ -161,7 +162,9 @@ module _ (bounds most : ℕ) (few : most + 1 < 2 ^ 64) (size : replicas bounds �
       (unchanged_fit (Inject to text))
       (λ number letter is hands. received_fit (Inject letter.to letter.text) letter.to letter.text
       (carried_fits letter (each_numbered LetterFits (letters_of world.entries) number letter fit.letters
-      is))) plain
+      is)))
+      (λ me made hands. received_fit (Inject (party.Client me) text) (party.Client me) text
+      (λ sent is. (decoded_is_spelled text sent made.bytes is).0)) plain
 
 -- ---- the beginning
 

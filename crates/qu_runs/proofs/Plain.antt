@@ -1,8 +1,8 @@
--- A trace of operations with parts, into which nothing forged is injected, is plain where faulty parties are silent.
+-- A trace of operations with parts, into which nothing forged is injected, is plain where no client is faulty.
 use Rattle.qu_world.proofs.Steps.{step_cases}
-use Rattle.std.proofs.Common.{subst, false, ◌≡◌, ℕ, zero, suc, ◌≤◌, true, List, [], ◌∷◌, length, get_or, Option, None, Some, inl, inr, refl, sym, ap, ◌∙◌, arith, ◌<◌, ◌^◌}
-use Rattle.std.specs.Prelude.{slice_get, slice_set, IfSome}
-use Rattle.std.specs.List.{list_any}
+use Rattle.std.proofs.Common.{Bool, subst, false, ◌≡◌, ℕ, zero, suc, ◌≤◌, true, List, [], ◌∷◌, length, get_or, Option, None, Some, inl, inr, refl, sym, ap, ◌∙◌, arith, ◌<◌, ◌^◌}
+use Rattle.std.specs.Prelude.{slice_get, slice_set, IfSome, nat_lt, not, ◌&&◌, if◌then◌else◌}
+use Rattle.std.specs.List.{list_all, list_any}
 use Rattle.std.proofs.lemmas.Bool.{false≢true, cases_Bool}
 use Rattle.std.proofs.lemmas.Option.{none-some, same_Some}
 use Rattle.qu_base.specs.declared.party.ClientId.{ClientId}
@@ -12,6 +12,9 @@ use Rattle.qu_base.specs.declared.party.ReplicaId.{ReplicaId}
 use Rattle.qu_seal.specs.Keys.{Ring}
 use Rattle.qu_objects.specs.declared.op.Outcome.{Outcome}
 use Rattle.qu_frames.specs.declared.frame.Frame.{Frame}
+use Rattle.qu_frames.specs.declared.frame.Frame.TheVariants as frame
+use Rattle.qu_base.specs.Bounds.{replicas}
+use Rattle.qu_base.specs.Format.{AreBytes}
 use Rattle.qu_frames.specs.declared.frame.Letter.{Letter}
 use Rattle.qu_frames.specs.Signing.{sender, brought}
 use Rattle.qu_replica.specs.State.{ReplicaState}
@@ -29,11 +32,12 @@ use Rattle.qu_world.specs.Step.{recorded, unchanged, ended_by, at_replica, at_cl
 use Rattle.qu_world.proofs.Each.{each_at}
 use Rattle.qu_runs.specs.Times.{world_after}
 use Rattle.qu_trace.specs.declared.trace.Setup.{Setup}
-use Rattle.qu_trace.specs.Faulty.{is_same, is_faulty}
+use Rattle.qu_trace.specs.Faulty.{is_same, is_replica, is_faulty}
 use Rattle.qu_runs.specs.Carried.{handed}
-use Rattle.qu_runs.specs.Premises.{HasSent, AreUnforged, IsUnforgedAt, IsUnforged, IsSilentAt, FaultyAreSilent}
+use Rattle.qu_runs.specs.Premises.{HasSent, AreUnforged, IsUnforgedAt, IsUnforged, OnlyReplicasAreFaulty}
 use Rattle.qu_runs.proofs.Handing.{offered_handed}
-use Rattle.qu_runs.specs.Plain.{HasEventParts, HaveParts, IsPlain, ArePlain}
+use Rattle.qu_runs.specs.Plain.{HasEventParts, HaveParts, IsIgnored, IsPlain, ArePlain}
+use Rattle.qu_runs.specs.Digested.{is_handler, request_in, request_brought, request_to}
 use Rattle.qu_runs.proofs.Keyed.{HasKeys, clients_keyed}
 use Rattle.qu_runs.proofs.OpeningReplicas.{keys_are, me_is}
 use Rattle.qu_runs.proofs.WorldGrowth.{world_after-none, world_after-grows}
@@ -51,17 +55,58 @@ with_self : {X : Type 0} (items : List X) (number : ℕ) (item : X) → numbered
 with_self items zero item is = refl
 with_self items (suc place) item is = set_self items place item is
 
+-- a text that changes nothing of the replica is ignored
 replica_ignores : (world : WorldState) (event : Event) (me : ReplicaId) (text : List ℕ)
     (found : Option ReplicaState) → slice_get world.replicas me.0 ≡ found
-    → ((state : ReplicaState) → found ≡ Some state → brought state.keys (party.Replica state.me) text ≡ None)
+    → ((state : ReplicaState) → found ≡ Some state → replica.replica_step state text ≡ (state, []))
     → at_replica world event me text found ≡ unchanged world event
 replica_ignores world event me text None is nothing = refl
 replica_ignores world event me text (Some state) is nothing =
     ap (λ (moved : ReplicaState × List Letter). recorded
-    (record world { replicas = slice_set world.replicas me.0 moved.0 }) event moved.1 None)
-    (ap (replica.on_received state) (nothing state refl)) ∙
+    (record world { replicas = slice_set world.replicas me.0 moved.0 }) event moved.1 None) (nothing state refl) ∙
     ap (λ (replicas : List ReplicaState). recorded (record world { replicas = replicas }) event [] None)
     (set_self world.replicas me.0 state is)
+
+-- as is a frame of another replica
+by_replica : (state : ReplicaState) (taken : Frame) (from : ReplicaId) → sender taken ≡ party.Replica from
+    → replica.on_frame state taken ≡ (state, [])
+by_replica state (frame.Request client number round sets body mac) from is = absurd cc
+by_replica state (frame.Reply who client number round verdict culled shown mac) from is = refl
+by_replica state (frame.Fetch who object stamp mac) from is = refl
+by_replica state (frame.Fetched who object stamp version mac) from is = refl
+
+-- which asks for nothing
+no_request_in : (setup : Setup) (me : ReplicaId) (taken : Frame) (from : ReplicaId) → sender taken ≡ party.Replica from
+    → request_in setup me taken ≡ None
+no_request_in setup me (frame.Request client number round sets body mac) from is = absurd cc
+no_request_in setup me (frame.Reply who client number round verdict culled shown mac) from is = refl
+no_request_in setup me (frame.Fetch who object stamp mac) from is = refl
+no_request_in setup me (frame.Fetched who object stamp version mac) from is = refl
+
+-- and so does what is no frame with a right HMAC
+no_request : (setup : Setup) (text : List ℕ) (me : ReplicaId) (read : Option Frame)
+    → brought (ring_of setup) (party.Replica me) text ≡ read → request_brought setup me read ≡ None
+    → request_to setup text (party.Replica me) ≡ None
+no_request setup text me read is none =
+    by (is_handler setup me) (ap (request_brought setup me) is ∙ none)
+  where
+    by : (test : Bool) → request_brought setup me (brought (ring_of setup) (party.Replica me) text) ≡ None
+        → (if test then request_brought setup me (brought (ring_of setup) (party.Replica me) text) else None) ≡ None
+    by true is = is
+    by false is = refl
+
+-- nothing is asked of a faulty replica
+no_handler : (setup : Setup) (text : List ℕ) (to : Party) → is_faulty setup to ≡ true → request_to setup text to ≡ None
+no_handler setup text (party.Client me) faulty = refl
+no_handler setup text (party.Replica me) faulty =
+    by (nat_lt me.0 (replicas setup.bounds)) (is_faulty setup (party.Replica me)) faulty
+  where
+    by : (inside faulty : Bool) → faulty ≡ true
+        → (if inside && not faulty then request_brought setup me
+        (brought (ring_of setup) (party.Replica me) text) else None) ≡ None
+    by true true is = refl
+    by true false is = absurd (false≢true is)
+    by false faulty is = refl
 
 not_ended : (me : ClientId) (work : Option Work) → ended_by me work None ≡ None
 not_ended me None = refl
@@ -81,6 +126,15 @@ client_ignores world event me text (Some state) is nothing =
     ap (λ (clients : List ClientState). recorded (record world { clients = clients }) event [] None)
     (with_self world.clients me.0 state is)
 
+-- ---- clients
+
+-- where only replicas are faulty no client is
+pub no_client : (liars : List Party) → list_all is_replica liars ≡ true → (client : ClientId)
+    → list_any (λ (liar : Party). is_same liar (party.Client client)) liars ≡ false
+no_client [] only client = refl
+no_client (party.Replica me ∷ later) only client = no_client later only client
+no_client (party.Client me ∷ later) only client = absurd (false≢true only)
+
 -- ---- the events of a run
 
 pub setup_after : (trace : Trace) (count : ℕ) → (world_after trace count).setup ≡ trace.setup
@@ -91,15 +145,17 @@ module _ (trace : Trace) (count : ℕ) (within : count ≤ length trace.entries)
   abbrev world : WorldState
   world = world_after trace count
 
-  replica_none : (me : ReplicaId) (text : List ℕ) → brought (ring_of world.setup) (party.Replica me) text ≡ None
+  -- what the replica at this place reads of a text
+  replica_reads : (me : ReplicaId) (text : List ℕ) (read : Option Frame)
+      → brought (ring_of world.setup) (party.Replica me) text ≡ read
       → (state : ReplicaState) → slice_get world.replicas me.0 ≡ Some state
-      → brought state.keys (party.Replica state.me) text ≡ None
-  replica_none me text none state found =
+      → brought state.keys (party.Replica state.me) text ≡ read
+  replica_reads me text read is state found =
       ap (λ (keys : Ring). brought keys (party.Replica state.me) text) (keys_are trace count me.0 state found
       ∙ sym (ap ring_of (setup_after trace count))) ∙
       ap (λ (it : ReplicaId). brought (ring_of world.setup) (party.Replica it) text)
       (me_is trace count me.0 state found) ∙
-      none
+      is
 
   client_none : (me : ClientId) (text : List ℕ) → brought (ring_of world.setup) (party.Client me) text ≡ None
       → (state : ClientState) → numbered world.clients me.0 ≡ Some state
@@ -111,43 +167,88 @@ module _ (trace : Trace) (count : ℕ) (within : count ≤ length trace.entries)
       ap (λ (it : ClientId). brought (ring_of world.setup) (party.Client it) text) held.me ∙
       none
 
-  ignored : (event : Event) (to : Party) (text : List ℕ) → brought (ring_of world.setup) to text ≡ None
-      → received world event to text ≡ unchanged world event
-  ignored event (party.Replica me) text none =
-      replica_ignores world event me text (slice_get world.replicas me.0) refl (replica_none me text none)
-  ignored event (party.Client me) text none =
-      client_ignores world event me text (numbered world.clients me.0) refl (client_none me text none)
+  -- ---- an injection
+
+  -- at a correct party
+  ignored_by : (to : Party) (text : List ℕ) → request_to world.setup text to ≡ None
+      → received world (Inject to text) to text ≡ unchanged world (Inject to text) → IsIgnored world to text
+  ignored_by to text nothing same = record {
+    nothing = nothing;
+    same = step_cases (λ (made : WorldState). made ≡ unchanged world (Inject to text)) world (Inject to text) refl
+        (λ correct. same);
+  }
+
+  -- of which nothing is read
+  ignored_none : (to : Party) (text : List ℕ) → brought (ring_of world.setup) to text ≡ None → IsIgnored world to text
+  ignored_none (party.Replica me) text none =
+      ignored_by (party.Replica me) text (no_request world.setup text me None none refl)
+      (replica_ignores world (Inject (party.Replica me) text) me text (slice_get world.replicas me.0) refl
+      (λ state found. ap (replica.on_received state) (replica_reads me text None none state found)))
+  ignored_none (party.Client me) text none =
+      ignored_by (party.Client me) text refl
+      (client_ignores world (Inject (party.Client me) text) me text (numbered world.clients me.0) refl
+      (client_none me text none))
+
+  -- of a faulty replica
+  of_replica : (to : Party) (text : List ℕ) (taken : Frame) (from : ReplicaId) → AreBytes text
+      → brought (ring_of world.setup) to text ≡ Some taken → sender taken ≡ party.Replica from
+      → is_faulty world.setup (party.Replica from) ≡ true → IsPlain world (Inject to text)
+  of_replica (party.Replica me) text taken from bytes is sent faulty =
+      inl (ignored_by (party.Replica me) text
+      (no_request world.setup text me (Some taken) is (no_request_in world.setup me taken from sent))
+      (replica_ignores world (Inject (party.Replica me) text) me text (slice_get world.replicas me.0) refl
+      (λ state found. ap (replica.on_received state) (replica_reads me text (Some taken) is state found)
+      ∙ by_replica state taken from sent)))
+  of_replica (party.Client me) text taken from bytes is sent faulty =
+      inr (inr (record {
+        me = me;
+        to_is = refl;
+        bytes = bytes;
+        taken = taken;
+        brings = is;
+        source = from;
+        from = sent;
+        faulty = faulty;
+      }))
+
+  of_faulty : OnlyReplicasAreFaulty world.setup → (to : Party) (text : List ℕ) (taken : Frame) → AreBytes text
+      → brought (ring_of world.setup) to text ≡ Some taken → (from : Party) → sender taken ≡ from
+      → is_faulty world.setup from ≡ true → IsPlain world (Inject to text)
+  of_faulty only to text taken bytes is (party.Client from) sent faulty =
+      absurd (false≢true (sym (no_client (world.setup).liars only from) ∙ faulty))
+  of_faulty only to text taken bytes is (party.Replica from) sent faulty =
+      of_replica to text taken from bytes is sent faulty
 
   -- to a correct party
-  plain_taken : (to : Party) (text : List ℕ) (read : Option Frame)
-      → brought (ring_of world.setup) to text ≡ read
-      → ((frame : Frame) → read ≡ Some frame → HasSent world (sender frame) to text) → IsPlain world (Inject to text)
-  plain_taken to text None is sent = inl (record {
-    nothing = λ correct. is;
-    same = step_cases (λ (made : WorldState). made ≡ unchanged world (Inject to text)) world (Inject to text) refl
-        (λ correct. ignored (Inject to text) to text is);
-  })
-  plain_taken to text (Some frame) is sent =
-      let from : HasSent world (sender frame) to text = sent frame refl in
-      inr (record {
-        number = from.number;
-        letter = from.letter;
-        is_letter = from.is_letter;
-        to_is = from.to_is;
-        text_is = from.text_is;
-      })
+  plain_taken : OnlyReplicasAreFaulty world.setup → (to : Party) (text : List ℕ) → AreBytes text
+      → AreUnforged world to text → (read : Option Frame) → brought (ring_of world.setup) to text ≡ read
+      → IsPlain world (Inject to text)
+  plain_taken only to text bytes true_to None is = inl (ignored_none to text is)
+  plain_taken only to text bytes true_to (Some frame) is =
+      elim (cases_Bool (is_faulty world.setup (sender frame))) [
+        | inl faulty ↦ of_faulty only to text frame bytes is (sender frame) refl faulty
+        | inr correct ↦
+            let from : HasSent world (sender frame) to text = true_to.sent frame is correct in
+            inr (inl (record {
+              number = from.number;
+              letter = from.letter;
+              is_letter = from.is_letter;
+              to_is = from.to_is;
+              text_is = from.text_is;
+            }))
+      ]
 
   -- to a faulty one
   plain_lost : (to : Party) (text : List ℕ) → is_faulty world.setup to ≡ true → IsPlain world (Inject to text)
   plain_lost to text faulty = inl (record {
-    nothing = λ correct. absurd (false≢true (sym correct ∙ faulty));
+    nothing = no_handler world.setup text to faulty;
     same = step_cases (λ (made : WorldState). made ≡ unchanged world (Inject to text)) world (Inject to text) refl
         (λ correct. absurd (false≢true (sym correct ∙ faulty)));
   })
 
-  plain_injection : (to : Party) (text : List ℕ) → IsUnforgedAt world (Inject to text)
-      → IsSilentAt world (Inject to text) → IsPlain world (Inject to text)
-  plain_injection to text unforged silent =
+  plain_injection : OnlyReplicasAreFaulty world.setup → (to : Party) (text : List ℕ) → AreBytes text
+      → IsUnforgedAt world (Inject to text) → IsPlain world (Inject to text)
+  plain_injection only to text bytes unforged =
       elim (cases_Bool (is_faulty world.setup to)) [
         | inl faulty ↦ plain_lost to text faulty
         | inr correct ↦
@@ -156,44 +257,25 @@ module _ (trace : Trace) (count : ℕ) (within : count ≤ length trace.entries)
             let true_to : AreUnforged world to text =
             subst (λ (it : Option (Party × List ℕ)). IfSome it (λ (it : Party × List ℕ). AreUnforged world it.0 it.1))
             given unforged in
-            let of_correct : (frame : Frame) → brought (ring_of world.setup) to text ≡ Some frame
-            → is_faulty world.setup (sender frame) ≡ false =
-            subst (λ (it : Option (Party × List ℕ)). IfSome it (λ (it : Party × List ℕ). (frame : Frame)
-            → brought (ring_of world.setup) it.0 it.1 ≡ Some frame → is_faulty world.setup (sender frame) ≡ false))
-            given silent in
-            plain_taken to text (brought (ring_of world.setup) to text) refl
-            (λ frame is. true_to.sent frame is (of_correct frame is))
+            plain_taken only to text bytes true_to (brought (ring_of world.setup) to text) refl
       ]
 
-  plain_event : (event : Event) → HasEventParts event → IsUnforgedAt world event → IsSilentAt world event
+  plain_event : OnlyReplicasAreFaulty world.setup → (event : Event) → HasEventParts event → IsUnforgedAt world event
       → IsPlain world event
-  plain_event (Invoke client op) parts unforged silent = parts
-  plain_event (Deliver letter) parts unforged silent = tt
-  plain_event (Tick client) parts unforged silent = tt
-  plain_event (Inject to text) parts unforged silent = plain_injection to text unforged silent
+  plain_event only (Invoke client op) parts unforged = parts
+  plain_event only (Deliver letter) parts unforged = tt
+  plain_event only (Tick client) parts unforged = tt
+  plain_event only (Inject to text) parts unforged = plain_injection only to text parts unforged
 
 pub plain_from : (trace : Trace) → HaveParts trace.entries → length trace.entries < 2 ^ 63 → IsUnforged trace
-    → FaultyAreSilent trace → ArePlain trace
-plain_from trace parts few unforged silent = record {
+    → OnlyReplicasAreFaulty trace.setup → ArePlain trace
+plain_from trace parts few unforged only = record {
   parts = parts;
   few = few;
   plain_at = λ at default below.
-      plain_event trace at (omega arith) (get_or trace.entries at default).event
+      plain_event trace at (omega arith)
+      (subst OnlyReplicasAreFaulty (sym (setup_after trace at)) only)
+      (get_or trace.entries at default).event
       (each_at (λ (entry : Entry). HasEventParts entry.event) trace.entries at default parts below)
-      (unforged at default below) (silent at default below);
+      (unforged at default below);
 }
-
--- ---- nobody is faulty
-
--- where nobody is faulty, all that are faulty are silent
-pub silent_none : (trace : Trace) → trace.setup.liars ≡ [] → FaultyAreSilent trace
-silent_none trace none = λ at default below.
-    silent_at (world_after trace at) (handed (world_after trace at) (get_or trace.entries at default).event)
-    (ap (λ (setup : Setup). setup.liars) (setup_after trace at) ∙ none)
-  where
-    silent_at : (world : WorldState) (given : Option (Party × List ℕ)) → (world.setup).liars ≡ []
-        → IfSome given (λ (it : Party × List ℕ). (frame : Frame)
-        → brought (ring_of world.setup) it.0 it.1 ≡ Some frame → is_faulty world.setup (sender frame) ≡ false)
-    silent_at world None none = tt
-    silent_at world (Some it) none = λ frame is.
-        ap (λ (liars : List Party). list_any (λ (liar : Party). is_same liar (sender frame)) liars) none

@@ -1,6 +1,6 @@
 -- What each event of a run recorded, by the party that moved.
 use Rattle.qu_world.proofs.Steps.{AtCorrect, step_cases}
-use Rattle.std.proofs.Common.{◌≡◌, ℕ, suc, ◌+◌, ◌<◌, ◌≤◌, List, [], ◌∷◌, ◌++◌, length, take, drop, get_or, Option, None, Some, refl, sym, ap, subst, ◌∙◌, append_assoc, arith, slice_get}
+use Rattle.std.proofs.Common.{◌≡◌, ℕ, suc, ◌+◌, ◌<◌, ◌≤◌, List, [], ◌∷◌, ◌++◌, length, take, drop, get_or, Option, None, Some, refl, sym, ap, subst, ◌∙◌, append_assoc, arith, slice_get, inl, inr}
 use Rattle.std.proofs.lemmas.List.{append-nil, map-append, length-map, length-take-le, take-append-drop, take_at, take_more, same_from_push, take_all}
 use Rattle.std.proofs.lemmas.Option.{slice_get_within, get_or_from_slice_get}
 use Rattle.qu_base.specs.declared.party.ClientId.{ClientId}
@@ -24,7 +24,7 @@ use Rattle.qu_world.proofs.RunLaws.{step_records}
 use Rattle.qu_runs.specs.Times.{world_after}
 use Rattle.qu_runs.proofs.WorldGrowth.{world_after-next}
 use Rattle.qu_runs.specs.Carried.{handed}
-use Rattle.qu_runs.specs.Plain.{IsPlain, ArePlain}
+use Rattle.qu_runs.specs.Plain.{IsFrom, IsPlain, ArePlain}
 use Rattle.qu_runs.proofs.Handing.{letter_handed, injected_cases}
 use Rattle.qu_trace.specs.Letters.{letters_of}
 use Rattle.qu_runs.proofs.LaterLetters.{letter_later}
@@ -39,10 +39,9 @@ module _ (world : WorldState) (P : WorldState → Type 0)
     → slice_get world.replicas me.0 ≡ Some state → P (at_replica world event me letter.text (Some state)))
     (invokes : (client : ClientId) (op : Op) (state : ClientState) → numbered world.clients client.0 ≡ Some state
     → P (at_client world (Invoke client op) client (λ (state : ClientState). client_invoke state op) (Some state)))
-    (takes : (event : Event) (number : ℕ) (letter : Letter) (client : ClientId) (state : ClientState)
-    → letter_of world number ≡ Some letter → handed world event ≡ Some (letter.to, letter.text)
-    → numbered world.clients client.0 ≡ Some state
-    → P (at_client world event client (λ (state : ClientState). client_step state letter.text) (Some state)))
+    (takes : (event : Event) (text : List ℕ) (client : ClientId) (state : ClientState) → IsFrom world client text
+    → handed world event ≡ Some (party.Client client, text) → numbered world.clients client.0 ≡ Some state
+    → P (at_client world event client (λ (state : ClientState). client_step state text) (Some state)))
     (ticks : (client : ClientId) (state : ClientState) → numbered world.clients client.0 ≡ Some state
     → P (at_client world (Tick client) client client_tick (Some state))) where
   replica_found : (event : Event) (number : ℕ) (letter : Letter) → letter_of world number ≡ Some letter
@@ -58,13 +57,12 @@ module _ (world : WorldState) (P : WorldState → Type 0)
   invoke_found client op None is = nothing (Invoke client op)
   invoke_found client op (Some state) is = invokes client op state is
 
-  take_found : (event : Event) (number : ℕ) (letter : Letter) → letter_of world number ≡ Some letter
-      → handed world event ≡ Some (letter.to, letter.text) → (client : ClientId) (found : Option ClientState)
+  take_found : (event : Event) (text : List ℕ) (client : ClientId) → IsFrom world client text
+      → handed world event ≡ Some (party.Client client, text) → (found : Option ClientState)
       → numbered world.clients client.0 ≡ found
-      → P (at_client world event client (λ (state : ClientState). client_step state letter.text) found)
-  take_found event number letter sent hands client None is = nothing event
-  take_found event number letter sent hands client (Some state) is =
-      takes event number letter client state sent hands is
+      → P (at_client world event client (λ (state : ClientState). client_step state text) found)
+  take_found event text client from hands None is = nothing event
+  take_found event text client from hands (Some state) is = takes event text client state from hands is
 
   tick_found : (client : ClientId) (found : Option ClientState) → numbered world.clients client.0 ≡ found
       → P (at_client world (Tick client) client client_tick found)
@@ -72,17 +70,20 @@ module _ (world : WorldState) (P : WorldState → Type 0)
   tick_found client (Some state) is = ticks client state is
 
   received_by : (event : Event) (number : ℕ) (letter : Letter) → letter_of world number ≡ Some letter
-      → handed world event ≡ Some (letter.to, letter.text) → (to : Party) → P (received world event to letter.text)
-  received_by event number letter sent hands (party.Replica me) =
+      → handed world event ≡ Some (letter.to, letter.text) → (to : Party) → letter.to ≡ to
+      → P (received world event to letter.text)
+  received_by event number letter sent hands (party.Replica me) is_to =
       replica_found event number letter sent hands me (slice_get world.replicas me.0) refl
-  received_by event number letter sent hands (party.Client me) =
-      take_found event number letter sent hands me (numbered world.clients me.0) refl
+  received_by event number letter sent hands (party.Client me) is_to =
+      take_found event letter.text me
+      (inl (record { number = number; letter = letter; is_letter = sent; to_is = is_to; text_is = refl }))
+      (hands ∙ ap (λ (who : Party). Some (who, letter.text)) is_to) (numbered world.clients me.0) refl
 
   letter_found : (number : ℕ) → AtCorrect world (Deliver number) → (found : Option Letter)
       → letter_of world number ≡ found → P (delivered world (Deliver number) found)
   letter_found number correct None is = nothing (Deliver number)
   letter_found number correct (Some letter) is =
-      received_by (Deliver number) number letter is (letter_handed world number letter correct is) letter.to
+      received_by (Deliver number) number letter is (letter_handed world number letter correct is) letter.to refl
 
   pub world_cases : (event : Event) → IsPlain world event → P (world_step world event)
   world_cases (Invoke client op) plain =
@@ -96,7 +97,10 @@ module _ (world : WorldState) (P : WorldState → Type 0)
       (λ correct. tick_found client (numbered world.clients client.0) refl)
   world_cases (Inject to text) plain =
       injected_cases world to text (λ (event : Event) (new : WorldState). P new) (nothing (Inject to text))
-      (λ number letter sent hands. received_by (Inject letter.to letter.text) number letter sent hands letter.to) plain
+      (λ number letter sent hands.
+      received_by (Inject letter.to letter.text) number letter sent hands letter.to refl)
+      (λ me made hands.
+      take_found (Inject (party.Client me) text) text me (inr made) hands (numbered world.clients me.0) refl) plain
 
 -- ---- the entries of a world of a run
 
@@ -171,13 +175,13 @@ module _ (trace : Trace) (is : IsRun trace) (plain : ArePlain trace) (index : �
       letters = (client_invoke state op).letters;
       ended = ended_by client state.work (client_invoke state op).ended;
     }))
-    (takes : (event : Event) (number : ℕ) (letter : Letter) (client : ClientId) (state : ClientState)
-    → letter_of (world_after trace index) number ≡ Some letter → handed (world_after trace index) event ≡ Some
-    (letter.to, letter.text) → numbered (world_after trace index).clients client.0 ≡ Some state
+    (takes : (event : Event) (text : List ℕ) (client : ClientId) (state : ClientState)
+    → IsFrom (world_after trace index) client text → handed (world_after trace index) event ≡ Some
+    (party.Client client, text) → numbered (world_after trace index).clients client.0 ≡ Some state
     → Q (record {
       event = event;
-      letters = (client_step state letter.text).letters;
-      ended = ended_by client state.work (client_step state letter.text).ended;
+      letters = (client_step state text).letters;
+      ended = ended_by client state.work (client_step state text).ended;
     }))
     (ticks : (client : ClientId) (state : ClientState) → numbered (world_after trace index).clients
     client.0 ≡ Some state
@@ -199,8 +203,7 @@ module _ (trace : Trace) (is : IsRun trace) (plain : ArePlain trace) (index : �
       (λ event number letter me state sent hands found. of_last _
       (replica_moves event number letter me state sent hands found))
       (λ client op state found. of_last _ (invokes client op state found))
-      (λ event number letter client state sent hands found. of_last _
-      (takes event number letter client state sent hands found))
+      (λ event text client state from hands found. of_last _ (takes event text client state from hands found))
       (λ client state found. of_last _ (ticks client state found))
       entry.event
       (subst (λ (it : Entry). IsPlain before it.event) (get_or_from_slice_get trace.entries index entry entry is_entry)

@@ -40,8 +40,9 @@ only_one first it held =
       | inr same ↦ same
     ]
 
-pub some_quorum : (b : ℕ) → 1 ≤ b → 1 ≤ quorum b
-some_quorum b some =
+-- a quorum is more than the faulty replicas
+pub quorum_outnumbers : (b : ℕ) → 1 ≤ b → b < quorum b
+quorum_outnumbers b some =
     let thresholds : AreThresholds b = are_thresholds b some in
     omega arith
 

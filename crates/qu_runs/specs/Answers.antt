@@ -1,5 +1,5 @@
 -- The answers that letters carry, and that events deliver.
-use Rattle.std.specs.Prelude.{ℕ, Bool, false, ◌==◌, ◌&&◌, Option, None, Some, Result, Ok, Err}
+use Rattle.std.specs.Prelude.{ℕ, Bool, false, ◌==◌, ◌&&◌, Option, None, Some, Result, Ok}
 use Rattle.std.specs.List.{list_any}
 use Rattle.qu_base.specs.declared.bad_text.BadText.{BadText}
 use Rattle.qu_base.specs.declared.party.ClientId.{ClientId}

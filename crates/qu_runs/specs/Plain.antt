@@ -1,13 +1,19 @@
--- Events that hand a party nothing but what was sent to it, and begin operations that have parts.
-use Rattle.std.specs.Prelude.{false, ◌≡◌, ◌⊎◌, ℕ, ◌<◌, ◌^◌, List, length, get_or, None, Some, IsTrue}
+-- Events that hand a party nothing but what was sent to it, or what a faulty replica may have made, and begin
+-- operations that have parts.
+use Rattle.std.specs.Prelude.{true, ◌≡◌, ◌⊎◌, ℕ, ◌<◌, ◌^◌, List, length, get_or, None, Some, IsTrue}
+use Rattle.qu_base.specs.declared.party.ClientId.{ClientId}
 use Rattle.qu_base.specs.declared.party.Party.{Party}
+use Rattle.qu_base.specs.declared.party.Party.TheVariants as party
+use Rattle.qu_base.specs.declared.party.ReplicaId.{ReplicaId}
+use Rattle.qu_base.specs.Format.{AreBytes}
 use Rattle.std.specs.List.{AllByRecursion}
 use Rattle.qu_objects.specs.declared.op.Op.{Op}
 use Rattle.qu_objects.specs.declared.op.Op.TheVariants as op
 use Rattle.qu_objects.specs.Parts.{are_parts}
 use Rattle.qu_objects.specs.Digesting.{PartsFit}
+use Rattle.qu_frames.specs.declared.frame.Frame.{Frame}
 use Rattle.qu_frames.specs.declared.frame.Letter.{Letter}
-use Rattle.qu_frames.specs.Signing.{brought}
+use Rattle.qu_frames.specs.Signing.{sender, brought}
 use Rattle.qu_trace.specs.declared.event.Event.{Event}
 use Rattle.qu_trace.specs.declared.event.Event.TheVariants.{Invoke, Deliver, Tick, Inject}
 use Rattle.qu_trace.specs.declared.trace.Entry.{Entry}
@@ -15,6 +21,7 @@ use Rattle.qu_trace.specs.declared.trace.Trace.{Trace}
 use Rattle.qu_world.specs.State.{WorldState, ring_of, letter_of}
 use Rattle.qu_trace.specs.Faulty.{is_faulty}
 use Rattle.qu_world.specs.Step.{world_step, unchanged}
+use Rattle.qu_runs.specs.Digested.{request_to}
 use Rattle.qu_runs.specs.Times.{world_after}
 
 -- the parts of an operation are those of an act or a query, and the numbers of an act fit their bytes
@@ -26,15 +33,15 @@ abbrev pub HasEventParts : Event → Type 0
 HasEventParts (Invoke client op) = (client.0 < 2 ^ 16) × HasOpParts op
 HasEventParts (Deliver letter) = Unit {0}
 HasEventParts (Tick client) = Unit {0}
-HasEventParts (Inject party text) = Unit {0}
+HasEventParts (Inject party text) = AreBytes text
 
--- each operation that begins has parts, and a client whose number fits its bytes
+-- each operation that begins has parts, and a client whose number fits its bytes; and what is injected are bytes
 abbrev pub HaveParts : List Entry → Type 0
 HaveParts entries = AllByRecursion (λ entry. HasEventParts entry.event) entries
 
--- bytes for a faulty party, or of which no frame with a right HMAC is decoded, so that nothing happens
+-- bytes that no replica takes for a request, and that change nothing
 pub record IsIgnored (world : WorldState) (to : Party) (text : List ℕ) : Type 0 where
-  pub nothing : is_faulty world.setup to ≡ false → brought (ring_of world.setup) to text ≡ None
+  pub nothing : request_to world.setup text to ≡ None
   pub same : world_step world (Inject to text) ≡ unchanged world (Inject to text)
 
 -- bytes that were sent to this party
@@ -45,12 +52,28 @@ pub record WasSent (world : WorldState) (to : Party) (text : List ℕ) : Type 0 
   pub to_is : letter.to ≡ to
   pub text_is : letter.text ≡ text
 
--- such an event, which hands a party no bytes that it takes but those of a letter that was sent to it
+-- bytes that bring a client a frame of a faulty replica
+pub record IsOfFaulty (world : WorldState) (to : Party) (text : List ℕ) : Type 0 where
+  pub me : ClientId
+  pub to_is : to ≡ party.Client me
+  pub bytes : AreBytes text
+  pub taken : Frame
+  pub brings : brought (ring_of world.setup) to text ≡ Some taken
+  pub source : ReplicaId
+  pub from : sender taken ≡ party.Replica source
+  pub faulty : is_faulty world.setup (party.Replica source) ≡ true
+
+-- where the bytes that a client takes are from
+abbrev pub IsFrom : WorldState → ClientId → List ℕ → Type 0
+IsFrom world me text = WasSent world (party.Client me) text ⊎ IsOfFaulty world (party.Client me) text
+
+-- such an event, which hands a party no bytes that it takes but those of a letter that was sent to it, or, to a client,
+-- those of a faulty replica
 abbrev pub IsPlain : WorldState → Event → Type 0
 IsPlain world (Invoke client op) = (client.0 < 2 ^ 16) × HasOpParts op
 IsPlain world (Deliver letter) = Unit {0}
 IsPlain world (Tick client) = Unit {0}
-IsPlain world (Inject to text) = IsIgnored world to text ⊎ WasSent world to text
+IsPlain world (Inject to text) = IsIgnored world to text ⊎ (WasSent world to text ⊎ IsOfFaulty world to text)
 
 pub record ArePlain (trace : Trace) : Type 0 where
   pub parts : HaveParts trace.entries

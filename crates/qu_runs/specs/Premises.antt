@@ -1,6 +1,7 @@
 -- What is assumed of a run: nobody makes an HMAC of a correct party but that party, and digests do not collide
 -- (Query/Update: authenticators cannot be forged, and hashes are free of collisions).
-use Rattle.std.specs.Prelude.{◌≡◌, ℕ, true, false, ◌<◌, List, length, slice_get, get_or, Some, IfSome, Contains}
+use Rattle.std.specs.Prelude.{◌≡◌, ℕ, true, false, ◌<◌, List, length, slice_get, get_or, Some, IfSome, IsTrue, Contains}
+use Rattle.std.specs.List.{list_all}
 use Rattle.qu_base.specs.declared.party.Party.{Party}
 use Rattle.qu_base.specs.declared.party.Party.TheVariants as party
 use Rattle.qu_base.specs.declared.party.ReplicaId.{ReplicaId}
@@ -11,8 +12,9 @@ use Rattle.qu_frames.specs.declared.frame.Letter.{Letter}
 use Rattle.qu_frames.specs.Signing.{sender, brought}
 use Rattle.qu_trace.specs.declared.event.Event.{Event}
 use Rattle.qu_trace.specs.declared.trace.Entry.{Entry}
+use Rattle.qu_trace.specs.declared.trace.Setup.{Setup}
 use Rattle.qu_trace.specs.declared.trace.Trace.{Trace}
-use Rattle.qu_trace.specs.Faulty.{is_faulty}
+use Rattle.qu_trace.specs.Faulty.{is_replica, is_faulty}
 use Rattle.qu_world.specs.State.{WorldState, ring_of, letter_of}
 use Rattle.qu_runs.specs.Carried.{handed}
 use Rattle.qu_runs.specs.Digested.{entries_to, shown_by, NoCollision}
@@ -59,12 +61,6 @@ pub record MeetsPremises (trace : Trace) : Type 0 where
   pub unforged : IsUnforged trace
   pub no_collision : NoCollision trace
 
--- no frame of a faulty party is taken by a correct one
-abbrev pub IsSilentAt : WorldState → Event → Type 0
-IsSilentAt world event = IfSome (handed world event) (λ (given : Party × List ℕ). (frame : Frame)
-    → brought (ring_of world.setup) given.0 given.1 ≡ Some frame → is_faulty world.setup (sender frame) ≡ false)
-
--- the faulty parties of the run are silent, as they are where there are none
-abbrev pub FaultyAreSilent : Trace → Type 0
-FaultyAreSilent trace = (at : ℕ) (default : Entry) → at < length trace.entries → IsSilentAt (world_after trace at)
-    (get_or trace.entries at default).event
+-- the faulty parties of a setup are replicas alone
+abbrev pub OnlyReplicasAreFaulty : Setup → Type 0
+OnlyReplicasAreFaulty setup = IsTrue (list_all is_replica setup.liars)

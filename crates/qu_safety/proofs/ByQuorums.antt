@@ -22,7 +22,7 @@ use Rattle.qu_trace.specs.declared.trace.Trace.{Trace}
 use Rattle.qu_trace.specs.Operation.{operations_of}
 use Rattle.qu_world.specs.Run.{IsRun}
 use Rattle.qu_objects.specs.declared.act.Method.{Method}
-use Rattle.qu_values.specs.Replies.{HasTold}
+use Rattle.qu_values.specs.Replies.{culled_in, HasTold}
 use Rattle.qu_rounds.specs.Completions.{Replied, IsCompleted}
 use Rattle.qu_runs.specs.Setting.{setting}
 use Rattle.qu_safety.specs.Quorums.{ActOfQuorum, ToldFrom, QueryOfQuorum, IsOfQuorum, CompletesByQuorums}
@@ -32,7 +32,7 @@ use Rattle.qu_safety.proofs.CompletedQueries.{IsTold, told_by_fit, ToldBefore, t
 use Rattle.qu_safety.proofs.KnownRuns.{completion}
 use Rattle.qu_safety.proofs.Along.{objects_in, all_beside}
 use Rattle.qu_values.proofs.UpdateFacts.{UpdateFacts}
-use Rattle.qu_runs.proofs.Small.{some_member, some_quorum}
+use Rattle.qu_runs.proofs.Small.{some_member, quorum_outnumbers}
 
 module _ (trace : Trace) (is_run : IsRun trace) (have : ArePlain trace) (laws : Laws (setting trace))
     (joint : Joint (setting trace)) (facts : UpdateFacts trace) where
@@ -46,7 +46,7 @@ module _ (trace : Trace) (is_run : IsRun trace) (have : ArePlain trace) (laws : 
     told = tells.said;
     state = (tells.reply).old;
     is_state = (tells.reply).is_old;
-    nothing_above = all_beside (HasTold (tells.reply).old (tells.reply).sets) Highest stamps (tells.tells).values
+    nothing_above = all_beside (HasTold (tells.reply).old (culled_in (tells.reply).old (tells.reply).sets)) Highest stamps (tells.tells).values
         (λ told value has held holding. ap (λ (it : Stamp). is_below it held.stamp) (sym has.is_told)
         ∙ has.nothing_above held holding) (tells.tells).each;
   }
@@ -68,8 +68,9 @@ module _ (trace : Trace) (is_run : IsRun trace) (have : ArePlain trace) (laws : 
       All-weaker (Replied trace (reply - 1) operation.client operation.number done.round done.verdict) P
       (tells_by_reply trace is_run have operation.client operation.number done.round (reply - 1) done.verdict answer
       told) done.members done.replied in
-      let some : 1 ≤ quorum trace.setup.bounds = some_quorum trace.setup.bounds (is_run.setup).some_faults in
-      let enough : quorum trace.setup.bounds ≤ length done.members = done.enough in
+      let some : trace.setup.bounds < quorum trace.setup.bounds =
+      quorum_outnumbers trace.setup.bounds (is_run.setup).some_faults in
+      let enough : quorum trace.setup.bounds ≤ length done.members + trace.setup.bounds = done.enough in
       let one : (member : ℕ) × P member = some_member P done.members (omega (arith, some, enough)) all in
       let first : P one.0 = one.1 in
       let these : first.query ≡ query =
@@ -107,5 +108,7 @@ module _ (trace : Trace) (is_run : IsRun trace) (have : ArePlain trace) (laws : 
       (completion trace is_run have operation among reply answer completes) query is
 
   pub completes_by_quorums : CompletesByQuorums trace
-  completes_by_quorums operation reply answer among completes =
-      of_quorum operation reply answer among completes operation.op refl
+  completes_by_quorums operation reply answer among completes = (
+    completion trace is_run have operation among reply answer completes,
+    of_quorum operation reply answer among completes operation.op refl,
+  )

@@ -59,7 +59,7 @@ use Rattle.qu_values.proofs.Replying.{reply_sent, reply_asks}
 use Rattle.qu_values.proofs.StoredValues.{version_is}
 use Rattle.qu_values.proofs.UpdateFacts.{UpdateFacts}
 use Rattle.qu_rounds.proofs.Verdicts.{IsDone, fits_act, equal_done}
-use Rattle.qu_runs.proofs.Small.{some_member, some_quorum}
+use Rattle.qu_runs.proofs.Small.{some_member, quorum_outnumbers}
 use Rattle.qu_runs.proofs.Carrying.{tells_as}
 
 -- what a completed act rests on: a candidate of it, decided in the world before the event of the reply
@@ -218,10 +218,10 @@ module _ (trace : Trace) (is_run : IsRun trace) (have : ArePlain trace) (laws : 
     module _ (time : ℕ) (ends : time ≤ length trace.entries) (members : List ℕ)
         (different : AllPairs (λ (a b : ℕ). a ≢ b) members)
         (within : All (λ (member : ℕ). member < replicas trace.setup.bounds) members)
-        (enough : quorum trace.setup.bounds ≤ length members) (all : All (Has time) members) (first : ℕ)
+        (enough : quorum trace.setup.bounds ≤ length members + trace.setup.bounds) (all : All (Has time) members) (first : ℕ)
         (below : first < replicas trace.setup.bounds) where
       quorum_by : (told : ObjectId × Stamp) → Contains stamps told → (held : Part time first told)
-          → quorum trace.setup.bounds ≤ acceptors (setting trace) time told.0 held.candidate
+          → quorum trace.setup.bounds ≤ acceptors (setting trace) time told.0 held.candidate + trace.setup.bounds
       unfolding setting
       quorum_by told one held =
           let n : ℕ = replicas trace.setup.bounds in
@@ -240,17 +240,17 @@ module _ (trace : Trace) (is_run : IsRun trace) (have : ArePlain trace) (laws : 
           → IsDecided (setting trace) time told.0 held.candidate
       unfolding setting
       decided_of_quorum told one held =
-          let counted : quorum trace.setup.bounds ≤ acceptors (setting trace) time told.0 held.candidate =
-          quorum_by told one held in
+          let counted : quorum trace.setup.bounds
+          ≤ acceptors (setting trace) time told.0 held.candidate + trace.setup.bounds = quorum_by told one held in
           IsDecided.established held.candidate
           (facts.plain told.0 held.candidate (place_ever trace laws time ends first below told.0
           held.candidate held.accepted) (rw (held.made).of_act refl))
           (omega (arith, counted))
 
-    -- on each object a quorum has one candidate
+    -- on each object they have one candidate
     each_of_quorum : (reply : ℕ) → reply - 1 ≤ length trace.entries → (members : List ℕ)
         → AllPairs (λ (a b : ℕ). a ≢ b) members → All (λ (member : ℕ). member < replicas trace.setup.bounds) members
-        → quorum trace.setup.bounds ≤ length members → All (Has (reply - 1)) members → (first : ℕ)
+        → quorum trace.setup.bounds ≤ length members + trace.setup.bounds → All (Has (reply - 1)) members → (first : ℕ)
         → first < replicas trace.setup.bounds → (held : Has (reply - 1) first)
         → All (λ (part : ObjectId × Method). PartOfQuorum trace operation parts reply part.0) parts
     each_of_quorum reply ends members different within enough all first below held =
@@ -261,7 +261,8 @@ module _ (trace : Trace) (is_run : IsRun trace) (have : ArePlain trace) (laws : 
         at : (told : ObjectId × Stamp) → Contains stamps told → Part (reply - 1) first told
             → PartOfQuorum trace operation parts reply told.0
         at told one part =
-            let counted : quorum trace.setup.bounds ≤ acceptors (setting trace) (reply - 1) told.0 part.candidate =
+            let counted : quorum trace.setup.bounds
+            ≤ acceptors (setting trace) (reply - 1) told.0 part.candidate + trace.setup.bounds =
             quorum_by (reply - 1) ends members different within enough all first below told one part in
             record {
               candidate = part.candidate;
@@ -274,10 +275,11 @@ module _ (trace : Trace) (is_run : IsRun trace) (have : ArePlain trace) (laws : 
     -- a completed act by the members that replied to it
     by_members : (reply : ℕ) → reply ≤ length trace.entries → 1 ≤ reply → (members : List ℕ)
         → AllPairs (λ (a b : ℕ). a ≢ b) members → All (λ (member : ℕ). member < replicas trace.setup.bounds) members
-        → quorum trace.setup.bounds ≤ length members → All (Has (reply - 1)) members
+        → quorum trace.setup.bounds ≤ length members + trace.setup.bounds → All (Has (reply - 1)) members
         → CompletedAct trace operation reply answer
     by_members reply ends begins members different within enough all =
-        let some : 1 ≤ quorum trace.setup.bounds = some_quorum trace.setup.bounds (is_run.setup).some_faults in
+        let some : trace.setup.bounds < quorum trace.setup.bounds =
+        quorum_outnumbers trace.setup.bounds (is_run.setup).some_faults in
         let P : ℕ → Type 0 = λ member. Has (reply - 1) member × (member < replicas trace.setup.bounds) in
         let one : (member : ℕ) × P member =
         some_member P members (omega (arith, some, enough)) (both members all within) in

@@ -61,7 +61,7 @@ use Rattle.qu_runs.proofs.Settings.{acceptors_are, acceptors_counted}
 use Rattle.qu_points.specs.Order.{AnswersFirst, query_effect, effect_of, IsOperationPoint}
 use Rattle.qu_points.proofs.Correct.{operations_correct}
 use Rattle.qu_points.specs.Points.{IsOfCorrect, point_at}
-use Rattle.qu_values.specs.Replies.{IsReplyTo, HasTold, TellsQuery}
+use Rattle.qu_values.specs.Replies.{culled_in, IsReplyTo, HasTold, TellsQuery}
 use Rattle.qu_values.specs.Updates.{IsEverAccepted}
 use Rattle.qu_values.specs.Values.{HasVersion}
 use Rattle.qu_runs.specs.Plain.{ArePlain}
@@ -81,7 +81,7 @@ use Rattle.qu_rounds.proofs.Invocations.{request_of}
 use Rattle.qu_values.proofs.Updates.{same_accepted}
 use Rattle.qu_values.proofs.EverAccepted.{held_ever}
 use Rattle.qu_grounds.proofs.Views.{view_of_request}
-use Rattle.qu_runs.proofs.Small.{some_member, some_quorum}
+use Rattle.qu_runs.proofs.Small.{some_member, quorum_outnumbers}
 use Rattle.qu_runs.proofs.OpeningReplicas.{bounds_are}
 use Rattle.qu_safety.proofs.PointEvents.{IsReplyIn, reply_in}
 use Rattle.qu_runs.specs.Carried.{Asks, Tells}
@@ -222,7 +222,7 @@ pub record ToldBefore (trace : Trace) (client : ClientId) (number round before :
   pub reply : IsReplyTo trace at replica client number round (verdict.Told stamps answer)
   pub query : List (ObjectId × Ask)
   pub is_ask : reply.body ≡ body.Ask query
-  pub tells : TellsQuery reply.old reply.sets query stamps answer
+  pub tells : TellsQuery reply.old (culled_in reply.old reply.sets) query stamps answer
 
 pub tells_by_reply : (trace : Trace) → IsRun trace → ArePlain trace → (client : ClientId) (number round before : ℕ)
     (given : Verdict) (answer : Answer) (told : IsTold given answer) (replica : ℕ) → Replied trace before client number
@@ -331,7 +331,7 @@ module _ (trace : Trace) (is_run : IsRun trace) (have : ArePlain trace) (laws : 
 
     -- a quorum and those that accepted an established candidate meet
     meets : (members : List ℕ) → AllPairs (λ (a b : ℕ). a ≢ b) members
-        → quorum trace.setup.bounds ≤ length members
+        → quorum trace.setup.bounds ≤ length members + trace.setup.bounds
         → All (λ (member : ℕ). member < replicas trace.setup.bounds) members → All Member members
         → (object : ObjectId) (other : Candidate) → IsEstablished (setting trace) time object other
         → Meets object other
@@ -360,7 +360,7 @@ module _ (trace : Trace) (is_run : IsRun trace) (have : ArePlain trace) (laws : 
 
     -- what a member told of an object
     abbrev TellsOf : (member : ℕ) → Member member → ObjectId × Stamp → Value → Type 0
-    TellsOf member tells = HasTold (tells.reply).old (tells.reply).sets
+    TellsOf member tells = HasTold (tells.reply).old (culled_in (tells.reply).old (tells.reply).sets)
 
     -- what a member accepted by then is not above the base
     not_above : (told : ObjectId × Stamp) → Contains stamps told → (other : Candidate) → (member : ℕ)
@@ -381,8 +381,7 @@ module _ (trace : Trace) (is_run : IsRun trace) (have : ArePlain trace) (laws : 
         → (answered : IsAnsweredAt trace client number round time)
         → (told : ObjectId × Stamp) (value : Value) (has : TellsOf member tells told value)
         → (entries : List ObjectHistory) × (method_at trace.setup.bounds entries ≡ Some has.base)
-        × (quorum trace.setup.bounds ≤ acceptors (setting trace) time told.0 has.base)
-    unfolding setting
+        × (quorum trace.setup.bounds ≤ acceptors (setting trace) time told.0 has.base + (setting trace).faults)
     base_shown alike member tells order answered told value has =
         let at : ℕ = tells.at in
         let object : ObjectId = told.0 in
@@ -399,20 +398,23 @@ module _ (trace : Trace) (is_run : IsRun trace) (have : ArePlain trace) (laws : 
         let view : IsOfKept trace time first.sets first.body =
         view_of_request trace is_run have time within first.asked first.letter first.is_letter client number round
         first.sets first.body (reply_asks _ _ _ _ _ _ _ first) in
-        let method : method_at trace.setup.bounds (entries_of object first.sets) ≡ Some base =
-        ap (λ (it : List SetOf). method_at trace.setup.bounds (entries_of object it)) same.0 ∙
-        ap (λ (it : ℕ). method_at it (entries_of object mine.sets))
-        (sym (bounds_are trace at member mine.old mine.is_old)) ∙ has.method in
-        let shown : quorum trace.setup.bounds ≤ count_by (accepts object base) (world_after trace time).replicas =
-        method_is_shown trace is_run time within first.sets first.body view object base method in
-        let counted = acceptors_are trace time object base in
-        (entries_of object first.sets, method, omega (arith, shown, counted))
+        let culled_first : List SetOf = culled_in mine.old first.sets in
+        let method : method_at trace.setup.bounds (entries_of object culled_first) ≡ Some base =
+        ap (λ (it : List SetOf). method_at trace.setup.bounds (entries_of object (culled_in mine.old it))) same.0 ∙
+        ap (λ (it : ℕ). method_at it (entries_of object (culled_in mine.old mine.sets)))
+        (sym (bounds_are trace at member mine.old mine.is_old)) ∙ has.method in (
+          entries_of object culled_first,
+          method,
+          method_is_shown trace time first.sets first.body view (mine.old).keys (mine.old).me object base method,
+        )
 
     established_by : (object : ObjectId) (base : Candidate)
-        → quorum trace.setup.bounds ≤ acceptors (setting trace) time object base
+        → quorum trace.setup.bounds ≤ acceptors (setting trace) time object base + (setting trace).faults
         → IsEstablished (setting trace) time object base
     unfolding setting
-    established_by object base enough = omega (arith, enough)
+    established_by object base enough =
+        let few : (setting trace).faults ≤ trace.setup.bounds = laws.sizes.borne in
+        omega (arith, few, enough)
 
     -- the version of the base is the one that the member stores
     base_version : (member : ℕ) (tells : Member member) (told : ObjectId × Stamp) (value : Value)
@@ -477,19 +479,19 @@ module _ (trace : Trace) (is_run : IsRun trace) (have : ArePlain trace) (laws : 
       (answered : IsAnsweredAt trace client number round time)
       (not_earlier : (at : ℕ) → answers_at trace client number round (suc at) ≡ true → time ≤ at)
       (members : List ℕ) (different : AllPairs (λ (a b : ℕ). a ≢ b) members)
-      (enough : quorum trace.setup.bounds ≤ length members)
+      (enough : quorum trace.setup.bounds ≤ length members + trace.setup.bounds)
       (below : All (λ (member : ℕ). member < replicas trace.setup.bounds) members)
       (all : All (ToldBefore trace client number round before stamps answer) members) where
     from_top : (member : ℕ) (tells : ToldBefore trace client number round before stamps answer member)
         (told : ObjectId × Stamp) (value : Value) → Contains stamps told
-        → HasTold (tells.reply).old (tells.reply).sets told value → HasTopValue trace time told.0 value
+        → HasTold (tells.reply).old (culled_in (tells.reply).old (tells.reply).sets) told value → HasTopValue trace time told.0 value
     unfolding setting
     from_top member tells told value one has =
         let object : ObjectId = told.0 in
         let base : Candidate = has.base in
         let order : time ≤ tells.at = not_earlier tells.at tells.answered in
         let shown : (entries : List ObjectHistory) × (method_at trace.setup.bounds entries ≡ Some base)
-        × (quorum trace.setup.bounds ≤ acceptors (setting trace) time object base) =
+        × (quorum trace.setup.bounds ≤ acceptors (setting trace) time object base + (setting trace).faults) =
         base_shown client number round before stamps answer time alike member tells order answered told value has in
         let established : IsEstablished (setting trace) time object base =
         established_by client number round before stamps answer time object base shown.2 in
@@ -534,13 +536,14 @@ module _ (trace : Trace) (is_run : IsRun trace) (have : ArePlain trace) (laws : 
         told_by_fit query done.verdict answer (ap (λ (it : Op). fitting it done.verdict) (sym is_query) ∙ done.fits) in
         let stamps : List (ObjectId × Stamp) = told.stamps in
         let P : ℕ → Type 0 = ToldBefore trace client number round (reply - 1) stamps answer in
-        let enough : quorum trace.setup.bounds ≤ length done.members = done.enough in
+        let enough : quorum trace.setup.bounds ≤ length done.members + trace.setup.bounds = done.enough in
         let all : All P done.members =
         All-weaker (Replied trace (reply - 1) client number round done.verdict) P
         (tells_by_reply trace is_run have client number round (reply - 1) done.verdict answer told) done.members
         done.replied in
         let one : (member : ℕ) × P member =
-        some_member P done.members (omega (arith, some_quorum trace.setup.bounds (is_run.setup).some_faults)) all in
+        some_member P done.members
+        (omega (arith, enough, quorum_outnumbers trace.setup.bounds (is_run.setup).some_faults)) all in
         let member : ℕ = one.0 in
         let tells : P member = one.1 in
         let first : FirstTrue (answers_at trace client number round) (suc tells.at) =
@@ -576,7 +579,7 @@ module _ (trace : Trace) (is_run : IsRun trace) (have : ArePlain trace) (laws : 
           values = (tells.tells).values;
           each = zip_along (HasTopValue trace time) stamps query (tells.tells).values
               ((tells.tells).of_parts ∙ ap objects_in these)
-              (zip_weaker (HasTold (tells.reply).old (tells.reply).sets)
+              (zip_weaker (HasTold (tells.reply).old (culled_in (tells.reply).old (tells.reply).sets))
               (λ (told : ObjectId × Stamp) (value : Value). HasTopValue trace time told.0 value) stamps
               (tells.tells).values
               (from_top client number round (reply - 1) stamps answer time within alike answered

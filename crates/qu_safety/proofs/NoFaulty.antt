@@ -1,4 +1,4 @@
--- Where faulty clients are silent no point is of a faulty client, so that a printed order holds operations alone.
+-- Where only replicas are faulty no point is of a faulty client, so that a printed order holds operations alone.
 use Rattle.std.proofs.Common.{◌≡◌, ℕ, true, false, List, [], ◌∷◌, IsTrue, sym, ap, ◌∙◌, inl, inr}
 use Rattle.std.specs.Prelude.{◌==◌, Contains}
 use Rattle.std.specs.List.{list_any}

@@ -247,9 +247,9 @@ module _ (trace : Trace) (is_run : IsRun trace) (have : ArePlain trace) where
           is_letter = delivered.is_letter;
           is_handed = ap (handed (world_after trace time)) (sym accepted.event_is) ∙ delivered.is_handed;
           round = one.round;
-          sets = one.sets;
+          sets = one.sent;
           asks = body.Act one.parts;
-          is_request = asks_so delivered.letter delivered.carried one.client one.number one.round one.sets
+          is_request = asks_so delivered.letter delivered.carried one.client one.number one.round one.sent
               (body.Act one.parts) one.mac
               (brings_carries accepted.old delivered.letter delivered.carried delivered.brings) one.is_request;
         };

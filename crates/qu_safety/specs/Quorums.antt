@@ -1,5 +1,5 @@
--- What stands behind the answer of a completed operation: a quorum of replicas.
-use Rattle.std.specs.Prelude.{◌≡◌, ◌≢◌, ℕ, ◌-◌, ◌<◌, ◌≤◌, true, false, List, length, map, slice_get, count_by, All, Contains, Some}
+-- What stands behind the answer of a completed operation: so many correct replicas that with b more they are a quorum.
+use Rattle.std.specs.Prelude.{◌≡◌, ◌≢◌, ℕ, ◌+◌, ◌-◌, ◌<◌, ◌≤◌, true, false, List, length, map, slice_get, count_by, All, Contains, Some}
 use Rattle.std.specs.List.{AllPairs}
 use Rattle.qu_base.specs.declared.party.ObjectId.{ObjectId}
 use Rattle.qu_base.specs.Bounds.{replicas, quorum}
@@ -19,18 +19,19 @@ use Rattle.qu_machine.specs.Serial.{Completes}
 use Rattle.qu_replica.specs.State.{ReplicaState, own_candidates}
 use Rattle.qu_trace.specs.declared.trace.Trace.{Trace}
 use Rattle.qu_trace.specs.Operation.{operations_of}
-use Rattle.qu_rounds.specs.Completions.{RepliedAt}
+use Rattle.qu_rounds.specs.Completions.{RepliedAt, IsCompleted}
 use Rattle.qu_runs.specs.Accepted.{accepts}
 use Rattle.qu_runs.specs.Times.{world_after}
 
--- a quorum had accepted a candidate of the act, on this object, before the event of its reply (Query/Update)
+-- so many correct replicas had accepted a candidate of the act, on this object, before the event of its reply, that
+-- with b more they are a quorum (Query/Update: a complete candidate)
 pub record PartOfQuorum (trace : Trace) (operation : OpRecord) (parts : List (ObjectId × Method)) (reply : ℕ)
     (object : ObjectId) : Type 0 where
   pub candidate : Candidate
   pub of_client : candidate.stamp.client ≡ operation.client
   pub of_act : candidate.stamp.act ≡ Some (act_digest operation.client operation.number parts)
   pub accepted : quorum trace.setup.bounds ≤ count_by (accepts object candidate)
-      (world_after trace (reply - 1)).replicas
+      (world_after trace (reply - 1)).replicas + trace.setup.bounds
 
 -- on each of its objects, of which there are some
 pub record ActOfQuorum (trace : Trace) (operation : OpRecord) (parts : List (ObjectId × Method)) (reply : ℕ)
@@ -50,7 +51,8 @@ pub record ToldFrom (trace : Trace) (operation : OpRecord) (reply round : ℕ) (
   pub nothing_above : All (λ (it : ObjectId × Stamp). (held : Candidate)
       → holds held (own_candidates state it.0) ≡ true → is_below it.1 held.stamp ≡ false) stamps
 
--- a quorum of different replicas told the answer to the query, each from the same version of each of its objects
+-- so many different correct replicas told the answer to the query, each from the same version of each of its objects,
+-- that with b more they are a quorum
 pub record QueryOfQuorum (trace : Trace) (operation : OpRecord) (parts : List (ObjectId × Ask)) (reply : ℕ)
     (answer : Answer) : Type 0 where
   pub round : ℕ
@@ -59,7 +61,7 @@ pub record QueryOfQuorum (trace : Trace) (operation : OpRecord) (parts : List (O
   pub members : List ℕ
   pub different : AllPairs (λ (a b : ℕ). a ≢ b) members
   pub within : All (λ (member : ℕ). member < replicas trace.setup.bounds) members
-  pub enough : quorum trace.setup.bounds ≤ length members
+  pub enough : quorum trace.setup.bounds ≤ length members + trace.setup.bounds
   pub told : All (ToldFrom trace operation reply round stamps answer) members
 
 abbrev pub IsOfQuorum : Trace → OpRecord → ℕ → Answer → Op → Type 0
@@ -70,4 +72,5 @@ IsOfQuorum trace operation reply answer (op.Query query) = QueryOfQuorum trace o
 abbrev pub CompletesByQuorums : Trace → Type 0
 CompletesByQuorums trace = (operation : OpRecord) (reply : ℕ) (answer : Answer) → Contains (operations_of trace.entries)
     operation
-    → Completes operation reply answer → IsOfQuorum trace operation reply answer operation.op
+    → Completes operation reply answer
+    → IsCompleted trace operation reply answer × IsOfQuorum trace operation reply answer operation.op

@@ -1,4 +1,5 @@
 ghost use Rattle.std.specs.Prelude.{◌<◌, ◌^◌, length};
+ghost use Rattle.qu_base.specs.Format.{AreBytes};
 ghost use Rattle.qu_runs.specs.Plain.{HaveParts, HasEventParts};
 
 use qu_base::ClientId;
@@ -6,8 +7,8 @@ use qu_objects::Op;
 use qu_points::parts_fit;
 use qu_trace::{Entry, Event};
 
-/// Each operation that begins has parts, and its numbers fit their bytes; and a run that is in memory has fewer
-/// than 2^63 events. Types and memory keep this; here it is told of a whole run, and nothing is computed.
+/// Each operation that begins has parts, and its numbers fit their bytes; what is injected are bytes; and a run that is
+/// in memory has fewer than 2^63 events. Types and memory keep this; here it is told of a whole run, and nothing is computed.
 pub fn have_parts(entries: &[Entry])
     ensures parts { HaveParts entries.now }
     ensures few { length entries.now < 2 ^ 63 }
@@ -17,7 +18,7 @@ pub fn have_parts(entries: &[Entry])
     }
 }
 
-/// The operation that an event begins, if it begins one, has parts.
+/// The operation that an event begins, if it begins one, has parts, and what it injects are bytes.
 fn has_parts(event: &Event)
     ensures { HasEventParts event.now }
 {
@@ -30,7 +31,8 @@ fn has_parts(event: &Event)
             client_fits(*client);
             query.parts();
         }
-        Event::Deliver(_) | Event::Tick(_) | Event::Inject(_, _) => {}
+        Event::Inject(_, text) => are_bytes(text.as_slice()),
+        Event::Deliver(_) | Event::Tick(_) => {}
     }
 }
 
@@ -39,3 +41,8 @@ fn client_fits(client: ClientId)
 {
     let _ = client.0;
 }
+
+/// What a slice of bytes holds are bytes.
+fn are_bytes(text: &[u8])
+    ensures { AreBytes text.now }
+{}

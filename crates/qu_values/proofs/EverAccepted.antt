@@ -1,4 +1,4 @@
--- What a replica of a run holds, or a quorum accepted, is accepted in the setting of the run.
+-- What a replica of a run holds, or with the faulty ones a quorum accepted, is accepted in the setting of the run.
 use Rattle.std.proofs.Common.{◌≡◌, ℕ, ◌<◌, ◌≤◌, true, length, Some, refl, ◌∙◌, arith}
 use Rattle.std.specs.Prelude.{slice_get, count_by}
 use Rattle.std.proofs.lemmas.Option.{slice_get_within}
@@ -44,11 +44,12 @@ module _ (trace : Trace) (laws : Laws (setting trace)) (time : ℕ) (within : ti
       place_ever place (omega (arith, below, all)) object candidate
       (test_at-here (accepts object candidate) (world_after trace time).replicas place state is_state ∙ held)
 
-  pub quorum_ever : (object : ObjectId) (candidate : Candidate) → 1 ≤ trace.setup.bounds
-      → quorum trace.setup.bounds ≤ count_by (accepts object candidate) (world_after trace time).replicas
+  pub quorum_ever : (object : ObjectId) (candidate : Candidate)
+      → quorum trace.setup.bounds ≤ acceptors (setting trace) time object candidate + (setting trace).faults
       → IsEverAccepted trace object candidate
   unfolding setting
-  quorum_ever object candidate some enough =
-      let same = acceptors_are trace time object candidate in
+  quorum_ever object candidate enough =
+      let few : (setting trace).faults ≤ trace.setup.bounds = laws.sizes.borne in
       some-later (setting trace) laws time (length trace.entries) within object candidate
-      (omega (arith, same, enough, some_quorum trace.setup.bounds some))
+      (accepted_by_attested (setting trace) laws time object candidate
+      (attested_by_established (setting trace) laws time object candidate (omega (arith, few, enough))))

@@ -2,7 +2,7 @@ pub mod OneAct
 pub mod SentRequests
 pub mod EverAccepted
 pub mod Updates
-pub mod OneCandidate
+pub mod OnceAccepted
 pub mod Values
 pub mod StoredValues
 pub mod UpdateFacts

@@ -24,17 +24,15 @@ use Rattle.qu_trace.specs.declared.trace.Trace.{Trace}
 use Rattle.qu_world.specs.Run.{IsRun}
 use Rattle.qu_machine.proofs.Firsts.{contains_at}
 use Rattle.qu_values.proofs.Replying.{reply_asks}
-use Rattle.qu_grounds.proofs.FullSets.{not_unknown}
+use Rattle.qu_grounds.proofs.FullSets.{culled_had, not_unknown}
 use Rattle.qu_grounds.proofs.Handled.{handled_upon}
 use Rattle.qu_runs.specs.Digested.{IsHandled}
-use Rattle.qu_values.specs.Replies.{TellsDone, TellsQuery, IsReplyTo}
+use Rattle.qu_values.specs.Replies.{culled_in, TellsDone, TellsQuery, IsReplyTo}
 use Rattle.qu_runs.specs.Plain.{ArePlain}
 use Rattle.qu_grounds.proofs.HeldInRuns.{held_versions}
 use Rattle.qu_grounds.proofs.HeldVersions.{AreOfHeld}
 use Rattle.qu_values.proofs.TrueReplies.{done_is_true, act_is_not_told, told_is_true, query_is_not_done, done_is_known}
-use Rattle.qu_grounds.proofs.Views.{view_of_request, request_has_parts}
-use Rattle.qu_grounds.specs.Whole.{IsWhole}
-use Rattle.qu_grounds.proofs.WholeSets.{view_whole}
+use Rattle.qu_grounds.proofs.Views.{request_has_parts}
 use Rattle.qu_runs.specs.Carried.{Brings}
 use Rattle.qu_frames.specs.declared.frame.Frame.TheVariants as frame
 use Rattle.qu_frames.specs.declared.frame.Letter.{Letter}
@@ -125,36 +123,22 @@ module _ (trace : Trace) (is_run : IsRun trace) (have : ArePlain trace) (at : �
   old_of_held : (given : Verdict) (reply : IsReplyTo trace at replica client number round given) → AreOfHeld reply.old
   old_of_held given reply = held_versions trace is_run have at (omega arith) replica reply.old reply.is_old
 
-  -- nothing of its request is culled
-  reply_whole : (given : Verdict) (reply : IsReplyTo trace at replica client number round given)
-      → IsWhole reply.old reply.sets
-  reply_whole given reply =
-      view_whole trace is_run have at (omega arith) replica reply.old reply.is_old reply.sets reply.body
-      (view_of_request trace is_run have at (omega arith) reply.asked reply.letter reply.is_letter client number
-      round reply.sets reply.body (reply_asks trace at replica client number round given reply))
-
-  decided_whole : (given : Verdict) (reply : IsReplyTo trace at replica client number round given)
-      → decision_on reply.old (asked_of client number reply.sets reply.body) reply.body ≡ Answers given reply.accepted
-  decided_whole given reply =
-      ap (λ (sets : List SetOf). decision_on reply.old (asked_of client number sets reply.body) reply.body)
-      (sym (reply_whole given reply)) ∙ reply.decided
-
   module _ (stamps : List (ObjectId × Stamp)) (answer : Answer) where
     -- Done is told to an act, and the replica has its candidates afterwards
     pub act_of_done : (reply : IsReplyTo trace at replica client number round (verdict.Done stamps answer))
         → IsActOn reply.body
     act_of_done reply =
-        done_to_act reply.old client number reply.sets reply.accepted stamps answer
+        done_to_act reply.old client number (culled_in reply.old reply.sets) reply.accepted stamps answer
         (old_of_held (verdict.Done stamps answer) reply) reply.body
-        (body_has_parts (verdict.Done stamps answer) reply) (decided_whole (verdict.Done stamps answer) reply)
+        (body_has_parts (verdict.Done stamps answer) reply) reply.decided
 
     decided_act : (reply : IsReplyTo trace at replica client number round (verdict.Done stamps answer))
-        → Decides reply.old client number reply.sets reply.accepted stamps answer
+        → Decides reply.old client number (culled_in reply.old reply.sets) reply.accepted stamps answer
         (old_of_held (verdict.Done stamps answer) reply) (body.Act (act_of_done reply).parts)
         (verdict.Done stamps answer)
     decided_act reply =
-        ap (λ (it : Body). decision_on reply.old (asked_of client number reply.sets it) it)
-        (sym (act_of_done reply).is_act) ∙ decided_whole (verdict.Done stamps answer) reply
+        ap (λ (it : Body). decision_on reply.old (asked_at reply.old client number reply.sets it) it)
+        (sym (act_of_done reply).is_act) ∙ reply.decided
 
     pub done_in_run : (reply : IsReplyTo trace at replica client number round (verdict.Done stamps answer))
         → TellsDone reply.new client (act_digest client number (act_of_done reply).parts) (act_of_done reply).parts
@@ -166,7 +150,7 @@ module _ (trace : Trace) (is_run : IsRun trace) (have : ArePlain trace) (at : �
         (verdict.Done stamps answer) reply.accepted reply.step reply.mac reply.brings reply.decided in
         subst (λ (it : ReplicaState). TellsDone it client (act_digest client number act.parts) act.parts stamps answer)
         (sym is_new)
-        (done_of_act reply.old client number reply.sets reply.accepted stamps answer
+        (done_of_act reply.old client number (culled_in reply.old reply.sets) reply.accepted stamps answer
         (old_of_held (verdict.Done stamps answer) reply) act.parts
         (subst (λ (it : Body). IsTrue (has_parts it)) act.is_act (body_has_parts (verdict.Done stamps answer) reply))
         (decided_act reply))
@@ -177,31 +161,31 @@ module _ (trace : Trace) (is_run : IsRun trace) (have : ArePlain trace) (at : �
     done_handled reply =
         let act : IsActOn reply.body = act_of_done reply in
         let parts : List (ObjectId × Method) = act.parts in
-        let known : row_unknown reply.old (asked_of client number reply.sets (body.Act parts)) ≡ None =
-        done_is_known reply.old (asked_of client number reply.sets (body.Act parts)) parts (objects_of parts)
+        let known : row_unknown reply.old (asked_at reply.old client number reply.sets (body.Act parts)) ≡ None =
+        done_is_known reply.old (asked_at reply.old client number reply.sets (body.Act parts)) parts (objects_of parts)
         stamps answer reply.accepted (decided_act reply) in
         handled_upon trace is_run at below reply.entry (contains_at trace.entries at reply.entry reply.is_entry)
         replica reply.old reply.is_old
         reply.letter reply.is_handed reply.to client number round reply.sets parts reply.mac
         (reply.brings ∙ ap (λ (it : Body). Some (frame.Request client number round reply.sets it reply.mac))
         act.is_act)
-        (not_unknown reply.old (asked_of client number reply.sets (body.Act parts)) known)
-        (reply_whole (verdict.Done stamps answer) reply)
+        (sym (culled_had reply.old (reply.old).keys (reply.old).me reply.sets)
+        ∙ not_unknown reply.old (asked_at reply.old client number reply.sets (body.Act parts)) known)
 
     -- an answer is told to a query, from what the replica has
     pub ask_of_told : (reply : IsReplyTo trace at replica client number round (verdict.Told stamps answer))
         → IsAskOf reply.body
     ask_of_told reply =
-        told_to_ask reply.old client number reply.sets reply.accepted stamps answer
+        told_to_ask reply.old client number (culled_in reply.old reply.sets) reply.accepted stamps answer
         (old_of_held (verdict.Told stamps answer) reply) reply.body
-        (body_has_parts (verdict.Told stamps answer) reply) (decided_whole (verdict.Told stamps answer) reply)
+        (body_has_parts (verdict.Told stamps answer) reply) reply.decided
 
     pub told_in_run : (reply : IsReplyTo trace at replica client number round (verdict.Told stamps answer))
-        → TellsQuery reply.old reply.sets (ask_of_told reply).query stamps answer
+        → TellsQuery reply.old (culled_in reply.old reply.sets) (ask_of_told reply).query stamps answer
     told_in_run reply =
         let asked : IsAskOf reply.body = ask_of_told reply in
-        told_of_query reply.old client number reply.sets reply.accepted stamps answer
+        told_of_query reply.old client number (culled_in reply.old reply.sets) reply.accepted stamps answer
         (old_of_held (verdict.Told stamps answer) reply) asked.query
         (subst (λ (it : Body). IsTrue (has_parts it)) asked.is_ask (body_has_parts (verdict.Told stamps answer) reply))
-        (ap (λ (it : Body). decision_on reply.old (asked_of client number reply.sets it) it) (sym asked.is_ask)
-        ∙ decided_whole (verdict.Told stamps answer) reply)
+        (ap (λ (it : Body). decision_on reply.old (asked_at reply.old client number reply.sets it) it) (sym asked.is_ask)
+        ∙ reply.decided)

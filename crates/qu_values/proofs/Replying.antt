@@ -203,7 +203,10 @@ step_sends world (Inject to text) plain =
     injected_cases world to text (λ (event : Event) (new : WorldState). Sends world new event)
     (unchanged_sends world (Inject to text))
     (λ number letter is hands. received_sends world (Inject letter.to letter.text) number letter letter.to is hands
-    refl) plain
+    refl)
+    (λ me made hands. client_sends world (Inject (party.Client me) text) me
+    (λ (state : ClientState). client_step state text) (numbered world.clients me.0)
+    (λ state. step_requests state text)) plain
 step_sends world (Deliver asked) plain =
     step_sent world (Deliver asked) (λ correct. delivered_sends world asked correct (letter_of world asked) refl)
 step_sends world (Tick client) plain =

@@ -83,20 +83,6 @@ carried_to setup text (party.Replica me) request is = (
 )
 carried_to setup text (party.Client me) request is = absurd (none-some request is)
 
--- by a correct party
-to_correct : (setup : Setup) (text : List ℕ) (to : Party) (request : Request)
-    → request_to setup text to ≡ Some request → is_faulty setup to ≡ false
-to_correct setup text (party.Replica me) request is =
-    not_faulty (nat_lt me.0 (replicas setup.bounds)) (is_faulty setup (party.Replica me))
-    (request_brought setup me (brought (ring_of setup) (party.Replica me) text)) is
-  where
-    not_faulty : (inside faulty : Bool) (found : Option Request)
-        → (if inside && not faulty then found else None) ≡ Some request → faulty ≡ false
-    not_faulty true true found is = absurd (none-some request is)
-    not_faulty true false found is = refl
-    not_faulty false faulty found is = absurd (none-some request is)
-to_correct setup text (party.Client me) request is = absurd (none-some request is)
-
 -- a frame was brought that is this request
 carried_so : (setup : Setup) (me : ReplicaId) (letter : Letter) (read : Option Frame) (request : Request)
     → brought (ring_of setup) letter.to letter.text ≡ read → request_brought setup me read ≡ Some request
@@ -125,19 +111,18 @@ sent_before : (trace : Trace) → IsRun trace → (time : ℕ) → time ≤ leng
     → (to : Party) (text : List ℕ) → IsPlain (world_after trace time) (Inject to text) → (request : Request)
     → request_to trace.setup text to ≡ Some request → IsSent trace request
 sent_before trace is_run time within to text (inl ignored) request is =
-    let given = carried_to trace.setup text to request is in
-    let correct : is_faulty trace.setup to ≡ false = to_correct trace.setup text to request is in
-    let none : brought (ring_of trace.setup) to text ≡ None =
-    ap (λ (setup : Setup). brought (ring_of setup) to text) (sym (setup_after trace time))
-    ∙ ignored.nothing (ap (λ (setup : Setup). is_faulty setup to) (setup_after trace time) ∙ correct) in
-    absurd (none-some request (ap (request_brought trace.setup given.0) (sym none) ∙ given.1))
-sent_before trace is_run time within to text (inr sent) request is =
+    let none : request_to trace.setup text to ≡ None =
+    ap (λ (setup : Setup). request_to setup text to) (sym (setup_after trace time)) ∙ ignored.nothing in
+    absurd (none-some request (sym none ∙ is))
+sent_before trace is_run time within to text (inr (inl sent)) request is =
     let letter : Letter = sent.letter in
     let given : request_to trace.setup letter.text letter.to ≡ Some request =
     ap (λ (it : List ℕ). request_to trace.setup it letter.to) sent.text_is
     ∙ ap (request_to trace.setup text) sent.to_is ∙ is in
     sent_by trace sent.number (Some letter) request
     (letter_stays trace is_run time within sent.number letter sent.is_letter) given
+sent_before trace is_run time within to text (inr (inr made)) request is =
+    absurd (none-some request (sym (ap (request_to trace.setup text) made.to_is) ∙ is))
 
 pub sent : (trace : Trace) → IsRun trace → (time : ℕ) → time ≤ length trace.entries → (event : Event)
     → IsPlain (world_after trace time) event → (request : Request) → handled_by trace event ≡ Some request

@@ -58,9 +58,9 @@ use Rattle.qu_grounds.proofs.Happenings.{event_moves}
 use Rattle.qu_grounds.proofs.HeldVersions.{HoldsUnder, AreOfHeld, opening_of_held, still_of_held, version_of_fresh}
 use Rattle.qu_values.proofs.Updates.{same_accepted}
 use Rattle.qu_values.proofs.EverAccepted.{held_ever, quorum_ever}
-use Rattle.qu_grounds.specs.Whole.{TakesWhole}
-use Rattle.qu_grounds.proofs.Views.{view_of_request}
-use Rattle.qu_grounds.proofs.WholeSets.{sent_is_whole}
+use Rattle.qu_replica.specs.Growth.{HasParts}
+use Rattle.qu_grounds.proofs.Views.{sent_has_parts, view_of_request}
+use Rattle.qu_history.specs.declared.sets.SetOf.{SetOf}
 use Rattle.qu_runs.proofs.WorldGrowth.{world_after-next}
 use Rattle.qu_runs.proofs.Small.{some_entry}
 use Rattle.qu_runs.proofs.OpeningReplicas.{opening_at}
@@ -181,20 +181,21 @@ module _ (trace : Trace) (laws : Laws (setting trace)) (joint : Joint (setting t
       (carried : Frame) (place : ℕ) (old new : ReplicaState) (brings : Brings old letter carried)
       (is_old : slice_get (world_after trace count).replicas place ≡ Some old) (before : IsVersioned trace old)
       (one : Accepts old new carried) where
-    asks : Asks letter one.client one.number one.round one.sets (body.Act one.parts)
-    asks = asks_so letter carried one.client one.number one.round one.sets (body.Act one.parts) one.mac
+    asks : Asks letter one.client one.number one.round one.sent (body.Act one.parts)
+    asks = asks_so letter carried one.client one.number one.round one.sent (body.Act one.parts) one.mac
         (brings_carries old letter carried brings) one.is_request
 
-    view : IsOfKept trace count one.sets (body.Act one.parts)
-    view = view_of_request trace is_run have count within number letter sent one.client one.number one.round one.sets
+    view : IsOfKept trace count one.sent (body.Act one.parts)
+    view = view_of_request trace is_run have count within number letter sent one.client one.number one.round one.sent
         (body.Act one.parts) asks
 
     -- a quorum showed the base, so it was accepted
     base_accepted : (object : ObjectId) → Names one.parts object → IsEverAccepted trace object (one.bases object)
     base_accepted object names =
-        quorum_ever trace laws count within object (one.bases object) (is_run.setup).some_faults
-        (method_is_shown trace is_run count within one.sets (body.Act one.parts) view object (one.bases object)
-        (ap (λ (bounds : ℕ). method_at bounds (entries_of object one.sets)) (sym before.bounds)
+        quorum_ever trace laws count within object (one.bases object)
+        (method_is_shown trace count one.sent (body.Act one.parts) view old.keys old.me object (one.bases object)
+        (ap (λ (sets : List SetOf). method_at trace.setup.bounds (entries_of object sets)) one.culls
+        ∙ ap (λ (bounds : ℕ). method_at bounds (entries_of object one.sets)) (sym before.bounds)
         ∙ (one.grounds object names).method))
 
     -- the version that the replica stores under the stamp of the base is that of the base
@@ -337,8 +338,8 @@ module _ (trace : Trace) (laws : Laws (setting trace)) (joint : Joint (setting t
   event-versioned : IsVersioned trace new
   event-versioned =
       let parts : (number : ℕ) (letter : Letter) → letter_of (world_after trace count) number ≡ Some letter →
-      (carried : Frame) → Carries letter carried → TakesWhole old carried =
-      λ number letter sent. sent_is_whole trace is_run have count within place old is_old number letter sent in
+      (carried : Frame) → Carries letter carried → HasParts carried =
+      λ number letter sent. sent_has_parts trace is_run have count within number letter sent in
       elim (event_moves (world_after trace count) event place old new is_old is_new parts plain) [
         | inl alike ↦ subst (IsVersioned trace) (sym alike) before
         | inr moved ↦ record {

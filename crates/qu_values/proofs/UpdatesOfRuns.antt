@@ -1,4 +1,4 @@
--- The updates of a run are as the values along the order ask: no copies, no groups, and one candidate each.
+-- The updates of a run are as the values along the order ask: no copies, no groups, and none is done upon itself.
 use Rattle.std.proofs.Common.{◌≡◌, ◌⊎◌, true, false, not, length, None, Some, refl, sym, ap, subst, ◌∙◌, arith, inl, inr}
 use Rattle.std.specs.Prelude.{slice_get, is_some, Option}
 use Rattle.std.proofs.lemmas.Bool.{false≢true}
@@ -39,7 +39,7 @@ use Rattle.qu_grounds.proofs.Handled.{handled, made_for}
 use Rattle.qu_values.proofs.SentRequests.{made_for_operation, asked_by_handled}
 use Rattle.qu_values.proofs.OneAct.{ActsAreOne, act_by}
 use Rattle.qu_grounds.proofs.Origins.{accepted_from}
-use Rattle.qu_values.proofs.OneCandidate as candidates
+use Rattle.qu_values.proofs.OnceAccepted.{once_accepted}
 use Rattle.qu_values.proofs.StoredValues.{version_held}
 use Rattle.qu_values.proofs.Updates.{acts, opening_no_act, same_accepted}
 use Rattle.qu_values.proofs.UpdateFacts.{HasValue, MadeFor, UpdateFacts}
@@ -126,32 +126,13 @@ module _ (trace : Trace) (is_run : IsRun trace) (have : ArePlain trace) where
       ]
 
   module _ (one_act : ActsAreOne trace) (laws : Laws (setting trace)) (joint : Joint (setting trace)) where
-    -- an update has one candidate
-    one_of_update : (update : Update) (object other : ObjectId) (first second : Candidate)
-        → IsOf trace update object first → IsEverAccepted trace object first
-        → IsOf trace update other second → IsEverAccepted trace other second
-        → (object ≡ other) × (first ≡ second)
-    one_of_update update object other first second one accepted two besides =
-        candidates.one_candidate trace is_run have one_act object other first second
-        (in_world trace object first accepted) (in_world trace other second besides) _ (one.made).of_act
-        (two.made).of_act
-
-    not_its_ancestor : (object : ObjectId) (candidate : Candidate) → IsEverAccepted trace object candidate
-        → (setting trace).is_act candidate ≡ true
-        → IsAncestor (setting trace) (setting trace).last object candidate candidate → ⊥
-    not_its_ancestor object candidate accepted is_act ancestor =
-        let above : is_below candidate.prior candidate.stamp ≡ true =
-        prior_below object candidate (act_origin object candidate accepted is_act) in
-        false≢true (sym (by candidate ancestor) ∙ above)
-      where
-        by : (second : Candidate) → IsAncestor (setting trace) (setting trace).last object candidate second
-            → is_below second.prior candidate.stamp ≡ false
-        by second (IsAncestor.direct _ prior) =
-            ap (λ (it : Stamp). is_below it candidate.stamp) prior ∙ is_below-self candidate.stamp
-        by second (IsAncestor.through between _ prior plain attested ancestor) =
-            ap (λ (it : Stamp). is_below it candidate.stamp) prior
-            ∙ ancestor-not_above (setting trace) laws (setting trace).last (omega arith) object candidate between
-            (accepted_by_attested (setting trace) laws (setting trace).last object between attested) plain ancestor
+    -- an update is on one object
+    one_object : (update : Update) (object other : ObjectId) (first second : Candidate)
+        → IsOf trace update object first → IsOf trace update other second → object ≡ other
+    one_object update object other first second one two =
+        same_named update.parts object other
+        ((fit trace is_run have update.client update.number update.parts (one.made).handled).parts).0
+        one.names two.names
 
     copied : (object : ObjectId) (candidate base : Candidate) (value : Value)
         → IsEverAccepted trace object candidate → (setting trace).is_act candidate ≡ false
@@ -202,11 +183,10 @@ module _ (trace : Trace) (is_run : IsRun trace) (have : ArePlain trace) where
       plain_base = λ object base entries is accepted. all_plain object base accepted;
       shared = no_group;
       spread = λ update object other candidate companion one accepted two besides.
-          inl (one_of_update update object other candidate companion one accepted two besides).0;
-      once = λ update object first second one accepted two besides ancestor.
-          not_its_ancestor object first accepted (acts trace update object first one)
-          (subst (IsAncestor (setting trace) (setting trace).last object first)
-          (sym (one_of_update update object object first second one accepted two besides).1) ancestor);
+          inl (one_object update object other candidate companion one two);
+      once = λ update object first second one accepted two besides.
+          once_accepted trace is_run have one_act laws joint update object first second one accepted two besides
+          (all_plain object);
       one_version = one_version trace laws joint one_act;
       copied = λ object candidate base value accepted plain not_act prior plain_base base_accepted has.
           copied object candidate base value accepted not_act prior base_accepted has;

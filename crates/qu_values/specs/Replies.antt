@@ -9,6 +9,7 @@ use Rattle.qu_stamp.specs.declared.stamp.Stamp.{Stamp}
 use Rattle.qu_stamp.specs.declared.candidate.Candidate.{Candidate}
 use Rattle.qu_stamp.specs.Stamp.{is_below}
 use Rattle.qu_history.specs.declared.sets.SetOf.{SetOf}
+use Rattle.qu_history.specs.Culling.{culled}
 use Rattle.qu_history.specs.History.{holds}
 use Rattle.qu_history.specs.Sets.{entries_of, method_at}
 use Rattle.qu_objects.specs.declared.act.Method.{Method}
@@ -72,6 +73,10 @@ pub record TellsQuery (state : ReplicaState) (sets : List SetOf) (query : List (
   pub values : List Value
   pub each : AllZip (HasTold state sets) stamps values
   pub answer_is : answer ≡ told_answer query values
+
+-- the sets of a request, as the replica culls them
+abbrev pub culled_in : ReplicaState → List SetOf → List SetOf
+culled_in state sets = culled state.keys state.me sets
 
 -- the verdict, sent at the event of the entry with this index, is that of a replica upon a request of this
 -- client, number and round, which the event hands to it

@@ -11,7 +11,7 @@ use Rattle.qu_chain.specs.Laws.{Laws}
 use Rattle.qu_chain.specs.Joint.{Joint}
 use Rattle.qu_runs.specs.Setting.{setting}
 use Rattle.qu_runs.specs.Plain.{HaveParts, ArePlain}
-use Rattle.qu_runs.specs.Premises.{IsUnforged, MeetsPremises, FaultyAreSilent}
+use Rattle.qu_runs.specs.Premises.{IsUnforged, MeetsPremises, OnlyReplicasAreFaulty}
 use Rattle.qu_runs.proofs.Plain.{plain_from}
 use Rattle.qu_points.specs.Order.{IsPrintedOrder}
 use Rattle.qu_grounds.proofs.Chained.{is_chained, decides_in_turn, decides_jointly}
@@ -32,11 +32,11 @@ always : {T E : Type 0} {P : Type 0} (result : Result T E) → P → OnOk result
 always (Ok value) it = it
 always (Err failure) it = tt
 
-plain_run : (c : goal.After-printed_order) → IsUnforged c.args.trace.now → FaultyAreSilent c.args.trace.now
+plain_run : (c : goal.After-printed_order) → IsUnforged c.args.trace.now → OnlyReplicasAreFaulty c.args.trace.now.setup
     → ArePlain c.args.trace.now
-plain_run c unforged silent =
+plain_run c unforged only =
     plain_from c.args.trace.now (subst HaveParts c.as_slice.ensures c.have_parts.ensures.parts)
-    (subst (λ (entries : List Entry). length entries < 2 ^ 63) c.as_slice.ensures c.have_parts.ensures.few) unforged silent
+    (subst (λ (entries : List Entry). length entries < 2 ^ 63) c.as_slice.ensures c.have_parts.ensures.few) unforged only
 
 -- what the serial order rests on
 record Grounded (trace : Trace) : Type 0 where
@@ -46,11 +46,11 @@ record Grounded (trace : Trace) : Type 0 where
   joint : Joint (setting trace)
   facts : UpdateFacts trace
 
-grounded : (c : goal.After-printed_order) → MeetsPremises c.args.trace.now → FaultyAreSilent c.args.trace.now
+grounded : (c : goal.After-printed_order) → MeetsPremises c.args.trace.now → OnlyReplicasAreFaulty c.args.trace.now.setup
     → Grounded c.args.trace.now
-grounded c premises silent =
+grounded c premises only =
     let trace : Trace = c.args.trace.now in
-    let plain : ArePlain trace = plain_run c premises.unforged silent in
+    let plain : ArePlain trace = plain_run c premises.unforged only in
     let one_act : ActsAreOne trace = acts_are_one trace c.requires plain premises.no_collision in
     let law : Laws (setting trace) = laws trace c.requires plain in
     let joint : Joint (setting trace) = joint_laws trace c.requires plain premises.no_collision in
@@ -65,10 +65,10 @@ grounded c premises silent =
 pub returns-clause-serial : goal.returns-clause-serial
 returns-clause-serial c =
     IfOk-weaker c.printed_order.result (IsPrintedOrder c.args.trace.now)
-    (λ (order : List Point). MeetsPremises c.args.trace.now → FaultyAreSilent c.args.trace.now → IsSerial c.args.trace.now.setup.kinds
+    (λ (order : List Point). MeetsPremises c.args.trace.now → OnlyReplicasAreFaulty c.args.trace.now.setup → IsSerial c.args.trace.now.setup.kinds
     (operations_of c.args.trace.now.entries) order)
-    (λ order printed premises silent.
-    let it : Grounded c.args.trace.now = grounded c premises silent in
+    (λ order printed premises only.
+    let it : Grounded c.args.trace.now = grounded c premises only in
     serial c.args.trace.now c.requires it.plain it.one_act it.laws it.joint it.facts order
     (operation_order c.args.trace.now
     (no_points_of_faulty c.args.trace.now (handled_correct c.args.trace.now c.requires it.plain)) order printed))
@@ -76,32 +76,32 @@ returns-clause-serial c =
 
 pub returns-clause-chained : goal.returns-clause-chained
 returns-clause-chained c =
-    always c.printed_order.result (λ premises silent.
-    is_chained c.args.trace.now c.requires (plain_run c premises.unforged silent) premises.no_collision)
+    always c.printed_order.result (λ premises only.
+    is_chained c.args.trace.now c.requires (plain_run c premises.unforged only) premises.no_collision)
 
 pub returns-clause-named : goal.returns-clause-named
 returns-clause-named c =
-    always c.printed_order.result (λ premises silent.
-    stamps_name c.args.trace.now c.requires (plain_run c premises.unforged silent) premises.no_collision)
+    always c.printed_order.result (λ premises only.
+    stamps_name c.args.trace.now c.requires (plain_run c premises.unforged only) premises.no_collision)
 
 pub returns-clause-jointly : goal.returns-clause-jointly
 returns-clause-jointly c =
-    always c.printed_order.result (λ premises silent.
-    decides_jointly c.args.trace.now c.requires (plain_run c premises.unforged silent) premises.no_collision)
+    always c.printed_order.result (λ premises only.
+    decides_jointly c.args.trace.now c.requires (plain_run c premises.unforged only) premises.no_collision)
 
 pub returns-clause-in_turn : goal.returns-clause-in_turn
 returns-clause-in_turn c =
-    always c.printed_order.result (λ premises silent.
-    decides_in_turn c.args.trace.now c.requires (plain_run c premises.unforged silent) premises.no_collision)
+    always c.printed_order.result (λ premises only.
+    decides_in_turn c.args.trace.now c.requires (plain_run c premises.unforged only) premises.no_collision)
 
 pub returns-clause-once : goal.returns-clause-once
 returns-clause-once c =
-    always c.printed_order.result (λ premises silent.
-    let it : Grounded c.args.trace.now = grounded c premises silent in
+    always c.printed_order.result (λ premises only.
+    let it : Grounded c.args.trace.now = grounded c premises only in
     decides_once c.args.trace.now it.laws it.joint it.one_act it.facts)
 
 pub returns-clause-by_quorums : goal.returns-clause-by_quorums
 returns-clause-by_quorums c =
-    always c.printed_order.result (λ premises silent.
-    let it : Grounded c.args.trace.now = grounded c premises silent in
+    always c.printed_order.result (λ premises only.
+    let it : Grounded c.args.trace.now = grounded c premises only in
     completes_by_quorums c.args.trace.now c.requires it.plain it.laws it.joint it.facts)
