@@ -29,7 +29,7 @@ use Rattle.qu_replica.specs.declared.decision.Accepted.{Accepted}
 use Rattle.qu_replica.specs.declared.decision.Decision.{Decision}
 use Rattle.qu_replica.specs.declared.decision.Decision.TheVariants.{Answers, Waits}
 use Rattle.qu_replica.specs.State.{ReplicaState, candidates_in, own_candidates, own_latest, with_candidate, accept, accept_all}
-use Rattle.qu_replica.specs.Rows.{Asked, asked_of, asked_at, refuse, shown_of, base_of, base_version, fresh_stamp, fresh_on, row_unknown, row_thin, row_retry, row_current, row_method, row_version, row_time, row_full, row_done, row_told, first_given, decide_act, decide_ask, decision_on}
+use Rattle.qu_replica.specs.Rows.{Asked, asked_at, refuse, shown_of, base_of, base_version, fresh_stamp, fresh_on, row_unknown, row_thin, row_retry, row_current, row_method, row_version, row_time, row_full, row_done, row_told, first_given, decide_act, decide_ask, decision_on}
 use Rattle.qu_replica.specs.Step.{carried_out, on_frame}
 use Rattle.qu_replica.specs.Versions.{version_at}
 use Rattle.qu_replica.specs.Growth.{HasParts, MayAccept, MayAcceptAll, MayDecide}

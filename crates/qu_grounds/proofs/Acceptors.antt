@@ -1,9 +1,9 @@
 -- As many replicas accepted a candidate as the sets of a request show it.
-use Rattle.std.proofs.Common.{◌≡◌, ◌⊎◌, ℕ, zero, suc, ◌+◌, ◌≤◌, Bool, true, cond, List, [], ◌∷◌, length, map, Option, None, Some, refl, sym, ap, subst, ◌∙◌, arith, inl, inr, add-zero, zero-add}
-use Rattle.std.specs.Prelude.{slice_get, count_by, ◌==◌}
-use Rattle.std.specs.List.{AllByRecursion}
+use Rattle.std.proofs.Common.{◌≡◌, ◌⊎◌, ℕ, zero, suc, ◌+◌, ◌≤◌, Bool, true, cond, List, [], ◌∷◌, map, Option, None, Some, refl, sym, ap, ◌∙◌, arith, inl, inr, add-zero, zero-add, filter, false, ◌||◌}
+use Rattle.std.specs.Prelude.{slice_get, count_by, ◌==◌, not}
+use Rattle.std.specs.List.{AllZip}
 use Rattle.std.specs.Option.{option_and_then}
-use Rattle.std.proofs.lemmas.Bool.{cases_Bool}
+use Rattle.std.proofs.lemmas.Bool.{cases_Bool, false≢true, cond_both, or_left, or_right}
 use Rattle.std.proofs.lemmas.List.Sums.{sum_by-cons}
 use Rattle.std.proofs.lemmas.Option.{none-some}
 use Rattle.qu_base.specs.declared.party.ObjectId.{ObjectId}
@@ -19,17 +19,24 @@ use Rattle.qu_client.specs.State.{kept_of}
 use Rattle.qu_client.specs.Rounds.{operation_objects, entries_from, set_of, sets_of}
 use Rattle.qu_trace.specs.declared.trace.Trace.{Trace}
 use Rattle.qu_world.specs.State.{WorldState, history_at}
-use Rattle.qu_world.specs.Run.{IsRun}
 use Rattle.qu_runs.specs.Accepted.{accepts}
 use Rattle.qu_runs.specs.Times.{world_after}
-use Rattle.qu_grounds.specs.Views.{WasHeld, IsOfKept}
-use Rattle.qu_world.proofs.Each.{zip_found}
-use Rattle.qu_runs.proofs.WorldGrowth.{AcceptsMore, HasMore, has_more, world_after-grows, counted-more}
+use Rattle.qu_grounds.specs.Views.{WasHeld, IsOfKept, HeldIfCorrect}
+use Rattle.qu_runs.proofs.WorldGrowth.{AcceptsMore, has_more, world_after-grows, counted-more}
 use Rattle.qu_grounds.proofs.Grounds.{is_base}
-use Rattle.qu_runs.proofs.OpeningReplicas.{all_replicas}
 use Rattle.qu_runs.proofs.Small.{same_object}
 use Rattle.qu_runs.proofs.FitRequests.{IsFound, found_among, entries_with, entries_next, entries_none}
 use Rattle.qu_history.specs.declared.sealed.Sealed.{Sealed}
+use Rattle.qu_chain.specs.Count.{count, test_at}
+use Rattle.qu_chain.proofs.Counting.{bit, count-first, test_at-here}
+use Rattle.qu_history.specs.Culling.{culled, is_right}
+use Rattle.qu_runs.specs.Setting.{setting}
+use Rattle.qu_seal.specs.Keys.{Ring}
+use Rattle.qu_base.specs.declared.party.ReplicaId.{ReplicaId}
+use Rattle.qu_trace.specs.Faulty.{is_good}
+use Rattle.qu_chain.specs.Setting.{acceptors}
+use Rattle.qu_runs.proofs.Settings.{acceptors_counted}
+use Rattle.qu_runs.proofs.FewFaults.{either_counted}
 
 -- ---- what was held is still accepted
 

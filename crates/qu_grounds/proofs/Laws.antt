@@ -1,10 +1,9 @@
 -- A run of the world meets the laws of the theory of what is decided.
-use Rattle.std.proofs.Common.{◌≡◌, Bool, List, Some, ap, arith, false, inl, inr, length, not, refl, subst, suc, sym, true, zero, ℕ, ◌⊎◌, ◌<◌, ◌≤◌, ◌∷◌, ◌∙◌, []}
+use Rattle.std.proofs.Common.{◌≡◌, Bool, List, Some, ap, arith, false, inl, inr, length, not, refl, subst, suc, sym, true, zero, ℕ, ◌⊎◌, ◌<◌, ◌≤◌, ◌∙◌, [], ◌+◌}
 use Rattle.qu_grounds.proofs.Accepting.{opening_alone, StepAt, step_at, Acceptance, acceptance, added_is}
 use Rattle.qu_chain.proofs.Ancestry.{Acceptor, acceptor}
-use Rattle.qu_runs.proofs.WorldGrowth.{AcceptsMore, has_more, world_after-grows}
+use Rattle.qu_runs.proofs.WorldGrowth.{has_more, world_after-grows}
 use Rattle.qu_grounds.specs.Grounds.{IsGround, Accepts, IsDelivered}
-use Rattle.std.specs.List.{AllZip}
 use Rattle.qu_runs.specs.Plain.{ArePlain}
 use Rattle.qu_base.specs.Bounds.{AreThresholds, quorum, replicas}
 use Rattle.qu_frames.specs.declared.frame.Body.{Body}
@@ -23,7 +22,6 @@ use Rattle.qu_trace.specs.declared.trace.Trace.{Trace}
 use Rattle.qu_chain.proofs.Arrival.{Turn, turn_between}
 use Rattle.qu_grounds.proofs.Grounds.{above_base, above_held, base_not_below}
 use Rattle.qu_runs.proofs.Objects.{accepted_known}
-use Rattle.qu_runs.proofs.Settings.{acceptors_are}
 use Rattle.qu_runs.specs.Accepted.{accepts}
 use Rattle.qu_runs.proofs.FewFaults.{few_faulty}
 use Rattle.qu_runs.proofs.OpeningReplicas.{acceptor_is_good, all_begin, all_replicas, bounds_are}
@@ -32,7 +30,7 @@ use Rattle.qu_replica.specs.Rows.{asked_of, fresh_stamp}
 use Rattle.qu_runs.proofs.Carrying.{asks_so, brings_carries, one_carried}
 use Rattle.std.proofs.lemmas.Bool.{cases_Bool, cases_lt, false≢true, lt-ltb, ltb-true}
 use Rattle.qu_chain.specs.Count.{test_at}
-use Rattle.std.specs.Prelude.{count_by, is_some, slice_get}
+use Rattle.std.specs.Prelude.{is_some, slice_get}
 use Rattle.qu_frames.specs.Decoding.{decoded}
 use Rattle.qu_history.specs.Sets.{entries_of, method_at}
 use Rattle.qu_history.proofs.Rising.{holds_pushed}

@@ -2,8 +2,8 @@
 -- correct.
 use Rattle.qu_world.proofs.Steps.{AtCorrect, step_cases}
 use Rattle.qu_world.specs.Step.{moved}
-use Rattle.std.proofs.Common.{◌≡◌, ℕ, zero, suc, ◌+◌, ◌<◌, ◌≤◌, IsTrue, List, [], ◌∷◌, ◌++◌, length, get_or, Option, None, Some, Ok, refl, sym, ap, subst, ◌∙◌, arith, add-one}
-use Rattle.std.specs.Prelude.{slice_get}
+use Rattle.std.proofs.Common.{◌≡◌, ℕ, zero, suc, ◌+◌, ◌<◌, ◌≤◌, IsTrue, List, [], ◌∷◌, ◌++◌, length, get_or, Option, None, Some, Ok, refl, sym, ap, subst, ◌∙◌, arith, add-one, true, false}
+use Rattle.std.specs.Prelude.{slice_get, not}
 use Rattle.std.specs.List.{AllByRecursion}
 use Rattle.std.proofs.lemmas.List.Concat.{flat_map-append}
 use Rattle.qu_base.specs.declared.party.ClientId.{ClientId}
@@ -14,7 +14,7 @@ use Rattle.qu_base.specs.Bounds.{replicas}
 use Rattle.qu_history.specs.declared.sets.SetOf.{SetOf}
 use Rattle.qu_history.specs.History.{ObjectHistory}
 use Rattle.qu_history.specs.declared.sealed.Sealed.{Sealed}
-use Rattle.qu_history.specs.Sealing.{sealed_by, IsSealedBy}
+use Rattle.qu_history.specs.Sealing.{sealed_by}
 use Rattle.qu_objects.specs.declared.op.Op.{Op}
 use Rattle.qu_objects.specs.declared.op.Op.TheVariants as op
 use Rattle.qu_frames.specs.declared.frame.Body.{Body}
@@ -40,12 +40,10 @@ use Rattle.qu_world.specs.Step.{world_step, unchanged, at_replica, at_client, re
 use Rattle.qu_world.specs.Run.{IsRun}
 use Rattle.qu_runs.specs.Carried.{Carries, Asks}
 use Rattle.qu_runs.specs.Times.{world_after}
-use Rattle.qu_grounds.specs.Views.{WasHeld, IsOfKept}
-use Rattle.qu_runs.specs.Plain.{HasOpParts, IsPlain, ArePlain}
+use Rattle.qu_grounds.specs.Views.{WasHeld, IsOfKept, HeldIfCorrect}
+use Rattle.qu_runs.specs.Plain.{HasOpParts, IsPlain, ArePlain, IsOfFaulty}
 use Rattle.qu_runs.proofs.WorldGrowth.{world_after-none, world_after-next}
-use Rattle.qu_world.proofs.Each.{each_append, each_numbered, each_with_numbered, each_weaker, set_here}
-use Rattle.qu_client.specs.declared.kept.Kept.{Kept}
-use Rattle.qu_runs.proofs.OpeningReplicas.{keys_are}
+use Rattle.qu_world.proofs.Each.{each_append, each_numbered, each_with_numbered, set_here}
 use Rattle.qu_grounds.proofs.OwnHistories.{IsInPlace, AreInPlace, step-in_place, opening-all_in_place, set-in_place, found_where_named}
 use Rattle.qu_grounds.proofs.TrueLetters.{IsMadeOf, IsTrueFrame, IsTrueLetter, IsTrueClient, IsTrueStep, letters-more, clients-more, client_step-true, client_invoke-true, opening-true, replica_step-true}
 use Rattle.qu_runs.proofs.Small.{some_entry}
@@ -53,6 +51,15 @@ use Rattle.qu_runs.proofs.Carrying.{AsksFit, AnswersFit, IsFitStep, numbered_her
 use Rattle.qu_runs.proofs.Fitting.{fit_step}
 use Rattle.qu_seal.specs.Keys.{Ring}
 use Rattle.qu_runs.proofs.Handing.{injected_cases}
+use Rattle.qu_history.specs.Formats.{shown_by, shown_form, next_object}
+use Rattle.qu_trace.specs.Faulty.{is_good, is_faulty}
+use Rattle.qu_frames.specs.Formats.{frame_form, kind_form, reply_frame}
+use Rattle.qu_base.specs.Format.{FitsFrom}
+use Rattle.std.proofs.lemmas.Bool.{eqb-true, false≢true}
+use Rattle.qu_frames.specs.Signing.{sender}
+use Rattle.qu_frames.proofs.Signed.{brought_is_decoded}
+use Rattle.qu_frames.proofs.Decoded.{decoded_is_spelled}
+use Rattle.qu_runs.proofs.Plain.{setup_after}
 
 -- each history in a letter or with a client was held, and what the replicas have is in its place
 pub record IsTrueWorld (Held : Sealed → Type 0) (bounds : ℕ) (world : WorldState) : Type 0 where
