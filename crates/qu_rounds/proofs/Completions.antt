@@ -1,8 +1,8 @@
 -- A completed operation was answered by a quorum.
 use Rattle.qu_runs.specs.Carried.{offered}
 use Rattle.qu_runs.proofs.Handing.{handed_offers}
-use Rattle.std.proofs.Common.{◌≡◌, ◌≢◌, ℕ, suc, ◌+◌, ◌-◌, ◌<◌, ◌≤◌, Bool, true, eqb, List, [], ◌∷◌, length, map, filter, get_or, None, Some, refl, sym, ap, subst, ◌∙◌, arith, slice_get, All, AllPairs, Contains, Ok, Option}
-use Rattle.std.proofs.lemmas.Bool.{and_parts, eqb-true, cond_both}
+use Rattle.std.proofs.Common.{◌≡◌, ◌≢◌, ℕ, suc, ◌+◌, ◌-◌, ◌<◌, ◌≤◌, Bool, true, eqb, List, [], ◌∷◌, length, map, filter, get_or, None, Some, refl, sym, ap, subst, ◌∙◌, arith, slice_get, All, AllPairs, Contains, Ok, Option, not, cond, inl, inr, false, ◌==◌}
+use Rattle.std.proofs.lemmas.Bool.{and_parts, eqb-true, cond_both, or_cases, false≢true}
 use Rattle.std.proofs.lemmas.List.{length-map, get_or-map}
 use Rattle.std.proofs.lemmas.List.Elements.{All-nil, All-cons, All-head, All-tail, All-map}
 use Rattle.std.proofs.lemmas.List.Kept.{AllPairs-filter}
@@ -36,11 +36,10 @@ use Rattle.qu_runs.specs.Times.{world_after}
 use Rattle.qu_runs.specs.Answers.{round_in, round_of, delivered_round}
 use Rattle.qu_rounds.specs.Completions.{Replied, IsCompleted}
 use Rattle.qu_runs.proofs.Recording.{entry_cases, letter_stays}
-use Rattle.qu_rounds.proofs.Replies.{sent_before}
-use Rattle.qu_rounds.proofs.Counted.{WasAnswered, AreDifferent, Counts, counts_world, work_answered, with_answered, different_more}
+use Rattle.qu_rounds.proofs.Counted.{WasAnswered, AreDifferent, Counts, counts_world, work_answered, with_answered, different_more, WasTold, answers_from}
 use Rattle.qu_rounds.proofs.Endings.{TextCompletes, EndsAt, operation_ends, EndedBy, ended_so, ReplyCompletes, completes}
-use Rattle.qu_runs.specs.Carried.{Carries, handed}
-use Rattle.qu_runs.specs.Plain.{ArePlain}
+use Rattle.qu_runs.specs.Carried.{handed}
+use Rattle.qu_runs.specs.Plain.{ArePlain, IsFrom}
 use Rattle.qu_client.proofs.Laws.{sound_work}
 use Rattle.qu_machine.proofs.Equalities.{client_is}
 use Rattle.qu_frames.specs.Signing.{brought}
@@ -51,6 +50,11 @@ use Rattle.std.specs.Prelude.{option_map}
 use Rattle.qu_frames.specs.Decoding.{decoded}
 use Rattle.qu_trace.specs.Letters.{letters_of}
 use Rattle.qu_runs.proofs.Handing.{hand}
+use Rattle.qu_trace.specs.Faulty.{is_good}
+use Rattle.qu_rounds.proofs.Members.{is_among, members_count}
+use Rattle.qu_chain.specs.Count.{count}
+use Rattle.qu_chain.proofs.Counting.{count-more}
+use Rattle.qu_runs.proofs.FewFaults.{few_faulty}
 
 -- ---- what the theorem is given of the records of operations
 
@@ -176,14 +180,16 @@ split_length test (item ∷ later) =
 filtered_passes : (test : ℕ → Bool) (members : List ℕ) (index : ℕ) → is_among (filter test members) index ≡ true
     → test index ≡ true
 filtered_passes test [] index among = absurd (false≢true among)
-filtered_passes test (member ∷ later) index among = by (test member) refl among
+filtered_passes test (member ∷ later) index among =
+    by (test member) refl among (λ there. filtered_passes test later index there)
   where
     by : (here : Bool) → test member ≡ here
-        → is_among (cond here (member ∷ filter test later) (filter test later)) index ≡ true → test index ≡ true
-    by false is among = filtered_passes test later index among
-    by true is among = elim (or_cases (member == index) (is_among (filter test later) index) among) [
+        → is_among (cond here (member ∷ filter test later) (filter test later)) index ≡ true
+        → (is_among (filter test later) index ≡ true → test index ≡ true) → test index ≡ true
+    by false is among rest = rest among
+    by true is among rest = elim (or_cases (member == index) (is_among (filter test later) index) among) [
       | inl here ↦ ap test (sym (eqb-true member index here)) ∙ is
-      | inr there ↦ filtered_passes test later index there
+      | inr there ↦ rest there
     ]
 
 -- of different members below a bound, those that fail a test are at most as many as all that fail it

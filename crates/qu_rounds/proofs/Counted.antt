@@ -1,10 +1,10 @@
 -- The verdicts of correct replicas that a client counts were sent by them, to the round that is under way.
-use Rattle.std.proofs.Common.{◌≡◌, ◌≢◌, ℕ, zero, suc, ◌+◌, ◌<◌, ◌≤◌, true, false, eqb, List, length, get_or, Option, None, Some, IfSome, refl, sym, ap, subst, ◌∙◌, arith, inl, inr, add-one, slice_get, All, AllPairs, Contains}
+use Rattle.std.proofs.Common.{◌≡◌, ◌≢◌, ℕ, zero, suc, ◌+◌, ◌<◌, ◌≤◌, true, false, eqb, List, length, get_or, Option, None, Some, IfSome, refl, sym, ap, subst, ◌∙◌, arith, inl, inr, add-one, slice_get, All, AllPairs, Contains, Ok, Err, Result, Bool, not, if◌then◌else◌}
 use Rattle.std.specs.List.{list_any}
-use Rattle.std.proofs.lemmas.Bool.{not-true, and_parts, eqb-true, cond_both}
+use Rattle.std.proofs.lemmas.Bool.{not-true, and_parts, eqb-true, cond_both, ltb-true, false≢true}
 use Rattle.std.proofs.lemmas.List.Elements.{All-nil, All-push, All-weaker, All-contains}
 use Rattle.std.proofs.lemmas.List.Quantifiers.{all_pairs_push}
-use Rattle.std.proofs.lemmas.Option.{none-some}
+use Rattle.std.proofs.lemmas.Option.{none-some, same_Some}
 use Rattle.qu_base.specs.declared.party.ClientId.{ClientId}
 use Rattle.qu_base.specs.declared.party.ReplicaId.{ReplicaId}
 use Rattle.qu_base.specs.Bounds.{replicas}
@@ -33,17 +33,24 @@ use Rattle.qu_runs.proofs.WorldGrowth.{world_after-none, world_after-next}
 use Rattle.qu_runs.proofs.Recording.{world_cases}
 use Rattle.qu_rounds.proofs.Replies.{RepliesWithin, replies_within, SentBefore, sent_before}
 use Rattle.qu_runs.proofs.Keyed.{opening_client}
-use Rattle.qu_runs.proofs.Carrying.{tells_as}
 use Rattle.qu_runs.proofs.Small.{some_entry}
 use Rattle.qu_world.proofs.Each.{with_cases}
-use Rattle.qu_runs.specs.Carried.{Tells, Carries}
-use Rattle.qu_runs.specs.Plain.{IsPlain, ArePlain}
+use Rattle.qu_runs.specs.Carried.{Tells}
+use Rattle.qu_runs.specs.Plain.{IsPlain, ArePlain, IsFrom, IsOfFaulty}
 use Rattle.qu_history.specs.declared.sealed.Sealed.{Sealed}
 use Rattle.qu_machine.proofs.Equalities.{client_is}
-use Rattle.qu_frames.specs.Signing.{brought}
+use Rattle.qu_frames.specs.Signing.{brought, sender, is_signed, if_signed}
 use Rattle.qu_frames.proofs.Signed.{brought_is_decoded}
 use Rattle.qu_base.specs.declared.party.Party.TheVariants as party
 use Rattle.qu_base.specs.declared.party.ObjectId.{ObjectId}
+use Rattle.qu_trace.specs.Faulty.{is_good, is_faulty}
+use Rattle.qu_frames.specs.Decoding.{decoded}
+use Rattle.qu_seal.specs.Keys.{Ring, has_party, verifies}
+use Rattle.qu_base.specs.declared.bad_text.BadText.{BadText}
+use Rattle.qu_base.specs.declared.party.Party.{Party}
+use Rattle.std.specs.Prelude.{nat_lt}
+use Rattle.qu_trace.specs.declared.trace.Setup.{Setup}
+use Rattle.qu_runs.proofs.Plain.{setup_after}
 
 -- the verdict was sent by its replica to this round, before the event of the entry with this index
 pub record WasTold (trace : Trace) (before : ℕ) (client : ClientId) (number round : ℕ)
@@ -110,7 +117,7 @@ answered_by trace is have before letter client number round counted shown sent i
 -- whoever is brought a frame shares a key with its sender
 sender_known : (ring : Ring) (to : Party) (text : List ℕ) (taken : Frame) → brought ring to text ≡ Some taken
     → has_party ring (sender taken) ≡ true
-unfolding brought
+unfolding brought is_signed verifies
 sender_known ring to text taken brings = by (decoded text) brings
   where
     keyed : (test : Bool) (found : Frame) → (if test then Some found else None) ≡ Some taken
@@ -119,7 +126,6 @@ sender_known ring to text taken brings = by (decoded text) brings
     keyed false found is = absurd (none-some taken is)
 
     has_key : (frame : Frame) → is_signed ring to text frame ≡ true → has_party ring (sender frame) ≡ true
-    unfolding is_signed verifies
     has_key frame signed = (and_parts _ _ (and_parts _ _ signed).0).0
 
     by : (read : Result Frame BadText) → if_signed ring to text read ≡ Some taken → has_party ring (sender taken) ≡ true
@@ -177,7 +183,8 @@ answers_from trace is have before within me text (inl sent) replica client numbe
     (record { replica = replica; verdict = verdict; culled = culled }) shown
     (sent_before trace is before within sent.number sent.letter sent.is_letter)
     (record { culled = culled; mac = mac; carries = ap decoded sent.text_is ∙ carries })
-answers_from trace is have before within me text (inr made) = answers_of_faulty trace before me text made
+answers_from trace is have before within me text (inr made) replica client number round verdict culled shown mac
+    carries = answers_of_faulty trace before me text made replica client number round verdict culled shown mac carries
 
 -- ---- the verdicts of the operation under way
 
