@@ -1,5 +1,5 @@
 -- The first answer to a round is found among the rounds that the letters of each entry answer.
-use Rattle.std.proofs.Common.{◌≡◌, ℕ, ◌+◌, Bool, not, cond, ◌||◌, List, [], ◌∷◌, length, Option, None, Some, Result, Ok, Err, refl, ap, ◌∙◌}
+use Rattle.std.proofs.Common.{◌≡◌, ℕ, ◌+◌, Bool, not, cond, ◌||◌, List, [], ◌∷◌, length, Option, None, Some, Result, Ok, refl, ap, ◌∙◌}
 use Rattle.std.specs.Prelude.{nat_lt, map, position, option_map}
 use Rattle.std.specs.List.{list_any, filter_map, cons_option, position_or_len}
 use Rattle.std.proofs.lemmas.List.{length-map}

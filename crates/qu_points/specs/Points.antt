@@ -1,5 +1,5 @@
 -- The points of some operations of a trace, in their order.
-use Rattle.std.specs.Prelude.{◌≡◌, ℕ, Bool, true, false, not, ◌==◌, ◌&&◌, ◌+◌, if◌then◌else◌, List, [], ◌∷◌, min, position, Option, None, Some, option_map, Result, Ok, Err, IsTrue, Contains, ◌⊎◌}
+use Rattle.std.specs.Prelude.{◌≡◌, ℕ, Bool, true, false, not, ◌==◌, ◌&&◌, ◌+◌, if◌then◌else◌, List, [], ◌∷◌, min, position, Option, None, Some, option_map, Result, Ok, IsTrue, Contains, ◌⊎◌}
 use Rattle.std.specs.List.{AllPairs, list_any, filter_map}
 use Rattle.std.specs.Option.{option_eq}
 use Rattle.qu_base.specs.declared.bad_text.BadText.{BadText}

@@ -1,23 +1,23 @@
 -- What a replica of a run holds, or with the faulty ones a quorum accepted, is accepted in the setting of the run.
-use Rattle.std.proofs.Common.{◌≡◌, ℕ, ◌<◌, ◌≤◌, true, length, Some, refl, ◌∙◌, arith}
-use Rattle.std.specs.Prelude.{slice_get, count_by}
+use Rattle.std.proofs.Common.{◌≡◌, ℕ, ◌<◌, ◌≤◌, true, length, Some, ◌∙◌, arith, ◌+◌}
+use Rattle.std.specs.Prelude.{slice_get}
 use Rattle.std.proofs.lemmas.Option.{slice_get_within}
 use Rattle.qu_base.specs.declared.party.ObjectId.{ObjectId}
 use Rattle.qu_base.specs.Bounds.{replicas, quorum}
 use Rattle.qu_stamp.specs.declared.candidate.Candidate.{Candidate}
 use Rattle.qu_history.specs.History.{holds}
 use Rattle.qu_chain.specs.Laws.{Laws}
-use Rattle.qu_chain.proofs.Ancestry.{accepted_by, some-later}
+use Rattle.qu_chain.proofs.Ancestry.{accepted_by, some-later, accepted_by_attested, attested_by_established}
 use Rattle.qu_chain.proofs.Counting.{test_at-here}
 use Rattle.qu_replica.specs.State.{ReplicaState, own_candidates}
 use Rattle.qu_trace.specs.declared.trace.Trace.{Trace}
 use Rattle.qu_runs.specs.Accepted.{accepts}
 use Rattle.qu_runs.specs.Setting.{setting}
 use Rattle.qu_runs.specs.Times.{world_after}
-use Rattle.qu_runs.proofs.Small.{some_quorum}
+
 use Rattle.qu_runs.proofs.OpeningReplicas.{acceptor_is_good, all_replicas}
-use Rattle.qu_runs.proofs.Settings.{acceptors_are}
 use Rattle.qu_values.specs.Updates.{IsEverAccepted}
+use Rattle.qu_chain.specs.Setting.{acceptors}
 
 module _ (trace : Trace) (laws : Laws (setting trace)) (time : ℕ) (within : time ≤ length trace.entries) where
   pub place_ever : (place : ℕ) → place < replicas trace.setup.bounds → (object : ObjectId) (candidate : Candidate)

@@ -1,42 +1,52 @@
 -- No candidate of an update is an ancestor of another: a client sends an act upon full sets in one round at most, and
 -- what these sets show was accepted before any candidate of the act.
-use Rattle.std.proofs.Common.{◌≡◌, ◌⊎◌, ℕ, ◌<◌, true, IsTrue, List, length, Some, refl, sym, ap, subst, ◌∙◌, arith, inl, inr}
-use Rattle.std.specs.Prelude.{slice_get}
-use Rattle.std.proofs.lemmas.Option.{none-some, same_Some}
-use Rattle.qu_base.specs.declared.party.ClientId.{ClientId}
-use Rattle.qu_base.specs.declared.party.Digest.{Digest}
+use Rattle.std.proofs.Common.{◌≡◌, ℕ, ◌<◌, true, List, length, Some, refl, sym, ap, subst, ◌∙◌, arith, inl, inr, filter, not, suc, ◌≤◌, ◌∷◌, [], add-one, Bool, ◌+◌}
+use Rattle.std.specs.Prelude.{slice_get, nat_lt}
 use Rattle.qu_base.specs.declared.party.ObjectId.{ObjectId}
 use Rattle.qu_stamp.specs.declared.candidate.Candidate.{Candidate}
-use Rattle.qu_stamp.specs.Candidate.{opening}
 use Rattle.qu_history.specs.declared.sets.SetOf.{SetOf}
 use Rattle.qu_history.specs.Sets.{entries_of, method_at}
 use Rattle.qu_objects.specs.declared.act.Method.{Method}
-use Rattle.qu_objects.specs.Digesting.{act_digest}
 use Rattle.qu_frames.specs.declared.frame.Body.TheVariants as body
 use Rattle.qu_frames.specs.declared.frame.Letter.{Letter}
-use Rattle.qu_replica.specs.Rows.{asked_of, fresh_stamp}
+use Rattle.qu_replica.specs.Rows.{asked_of}
 use Rattle.qu_client.specs.Rounds.{are_full}
 use Rattle.qu_trace.specs.declared.trace.Trace.{Trace}
 use Rattle.qu_world.specs.State.{WorldState, letter_of}
 use Rattle.qu_world.specs.Run.{IsRun}
-use Rattle.qu_grounds.specs.Chained.{last_world}
-use Rattle.qu_runs.specs.Accepted.{is_accepted}
-use Rattle.qu_runs.specs.Digested.{IsHandled, IsMadeFor}
-use Rattle.qu_grounds.specs.Grounds.{IsGround, Accepts}
-use Rattle.qu_grounds.specs.Origins.{Origin}
+use Rattle.qu_runs.specs.Digested.{IsMadeFor}
+use Rattle.qu_grounds.specs.Grounds.{IsGround, Accepts, IsDelivered}
 use Rattle.qu_runs.specs.Plain.{ArePlain}
-use Rattle.qu_grounds.proofs.FullSets.{accepted_upon_full}
-use Rattle.qu_grounds.proofs.Handled.{handled, made_for}
+use Rattle.qu_grounds.proofs.FullSets.{delivered_upon}
+use Rattle.qu_grounds.proofs.Handled.{accepted_made}
 use Rattle.qu_runs.proofs.LaterLetters.{letter_later}
-use Rattle.qu_values.proofs.OneAct.{IsFit, fit, ActsAreOne}
-use Rattle.qu_grounds.specs.Parts.{Names}
-use Rattle.qu_grounds.proofs.Parts.{same_named}
+use Rattle.qu_values.proofs.OneAct.{ActsAreOne, one_made_for}
 use Rattle.qu_rounds.proofs.OneRequest.{one_full_request}
 use Rattle.qu_runs.proofs.OpeningReplicas.{bounds_are}
-use Rattle.qu_grounds.proofs.Origins.{accepted_from}
-use Rattle.qu_runs.proofs.Small.{same_candidate}
 use Rattle.qu_runs.specs.Carried.{Asks}
 use Rattle.qu_runs.proofs.Carrying.{asks_so, asks_as, brings_carries}
+use Rattle.qu_chain.specs.Setting.{Setting, IsAccepted, IsAncestor, acceptors}
+use Rattle.qu_chain.specs.Laws.{Laws}
+use Rattle.qu_chain.specs.Joint.{Joint}
+use Rattle.qu_chain.proofs.Parents.{First, first_new, rests, one_candidate}
+use Rattle.qu_chain.proofs.Ancestry.{some-later, accepted_by_attested, attested_by_established}
+use Rattle.qu_runs.specs.Setting.{setting}
+use Rattle.qu_values.specs.Updates.{Update, IsOf, IsEverAccepted}
+use Rattle.qu_grounds.proofs.Accepting.{some_entry, Acceptance}
+use Rattle.qu_grounds.proofs.Laws.{acceptance_of}
+use Rattle.qu_grounds.proofs.Acceptors.{method_is_shown}
+use Rattle.qu_grounds.proofs.Views.{view_of_request}
+use Rattle.qu_grounds.specs.Views.{IsOfKept}
+use Rattle.qu_values.proofs.Updates.{last_is, acts, opening_no_act}
+use Rattle.qu_history.specs.Culling.{culled, is_right}
+use Rattle.qu_seal.specs.Keys.{Ring}
+use Rattle.qu_base.specs.declared.party.ReplicaId.{ReplicaId}
+use Rattle.qu_base.specs.Bounds.{quorum}
+use Rattle.std.proofs.lemmas.Bool.{and_parts, and_from, cond_both}
+use Rattle.std.proofs.lemmas.Bool.Decides.{nat_tests}
+use Rattle.qu_runs.proofs.WorldGrowth.{world_after-next}
+use Rattle.qu_runs.specs.Times.{world_after}
+use Rattle.qu_world.specs.Step.{world_step}
 
 -- ---- an ancestor was accepted before
 
@@ -172,6 +182,16 @@ module _ (trace : Trace) (is_run : IsRun trace) (have : ArePlain trace) (one_act
         upon_at update first.time object first.replica candidate (omega (arith, last_is trace, within))
         (acceptance_of trace is_run have first.time object first.replica candidate first.new) is_of
 
+    -- what a quorum accepted with the faulty ones, some correct one did
+    shown_accepted : (time : ℕ) (base : Candidate)
+        → quorum trace.setup.bounds ≤ acceptors (setting trace) time object base + (setting trace).faults
+        → IsAccepted (setting trace) time object base
+    unfolding setting
+    shown_accepted time base shown =
+        let few : (setting trace).faults ≤ trace.setup.bounds = laws.sizes.borne in
+        accepted_by_attested (setting trace) laws time object base
+        (attested_by_established (setting trace) laws time object base (omega (arith, few, shown)))
+
     -- the base of a candidate of the update was accepted before each candidate of it
     base_before : (first second : Candidate) (early : First (setting trace) (setting trace).last object first)
         (late : First (setting trace) (setting trace).last object second)
@@ -198,15 +218,6 @@ module _ (trace : Trace) (is_run : IsRun trace) (have : ArePlain trace) (one_act
         (ap (λ (it : List SetOf). method_at trace.setup.bounds (entries_of object (culled other.keys other.me it))) sets
         ∙ other.is_base) in
         shown_accepted early.time other.base shown
-      where
-        shown_accepted : (time : ℕ) (base : Candidate)
-            → quorum trace.setup.bounds ≤ acceptors (setting trace) time object base + (setting trace).faults
-            → IsAccepted (setting trace) time object base
-        unfolding setting
-        shown_accepted time base shown =
-            let few : (setting trace).faults ≤ trace.setup.bounds = laws.sizes.borne in
-            accepted_by_attested (setting trace) laws time object base
-            (attested_by_established (setting trace) laws time object base (omega (arith, few, shown)))
 
     -- no accepted candidate of the update is an ancestor of another
     pub once_accepted : (first second : Candidate) → IsOf trace update object first

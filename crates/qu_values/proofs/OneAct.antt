@@ -15,10 +15,9 @@ use Rattle.qu_objects.specs.Digesting.{act_text, act_digest}
 use Rattle.qu_objects.proofs.Text.{act_text-one}
 use Rattle.qu_frames.specs.declared.frame.Body.TheVariants as body
 use Rattle.qu_frames.specs.Body.{body_of}
-use Rattle.qu_trace.specs.declared.trace.Entry.{Entry}
 use Rattle.qu_trace.specs.declared.trace.Trace.{Trace}
 use Rattle.qu_world.specs.Run.{IsRun}
-use Rattle.qu_runs.specs.Digested.{Request, handled_by, IsHandled, IsMadeFor, Text, texts_of, digested, NoCollision}
+use Rattle.qu_runs.specs.Digested.{Request, IsHandled, IsMadeFor, Text, texts_of, digested, NoCollision}
 use Rattle.qu_rounds.specs.Invocations.{IsRequestOf}
 use Rattle.qu_runs.specs.Plain.{HasOpParts, ArePlain}
 use Rattle.qu_values.proofs.SentRequests.{asked_by_handled}

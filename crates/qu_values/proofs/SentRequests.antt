@@ -1,9 +1,7 @@
 -- A request that was handled was sent, and belongs to an operation.
 use Rattle.qu_runs.specs.Digested.{is_handler}
 use Rattle.std.proofs.Common.{◌≡◌, ℕ, ◌<◌, ◌≤◌, Bool, true, false, cond, List, length, Option, None, Some, refl, sym, ap, subst, ◌∙◌, arith, inl, inr}
-use Rattle.std.specs.Prelude.{Contains, not, nat_lt, ◌&&◌, if◌then◌else◌}
-use Rattle.qu_base.specs.Bounds.{replicas}
-use Rattle.qu_trace.specs.Faulty.{is_faulty}
+use Rattle.std.specs.Prelude.{Contains}
 use Rattle.std.specs.List.{list_all}
 use Rattle.std.proofs.lemmas.List.{take_all}
 use Rattle.std.proofs.lemmas.Option.{none-some, cond_some}

@@ -9,13 +9,10 @@ use Rattle.qu_stamp.specs.declared.candidate.Candidate.{Candidate}
 use Rattle.qu_stamp.specs.declared.stamp.Stamp.{Stamp}
 use Rattle.qu_stamp.specs.Stamp.{is_below}
 use Rattle.qu_stamp.specs.Candidate.{opening}
-use Rattle.qu_stamp.proofs.Order.{is_below-self}
-use Rattle.qu_chain.specs.Setting.{Apart, IsAncestor}
+use Rattle.qu_chain.specs.Setting.{Apart}
 use Rattle.qu_chain.specs.Laws.{Laws}
 use Rattle.qu_chain.specs.Joint.{Joint}
-use Rattle.qu_chain.proofs.Ancestry.{accepted_by_attested}
 use Rattle.qu_chain.proofs.Counting.{Found, found_at}
-use Rattle.qu_chain.proofs.Parents.{ancestor-not_above}
 use Rattle.qu_objects.specs.declared.kind.Value.{Value}
 use Rattle.qu_objects.specs.declared.version.Version.{Version}
 use Rattle.qu_frames.specs.declared.frame.Body.TheVariants as body
@@ -37,13 +34,14 @@ use Rattle.qu_values.specs.Updates.{Update, IsOf, IsEverAccepted}
 use Rattle.qu_values.specs.Values.{HasVersion}
 use Rattle.qu_grounds.proofs.Handled.{handled, made_for}
 use Rattle.qu_values.proofs.SentRequests.{made_for_operation, asked_by_handled}
-use Rattle.qu_values.proofs.OneAct.{ActsAreOne, act_by}
+use Rattle.qu_values.proofs.OneAct.{ActsAreOne, act_by, fit}
 use Rattle.qu_grounds.proofs.Origins.{accepted_from}
 use Rattle.qu_values.proofs.OnceAccepted.{once_accepted}
 use Rattle.qu_values.proofs.StoredValues.{version_held}
-use Rattle.qu_values.proofs.Updates.{acts, opening_no_act, same_accepted}
+use Rattle.qu_values.proofs.Updates.{opening_no_act, same_accepted}
 use Rattle.qu_values.proofs.UpdateFacts.{HasValue, MadeFor, UpdateFacts}
 use Rattle.qu_values.proofs.Values.{one_version}
+use Rattle.qu_grounds.proofs.Parts.{same_named}
 
 module _ (trace : Trace) where
   in_world : (object : ObjectId) (candidate : Candidate) → IsEverAccepted trace object candidate
