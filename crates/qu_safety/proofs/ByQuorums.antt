@@ -1,5 +1,5 @@
 -- In every run a quorum stands behind the answer of each completed operation.
-use Rattle.std.proofs.Common.{◌≡◌, ℕ, ◌-◌, ◌≤◌, true, false, List, length, refl, sym, ap, subst, ◌∙◌, arith}
+use Rattle.std.proofs.Common.{◌≡◌, ℕ, ◌-◌, ◌≤◌, true, false, List, length, refl, sym, ap, subst, ◌∙◌, arith, ◌+◌, ◌<◌}
 use Rattle.std.specs.Prelude.{All, Contains}
 use Rattle.std.proofs.lemmas.List.Elements.{All-weaker}
 use Rattle.qu_base.specs.declared.party.ObjectId.{ObjectId}

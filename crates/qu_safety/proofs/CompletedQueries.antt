@@ -1,6 +1,5 @@
 -- A completed query answers from the tops of its objects when a replica first answered its round.
 use Rattle.std.proofs.Common.{◌≡◌, ◌≢◌, ℕ, zero, suc, ◌+◌, ◌-◌, ◌<◌, ◌≤◌, Bool, true, false, ◌==◌, List, [], length, Option, None, Some, refl, sym, ap, subst, ◌∙◌, arith, inl, inr, slice_get, All, AllPairs, Contains}
-use Rattle.std.specs.Prelude.{count_by}
 use Rattle.std.specs.List.{Any, AllZip}
 use Rattle.std.proofs.lemmas.Bool.{false≢true, cases_Bool, cases_lt, and_from, eqb-true, eq-eqb}
 use Rattle.std.proofs.lemmas.List.Elements.{All-contains, All-weaker}
@@ -57,7 +56,7 @@ use Rattle.qu_runs.specs.Setting.{setting}
 use Rattle.qu_rounds.specs.Invocations.{IsRequestOf}
 use Rattle.qu_runs.specs.Answers.{is_answer, answers, sends_answer, answers_at}
 use Rattle.qu_runs.specs.Times.{world_after}
-use Rattle.qu_runs.proofs.Settings.{acceptors_are, acceptors_counted}
+use Rattle.qu_runs.proofs.Settings.{acceptors_counted}
 use Rattle.qu_points.specs.Order.{AnswersFirst, query_effect, effect_of, IsOperationPoint}
 use Rattle.qu_points.proofs.Correct.{operations_correct}
 use Rattle.qu_points.specs.Points.{IsOfCorrect, point_at}

@@ -1,5 +1,5 @@
 -- Points are at different events, each after its operation began.
-use Rattle.std.proofs.Common.{◌≡◌, ℕ, zero, suc, ◌<◌, ◌≤◌, true, List, length, get_or, Option, None, Some, refl, sym, ap, subst, ◌∙◌, arith, Result, Ok, Err, inl, inr}
+use Rattle.std.proofs.Common.{◌≡◌, ℕ, zero, suc, ◌<◌, ◌≤◌, true, List, length, get_or, Option, None, Some, refl, sym, ap, subst, ◌∙◌, arith, Result, Ok, inl, inr}
 use Rattle.std.specs.Prelude.{◌==◌, ◌&&◌, slice_get, Contains}
 use Rattle.std.proofs.lemmas.Bool.{false≢true, and_parts, eqb-true}
 use Rattle.std.proofs.lemmas.Option.{slice_get_within, get_or_from_slice_get}
