@@ -9,7 +9,7 @@ use Rattle.qu_trace.specs.declared.premises.Premises.{Premises}
 use Rattle.qu_trace.specs.declared.trace.Trace.{Trace}
 use Rattle.qu_trace.specs.Operation.{operations_of}
 use Rattle.qu_world.specs.Run.{IsRun}
-use Rattle.qu_runs.specs.Premises.{MeetsPremises, FaultyAreSilent}
+use Rattle.qu_runs.specs.Premises.{MeetsPremises}
 use Rattle.qu_premise.specs.Answer.{IsAnswer}
 use Rattle.qu_grounds.specs.Chained.{IsChained}
 use Rattle.qu_points.specs.Order.{IsPrintedOrder}
@@ -26,29 +26,27 @@ use Rattle.qu_cli.specs.Transfer.{TakesScript, Writes, WritesShort, WritesOrFail
 -- ---- what a command makes of a script
 
 -- the text is the report of the run, with the answer of its audit, which is Hold exactly where the premises hold, and
--- its printed order. Where they hold and faulty parties are silent, the order is a serial order of the run's
--- operations, and what is established in the run is a chain
+-- its printed order, whose points it tells where they hold. Then the order is a serial order of the run's operations,
+-- whatever up to b faulty replicas sent, and what is established in the run is a chain
 pub record Reports (trace : Trace) (text : List ℕ) : Type 0 where
   pub premises : Premises
   pub order : List Point
   pub audited : IsAnswer trace premises
   pub ordered : IsPrintedOrder trace order
-  pub serial : MeetsPremises trace → FaultyAreSilent trace
-      → IsSerial trace.setup.kinds (operations_of trace.entries) order
-  pub chained : MeetsPremises trace → FaultyAreSilent trace → IsChained trace
+  pub serial : MeetsPremises trace → IsSerial trace.setup.kinds (operations_of trace.entries) order
+  pub chained : MeetsPremises trace → IsChained trace
   pub tells : text ≡ report_of trace premises order
 
--- the headline: where no HMAC of a correct party is forged, no two texts that the run digests have one digest, and no
--- correct party takes anything from a faulty one, one machine that runs whole operations in the printed order gives
--- each completed operation of the run its answer, between its call and its reply, and each update once; and on each
+-- the headline: where no HMAC of a correct party is forged, and no two texts that the run digests have one digest, one
+-- machine that runs whole operations in the printed order gives each completed operation of the run its answer, between
+-- its call and its reply, and each update once, whatever the network does and up to b faulty replicas send; and on each
 -- object the established candidates are a chain
 pub record HasOneHistory (trace : Trace) : Type 0 where
   pub order : List Point
   pub is_run : IsRun trace
   pub printed : IsPrintedOrder trace order
-  pub serial : MeetsPremises trace → FaultyAreSilent trace
-      → IsSerial trace.setup.kinds (operations_of trace.entries) order
-  pub chained : MeetsPremises trace → FaultyAreSilent trace → IsChained trace
+  pub serial : MeetsPremises trace → IsSerial trace.setup.kinds (operations_of trace.entries) order
+  pub chained : MeetsPremises trace → IsChained trace
 
 -- the text is what the command tells of a run
 abbrev pub Tells : Command → Trace → List ℕ → Type 0

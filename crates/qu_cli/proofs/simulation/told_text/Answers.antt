@@ -1,4 +1,4 @@
--- The report has an order that is serial where the premises hold and faulty parties are silent.
+-- The report has an order that is serial where the premises hold.
 use Rattle.std.proofs.Common.{ap, ◌∙◌}
 use Rattle.qu_print.specs.Report.{report_of}
 use Rattle.qu_cli.proofs.EndFacts.{tells_report}
@@ -14,7 +14,7 @@ returns-in_ok-text-in-Sim c =
       order = order.order;
       audited = premises.ensures.answer;
       ordered = order.ensures.printed;
-      serial = order.ensures.serial;
-      chained = order.ensures.chained;
+      serial = λ holds. order.ensures.serial holds c.requires.replicas;
+      chained = λ holds. order.ensures.chained holds c.requires.replicas;
       tells = c.in_ok-text-in-Sim.ensures ∙ ap (report_of trace premises.premises) c.as_slice.ensures;
     })
