@@ -1,5 +1,5 @@
 -- The steps of a run at which replicas accept candidates.
-use Rattle.std.proofs.Common.{◌≡◌, ℕ, suc, ◌<◌, true, false, [], ◌∷◌, ◌++◌, length, get_or, None, Some, refl, sym, ap, ◌∙◌, arith, inl, inr, ◌⊎◌, add-one}
+use Rattle.std.proofs.Common.{◌≡◌, ℕ, suc, ◌<◌, true, false, [], ◌∷◌, ◌++◌, length, get_or, None, Some, refl, sym, ap, ◌∙◌, inl, inr, ◌⊎◌, add-one}
 use Rattle.std.specs.Prelude.{◌||◌, slice_get}
 use Rattle.std.proofs.lemmas.Bool.{false≢true, or_cases}
 use Rattle.std.proofs.lemmas.List.Folds.{list_any-append}
@@ -23,8 +23,7 @@ use Rattle.qu_runs.specs.Times.{world_after}
 use Rattle.qu_runs.specs.Plain.{ArePlain}
 use Rattle.qu_grounds.specs.Grounds.{IsDelivered}
 use Rattle.qu_runs.proofs.Befores.{WasBefore, was_before}
-use Rattle.qu_grounds.proofs.Happenings.{event_accepts}
-use Rattle.qu_grounds.proofs.Views.{sent_has_parts}
+use Rattle.qu_grounds.proofs.Happenings.{hands_parts, event_accepts}
 use Rattle.qu_runs.proofs.WorldGrowth.{world_after-next}
 use Rattle.qu_runs.proofs.OpeningReplicas.{opening_holds}
 
@@ -69,8 +68,7 @@ step_at trace is_run have at within place new is_new object =
       old = before.old;
       is_old = before.is_old;
       adds = event_accepts (world_after trace at) event place before.old new before.is_old found
-          (λ number letter sent. sent_has_parts trace is_run have at (omega arith) number letter sent)
-          (have.plain_at at some_entry within) object;
+          (hands_parts trace is_run have at some_entry within) object;
     }
 
 -- what is held now and was not before is what was added

@@ -71,7 +71,7 @@ more_at object candidate (old ∷ olds) (new ∷ news) (suc place) more accepted
     more_at object candidate olds news place more.1 accepted
 
 -- the replica of a history that was held accepted what it holds
-still_accepts : (trace : Trace) (count : ℕ) (history : ObjectHistory) (candidate : Candidate)
+pub still_accepts : (trace : Trace) (count : ℕ) (history : ObjectHistory) (candidate : Candidate)
     → WasHeld trace count history → holds candidate history.candidates ≡ true
     → test_at (accepts history.object candidate) (world_after trace count).replicas (history.replica).0 ≡ true
 still_accepts trace count history candidate was held =
@@ -109,7 +109,7 @@ order_with candidate (Some sealed) entries test most less tells =
     sum_by-cons (λ (it : ObjectHistory). cond (holds candidate it.candidates) 1 0) history (histories entries) in
     rw sum (omega arith)
 
-order_of-none : (candidate : Candidate) → order_of candidate [] ≡ 0
+pub order_of-none : (candidate : Candidate) → order_of candidate [] ≡ 0
 unfolding order_of
 order_of-none candidate = refl
 

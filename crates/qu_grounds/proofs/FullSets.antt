@@ -6,7 +6,7 @@ use Rattle.std.specs.List.{list_all}
 use Rattle.std.proofs.lemmas.Option.{none-some, same_Some}
 use Rattle.qu_base.specs.declared.party.ClientId.{ClientId}
 use Rattle.qu_base.specs.declared.party.ObjectId.{ObjectId}
-use Rattle.qu_base.specs.declared.party.Party.{Party}
+use Rattle.qu_base.specs.declared.party.Party.TheVariants as party
 use Rattle.qu_base.specs.declared.party.ReplicaId.{ReplicaId}
 use Rattle.qu_base.specs.Bounds.{quorum}
 use Rattle.qu_seal.specs.Keys.{Ring}
@@ -17,7 +17,6 @@ use Rattle.qu_objects.specs.declared.act.Method.{Method}
 use Rattle.qu_frames.specs.declared.frame.Body.TheVariants as body
 use Rattle.qu_frames.specs.declared.frame.Frame.{Frame}
 use Rattle.qu_frames.specs.declared.frame.Frame.TheVariants as frame
-use Rattle.qu_frames.specs.declared.frame.Letter.{Letter}
 use Rattle.qu_frames.specs.declared.verdict.Refusal.{Refusal}
 use Rattle.qu_frames.specs.declared.verdict.Refusal.TheVariants as refusal
 use Rattle.qu_replica.specs.declared.decision.Decision.{Decision}
@@ -28,7 +27,7 @@ use Rattle.qu_client.specs.Rounds.{are_full}
 use Rattle.qu_trace.specs.declared.event.Event.{Event}
 use Rattle.qu_trace.specs.declared.trace.Trace.{Trace}
 use Rattle.qu_world.specs.State.{WorldState}
-use Rattle.qu_world.specs.Step.{world_step, at_replica, received}
+use Rattle.qu_world.specs.Step.{world_step, at_replica}
 use Rattle.qu_grounds.specs.Grounds.{Accepts, IsDelivered}
 use Rattle.qu_grounds.specs.Parts.{Names}
 use Rattle.qu_runs.specs.Times.{world_after}
@@ -138,22 +137,21 @@ upon_by old new taken object accepts names is =
 
 -- ---- the same in a run
 
--- the replica that took the letter stepped
+-- the replica that took the text stepped
 delivered_to : (world : WorldState) (event : Event) (place : ℕ) (old new : ReplicaState) (object : ObjectId)
     (happened : IsDelivered world event place old new object) → slice_get world.replicas place ≡ Some old
     → slice_get (world_step world event).replicas place ≡ Some new → (on_frame old happened.carried).0 ≡ new
 delivered_to world event place old new object happened is_old is_new =
-    let letter : Letter = happened.letter in
-    let stepped : ReplicaState = (replica_step old letter.text).0 in
-    let is : world_step world event ≡ at_replica world event (record { 0 = place }) letter.text (Some old) =
-    handed_step world event letter.to letter.text happened.is_handed ∙
-    ap (λ (to : Party). received world event to letter.text) happened.to ∙
-    ap (at_replica world event (record { 0 = place }) letter.text) is_old in
+    let text : List ℕ = happened.text in
+    let stepped : ReplicaState = (replica_step old text).0 in
+    let is : world_step world event ≡ at_replica world event (record { 0 = place }) text (Some old) =
+    handed_step world event (party.Replica (record { 0 = place })) text happened.is_handed ∙
+    ap (at_replica world event (record { 0 = place }) text) is_old in
     ap (λ it. (on_received old it).0) (sym happened.brings) ∙
     same_Some stepped new (sym (set_here world.replicas place old stepped is_old)
     ∙ ap (λ (it : WorldState). slice_get it.replicas place) (sym is) ∙ is_new)
 
--- a letter that made a replica accept a candidate shows such sets
+-- a text that made a replica accept a candidate shows such sets
 pub delivered_upon : (world : WorldState) (event : Event) (place : ℕ) (old new : ReplicaState) (object : ObjectId)
     (happened : IsDelivered world event place old new object) → slice_get world.replicas place ≡ Some old
     → slice_get (world_step world event).replicas place ≡ Some new → IsUpon old (happened.accepts).sets

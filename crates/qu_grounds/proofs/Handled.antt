@@ -86,41 +86,51 @@ request_offered trace is_run time within (Tick client) to text none = absurd (no
 request_offered trace is_run time within (Inject who other) to text hands =
     ap (λ (it : Party × List ℕ). request_to trace.setup it.1 it.0) (same_Some (who, other) (to, text) hands)
 
--- a replica handles a request that shows it objects that it has, with its sets culled
-pub request_handled : (trace : Trace) → IsRun trace → (time : ℕ) → time < length trace.entries → (event : Event)
-    → (place : ℕ) (old : ReplicaState) → slice_get (world_after trace time).replicas place ≡ Some old
-    → (letter : Letter) → handed (world_after trace time) event ≡ Some (letter.to, letter.text)
-    → letter.to ≡ party.Replica (record { 0 = place })
-    → (request : Request) (round : ℕ) (sent : List SetOf) (mac : List ℕ)
-    → Brings old letter (frame.Request request.client request.number round sent request.body mac)
-    → are_had old sent ≡ true → culled old.keys old.me sent ≡ request.sets
-    → handled_by trace event ≡ Some request
-request_handled trace is_run time within event place old is_old letter hands to request round sent mac brings had
-    culls =
-    let few : length old.histories ≤ length trace.setup.kinds =
-    found_within (length trace.setup.kinds) (world_after trace time).replicas place old (run_has trace time)
-    is_old in
-    let known : list_all (is_known trace.setup) sent ≡ true =
-    all_known trace.setup (length old.histories) few sent had in
+-- what is handed to a replica is handed to a correct one
+pub handler_at : (trace : Trace) (time : ℕ) (event : Event) (place : ℕ) (old : ReplicaState)
+    → slice_get (world_after trace time).replicas place ≡ Some old → (text : List ℕ)
+    → handed (world_after trace time) event ≡ Some (party.Replica (record { 0 = place }), text)
+    → is_handler trace.setup (record { 0 = place }) ≡ true
+handler_at trace time event place old is_old text hands =
     let there : place < length (world_after trace time).replicas =
     slice_get_within (world_after trace time).replicas place old is_old in
     let all : length (world_after trace time).replicas ≡ replicas trace.setup.bounds = all_replicas trace time in
     let among : nat_lt place (replicas trace.setup.bounds) ≡ true = lt-ltb _ _ (omega (arith, there, all)) in
     let correct : is_faulty trace.setup (party.Replica (record { 0 = place })) ≡ false =
     ap (λ (setup : Setup). is_faulty setup (party.Replica (record { 0 = place }))) (sym (setup_after trace time))
-    ∙ ap (is_faulty (world_after trace time).setup) (sym to)
-    ∙ handed_correct (world_after trace time) event letter.to letter.text hands in
-    let handles : is_handler trace.setup (record { 0 = place }) ≡ true = and_from _ _ among (ap not correct) in
-    request_offered trace is_run time (omega arith) event letter.to letter.text
-    (handed_offers (world_after trace time) event letter.to letter.text hands) ∙
-    ap (request_to trace.setup letter.text) to ∙
+    ∙ handed_correct (world_after trace time) event (party.Replica (record { 0 = place })) text hands in
+    and_from _ _ among (ap not correct)
+
+-- the objects that it has are the setup's
+pub known_sent : (trace : Trace) (time place : ℕ) (old : ReplicaState)
+    → slice_get (world_after trace time).replicas place ≡ Some old → (sent : List SetOf) → are_had old sent ≡ true
+    → list_all (is_known trace.setup) sent ≡ true
+known_sent trace time place old is_old sent had =
+    all_known trace.setup (length old.histories)
+    (found_within (length trace.setup.kinds) (world_after trace time).replicas place old (run_has trace time) is_old)
+    sent had
+
+-- a replica handles a request that shows it objects that it has, with its sets culled
+pub request_handled : (trace : Trace) → IsRun trace → (time : ℕ) → time < length trace.entries → (event : Event)
+    → (place : ℕ) (old : ReplicaState) → slice_get (world_after trace time).replicas place ≡ Some old
+    → (text : List ℕ) → handed (world_after trace time) event ≡ Some (party.Replica (record { 0 = place }), text)
+    → (request : Request) (round : ℕ) (sent : List SetOf) (mac : List ℕ)
+    → Brings old text (frame.Request request.client request.number round sent request.body mac)
+    → are_had old sent ≡ true → culled old.keys old.me sent ≡ request.sets
+    → handled_by trace event ≡ Some request
+request_handled trace is_run time within event place old is_old text hands request round sent mac brings had culls =
+    let known : list_all (is_known trace.setup) sent ≡ true = known_sent trace time place old is_old sent had in
+    let handles : is_handler trace.setup (record { 0 = place }) ≡ true =
+    handler_at trace time event place old is_old text hands in
+    request_offered trace is_run time (omega arith) event (party.Replica (record { 0 = place })) text
+    (handed_offers (world_after trace time) event (party.Replica (record { 0 = place })) text hands) ∙
     ap (λ (test : Bool). cond test
     (request_brought trace.setup (record { 0 = place })
-    (brought (ring_of trace.setup) (party.Replica (record { 0 = place })) letter.text)) None) handles ∙
+    (brought (ring_of trace.setup) (party.Replica (record { 0 = place })) text)) None) handles ∙
     ap (λ (keys : Ring). request_brought trace.setup (record { 0 = place })
-    (brought keys (party.Replica (record { 0 = place })) letter.text))
+    (brought keys (party.Replica (record { 0 = place })) text))
     (sym (keys_are trace time place old is_old)) ∙
-    ap (λ (me : ReplicaId). request_brought trace.setup me (brought old.keys (party.Replica me) letter.text))
+    ap (λ (me : ReplicaId). request_brought trace.setup me (brought old.keys (party.Replica me) text))
     (sym (me_is trace time place old is_old)) ∙
     ap (request_brought trace.setup old.me) brings ∙
     ap (λ (test : Bool). cond test
@@ -132,12 +142,11 @@ request_handled trace is_run time within event place old is_old letter hands to 
 pub handled_upon : (trace : Trace) → IsRun trace → (time : ℕ) → time < length trace.entries → (entry : Entry)
     → Contains trace.entries entry
     → (place : ℕ) (old : ReplicaState) → slice_get (world_after trace time).replicas place ≡ Some old
-    → (letter : Letter) → handed (world_after trace time) entry.event ≡ Some (letter.to, letter.text)
-    → letter.to ≡ party.Replica (record { 0 = place })
+    → (text : List ℕ) → handed (world_after trace time) entry.event ≡ Some (party.Replica (record { 0 = place }), text)
     → (client : ClientId) (number round : ℕ) (sent : List SetOf) (parts : List (ObjectId × Method)) (mac : List ℕ)
-    → Brings old letter (frame.Request client number round sent (body.Act parts) mac) → are_had old sent ≡ true
+    → Brings old text (frame.Request client number round sent (body.Act parts) mac) → are_had old sent ≡ true
     → IsHandled trace client number parts
-handled_upon trace is_run time within entry of_trace place old is_old letter hands to client number round sent
+handled_upon trace is_run time within entry of_trace place old is_old text hands client number round sent
     parts mac brings had =
     let sets : List SetOf = culled old.keys old.me sent in
     record {
@@ -145,7 +154,7 @@ handled_upon trace is_run time within entry of_trace place old is_old letter han
       of_trace = of_trace;
       sets = sets;
       handled =
-          request_handled trace is_run time within entry.event place old is_old letter hands to
+          request_handled trace is_run time within entry.event place old is_old text hands
           (record { client = client; number = number; sets = sets; body = body.Act parts }) round sent mac brings had
           refl;
     }
@@ -168,7 +177,7 @@ upon_handled trace is_run time within event place old new is_old is_new object d
     is_old is_new in
     let had : are_had old one.sent ≡ true =
     sym (culled_had old old.keys old.me one.sent) ∙ ap (are_had old) one.culls ∙ upon.had in
-    request_handled trace is_run time within event place old is_old delivered.letter delivered.is_handed delivered.to
+    request_handled trace is_run time within event place old is_old delivered.text delivered.is_handed
     (request_upon old new delivered.carried one) one.round one.sent one.mac
     (delivered.brings ∙ ap (λ (it : Frame). Some it) one.is_request) had one.culls
 

@@ -1,7 +1,7 @@
 -- What an event of a world adds to a replica, and why: nothing, or what a letter to it makes it accept.
 use Rattle.qu_world.proofs.Steps.{AtCorrect, step_cases}
 use Rattle.qu_world.specs.Step.{moved}
-use Rattle.std.proofs.Common.{◌≡◌, ◌⊎◌, ℕ, List, Option, None, Some, inl, inr, refl, sym, subst, ap, ◌∙◌, Ok}
+use Rattle.std.proofs.Common.{◌≡◌, ◌⊎◌, ℕ, List, Option, None, Some, inl, inr, refl, sym, subst, ap, ◌∙◌, Ok, get_or, ◌<◌, length}
 use Rattle.std.specs.Prelude.{slice_get, slice_set}
 use Rattle.std.proofs.lemmas.Bool.{cases_eq}
 use Rattle.std.proofs.lemmas.Option.{same_Some}
@@ -26,12 +26,18 @@ use Rattle.qu_grounds.specs.Grounds.{Accepts, IsMoved, IsDelivered}
 use Rattle.qu_grounds.proofs.Acceptance.{step_moves}
 use Rattle.qu_grounds.proofs.Parts.{named_or_not}
 use Rattle.qu_world.proofs.Each.{set_here, set_other}
-use Rattle.qu_runs.specs.Carried.{Carries, handed}
+use Rattle.qu_runs.specs.Carried.{handed}
 use Rattle.qu_frames.specs.Decoding.{decoded}
-use Rattle.qu_runs.specs.Plain.{IsPlain}
+use Rattle.qu_runs.specs.Plain.{ArePlain}
 use Rattle.qu_frames.specs.Signing.{brought}
 use Rattle.qu_frames.proofs.Signed.{brought_is_decoded}
-use Rattle.qu_runs.proofs.Handing.{letter_handed, injected_cases}
+use Rattle.qu_runs.proofs.Handing.{letter_handed, offered_handed}
+use Rattle.qu_trace.specs.declared.trace.Trace.{Trace}
+use Rattle.qu_trace.specs.declared.trace.Entry.{Entry}
+use Rattle.qu_world.specs.Run.{IsRun}
+use Rattle.qu_runs.specs.Times.{world_after}
+use Rattle.qu_runs.proofs.FitParts.{fits_parts}
+use Rattle.qu_runs.proofs.Fitting.{handed_fits}
 
 -- ---- a replica before an event
 
@@ -115,27 +121,26 @@ replica_takes world event me text (Some state) place old new is_found parts is_o
           (set_other world.replicas me.0 place moved apart) is_old is_new)
     ]
 
-letter_taken : (world : WorldState) (event : Event) (number : ℕ) (letter : Letter) (to : Party) (place : ℕ)
-    (old new : ReplicaState)
-    → letter_of world number ≡ Some letter → handed world event ≡ Some (letter.to, letter.text) → letter.to ≡ to
-    → ((carried : Frame) → Carries letter carried → HasParts carried)
-    → slice_get world.replicas place ≡ Some old → slice_get (received world event to letter.text).replicas
-    place ≡ Some new
+-- the parts of each frame that the event hands over are those of an act or a query
+abbrev pub HandsParts : WorldState → Event → Type 0
+HandsParts world event = (to : Party) (text : List ℕ) → handed world event ≡ Some (to, text) → (carried : Frame)
+    → decoded text ≡ Ok carried → HasParts carried
+
+text_taken : (world : WorldState) (event : Event) (to : Party) (text : List ℕ) (place : ℕ) (old new : ReplicaState)
+    → handed world event ≡ Some (to, text) → HandsParts world event
+    → slice_get world.replicas place ≡ Some old
+    → slice_get (received world event to text).replicas place ≡ Some new
     → (new ≡ old) ⊎ IsMoved world event place old new
-letter_taken world event number letter (party.Client me) place old new is_letter hands is_to parts is_old is_new =
-    inl (client_stays world event me (λ (state : ClientState). client_step state letter.text)
+text_taken world event (party.Client me) text place old new hands parts is_old is_new =
+    inl (client_stays world event me (λ (state : ClientState). client_step state text)
     (numbered world.clients me.0) place old new is_old is_new)
-letter_taken world event number letter (party.Replica me) place old new is_letter hands is_to parts is_old is_new =
-    let replica : ℕ → Party = λ it. party.Replica (record { 0 = it }) in
-    elim (replica_takes world event me letter.text (slice_get world.replicas me.0) place old new refl parts is_old
-    is_new) [
+text_taken world event (party.Replica me) text place old new hands parts is_old is_new =
+    elim (replica_takes world event me text (slice_get world.replicas me.0) place old new refl
+    (parts (party.Replica me) text hands) is_old is_new) [
       | inl same ↦ inl same
       | inr taken ↦ inr (record {
-        number = number;
-        letter = letter;
-        is_letter = is_letter;
-        is_handed = hands;
-        to = is_to ∙ ap replica taken.here;
+        text = text;
+        is_handed = hands ∙ ap (λ (it : ℕ). Some (party.Replica (record { 0 = it }), text)) taken.here;
         carried = taken.frame;
         brings = taken.is_frame;
         accepts = taken.accepts;
@@ -144,16 +149,15 @@ letter_taken world event number letter (party.Replica me) place old new is_lette
 
 letter_delivered : (world : WorldState) (number : ℕ) → AtCorrect world (Deliver number) → (found : Option Letter)
     (place : ℕ) (old new : ReplicaState)
-    → letter_of world number ≡ found
-    → ((letter : Letter) → found ≡ Some letter → (carried : Frame) → Carries letter carried → HasParts carried)
+    → letter_of world number ≡ found → HandsParts world (Deliver number)
     → slice_get world.replicas place ≡ Some old → slice_get (delivered world (Deliver number) found).replicas
     place ≡ Some new
     → (new ≡ old) ⊎ IsMoved world (Deliver number) place old new
 letter_delivered world number correct None place old new is_found parts is_old is_new =
     inl (stays world.replicas world.replicas place old new refl is_old is_new)
 letter_delivered world number correct (Some letter) place old new is_found parts is_old is_new =
-    letter_taken world (Deliver number) number letter letter.to place old new is_found
-    (letter_handed world number letter correct is_found) refl (parts letter refl) is_old is_new
+    text_taken world (Deliver number) letter.to letter.text place old new
+    (letter_handed world number letter correct is_found) parts is_old is_new
 
 -- an event at a faulty party leaves each replica as it is
 moves_cases : (world : WorldState) (event : Event) (place : ℕ) (old new : ReplicaState)
@@ -166,29 +170,22 @@ moves_cases world event place old new is_old step =
     → (new ≡ old) ⊎ IsMoved world event place old new) world event
     (λ is. inl (stays world.replicas world.replicas place old new refl is_old is)) step
 
--- an event leaves a replica as it is, or delivers to it what adds candidates
+-- an event leaves a replica as it is, or hands it what adds candidates
 pub event_moves : (world : WorldState) (event : Event) (place : ℕ) (old new : ReplicaState)
     → slice_get world.replicas place ≡ Some old → slice_get (world_step world event).replicas place ≡ Some new
-    → ((number : ℕ) (letter : Letter) → letter_of world number ≡ Some letter → (carried : Frame)
-    → Carries letter carried → HasParts carried)
-    → IsPlain world event → (new ≡ old) ⊎ IsMoved world event place old new
-event_moves world (Invoke client op) place old new is_old is_new parts plain =
+    → HandsParts world event → (new ≡ old) ⊎ IsMoved world event place old new
+event_moves world (Invoke client op) place old new is_old is_new parts =
     moves_cases world (Invoke client op) place old new is_old (λ correct is.
     inl (client_stays world (Invoke client op) client (λ (state : ClientState). client_invoke state op)
     (numbered world.clients client.0) place old new is_old is)) is_new
-event_moves world (Deliver number) place old new is_old is_new parts plain =
+event_moves world (Deliver number) place old new is_old is_new parts =
     moves_cases world (Deliver number) place old new is_old (λ correct is.
-    letter_delivered world number correct (letter_of world number) place old new refl (parts number) is_old is) is_new
-event_moves world (Inject to text) place old new is_old is_new parts plain =
-    injected_cases world to text (λ (event : Event) (made : WorldState). slice_get made.replicas place ≡ Some new
-    → (new ≡ old) ⊎ IsMoved world event place old new)
-    (λ is. inl (stays world.replicas world.replicas place old new refl is_old is))
-    (λ number letter is_letter hands is. letter_taken world (Inject letter.to letter.text) number letter letter.to
-    place old new is_letter hands refl (parts number letter is_letter) is_old is)
-    (λ me made hands is. inl (client_stays world (Inject (party.Client me) text) me
-    (λ (state : ClientState). client_step state text) (numbered world.clients me.0) place old new is_old is))
-    plain is_new
-event_moves world (Tick client) place old new is_old is_new parts plain =
+    letter_delivered world number correct (letter_of world number) place old new refl parts is_old is) is_new
+event_moves world (Inject to text) place old new is_old is_new parts =
+    moves_cases world (Inject to text) place old new is_old (λ correct is.
+    text_taken world (Inject to text) to text place old new
+    (offered_handed world (Inject to text) to text correct refl) parts is_old is) is_new
+event_moves world (Tick client) place old new is_old is_new parts =
     moves_cases world (Tick client) place old new is_old (λ correct is.
     inl (client_stays world (Tick client) client client_tick (numbered world.clients client.0) place old new
     is_old is)) is_new
@@ -196,21 +193,16 @@ event_moves world (Tick client) place old new is_old is_new parts plain =
 -- the same of one object
 pub event_accepts : (world : WorldState) (event : Event) (place : ℕ) (old new : ReplicaState)
     → slice_get world.replicas place ≡ Some old → slice_get (world_step world event).replicas place ≡ Some new
-    → ((number : ℕ) (letter : Letter) → letter_of world number ≡ Some letter → (carried : Frame)
-    → Carries letter carried → HasParts carried)
-    → IsPlain world event → (object : ObjectId) → (own_candidates new object ≡ own_candidates old object)
+    → HandsParts world event → (object : ObjectId) → (own_candidates new object ≡ own_candidates old object)
     ⊎ IsDelivered world event place old new object
-event_accepts world event place old new is_old is_new parts plain object =
-    elim (event_moves world event place old new is_old is_new parts plain) [
+event_accepts world event place old new is_old is_new parts object =
+    elim (event_moves world event place old new is_old is_new parts) [
       | inl same ↦ inl (ap (λ (it : ReplicaState). own_candidates it object) same)
       | inr moved ↦ elim (named_or_not (moved.accepts).parts object) [
         | inr not_named ↦ inl ((moved.accepts).others object not_named)
         | inl names ↦ inr (record {
-          number = moved.number;
-          letter = moved.letter;
-          is_letter = moved.is_letter;
+          text = moved.text;
           is_handed = moved.is_handed;
-          to = moved.to;
           carried = moved.carried;
           brings = moved.brings;
           accepts = moved.accepts;
@@ -218,3 +210,9 @@ event_accepts world event place old new is_old is_new parts plain object =
         })
       ]
     ]
+
+-- an event of a run hands over such frames
+pub hands_parts : (trace : Trace) → IsRun trace → ArePlain trace → (at : ℕ) (default : Entry)
+    → at < length trace.entries → HandsParts (world_after trace at) (get_or trace.entries at default).event
+hands_parts trace is_run have at default below to text hands carried is =
+    fits_parts carried (handed_fits trace is_run have at default below to text hands carried is)

@@ -14,8 +14,8 @@ use Rattle.qu_world.specs.Run.{IsRun}
 use Rattle.qu_runs.specs.Times.{world_after}
 use Rattle.qu_runs.specs.Plain.{ArePlain}
 use Rattle.qu_runs.proofs.Befores.{WasBefore, was_before}
+use Rattle.qu_grounds.proofs.Happenings.{hands_parts}
 use Rattle.qu_grounds.proofs.HeldVersions.{AreOfHeld, opening_of_held, event_of_held}
-use Rattle.qu_grounds.proofs.Views.{sent_has_parts}
 use Rattle.qu_runs.proofs.WorldGrowth.{world_after-none, world_after-next}
 use Rattle.qu_runs.proofs.Small.{some_entry}
 use Rattle.qu_seal.specs.Keys.{Ring}
@@ -45,8 +45,7 @@ module _ (trace : Trace) (is_run : IsRun trace) (have : ArePlain trace) where
       let was : WasBefore (world_after trace count).replicas place new =
       was_before (world_after trace count) event place new is_new in
       event_of_held (world_after trace count) event place was.old new was.is_old is_new
-      (λ number letter sent. sent_has_parts trace is_run have count (omega arith) number letter sent)
-      (have.plain_at count default below)
+      (hands_parts trace is_run have count default below)
       (before place was.old was.is_old) in
       subst AllOfHeld (sym (world_after-next trace count default below)) step
 

@@ -18,22 +18,18 @@ use Rattle.qu_objects.specs.declared.kind.KindName.{KindName}
 use Rattle.qu_objects.specs.declared.version.Version.{Version}
 use Rattle.qu_objects.specs.Kind.{fresh_value}
 use Rattle.qu_frames.specs.declared.frame.Frame.{Frame}
-use Rattle.qu_frames.specs.declared.frame.Letter.{Letter}
 use Rattle.qu_replica.specs.State.{ReplicaState, candidates_in, own_candidates, opening_histories, opening_versions, opening_state}
-use Rattle.qu_replica.specs.Growth.{HasParts}
 use Rattle.qu_replica.specs.Versions.{version_at}
 use Rattle.qu_trace.specs.declared.event.Event.{Event}
-use Rattle.qu_world.specs.State.{WorldState, letter_of}
+use Rattle.qu_world.specs.State.{WorldState}
 use Rattle.qu_world.specs.Step.{world_step}
 use Rattle.qu_grounds.specs.Parts.{Names}
 use Rattle.qu_grounds.specs.Grounds.{IsGround, Accepts}
 use Rattle.qu_replica.specs.Rows.{Asked}
 use Rattle.qu_grounds.proofs.Parts.{named_or_not}
 use Rattle.qu_grounds.proofs.Grounds.{above_held}
-use Rattle.qu_grounds.proofs.Happenings.{event_moves}
+use Rattle.qu_grounds.proofs.Happenings.{HandsParts, event_moves}
 use Rattle.qu_grounds.proofs.Performed.{stored_cases, among_stored, version_of_accepted}
-use Rattle.qu_runs.specs.Carried.{Carries}
-use Rattle.qu_runs.specs.Plain.{IsPlain}
 use Rattle.qu_seal.specs.Keys.{Ring}
 
 -- the replica holds a candidate with this stamp
@@ -128,12 +124,9 @@ still_of_held old new received accepts are = record {
 
 pub event_of_held : (world : WorldState) (event : Event) (place : ℕ) (old new : ReplicaState)
     → slice_get world.replicas place ≡ Some old → slice_get (world_step world event).replicas place ≡ Some new
-    → ((number : ℕ) (letter : Letter) → letter_of world number ≡ Some letter → (carried : Frame)
-    → Carries letter carried → HasParts carried)
-    → IsPlain world event
-    → AreOfHeld old → AreOfHeld new
-event_of_held world event place old new is_old is_new parts plain are =
-    elim (event_moves world event place old new is_old is_new parts plain) [
+    → HandsParts world event → AreOfHeld old → AreOfHeld new
+event_of_held world event place old new is_old is_new parts are =
+    elim (event_moves world event place old new is_old is_new parts) [
       | inl same ↦ subst AreOfHeld (sym same) are
       | inr moved ↦ still_of_held old new moved.carried moved.accepts are
     ]

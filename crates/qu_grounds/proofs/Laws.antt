@@ -1,18 +1,16 @@
 -- A run of the world meets the laws of the theory of what is decided.
-use Rattle.std.proofs.Common.{◌≡◌, Bool, List, Some, ap, arith, false, inl, inr, length, not, refl, subst, suc, sym, true, zero, ℕ, ◌⊎◌, ◌<◌, ◌≤◌, ◌∙◌, [], ◌+◌}
-use Rattle.qu_grounds.proofs.Accepting.{opening_alone, StepAt, step_at, Acceptance, acceptance, added_is}
+use Rattle.std.proofs.Common.{◌≡◌, Bool, List, Some, ap, arith, false, inl, inr, length, not, refl, subst, suc, sym, true, zero, ℕ, ◌⊎◌, ◌<◌, ◌≤◌, ◌∙◌, [], ◌+◌, add-one}
+use Rattle.qu_grounds.proofs.Accepting.{some_entry, opening_alone, StepAt, step_at, Acceptance, acceptance, added_is}
 use Rattle.qu_chain.proofs.Ancestry.{Acceptor, acceptor}
-use Rattle.qu_runs.proofs.WorldGrowth.{has_more, world_after-grows}
+use Rattle.qu_runs.proofs.WorldGrowth.{has_more, world_after-grows, world_after-next}
 use Rattle.qu_grounds.specs.Grounds.{IsGround, Accepts, IsDelivered}
 use Rattle.qu_runs.specs.Plain.{ArePlain}
 use Rattle.qu_base.specs.Bounds.{AreThresholds, quorum, replicas}
-use Rattle.qu_frames.specs.declared.frame.Body.{Body}
 use Rattle.qu_stamp.specs.declared.candidate.Candidate.{Candidate}
 use Rattle.qu_chain.proofs.Counting.{Found, found_at, test_at-here}
 use Rattle.qu_frames.specs.declared.frame.Frame.{Frame}
 use Rattle.qu_chain.specs.Laws.{Given, IsLinked, Laws, Sizes}
 use Rattle.qu_chain.specs.Setting.{IsNew, acceptors}
-use Rattle.qu_grounds.specs.Views.{IsOfKept}
 use Rattle.qu_world.specs.Run.{IsRun}
 use Rattle.qu_base.specs.declared.party.ObjectId.{ObjectId}
 use Rattle.qu_base.specs.declared.party.Party.{Party}
@@ -27,7 +25,7 @@ use Rattle.qu_runs.proofs.FewFaults.{few_faulty}
 use Rattle.qu_runs.proofs.OpeningReplicas.{acceptor_is_good, all_begin, all_replicas, bounds_are}
 use Rattle.qu_base.proofs.ThresholdFacts.{are_thresholds}
 use Rattle.qu_replica.specs.Rows.{asked_of, fresh_stamp}
-use Rattle.qu_runs.proofs.Carrying.{asks_so, brings_carries, one_carried}
+use Rattle.qu_runs.proofs.Carrying.{brings_decoded}
 use Rattle.std.proofs.lemmas.Bool.{cases_Bool, cases_lt, false≢true, lt-ltb, ltb-true}
 use Rattle.qu_chain.specs.Count.{test_at}
 use Rattle.std.specs.Prelude.{is_some, slice_get}
@@ -36,15 +34,19 @@ use Rattle.qu_history.specs.Sets.{entries_of, method_at}
 use Rattle.qu_history.proofs.Rising.{holds_pushed}
 use Rattle.qu_stamp.specs.Stamp.{is_below}
 use Rattle.qu_stamp.proofs.Order.{is_below-self}
-use Rattle.qu_grounds.proofs.Acceptors.{more_at, method_is_shown}
+use Rattle.qu_grounds.proofs.Acceptors.{more_at}
 use Rattle.qu_history.specs.declared.sets.SetOf.{SetOf}
-use Rattle.qu_runs.proofs.Handing.{one_hand}
+use Rattle.qu_world.specs.Step.{world_step}
+use Rattle.qu_world.specs.State.{WorldState}
 use Rattle.qu_stamp.specs.Candidate.{opening}
 use Rattle.qu_history.specs.History.{holds}
 use Rattle.qu_runs.specs.Carried.{handed}
 use Rattle.qu_runs.specs.Setting.{setting}
-use Rattle.std.proofs.lemmas.Option.{slice_get_cases, slice_get_within}
-use Rattle.qu_grounds.proofs.Views.{sent_has_parts, view_of_request}
+use Rattle.std.proofs.lemmas.Option.{same_Some, slice_get_cases, slice_get_within}
+use Rattle.qu_grounds.proofs.Views.{one_decoded}
+use Rattle.qu_grounds.proofs.Happenings.{hands_parts}
+use Rattle.qu_grounds.proofs.KeptEntries.{base_accepted}
+use Rattle.qu_grounds.proofs.FullSets.{IsUpon, are_had, culled_had, delivered_upon}
 use Rattle.qu_grounds.specs.Parts.{Names}
 use Rattle.qu_grounds.proofs.Parts.{same_named}
 use Rattle.qu_replica.specs.Growth.{HasParts}
@@ -91,6 +93,14 @@ module _ (trace : Trace) (is_run : IsRun trace) (have : ArePlain trace) where
   acceptance_of time object place candidate new =
       acceptance trace is_run have time new.step object place candidate new.after new.before
 
+  -- the step at which it is accepted
+  step_is : {object : ObjectId} {place : ℕ} {candidate : Candidate} (time : ℕ) → time < length trace.entries
+      → (accepted : Acceptance trace time object place candidate)
+      → world_step (world_after trace time) accepted.event ≡ world_after trace (suc time)
+  step_is time within accepted =
+      ap (world_step (world_after trace time)) accepted.event_is
+      ∙ sym (world_after-next trace time some_entry within) ∙ ap (world_after trace) (add-one time)
+
   -- the base of what is accepted was accepted by so many that with the faulty ones they are a quorum
   base_shown : (time : ℕ) (object : ObjectId) (place : ℕ) (candidate : Candidate) → time < length trace.entries
       → (accepted : Acceptance trace time object place candidate)
@@ -100,14 +110,17 @@ module _ (trace : Trace) (is_run : IsRun trace) (have : ArePlain trace) where
       let delivered : IsDelivered (world_after trace time) accepted.event place accepted.old accepted.new object =
       accepted.delivered in
       let one : Accepts accepted.old accepted.new delivered.carried = delivered.accepts in
-      let act : Body = body.Act one.parts in
-      let below : time ≤ length trace.entries = omega arith in
-      let view : IsOfKept trace time one.sent act =
-      view_of_request trace is_run have time below delivered.number delivered.letter delivered.is_letter one.client
-      one.number one.round one.sent act
-      (asks_so delivered.letter delivered.carried one.client one.number one.round one.sent act one.mac
-      (brings_carries accepted.old delivered.letter delivered.carried delivered.brings) one.is_request) in
-      method_is_shown trace time one.sent act view (accepted.old).keys (accepted.old).me object (one.bases object)
+      let upon : IsUpon accepted.old one.sets =
+      delivered_upon (world_after trace time) accepted.event place accepted.old accepted.new object delivered
+      accepted.is_old (ap (λ (it : WorldState). slice_get it.replicas place) (step_is time within accepted)
+      ∙ accepted.is_new) in
+      let had : are_had accepted.old one.sent ≡ true =
+      sym (culled_had accepted.old (accepted.old).keys (accepted.old).me one.sent) ∙ ap (are_had accepted.old) one.culls
+      ∙ upon.had in
+      base_accepted trace is_run have time within some_entry place accepted.old accepted.is_old delivered.text
+      (ap (handed (world_after trace time)) (sym accepted.event_is) ∙ delivered.is_handed) one.client one.number
+      one.round one.sent (body.Act one.parts) one.mac
+      (delivered.brings ∙ ap (λ (it : Frame). Some it) one.is_request) had object (one.bases object)
       (ap (λ (sets : List SetOf). method_at trace.setup.bounds (entries_of object sets)) one.culls
       ∙ ap (λ (bounds : ℕ). method_at bounds (entries_of object one.sets))
       (sym (bounds_are trace time place accepted.old accepted.is_old)) ∙ (one.grounds object delivered.names).method)
@@ -347,19 +360,22 @@ module _ (trace : Trace) (is_run : IsRun trace) (have : ArePlain trace) where
       let within : time < length trace.entries = new.step in
       let here : IsDelivered (world_after trace time) one.event place one.old one.new object = one.delivered in
       let there : IsDelivered (world_after trace time) two.event elsewhere two.old two.new other = two.delivered in
-      let hand = one_hand here.letter there.letter (handed (world_after trace time) one.event)
-      (handed (world_after trace time) two.event)
-      (ap (handed (world_after trace time)) (one.event_is ∙ sym two.event_is)) here.is_handed there.is_handed in
-      let places : place ≡ elsewhere = same_place place elsewhere (sym here.to ∙ hand.0 ∙ there.to) in
+      let same : (party.Replica (record { 0 = place }), here.text)
+      ≡ (party.Replica (record { 0 = elsewhere }), there.text) =
+      same_Some _ _ (sym here.is_handed ∙ ap (handed (world_after trace time)) (one.event_is ∙ sym two.event_is)
+      ∙ there.is_handed) in
+      let places : place ≡ elsewhere = same_place place elsewhere (ap (λ (it : Party × List ℕ). it.0) same) in
       let carried : here.carried ≡ there.carried =
-      one_carried here.letter here.carried there.carried
-      (brings_carries one.old here.letter here.carried here.brings)
-      (ap decoded hand.1 ∙ brings_carries two.old there.letter there.carried there.brings) in
+      one_decoded there.text here.carried there.carried
+      (ap decoded (sym (ap (λ (it : Party × List ℕ). it.1) same))
+      ∙ brings_decoded one.old here.text here.carried here.brings)
+      (brings_decoded two.old there.text there.carried there.brings) in
       let parts : (here.accepts).parts ≡ (there.accepts).parts =
       ap parts_in (sym (here.accepts).is_request ∙ carried ∙ (there.accepts).is_request) in
       let some : HasParts here.carried =
-      sent_has_parts trace is_run have time (omega (arith, within)) here.number here.letter here.is_letter here.carried
-      (brings_carries one.old here.letter here.carried here.brings) in
+      hands_parts trace is_run have time some_entry within (party.Replica (record { 0 = place })) here.text
+      (ap (handed (world_after trace time)) (sym one.event_is) ∙ here.is_handed) here.carried
+      (brings_decoded one.old here.text here.carried here.brings) in
       let objects : object ≡ other =
       same_named (here.accepts).parts object other (subst HasParts (here.accepts).is_request some) here.names
       (subst (λ (it : List (ObjectId × Method)). Names it other) (sym parts) there.names) in

@@ -27,13 +27,18 @@ use Rattle.qu_grounds.specs.Grounds.{Accepts}
 use Rattle.qu_grounds.specs.Named.{shown_to, StampsNameHistories}
 use Rattle.qu_runs.specs.Times.{world_after}
 use Rattle.qu_grounds.specs.Origins.{Origin}
-use Rattle.qu_runs.specs.Plain.{ArePlain}
-use Rattle.qu_runs.proofs.Fitting.{carried_in_run}
+use Rattle.qu_runs.specs.Plain.{HasEventParts, ArePlain}
+use Rattle.qu_runs.proofs.Fitting.{offered_fits}
+use Rattle.qu_runs.proofs.Handing.{handed_offers}
+use Rattle.qu_world.proofs.Each.{each_at}
+use Rattle.qu_trace.specs.declared.event.Event.{Event}
+use Rattle.qu_trace.specs.declared.trace.Entry.{Entry}
+use Rattle.qu_base.specs.declared.party.Party.TheVariants as party
 use Rattle.qu_grounds.proofs.Handled.{request_upon, upon_handled}
 use Rattle.qu_runs.proofs.DigestedTexts.{request_digested}
 use Rattle.qu_grounds.proofs.Origins.{accepted_from}
 use Rattle.qu_runs.proofs.OpeningReplicas.{bounds_are}
-use Rattle.qu_runs.proofs.Carrying.{brings_carries}
+use Rattle.qu_runs.proofs.Carrying.{brings_decoded}
 
 -- the text of sets
 abbrev text_of : List SetOf → Text
@@ -45,15 +50,24 @@ module _ (trace : Trace) (is_run : IsRun trace) (plain : ArePlain trace) where
       candidate → List SetOf
   sets_upon object candidate it = ((it.delivered).accepts).sets
 
+  -- the event of an entry has parts
+  event_parts : (entry : Entry) → Contains trace.entries entry → (event : Event) → event ≡ entry.event
+      → HasEventParts event
+  event_parts entry among event is =
+      subst HasEventParts (ap (λ (it : Entry). it.event) among.2 ∙ sym is)
+      (each_at (λ (it : Entry). HasEventParts it.event) trace.entries among.0 entry plain.parts among.1)
+
   sets_fit : (object : ObjectId) (candidate : Candidate)
       (it : Origin trace (length trace.entries) object candidate) → sets_form.Fits (sets_upon object candidate it)
   sets_fit object candidate it =
       let earlier : it.past < length trace.entries = it.earlier in
       let one : Accepts it.old it.new (it.delivered).carried = (it.delivered).accepts in
       let fits : frame_form.Fits (it.delivered).carried =
-      carried_in_run trace is_run plain it.past (omega arith) (it.delivered).number (it.delivered).letter
-      (it.delivered).is_letter (it.delivered).carried
-      (brings_carries it.old (it.delivered).letter (it.delivered).carried (it.delivered).brings) in
+      offered_fits trace is_run plain it.past (omega arith) it.event (event_parts it.entry it.of_trace it.event it.event_is)
+      (party.Replica (record { 0 = it.place })) (it.delivered).text
+      (handed_offers (world_after trace it.past) it.event (party.Replica (record { 0 = it.place })) (it.delivered).text
+      (it.delivered).is_handed) (it.delivered).carried
+      (brings_decoded it.old (it.delivered).text (it.delivered).carried (it.delivered).brings) in
       subst sets_form.Fits one.culls
       (culled-fits (it.old).keys (it.old).me one.sent
       (request-fits one.client one.number one.round one.sent (body.Act one.parts) one.mac

@@ -20,9 +20,8 @@ use Rattle.qu_grounds.specs.Origins.{Origin}
 use Rattle.qu_runs.specs.Plain.{ArePlain}
 use Rattle.qu_runs.proofs.WorldGrowth.{world_after-next}
 use Rattle.qu_runs.proofs.Befores.{WasBefore, was_before}
-use Rattle.qu_grounds.proofs.Happenings.{event_accepts}
+use Rattle.qu_grounds.proofs.Happenings.{hands_parts, event_accepts}
 use Rattle.qu_runs.proofs.OpeningReplicas.{opening_holds}
-use Rattle.qu_grounds.proofs.Views.{sent_has_parts}
 use Rattle.qu_runs.proofs.Small.{some_entry}
 use Rattle.std.specs.List.{list_any}
 use Rattle.qu_grounds.specs.Chained.{last_world}
@@ -73,8 +72,7 @@ module _ (trace : Trace) (is_run : IsRun trace) (have : ArePlain trace) where
       let was : WasBefore (world_after trace count).replicas place new =
       was_before (world_after trace count) event place new is_next in
       elim (event_accepts (world_after trace count) event place was.old new was.is_old is_next
-      (λ number letter sent. sent_has_parts trace is_run have count (omega arith) number letter sent)
-      (have.plain_at count default below) object) [
+      (hands_parts trace is_run have count default below) object) [
         | inl same ↦
             came_before trace count object candidate
             (before place was.old was.is_old object candidate (sym (ap (holds candidate) same) ∙ held))

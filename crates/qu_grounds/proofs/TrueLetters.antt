@@ -64,6 +64,16 @@ IsTrueFrame Held bounds (frame.Reply replica client number round verdict culled 
     AllByRecursion Held shown
 IsTrueFrame Held bounds _ = Unit {0}
 
+-- each history that a reply shows was held
+abbrev pub ShowsHeld : (Sealed → Type 0) → Frame → Type 0
+ShowsHeld Held (frame.Reply replica client number round verdict culled shown mac) = AllByRecursion Held shown
+ShowsHeld Held _ = Unit {0}
+
+pub shows_held : (Held : Sealed → Type 0) (bounds : ℕ) (sent : Frame) → IsTrueFrame Held bounds sent
+    → ShowsHeld Held sent
+shows_held Held bounds (frame.Reply replica client number round verdict culled shown mac) true_frame = true_frame
+shows_held Held bounds _ true_frame = tt
+
 abbrev pub IsTrueLetter : (Sealed → Type 0) → ℕ → Letter → Type 0
 IsTrueLetter Held bounds letter = (sent : Frame) → Carries letter sent → IsTrueFrame Held bounds sent
 
@@ -220,7 +230,7 @@ module _ (Held : Sealed → Type 0) (bounds : ℕ) where
         letters = tt;
       })
 
-  client_frame-true : (state : ClientState) (received : Frame) → IsTrueFrame Held bounds received
+  client_frame-true : (state : ClientState) (received : Frame) → ShowsHeld Held received
       → IsTrueClient Held bounds state → AsksFit (on_frame state received).state
       → IsTrueStep Held bounds (on_frame state received)
   client_frame-true state (frame.Reply replica client number round verdict culled shown mac) true_frame client_is fits =
@@ -236,14 +246,14 @@ module _ (Held : Sealed → Type 0) (bounds : ℕ) where
   client_frame-true state _ true_frame client_is fits = record { state = client_is; letters = tt }
 
   client_brought-true : (state : ClientState) (found : Option Frame)
-      → ((sent : Frame) → found ≡ Some sent → IsTrueFrame Held bounds sent) → IsTrueClient Held bounds state
+      → ((sent : Frame) → found ≡ Some sent → ShowsHeld Held sent) → IsTrueClient Held bounds state
       → AsksFit (on_received state found).state → IsTrueStep Held bounds (on_received state found)
   client_brought-true state (Some taken) true_frame client_is fits =
       client_frame-true state taken (true_frame taken refl) client_is fits
   client_brought-true state None true_frame client_is fits = record { state = client_is; letters = tt }
 
   pub client_step-true : (state : ClientState) (text : List ℕ)
-      → ((sent : Frame) → decoded text ≡ Ok sent → IsTrueFrame Held bounds sent) → IsTrueClient Held bounds state
+      → ((sent : Frame) → decoded text ≡ Ok sent → ShowsHeld Held sent) → IsTrueClient Held bounds state
       → AsksFit (client_step state text).state → IsTrueStep Held bounds (client_step state text)
   client_step-true state text true_frame =
       client_brought-true state (brought state.keys (party.Client state.me) text)

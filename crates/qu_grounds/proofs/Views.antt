@@ -2,7 +2,7 @@
 -- correct.
 use Rattle.qu_world.proofs.Steps.{AtCorrect, step_cases}
 use Rattle.qu_world.specs.Step.{moved}
-use Rattle.std.proofs.Common.{◌≡◌, ℕ, zero, suc, ◌+◌, ◌<◌, ◌≤◌, IsTrue, List, [], ◌∷◌, ◌++◌, length, get_or, Option, None, Some, Ok, refl, sym, ap, subst, ◌∙◌, arith, add-one, true, false}
+use Rattle.std.proofs.Common.{◌≡◌, ℕ, zero, suc, ◌+◌, ◌<◌, ◌≤◌, List, [], ◌∷◌, ◌++◌, length, get_or, Option, None, Some, Ok, refl, sym, ap, subst, ◌∙◌, arith, add-one, true, false}
 use Rattle.std.specs.Prelude.{slice_get, not}
 use Rattle.std.specs.List.{AllByRecursion}
 use Rattle.std.proofs.lemmas.List.Concat.{flat_map-append}
@@ -15,17 +15,13 @@ use Rattle.qu_history.specs.declared.sets.SetOf.{SetOf}
 use Rattle.qu_history.specs.History.{ObjectHistory}
 use Rattle.qu_history.specs.declared.sealed.Sealed.{Sealed}
 use Rattle.qu_history.specs.Sealing.{sealed_by}
-use Rattle.qu_objects.specs.declared.op.Op.{Op}
-use Rattle.qu_objects.specs.declared.op.Op.TheVariants as op
 use Rattle.qu_frames.specs.declared.frame.Body.{Body}
 use Rattle.qu_frames.specs.declared.frame.Frame.{Frame}
 use Rattle.qu_frames.specs.declared.frame.Frame.TheVariants as frame
 use Rattle.qu_frames.specs.declared.frame.Letter.{Letter}
-use Rattle.qu_frames.specs.Body.{body_of}
 use Rattle.qu_frames.specs.Decoding.{decoded}
 use Rattle.qu_replica.specs.State.{ReplicaState}
 use Rattle.qu_replica.specs.Step.{replica_step}
-use Rattle.qu_replica.specs.Growth.{has_parts, HasParts}
 use Rattle.qu_client.specs.declared.state.ClientState.{ClientState}
 use Rattle.qu_client.specs.declared.state.Stepped.{Stepped}
 use Rattle.qu_client.specs.Steps.{client_invoke, client_step, client_tick}
@@ -41,11 +37,11 @@ use Rattle.qu_world.specs.Run.{IsRun}
 use Rattle.qu_runs.specs.Carried.{Carries, Asks}
 use Rattle.qu_runs.specs.Times.{world_after}
 use Rattle.qu_grounds.specs.Views.{WasHeld, IsOfKept, HeldIfCorrect}
-use Rattle.qu_runs.specs.Plain.{HasOpParts, IsPlain, ArePlain, IsOfFaulty}
+use Rattle.qu_runs.specs.Plain.{IsPlain, ArePlain, IsOfFaulty}
 use Rattle.qu_runs.proofs.WorldGrowth.{world_after-none, world_after-next}
 use Rattle.qu_world.proofs.Each.{each_append, each_numbered, each_with_numbered, set_here}
 use Rattle.qu_grounds.proofs.OwnHistories.{IsInPlace, AreInPlace, step-in_place, opening-all_in_place, set-in_place, found_where_named}
-use Rattle.qu_grounds.proofs.TrueLetters.{IsMadeOf, IsTrueFrame, IsTrueLetter, IsTrueClient, IsTrueStep, letters-more, clients-more, client_step-true, client_invoke-true, opening-true, replica_step-true}
+use Rattle.qu_grounds.proofs.TrueLetters.{IsMadeOf, IsTrueFrame, IsTrueLetter, IsTrueClient, IsTrueStep, letters-more, clients-more, client_step-true, client_invoke-true, opening-true, replica_step-true, ShowsHeld, shows_held}
 use Rattle.qu_runs.proofs.Small.{some_entry}
 use Rattle.qu_runs.proofs.Carrying.{AsksFit, AnswersFit, IsFitStep, numbered_here}
 use Rattle.qu_runs.proofs.Fitting.{fit_step}
@@ -144,17 +140,27 @@ module _ (Held : Sealed → Type 0) (bounds : ℕ) where
       }
 
   received-true : (world : WorldState) (event : Event) (to : Party) (text : List ℕ)
-      → ((sent : Frame) → decoded text ≡ Ok sent → IsTrueFrame Held bounds sent)
-      → ((me : ReplicaId) (state : ReplicaState) (sent : Frame) → slice_get world.replicas me.0 ≡ Some state
-      → decoded text ≡ Ok sent → AnswersFit state sent)
+      → ((sent : Frame) → decoded text ≡ Ok sent → ShowsHeld Held sent)
+      → ((sent : Frame) → decoded text ≡ Ok sent → frame_form.Fits sent)
       → IsFitStep world (received world event to text) → IsTrueWorld Held bounds world
       → HasHeld (received world event to text) → IsTrueWorld Held bounds (received world event to text)
-  received-true world event (party.Replica me) text true_frame answers fits before now =
+  received-true world event (party.Replica me) text shows fits_so fits before now =
       at_replica-true world event me text (slice_get world.replicas me.0) refl
-      (λ state sent found. answers me state sent found) before now
-  received-true world event (party.Client me) text true_frame answers fits before now =
+      (λ state sent found is. fits.answers me state found sent (fits_so sent is)) before now
+  received-true world event (party.Client me) text shows fits_so fits before now =
       at_client-true world event me (λ (state : ClientState). client_step state text) (numbered world.clients me.0) refl
-      (λ state client. client_step-true Held bounds state text true_frame client) fits before
+      (λ state client. client_step-true Held bounds state text shows client) fits before
+
+  -- a letter that was sent reaches its receiver
+  letter-true : (world : WorldState) (event : Event) (number : ℕ) (letter : Letter)
+      → letter_of world number ≡ Some letter → IsFitStep world (received world event letter.to letter.text)
+      → IsTrueWorld Held bounds world → HasHeld (received world event letter.to letter.text)
+      → IsTrueWorld Held bounds (received world event letter.to letter.text)
+  letter-true world event number letter is fits before now =
+      received-true world event letter.to letter.text
+      (λ sent carries. shows_held Held bounds sent (each_numbered (IsTrueLetter Held bounds) (letters_of world.entries)
+      number letter before.letters is sent carries))
+      (λ sent carries. fits.carried number letter sent is carries) fits before now
 
   delivered-true : (world : WorldState) (event : Event) (number : ℕ) (letter : Option Letter)
       → letter_of world number ≡ letter → IsFitStep world (delivered world event letter)
@@ -162,9 +168,7 @@ module _ (Held : Sealed → Type 0) (bounds : ℕ) where
       → HasHeld (delivered world event letter) → IsTrueWorld Held bounds (delivered world event letter)
   delivered-true world event number None is fits before now = unchanged-true world event before
   delivered-true world event number (Some letter) is fits before now =
-      received-true world event letter.to letter.text
-      (each_numbered (IsTrueLetter Held bounds) (letters_of world.entries) number letter before.letters is)
-      (λ me state sent found carries. fits.answers me state found number letter sent is carries) fits before now
+      letter-true world event number letter is fits before now
 
   step_true : (world : WorldState) (event : Event) → IsTrueWorld Held bounds world
       → (AtCorrect world event → IsFitStep world (moved world event) → HasHeld (moved world event)
@@ -175,10 +179,10 @@ module _ (Held : Sealed → Type 0) (bounds : ℕ) where
       step_cases (λ (made : WorldState). IsFitStep world made → HasHeld made → IsTrueWorld Held bounds made) world event
       (λ fits now. unchanged-true world event before) step
 
-  -- `now` says that what the replicas have after the step counts as held, and `of_faulty` so of what a faulty one shows
+  -- `now` says that what the replicas have after the step counts as held, and `of_faulty` so of what faulty ones show
   world_step-true : (world : WorldState) (event : Event) → IsPlain world event
-      → ((me : ClientId) (text : List ℕ) → IsOfFaulty world (party.Client me) text → (sent : Frame)
-      → decoded text ≡ Ok sent → IsTrueFrame Held bounds sent)
+      → ((to : Party) (text : List ℕ) → IsOfFaulty world to text → (sent : Frame) → decoded text ≡ Ok sent
+      → ShowsHeld Held sent)
       → IsFitStep world (world_step world event) → IsTrueWorld Held bounds world
       → HasHeld (world_step world event) → IsTrueWorld Held bounds (world_step world event)
   world_step-true world (Invoke client op) parts of_faulty fits before now =
@@ -198,13 +202,10 @@ module _ (Held : Sealed → Type 0) (bounds : ℕ) where
       (λ (event : Event) (new : WorldState). IsFitStep world new → HasHeld new → IsTrueWorld Held bounds new)
       (λ fit has. unchanged-true world (Inject to text) before)
       (λ number letter sent hands fit has.
-      received-true world (Inject letter.to letter.text) letter.to letter.text
-      (each_numbered (IsTrueLetter Held bounds) (letters_of world.entries) number letter before.letters sent)
-      (λ me state taken found carries. fit.answers me state found number letter taken sent carries) fit before has)
-      (λ me made hands fit has.
-      at_client-true world (Inject (party.Client me) text) me (λ (state : ClientState). client_step state text)
-      (numbered world.clients me.0) refl
-      (λ state client. client_step-true Held bounds state text (of_faulty me text made) client) fit before)
+      letter-true world (Inject letter.to letter.text) number letter sent fit before has)
+      (λ made hands fit has.
+      received-true world (Inject to text) to text (of_faulty to text made)
+      (λ sent is. (decoded_is_spelled text sent made.bytes is).0) fit before has)
       plain fits now
 
   opening_clients-true : (keys : Ring) → keys.bounds ≡ bounds → (number count : ℕ)
@@ -262,38 +263,29 @@ shown_by_faulty : (trace : Trace) (count : ℕ) (replica : ReplicaId) → is_goo
 unfolding shown_form
 shown_by_faulty trace count replica faulty shown fits = own_histories trace count replica faulty 0 shown fits.1.1
 
-frame_of_faulty : (trace : Trace) (count : ℕ) (taken : Frame) (source : ReplicaId)
-    → sender taken ≡ party.Replica source → is_faulty trace.setup (party.Replica source) ≡ true
-    → frame_form.Fits taken → IsTrueFrame (IsTrueOf trace count) trace.setup.bounds taken
+frame_of_faulty : (trace : Trace) (count : ℕ) (taken : Frame) → is_faulty trace.setup (sender taken) ≡ true
+    → frame_form.Fits taken → ShowsHeld (IsTrueOf trace count) taken
 unfolding frame_form kind_form reply_frame
-frame_of_faulty trace count (frame.Request client number round sets body mac) source from faulty fits = absurd cc
-frame_of_faulty trace count (frame.Reply replica client number round verdict culled shown mac) source from faulty
-    fits =
-    let same : replica ≡ source = same_source replica source from in
-    let not_good : is_good trace.setup replica.0 ≡ false =
-    ap (λ (it : ReplicaId). is_good trace.setup it.0) same ∙ ap not faulty in
-    shown_by_faulty trace count replica not_good shown fits.1.1.1.1.1.1.1.1.0
-  where
-    same_source : (first second : ReplicaId) → party.Replica first ≡ party.Replica second → first ≡ second
-    same_source first second same = cc
-frame_of_faulty trace count (frame.Fetch replica object stamp mac) source from faulty fits = tt
-frame_of_faulty trace count (frame.Fetched replica object stamp version mac) source from faulty fits = tt
+frame_of_faulty trace count (frame.Reply replica client number round verdict culled shown mac) faulty fits =
+    shown_by_faulty trace count replica (ap not faulty) shown fits.1.1.1.1.1.1.1.1.0
+frame_of_faulty trace count _ faulty fits = tt
 
-one_decoded : (text : List ℕ) (first second : Frame) → decoded text ≡ Ok first → decoded text ≡ Ok second
+pub one_decoded : (text : List ℕ) (first second : Frame) → decoded text ≡ Ok first → decoded text ≡ Ok second
     → first ≡ second
 one_decoded text first second one other =
     let same : Ok first ≡ Ok second = sym one ∙ other in
     cc
 
-of_faulty_replica : (trace : Trace) (count later : ℕ) (me : ClientId) (text : List ℕ)
-    → IsOfFaulty (world_after trace count) (party.Client me) text → (sent : Frame) → decoded text ≡ Ok sent
-    → IsTrueFrame (IsTrueOf trace later) trace.setup.bounds sent
-of_faulty_replica trace count later me text made sent is =
+shown_of_faulty : (trace : Trace) (count later : ℕ) (to : Party) (text : List ℕ)
+    → IsOfFaulty (world_after trace count) to text → (sent : Frame) → decoded text ≡ Ok sent
+    → ShowsHeld (IsTrueOf trace later) sent
+shown_of_faulty trace count later to text made sent is =
     let taken : made.taken ≡ sent =
-    one_decoded text made.taken sent (brought_is_decoded (ring_of (world_after trace count).setup) (party.Client me) text
+    one_decoded text made.taken sent (brought_is_decoded (ring_of (world_after trace count).setup) to text
     made.taken made.brings) is in
-    frame_of_faulty trace later sent made.source (ap sender (sym taken) ∙ made.from)
-    (ap (λ (setup : Setup). is_faulty setup (party.Replica made.source)) (sym (setup_after trace count)) ∙ made.faulty)
+    frame_of_faulty trace later sent
+    (ap (λ (setup : Setup). is_faulty setup (sender sent)) (sym (setup_after trace count))
+    ∙ ap (λ (it : Frame). is_faulty (world_after trace count).setup (sender it)) (sym taken) ∙ made.faulty)
     (decoded_is_spelled text sent made.bytes is).0
 
 true_next : (trace : Trace) (count : ℕ) → IsRun trace → ArePlain trace → count < length trace.entries
@@ -306,7 +298,7 @@ true_next trace count is_run parts below before =
     world_after-next trace count default below in
     subst (IsTrueWorld (IsTrueOf trace (count + 1)) trace.setup.bounds) (sym next)
     (world_step-true (IsTrueOf trace (count + 1)) trace.setup.bounds (world_after trace count) event
-    (parts.plain_at count default below) (of_faulty_replica trace count (count + 1))
+    (parts.plain_at count default below) (shown_of_faulty trace count (count + 1))
     (subst (IsFitStep (world_after trace count)) next (fit_step trace is_run parts count below))
     (world-more (IsTrueOf trace count) (IsTrueOf trace (count + 1)) trace.setup.bounds (world_after trace count)
     (λ sealed was. true-later trace count (count + 1) sealed (omega arith) was) before)
@@ -327,15 +319,6 @@ true_world trace is_run parts (suc count) within =
 
 -- ---- what letters show
 
-body_parts : (what : Op) → HasOpParts what → IsTrue (has_parts (body_of what))
-body_parts (op.Act act) parts = parts.0
-body_parts (op.Query query) parts = parts
-
-made_parts : (Held : Sealed → Type 0) (bounds : ℕ) (sent : Frame) → IsTrueFrame Held bounds sent → HasParts sent
-made_parts Held bounds (frame.Request client number round sets body mac) made =
-    subst (λ (it : Body). IsTrue (has_parts it)) (sym made.body_is) (body_parts made.op made.parts)
-made_parts Held bounds _ made = tt
-
 module _ (trace : Trace) (is_run : IsRun trace) (have : ArePlain trace) (count : ℕ)
     (within : count ≤ length trace.entries) (number : ℕ) (letter : Letter)
     (sent : letter_of (world_after trace count) number ≡ Some letter) where
@@ -345,11 +328,6 @@ module _ (trace : Trace) (is_run : IsRun trace) (have : ArePlain trace) (count :
       each_numbered (IsTrueLetter (IsTrueOf trace count) trace.setup.bounds)
       (letters_of (world_after trace count).entries) number letter
       (true_world trace is_run have count within).letters sent
-
-  -- the parts of each frame that is sent are those of an act or a query
-  pub sent_has_parts : (carried : Frame) → Carries letter carried → HasParts carried
-  sent_has_parts carried carries = made_parts (IsTrueOf trace count) trace.setup.bounds carried
-      (true_frame carried carries)
 
   module _ (client : ClientId) (asked round : ℕ) (sets : List SetOf) (body : Body)
       (is : Asks letter client asked round sets body) where
@@ -366,6 +344,3 @@ module _ (trace : Trace) (is_run : IsRun trace) (have : ArePlain trace) (count :
           sets_are = made.sets_are;
           body_is = made.body_is;
         }
-
-    pub request_has_parts : IsTrue (has_parts body)
-    request_has_parts = sent_has_parts (frame.Request client asked round sets body is.mac) is.carries

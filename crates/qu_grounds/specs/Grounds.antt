@@ -14,13 +14,12 @@ use Rattle.qu_objects.specs.Performing.{performed_answer, performed_values}
 use Rattle.qu_frames.specs.declared.frame.Body.TheVariants as body
 use Rattle.qu_frames.specs.declared.frame.Frame.{Frame}
 use Rattle.qu_frames.specs.declared.frame.Frame.TheVariants as frame
-use Rattle.qu_frames.specs.declared.frame.Letter.{Letter}
 use Rattle.qu_replica.specs.declared.versions.Stored.{Stored}
 use Rattle.qu_replica.specs.Rows.{Asked, asked_of, fresh_stamp}
 use Rattle.qu_replica.specs.State.{ReplicaState, own_candidates, own_latest}
 use Rattle.qu_replica.specs.Versions.{version_at}
 use Rattle.qu_trace.specs.declared.event.Event.{Event}
-use Rattle.qu_world.specs.State.{WorldState, letter_of}
+use Rattle.qu_world.specs.State.{WorldState}
 use Rattle.qu_runs.specs.Carried.{handed, Brings}
 use Rattle.qu_grounds.specs.Parts.{Names, values_of}
 
@@ -76,26 +75,20 @@ pub record Accepts (old new : ReplicaState) (received : Frame) : Type 0 where
   pub performed : ArePerformed old parts bases versions
   pub stored : new.versions ≡ old.versions ++ stored_of candidates versions parts
 
--- the event hands a letter that was sent to the replica at this place, which accepts candidates
+-- the event hands a text to the replica at this place, which accepts candidates
 pub record IsMoved (world : WorldState) (event : Event) (place : ℕ) (old new : ReplicaState) : Type 0 where
-  pub number : ℕ
-  pub letter : Letter
-  pub is_letter : letter_of world number ≡ Some letter
-  pub is_handed : handed world event ≡ Some (letter.to, letter.text)
-  pub to : letter.to ≡ party.Replica (record { 0 = place })
+  pub text : List ℕ
+  pub is_handed : handed world event ≡ Some (party.Replica (record { 0 = place }), text)
   pub carried : Frame
-  pub brings : Brings old letter carried
+  pub brings : Brings old text carried
   pub accepts : Accepts old new carried
 
 -- the same, of an object on which it accepts a candidate
 pub record IsDelivered (world : WorldState) (event : Event) (place : ℕ) (old new : ReplicaState)
     (object : ObjectId) : Type 0 where
-  pub number : ℕ
-  pub letter : Letter
-  pub is_letter : letter_of world number ≡ Some letter
-  pub is_handed : handed world event ≡ Some (letter.to, letter.text)
-  pub to : letter.to ≡ party.Replica (record { 0 = place })
+  pub text : List ℕ
+  pub is_handed : handed world event ≡ Some (party.Replica (record { 0 = place }), text)
   pub carried : Frame
-  pub brings : Brings old letter carried
+  pub brings : Brings old text carried
   pub accepts : Accepts old new carried
   pub names : Names accepts.parts object

@@ -64,10 +64,10 @@ pub signed_spelled : (keys : Ring) (to : Party) (sent : Frame) → length (mac_o
 unfolding signed
 signed_spelled keys to sent size = text_with sent (signature keys to sent) size
 
--- what is brought to a replica is carried
-pub brings_carries : (state : ReplicaState) (letter : Letter) (sent : Frame) → Brings state letter sent
-    → Carries letter sent
-brings_carries state letter sent brings = brought_is_decoded state.keys (party.Replica state.me) letter.text sent brings
+-- what is brought to a replica is decoded
+pub brings_decoded : (state : ReplicaState) (text : List ℕ) (sent : Frame) → Brings state text sent
+    → decoded text ≡ Ok sent
+brings_decoded state text sent brings = brought_is_decoded state.keys (party.Replica state.me) text sent brings
 
 -- what carries a request asks it
 pub asks_so : (letter : Letter) (carried : Frame) (client : ClientId) (number round : ℕ) (sets : List SetOf)
@@ -121,8 +121,9 @@ AnswersFit state _ = Unit {0}
 pub record IsFitStep (old new : WorldState) : Type 0 where
   pub asks : (number : ℕ) (state : ClientState) → numbered new.clients number ≡ Some state → AsksFit state
   pub answers : (me : ReplicaId) (state : ReplicaState) → slice_get old.replicas me.0 ≡ Some state
-      → (number : ℕ) (letter : Letter) (sent : Frame) → letter_of old number ≡ Some letter → Carries letter sent
-      → AnswersFit state sent
+      → (sent : Frame) → frame_form.Fits sent → AnswersFit state sent
+  pub carried : (number : ℕ) (letter : Letter) (sent : Frame) → letter_of old number ≡ Some letter
+      → Carries letter sent → frame_form.Fits sent
 
 -- a client that moved stands in its place
 pub numbered_here : {X : Type 0} (items : List X) (number : ℕ) (old new : X) → numbered items number ≡ Some old

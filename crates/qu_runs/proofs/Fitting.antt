@@ -1,7 +1,7 @@
 -- In a run all that is sent fits its format.
 use Rattle.qu_world.proofs.Steps.{step_cases}
-use Rattle.std.proofs.Common.{◌≡◌, ℕ, zero, suc, ◌+◌, ◌<◌, ◌≤◌, ◌^◌, List, [], ◌∷◌, ◌++◌, length, get_or, Option, None, Some, Ok, IsTrue, refl, sym, subst, arith, add-one, inl, inr}
-use Rattle.std.specs.Prelude.{slice_get}
+use Rattle.std.proofs.Common.{◌≡◌, ℕ, zero, suc, ◌+◌, ◌<◌, ◌≤◌, ◌^◌, List, [], ◌∷◌, ◌++◌, length, get_or, Option, None, Some, Ok, IsTrue, refl, sym, subst, arith, add-one, inl, inr, ap, ◌∙◌}
+use Rattle.std.specs.Prelude.{slice_get, option_map}
 use Rattle.std.specs.List.{AllByRecursion}
 use Rattle.std.proofs.lemmas.Option.{none-some, same_Some}
 use Rattle.qu_base.specs.declared.limits.TheConstants.{OBJECT_IDS, REPLICA_IDS}
@@ -38,11 +38,11 @@ use Rattle.qu_runs.proofs.Objects.{few_kinds}
 use Rattle.qu_world.specs.State.{WorldState, opening_world, opening_replicas, numbered, letter_of, kinds_at, ring_of}
 use Rattle.qu_world.specs.Step.{world_step, unchanged, at_replica, at_client, received, delivered}
 use Rattle.qu_world.specs.Run.{IsSetup, IsRun}
-use Rattle.qu_runs.specs.Carried.{Carries}
+use Rattle.qu_runs.specs.Carried.{Carries, offered, handed}
 use Rattle.qu_runs.specs.Times.{world_after}
-use Rattle.qu_runs.specs.Plain.{IsPlain, ArePlain}
+use Rattle.qu_runs.specs.Plain.{IsPlain, ArePlain, HasEventParts, IsFrom}
 use Rattle.qu_runs.proofs.Carrying.{carried_is, AsksFit, AnswersFit, IsFitStep}
-use Rattle.qu_world.proofs.Each.{each_append, each_numbered, set_cases, with_cases}
+use Rattle.qu_world.proofs.Each.{each_append, each_numbered, set_cases, with_cases, each_at}
 use Rattle.qu_runs.proofs.FitClients.{FitClient, fit_more, step_fit, invoke_fit, asks_fit, step_letters, invoke_letters, opening_clients-fit}
 use Rattle.qu_runs.proofs.Small.{some_entry}
 use Rattle.qu_runs.proofs.WorldGrowth.{world_after-none, world_after-next}
@@ -50,7 +50,8 @@ use Rattle.qu_world.proofs.LetterLaws.{letters-push}
 use Rattle.qu_frames.specs.Signing.{brought}
 use Rattle.qu_seal.specs.Keys.{Ring}
 use Rattle.qu_frames.proofs.Signed.{brought_is_decoded}
-use Rattle.qu_runs.proofs.Handing.{injected_cases}
+use Rattle.qu_runs.proofs.Handing.{injected_cases, hand, handed_offers}
+use Rattle.qu_base.specs.Format.{AreBytes}
 
 -- ---- letters
 
@@ -163,8 +164,8 @@ module _ (bounds most : ℕ) (few : most + 1 < 2 ^ 64) (size : replicas bounds �
       (λ number letter is hands. received_fit (Inject letter.to letter.text) letter.to letter.text
       (carried_fits letter (each_numbered LetterFits (letters_of world.entries) number letter fit.letters
       is)))
-      (λ me made hands. received_fit (Inject (party.Client me) text) (party.Client me) text
-      (λ sent is. (decoded_is_spelled text sent made.bytes is).0)) plain
+      (λ made hands. received_fit (Inject to text) to text (λ sent is. (decoded_is_spelled text sent made.bytes is).0))
+      plain
 
 -- ---- the beginning
 
@@ -257,8 +258,54 @@ fit_step trace is_run plain count below =
           asks_fit trace.setup.bounds (count + 1) number state
           (below_word trace is_run plain (count + 1) (omega arith))
           (replicas_are_few trace.setup.bounds (is_run.setup).few_faults) (after.clients number state found);
-      answers = λ me state found number letter sent is carries.
-          answers_fit state sent (before.replicas me.0 state found)
-          (carried_fits letter (each_numbered LetterFits (letters_of (world_after trace count).entries) number
-          letter before.letters is) sent carries);
+      answers = λ me state found sent fits. answers_fit state sent (before.replicas me.0 state found) fits;
+      carried = λ number letter sent is carries.
+          carried_fits letter (each_numbered LetterFits (letters_of (world_after trace count).entries) number
+          letter before.letters is) sent carries;
     }
+
+-- ---- what is handed over
+
+-- what a party may take fits
+pub from_fits : (trace : Trace) → IsRun trace → ArePlain trace → (count : ℕ) → count ≤ length trace.entries
+    → (to : Party) (text : List ℕ) → IsFrom (world_after trace count) to text → (sent : Frame)
+    → decoded text ≡ Ok sent → frame_form.Fits sent
+from_fits trace is_run plain count within to text (inl it) sent is =
+    carried_in_run trace is_run plain count within it.number it.letter it.is_letter sent (ap decoded it.text_is ∙ is)
+from_fits trace is_run plain count within to text (inr made) sent is = (decoded_is_spelled text sent made.bytes is).0
+
+found_fits : (trace : Trace) → IsRun trace → ArePlain trace → (count : ℕ) → count ≤ length trace.entries
+    → (number : ℕ) (to : Party) (text : List ℕ) (found : Option Letter)
+    → letter_of (world_after trace count) number ≡ found → option_map hand found ≡ Some (to, text)
+    → (sent : Frame) → decoded text ≡ Ok sent → frame_form.Fits sent
+found_fits trace is_run plain count within number to text None is hands sent decodes = absurd (none-some (to, text) hands)
+found_fits trace is_run plain count within number to text (Some letter) is hands sent decodes =
+    let same : (letter.to, letter.text) ≡ (to, text) = same_Some (letter.to, letter.text) (to, text) hands in
+    carried_in_run trace is_run plain count within number letter is sent
+    (ap (λ (it : Party × List ℕ). decoded it.1) same ∙ decodes)
+
+-- what an event of the run offers fits
+pub offered_fits : (trace : Trace) → IsRun trace → ArePlain trace → (count : ℕ) → count ≤ length trace.entries
+    → (event : Event) → HasEventParts event → (to : Party) (text : List ℕ)
+    → offered (world_after trace count) event ≡ Some (to, text)
+    → (sent : Frame) → decoded text ≡ Ok sent → frame_form.Fits sent
+offered_fits trace is_run plain count within (Invoke client op) parts to text offers sent is =
+    absurd (none-some (to, text) offers)
+offered_fits trace is_run plain count within (Deliver number) parts to text offers sent is =
+    found_fits trace is_run plain count within number to text (letter_of (world_after trace count) number) refl offers
+    sent is
+offered_fits trace is_run plain count within (Tick client) parts to text offers sent is =
+    absurd (none-some (to, text) offers)
+offered_fits trace is_run plain count within (Inject who other) parts to text offers sent is =
+    let same : (who, other) ≡ (to, text) = same_Some (who, other) (to, text) offers in
+    (decoded_is_spelled text sent (subst AreBytes (ap (λ (it : Party × List ℕ). it.1) same) parts) is).0
+
+-- and so does what it hands over
+pub handed_fits : (trace : Trace) → IsRun trace → ArePlain trace → (count : ℕ) (default : Entry)
+    → count < length trace.entries → (to : Party) (text : List ℕ)
+    → handed (world_after trace count) (get_or trace.entries count default).event ≡ Some (to, text)
+    → (sent : Frame) → decoded text ≡ Ok sent → frame_form.Fits sent
+handed_fits trace is_run plain count default below to text hands =
+    offered_fits trace is_run plain count (omega arith) (get_or trace.entries count default).event
+    (each_at (λ (entry : Entry). HasEventParts entry.event) trace.entries count default plain.parts below) to text
+    (handed_offers (world_after trace count) (get_or trace.entries count default).event to text hands)

@@ -8,9 +8,7 @@ use Rattle.std.proofs.lemmas.Bool.{cases_Bool}
 use Rattle.std.proofs.Common.{◌≡◌, ℕ, List, Option, None, Some, inl, inr, sym, ap, subst, ◌∙◌}
 use Rattle.std.specs.Prelude.{option_map}
 use Rattle.std.proofs.lemmas.Option.{none-some, same_Some}
-use Rattle.qu_base.specs.declared.party.ClientId.{ClientId}
 use Rattle.qu_base.specs.declared.party.Party.{Party}
-use Rattle.qu_base.specs.declared.party.Party.TheVariants as party
 use Rattle.qu_frames.specs.declared.frame.Letter.{Letter}
 use Rattle.qu_trace.specs.declared.event.Event.{Event}
 use Rattle.qu_trace.specs.declared.event.Event.TheVariants.{Invoke, Deliver, Tick, Inject}
@@ -105,15 +103,14 @@ pub letter_handed : (world : WorldState) (number : ℕ) (letter : Letter) → At
 letter_handed world number letter correct is =
     offered_handed world (Deliver number) letter.to letter.text correct (ap (option_map hand) is)
 
--- an injection changes nothing, or hands over a letter that was sent, or gives a client what a faulty replica made
+-- an injection changes nothing, or hands over a letter that was sent, or what a faulty party made
 pub injected_cases : (world : WorldState) (to : Party) (text : List ℕ) (P : Event → WorldState → Type 0)
     → P (Inject to text) (unchanged world (Inject to text))
     → ((number : ℕ) (letter : Letter) → letter_of world number ≡ Some letter
     → handed world (Inject letter.to letter.text) ≡ Some (letter.to, letter.text)
     → P (Inject letter.to letter.text) (received world (Inject letter.to letter.text) letter.to letter.text))
-    → ((me : ClientId) → IsOfFaulty world (party.Client me) text
-    → handed world (Inject (party.Client me) text) ≡ Some (party.Client me, text)
-    → P (Inject (party.Client me) text) (received world (Inject (party.Client me) text) (party.Client me) text))
+    → (IsOfFaulty world to text → handed world (Inject to text) ≡ Some (to, text)
+    → P (Inject to text) (received world (Inject to text) to text))
     → IsPlain world (Inject to text) → P (Inject to text) (world_step world (Inject to text))
 injected_cases world to text P none sent_so made_so (inl ignored) = subst (P (Inject to text)) (sym ignored.same) none
 injected_cases world to text P none sent_so made_so (inr (inl sent)) =
@@ -126,9 +123,5 @@ injected_cases world to text P none sent_so made_so (inr (inl sent)) =
     step_cases (P (Inject to text)) world (Inject to text) none
     (λ correct. received_so (offered_handed world (Inject to text) to text correct refl))
 injected_cases world to text P none sent_so made_so (inr (inr made)) =
-    let Q : Party → Type 0 = λ who. IsOfFaulty world who text
-    → handed world (Inject who text) ≡ Some (who, text) → P (Inject who text) (received world (Inject who text)
-    who text) in
-    let received_so : Q to = subst Q (sym made.to_is) (made_so made.me) in
     step_cases (P (Inject to text)) world (Inject to text) none
-    (λ correct. received_so made (offered_handed world (Inject to text) to text correct refl))
+    (λ correct. made_so made (offered_handed world (Inject to text) to text correct refl))

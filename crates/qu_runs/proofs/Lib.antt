@@ -7,6 +7,7 @@ pub mod DigestedTexts
 pub mod FewFaults
 pub mod FitClients
 pub mod Fitting
+pub mod FitParts
 pub mod Beginning
 pub mod Entries
 pub mod OpeningReplicas

@@ -1,4 +1,4 @@
--- A trace of operations with parts, into which nothing forged is injected, is plain where no client is faulty.
+-- A trace of operations with parts, into which nothing forged is injected, is plain.
 use Rattle.qu_world.proofs.Steps.{step_cases}
 use Rattle.std.proofs.Common.{Bool, subst, false, ◌≡◌, ℕ, zero, suc, ◌≤◌, true, List, [], ◌∷◌, length, get_or, Option, None, Some, inl, inr, refl, sym, ap, ◌∙◌, arith, ◌<◌, ◌^◌}
 use Rattle.std.specs.Prelude.{slice_get, slice_set, IfSome, nat_lt, not, ◌&&◌, if◌then◌else◌}
@@ -12,7 +12,6 @@ use Rattle.qu_base.specs.declared.party.ReplicaId.{ReplicaId}
 use Rattle.qu_seal.specs.Keys.{Ring}
 use Rattle.qu_objects.specs.declared.op.Outcome.{Outcome}
 use Rattle.qu_frames.specs.declared.frame.Frame.{Frame}
-use Rattle.qu_frames.specs.declared.frame.Frame.TheVariants as frame
 use Rattle.qu_base.specs.Bounds.{replicas}
 use Rattle.qu_base.specs.Format.{AreBytes}
 use Rattle.qu_frames.specs.declared.frame.Letter.{Letter}
@@ -34,10 +33,10 @@ use Rattle.qu_runs.specs.Times.{world_after}
 use Rattle.qu_trace.specs.declared.trace.Setup.{Setup}
 use Rattle.qu_trace.specs.Faulty.{is_same, is_replica, is_faulty}
 use Rattle.qu_runs.specs.Carried.{handed}
-use Rattle.qu_runs.specs.Premises.{HasSent, AreUnforged, IsUnforgedAt, IsUnforged, OnlyReplicasAreFaulty}
+use Rattle.qu_runs.specs.Premises.{HasSent, AreUnforged, IsUnforgedAt, IsUnforged}
 use Rattle.qu_runs.proofs.Handing.{offered_handed}
 use Rattle.qu_runs.specs.Plain.{HasEventParts, HaveParts, IsIgnored, IsPlain, ArePlain}
-use Rattle.qu_runs.specs.Digested.{is_handler, request_in, request_brought, request_to}
+use Rattle.qu_runs.specs.Digested.{is_handler, request_brought, request_to}
 use Rattle.qu_runs.proofs.Keyed.{HasKeys, clients_keyed}
 use Rattle.qu_runs.proofs.OpeningReplicas.{keys_are, me_is}
 use Rattle.qu_runs.proofs.WorldGrowth.{world_after-none, world_after-grows}
@@ -67,23 +66,7 @@ replica_ignores world event me text (Some state) is nothing =
     ap (λ (replicas : List ReplicaState). recorded (record world { replicas = replicas }) event [] None)
     (set_self world.replicas me.0 state is)
 
--- as is a frame of another replica
-by_replica : (state : ReplicaState) (taken : Frame) (from : ReplicaId) → sender taken ≡ party.Replica from
-    → replica.on_frame state taken ≡ (state, [])
-by_replica state (frame.Request client number round sets body mac) from is = absurd cc
-by_replica state (frame.Reply who client number round verdict culled shown mac) from is = refl
-by_replica state (frame.Fetch who object stamp mac) from is = refl
-by_replica state (frame.Fetched who object stamp version mac) from is = refl
-
--- which asks for nothing
-no_request_in : (setup : Setup) (me : ReplicaId) (taken : Frame) (from : ReplicaId) → sender taken ≡ party.Replica from
-    → request_in setup me taken ≡ None
-no_request_in setup me (frame.Request client number round sets body mac) from is = absurd cc
-no_request_in setup me (frame.Reply who client number round verdict culled shown mac) from is = refl
-no_request_in setup me (frame.Fetch who object stamp mac) from is = refl
-no_request_in setup me (frame.Fetched who object stamp version mac) from is = refl
-
--- and so does what is no frame with a right HMAC
+-- what is no frame with a right HMAC asks for nothing
 no_request : (setup : Setup) (text : List ℕ) (me : ReplicaId) (read : Option Frame)
     → brought (ring_of setup) (party.Replica me) text ≡ read → request_brought setup me read ≡ None
     → request_to setup text (party.Replica me) ≡ None
@@ -189,44 +172,14 @@ module _ (trace : Trace) (count : ℕ) (within : count ≤ length trace.entries)
       (client_ignores world (Inject (party.Client me) text) me text (numbered world.clients me.0) refl
       (client_none me text none))
 
-  -- of a faulty replica
-  of_replica : (to : Party) (text : List ℕ) (taken : Frame) (from : ReplicaId) → AreBytes text
-      → brought (ring_of world.setup) to text ≡ Some taken → sender taken ≡ party.Replica from
-      → is_faulty world.setup (party.Replica from) ≡ true → IsPlain world (Inject to text)
-  of_replica (party.Replica me) text taken from bytes is sent faulty =
-      inl (ignored_by (party.Replica me) text
-      (no_request world.setup text me (Some taken) is (no_request_in world.setup me taken from sent))
-      (replica_ignores world (Inject (party.Replica me) text) me text (slice_get world.replicas me.0) refl
-      (λ state found. ap (replica.on_received state) (replica_reads me text (Some taken) is state found)
-      ∙ by_replica state taken from sent)))
-  of_replica (party.Client me) text taken from bytes is sent faulty =
-      inr (inr (record {
-        me = me;
-        to_is = refl;
-        bytes = bytes;
-        taken = taken;
-        brings = is;
-        source = from;
-        from = sent;
-        faulty = faulty;
-      }))
-
-  of_faulty : OnlyReplicasAreFaulty world.setup → (to : Party) (text : List ℕ) (taken : Frame) → AreBytes text
-      → brought (ring_of world.setup) to text ≡ Some taken → (from : Party) → sender taken ≡ from
-      → is_faulty world.setup from ≡ true → IsPlain world (Inject to text)
-  of_faulty only to text taken bytes is (party.Client from) sent faulty =
-      absurd (false≢true (sym (no_client (world.setup).liars only from) ∙ faulty))
-  of_faulty only to text taken bytes is (party.Replica from) sent faulty =
-      of_replica to text taken from bytes is sent faulty
-
   -- to a correct party
-  plain_taken : OnlyReplicasAreFaulty world.setup → (to : Party) (text : List ℕ) → AreBytes text
+  plain_taken : (to : Party) (text : List ℕ) → AreBytes text
       → AreUnforged world to text → (read : Option Frame) → brought (ring_of world.setup) to text ≡ read
       → IsPlain world (Inject to text)
-  plain_taken only to text bytes true_to None is = inl (ignored_none to text is)
-  plain_taken only to text bytes true_to (Some frame) is =
+  plain_taken to text bytes true_to None is = inl (ignored_none to text is)
+  plain_taken to text bytes true_to (Some frame) is =
       elim (cases_Bool (is_faulty world.setup (sender frame))) [
-        | inl faulty ↦ of_faulty only to text frame bytes is (sender frame) refl faulty
+        | inl faulty ↦ inr (inr (record { bytes = bytes; taken = frame; brings = is; faulty = faulty }))
         | inr correct ↦
             let from : HasSent world (sender frame) to text = true_to.sent frame is correct in
             inr (inl (record {
@@ -246,9 +199,9 @@ module _ (trace : Trace) (count : ℕ) (within : count ≤ length trace.entries)
         (λ correct. absurd (false≢true (sym correct ∙ faulty)));
   })
 
-  plain_injection : OnlyReplicasAreFaulty world.setup → (to : Party) (text : List ℕ) → AreBytes text
+  plain_injection : (to : Party) (text : List ℕ) → AreBytes text
       → IsUnforgedAt world (Inject to text) → IsPlain world (Inject to text)
-  plain_injection only to text bytes unforged =
+  plain_injection to text bytes unforged =
       elim (cases_Bool (is_faulty world.setup to)) [
         | inl faulty ↦ plain_lost to text faulty
         | inr correct ↦
@@ -257,25 +210,23 @@ module _ (trace : Trace) (count : ℕ) (within : count ≤ length trace.entries)
             let true_to : AreUnforged world to text =
             subst (λ (it : Option (Party × List ℕ)). IfSome it (λ (it : Party × List ℕ). AreUnforged world it.0 it.1))
             given unforged in
-            plain_taken only to text bytes true_to (brought (ring_of world.setup) to text) refl
+            plain_taken to text bytes true_to (brought (ring_of world.setup) to text) refl
       ]
 
-  plain_event : OnlyReplicasAreFaulty world.setup → (event : Event) → HasEventParts event → IsUnforgedAt world event
-      → IsPlain world event
-  plain_event only (Invoke client op) parts unforged = parts
-  plain_event only (Deliver letter) parts unforged = tt
-  plain_event only (Tick client) parts unforged = tt
-  plain_event only (Inject to text) parts unforged = plain_injection only to text parts unforged
+  plain_event : (event : Event) → HasEventParts event → IsUnforgedAt world event → IsPlain world event
+  plain_event (Invoke client op) parts unforged = parts
+  plain_event (Deliver letter) parts unforged = tt
+  plain_event (Tick client) parts unforged = tt
+  plain_event (Inject to text) parts unforged = plain_injection to text parts unforged
 
 pub plain_from : (trace : Trace) → HaveParts trace.entries → length trace.entries < 2 ^ 63 → IsUnforged trace
-    → OnlyReplicasAreFaulty trace.setup → ArePlain trace
-plain_from trace parts few unforged only = record {
+    → ArePlain trace
+plain_from trace parts few unforged = record {
   parts = parts;
   few = few;
+  unforged = unforged;
   plain_at = λ at default below.
-      plain_event trace at (omega arith)
-      (subst OnlyReplicasAreFaulty (sym (setup_after trace at)) only)
-      (get_or trace.entries at default).event
+      plain_event trace at (omega arith) (get_or trace.entries at default).event
       (each_at (λ (entry : Entry). HasEventParts entry.event) trace.entries at default parts below)
       (unforged at default below);
 }

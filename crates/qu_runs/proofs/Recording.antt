@@ -34,22 +34,21 @@ use Rattle.qu_runs.proofs.LaterLetters.{letter_later}
 -- whatever holds of each of these holds of the step
 module _ (world : WorldState) (P : WorldState → Type 0)
     (nothing : (event : Event) → P (unchanged world event))
-    (replica_moves : (event : Event) (number : ℕ) (letter : Letter) (me : ReplicaId) (state : ReplicaState)
-    → letter_of world number ≡ Some letter → handed world event ≡ Some (letter.to, letter.text)
-    → slice_get world.replicas me.0 ≡ Some state → P (at_replica world event me letter.text (Some state)))
+    (replica_moves : (event : Event) (text : List ℕ) (me : ReplicaId) (state : ReplicaState)
+    → IsFrom world (party.Replica me) text → handed world event ≡ Some (party.Replica me, text)
+    → slice_get world.replicas me.0 ≡ Some state → P (at_replica world event me text (Some state)))
     (invokes : (client : ClientId) (op : Op) (state : ClientState) → numbered world.clients client.0 ≡ Some state
     → P (at_client world (Invoke client op) client (λ (state : ClientState). client_invoke state op) (Some state)))
-    (takes : (event : Event) (text : List ℕ) (client : ClientId) (state : ClientState) → IsFrom world client text
+    (takes : (event : Event) (text : List ℕ) (client : ClientId) (state : ClientState) → IsFrom world (party.Client client) text
     → handed world event ≡ Some (party.Client client, text) → numbered world.clients client.0 ≡ Some state
     → P (at_client world event client (λ (state : ClientState). client_step state text) (Some state)))
     (ticks : (client : ClientId) (state : ClientState) → numbered world.clients client.0 ≡ Some state
     → P (at_client world (Tick client) client client_tick (Some state))) where
-  replica_found : (event : Event) (number : ℕ) (letter : Letter) → letter_of world number ≡ Some letter
-      → handed world event ≡ Some (letter.to, letter.text) → (me : ReplicaId) (found : Option ReplicaState)
-      → slice_get world.replicas me.0 ≡ found → P (at_replica world event me letter.text found)
-  replica_found event number letter sent hands me None is = nothing event
-  replica_found event number letter sent hands me (Some state) is =
-      replica_moves event number letter me state sent hands is
+  replica_found : (event : Event) (text : List ℕ) (me : ReplicaId) → IsFrom world (party.Replica me) text
+      → handed world event ≡ Some (party.Replica me, text) → (found : Option ReplicaState)
+      → slice_get world.replicas me.0 ≡ found → P (at_replica world event me text found)
+  replica_found event text me from hands None is = nothing event
+  replica_found event text me from hands (Some state) is = replica_moves event text me state from hands is
 
   invoke_found : (client : ClientId) (op : Op) (found : Option ClientState)
       → numbered world.clients client.0 ≡ found
@@ -57,7 +56,7 @@ module _ (world : WorldState) (P : WorldState → Type 0)
   invoke_found client op None is = nothing (Invoke client op)
   invoke_found client op (Some state) is = invokes client op state is
 
-  take_found : (event : Event) (text : List ℕ) (client : ClientId) → IsFrom world client text
+  take_found : (event : Event) (text : List ℕ) (client : ClientId) → IsFrom world (party.Client client) text
       → handed world event ≡ Some (party.Client client, text) → (found : Option ClientState)
       → numbered world.clients client.0 ≡ found
       → P (at_client world event client (λ (state : ClientState). client_step state text) found)
@@ -69,21 +68,25 @@ module _ (world : WorldState) (P : WorldState → Type 0)
   tick_found client None is = nothing (Tick client)
   tick_found client (Some state) is = ticks client state is
 
-  received_by : (event : Event) (number : ℕ) (letter : Letter) → letter_of world number ≡ Some letter
-      → handed world event ≡ Some (letter.to, letter.text) → (to : Party) → letter.to ≡ to
-      → P (received world event to letter.text)
-  received_by event number letter sent hands (party.Replica me) is_to =
-      replica_found event number letter sent hands me (slice_get world.replicas me.0) refl
-  received_by event number letter sent hands (party.Client me) is_to =
-      take_found event letter.text me
-      (inl (record { number = number; letter = letter; is_letter = sent; to_is = is_to; text_is = refl }))
-      (hands ∙ ap (λ (who : Party). Some (who, letter.text)) is_to) (numbered world.clients me.0) refl
+  received_by : (event : Event) (to : Party) (text : List ℕ) → IsFrom world to text
+      → handed world event ≡ Some (to, text) → P (received world event to text)
+  received_by event (party.Replica me) text from hands =
+      replica_found event text me from hands (slice_get world.replicas me.0) refl
+  received_by event (party.Client me) text from hands =
+      take_found event text me from hands (numbered world.clients me.0) refl
+
+  -- a letter was sent
+  of_letter : (number : ℕ) (letter : Letter) → letter_of world number ≡ Some letter
+      → IsFrom world letter.to letter.text
+  of_letter number letter is =
+      inl (record { number = number; letter = letter; is_letter = is; to_is = refl; text_is = refl })
 
   letter_found : (number : ℕ) → AtCorrect world (Deliver number) → (found : Option Letter)
       → letter_of world number ≡ found → P (delivered world (Deliver number) found)
   letter_found number correct None is = nothing (Deliver number)
   letter_found number correct (Some letter) is =
-      received_by (Deliver number) number letter is (letter_handed world number letter correct is) letter.to refl
+      received_by (Deliver number) letter.to letter.text (of_letter number letter is)
+      (letter_handed world number letter correct is)
 
   pub world_cases : (event : Event) → IsPlain world event → P (world_step world event)
   world_cases (Invoke client op) plain =
@@ -98,9 +101,8 @@ module _ (world : WorldState) (P : WorldState → Type 0)
   world_cases (Inject to text) plain =
       injected_cases world to text (λ (event : Event) (new : WorldState). P new) (nothing (Inject to text))
       (λ number letter sent hands.
-      received_by (Inject letter.to letter.text) number letter sent hands letter.to refl)
-      (λ me made hands.
-      take_found (Inject (party.Client me) text) text me (inr made) hands (numbered world.clients me.0) refl) plain
+      received_by (Inject letter.to letter.text) letter.to letter.text (of_letter number letter sent) hands)
+      (λ made hands. received_by (Inject to text) to text (inr made) hands) plain
 
 -- ---- the entries of a world of a run
 
@@ -164,10 +166,10 @@ step_entry trace is index entry found =
 module _ (trace : Trace) (is : IsRun trace) (plain : ArePlain trace) (index : ℕ) (entry : Entry)
     (is_entry : slice_get trace.entries index ≡ Some entry) (Q : Entry → Type 0)
     (nothing : (event : Event) → Q (record { event = event; letters = []; ended = None }))
-    (replica_moves : (event : Event) (number : ℕ) (letter : Letter) (me : ReplicaId) (state : ReplicaState)
-    → letter_of (world_after trace index) number ≡ Some letter → handed (world_after trace index) event ≡ Some
-    (letter.to, letter.text) → slice_get (world_after trace index).replicas me.0 ≡ Some state
-    → Q (record { event = event; letters = (replica_step state letter.text).1; ended = None }))
+    (replica_moves : (event : Event) (text : List ℕ) (me : ReplicaId) (state : ReplicaState)
+    → IsFrom (world_after trace index) (party.Replica me) text → handed (world_after trace index) event ≡ Some
+    (party.Replica me, text) → slice_get (world_after trace index).replicas me.0 ≡ Some state
+    → Q (record { event = event; letters = (replica_step state text).1; ended = None }))
     (invokes : (client : ClientId) (op : Op) (state : ClientState) → numbered (world_after trace index).clients
     client.0 ≡ Some state
     → Q (record {
@@ -176,7 +178,7 @@ module _ (trace : Trace) (is : IsRun trace) (plain : ArePlain trace) (index : �
       ended = ended_by client state.work (client_invoke state op).ended;
     }))
     (takes : (event : Event) (text : List ℕ) (client : ClientId) (state : ClientState)
-    → IsFrom (world_after trace index) client text → handed (world_after trace index) event ≡ Some
+    → IsFrom (world_after trace index) (party.Client client) text → handed (world_after trace index) event ≡ Some
     (party.Client client, text) → numbered (world_after trace index).clients client.0 ≡ Some state
     → Q (record {
       event = event;
@@ -200,8 +202,7 @@ module _ (trace : Trace) (is : IsRun trace) (plain : ArePlain trace) (index : �
   entry_cases =
       world_cases before (λ (new : WorldState). new.entries ≡ before.entries ++ entry ∷ [] → Q entry)
       (λ event. of_last _ (nothing event))
-      (λ event number letter me state sent hands found. of_last _
-      (replica_moves event number letter me state sent hands found))
+      (λ event text me state from hands found. of_last _ (replica_moves event text me state from hands found))
       (λ client op state found. of_last _ (invokes client op state found))
       (λ event text client state from hands found. of_last _ (takes event text client state from hands found))
       (λ client state found. of_last _ (ticks client state found))

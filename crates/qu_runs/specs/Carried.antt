@@ -47,9 +47,9 @@ offered world event = offered_by world.entries event
 abbrev pub handed : WorldState → Event → Option (Party × List ℕ)
 handed world event = handed_by world.setup world.entries event
 
--- the replica handles the letter as this frame, whose HMAC is right for it
-abbrev pub Brings : ReplicaState → Letter → Frame → Type 0
-Brings state letter sent = brought state.keys (party.Replica state.me) letter.text ≡ Some sent
+-- the replica handles the text as this frame, whose HMAC is right for it
+abbrev pub Brings : ReplicaState → List ℕ → Frame → Type 0
+Brings state text sent = brought state.keys (party.Replica state.me) text ≡ Some sent
 
 -- it carries this request, whatever its HMAC
 pub record Asks (letter : Letter) (client : ClientId) (number round : ℕ) (sets : List SetOf) (body : Body) : Type

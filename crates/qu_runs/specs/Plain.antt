@@ -1,10 +1,7 @@
--- Events that hand a party nothing but what was sent to it, or what a faulty replica may have made, and begin
--- operations that have parts.
+-- Events that hand a party nothing but what was sent to it, or what a faulty party may have made, and begin operations
+-- that have parts.
 use Rattle.std.specs.Prelude.{true, ◌≡◌, ◌⊎◌, ℕ, ◌<◌, ◌^◌, List, length, get_or, None, Some, IsTrue}
-use Rattle.qu_base.specs.declared.party.ClientId.{ClientId}
 use Rattle.qu_base.specs.declared.party.Party.{Party}
-use Rattle.qu_base.specs.declared.party.Party.TheVariants as party
-use Rattle.qu_base.specs.declared.party.ReplicaId.{ReplicaId}
 use Rattle.qu_base.specs.Format.{AreBytes}
 use Rattle.std.specs.List.{AllByRecursion}
 use Rattle.qu_objects.specs.declared.op.Op.{Op}
@@ -22,6 +19,7 @@ use Rattle.qu_world.specs.State.{WorldState, ring_of, letter_of}
 use Rattle.qu_trace.specs.Faulty.{is_faulty}
 use Rattle.qu_world.specs.Step.{world_step, unchanged}
 use Rattle.qu_runs.specs.Digested.{request_to}
+use Rattle.qu_runs.specs.Premises.{IsUnforged}
 use Rattle.qu_runs.specs.Times.{world_after}
 
 -- the parts of an operation are those of an act or a query, and the numbers of an act fit their bytes
@@ -39,7 +37,7 @@ HasEventParts (Inject party text) = AreBytes text
 abbrev pub HaveParts : List Entry → Type 0
 HaveParts entries = AllByRecursion (λ entry. HasEventParts entry.event) entries
 
--- bytes that no replica takes for a request, and that change nothing
+-- bytes for a faulty party, or of which no frame with a right HMAC is decoded, so that nothing happens
 pub record IsIgnored (world : WorldState) (to : Party) (text : List ℕ) : Type 0 where
   pub nothing : request_to world.setup text to ≡ None
   pub same : world_step world (Inject to text) ≡ unchanged world (Inject to text)
@@ -52,32 +50,29 @@ pub record WasSent (world : WorldState) (to : Party) (text : List ℕ) : Type 0 
   pub to_is : letter.to ≡ to
   pub text_is : letter.text ≡ text
 
--- bytes that bring a client a frame of a faulty replica
+-- bytes that bring a party a frame of a faulty one
 pub record IsOfFaulty (world : WorldState) (to : Party) (text : List ℕ) : Type 0 where
-  pub me : ClientId
-  pub to_is : to ≡ party.Client me
   pub bytes : AreBytes text
   pub taken : Frame
   pub brings : brought (ring_of world.setup) to text ≡ Some taken
-  pub source : ReplicaId
-  pub from : sender taken ≡ party.Replica source
-  pub faulty : is_faulty world.setup (party.Replica source) ≡ true
+  pub faulty : is_faulty world.setup (sender taken) ≡ true
 
--- where the bytes that a client takes are from
-abbrev pub IsFrom : WorldState → ClientId → List ℕ → Type 0
-IsFrom world me text = WasSent world (party.Client me) text ⊎ IsOfFaulty world (party.Client me) text
+-- where the bytes that a party takes are from
+abbrev pub IsFrom : WorldState → Party → List ℕ → Type 0
+IsFrom world to text = WasSent world to text ⊎ IsOfFaulty world to text
 
--- such an event, which hands a party no bytes that it takes but those of a letter that was sent to it, or, to a client,
--- those of a faulty replica
+-- such an event, which hands a party no bytes that it takes but those of a letter that was sent to it, or those of a
+-- faulty party
 abbrev pub IsPlain : WorldState → Event → Type 0
 IsPlain world (Invoke client op) = (client.0 < 2 ^ 16) × HasOpParts op
 IsPlain world (Deliver letter) = Unit {0}
 IsPlain world (Tick client) = Unit {0}
-IsPlain world (Inject to text) = IsIgnored world to text ⊎ (WasSent world to text ⊎ IsOfFaulty world to text)
+IsPlain world (Inject to text) = IsIgnored world to text ⊎ IsFrom world to text
 
 pub record ArePlain (trace : Trace) : Type 0 where
   pub parts : HaveParts trace.entries
   -- so many entries at most are in memory
   pub few : length trace.entries < 2 ^ 63
+  pub unforged : IsUnforged trace
   pub plain_at : (at : ℕ) (default : Entry) → at < length trace.entries → IsPlain (world_after trace at)
       (get_or trace.entries at default).event
