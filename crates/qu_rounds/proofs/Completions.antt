@@ -253,7 +253,7 @@ round_handed trace is index within entry to text given =
 by_text : (trace : Trace) → IsRun trace → ArePlain trace → WorkIsRecorded trace → IsOneRecord trace
     → (operation : OpRecord) → Contains (operations_of trace.entries) operation → (index : ℕ) (answer : Answer)
     → (text : List ℕ) (client : ClientId) (state : ClientState) (made : Entry)
-    → IsFrom (world_after trace index) client text
+    → IsFrom (world_after trace index) (party.Client client) text
     → handed (world_after trace index) made.event ≡ Some (party.Client client, text)
     → slice_get trace.entries index ≡ Some made
     → numbered (world_after trace index).clients client.0 ≡ Some state
@@ -352,7 +352,7 @@ by_entry trace is have recorded one operation among index answer entry is_entry 
     (suc index) answer in
     entry_cases trace is have index entry is_entry Q
     (λ event there ends. absurd (none-some how ends))
-    (λ event number letter me state sent hands found there ends. absurd (none-some how ends))
+    (λ event text me state from hands found there ends. absurd (none-some how ends))
     (λ client op state found there ends.
     let ended : EndedBy operation.client client operation.number state.work (client_invoke state op).ended how =
     ended_so operation.client client operation.number state.work (client_invoke state op).ended how ends in

@@ -156,7 +156,7 @@ known_within : (trace : Trace) (before : ℕ) (replica : ReplicaId)
 known_within trace before replica known =
     ltb-true _ _ (ap (λ (setup : Setup). nat_lt replica.0 (replicas setup.bounds)) (sym (setup_after trace before)) ∙ known)
 
--- what a faulty replica made is of itself
+-- a reply that a faulty replica made is of itself
 answers_of_faulty : (trace : Trace) (before : ℕ) (me : ClientId) (text : List ℕ)
     → IsOfFaulty (world_after trace before) (party.Client me) text → AreAnswers trace before text
 answers_of_faulty trace before me text made replica client number round verdict culled shown mac is =
@@ -167,7 +167,7 @@ answers_of_faulty trace before me text made replica client number round verdict 
     let sent_by : party.Replica replica ≡ sender made.taken = ap sender (sym taken) in
     let faulty : is_faulty trace.setup (party.Replica replica) ≡ true =
     ap (λ (setup : Setup). is_faulty setup (party.Replica replica)) (sym (setup_after trace before))
-    ∙ ap (is_faulty world.setup) (sent_by ∙ made.from) ∙ made.faulty in
+    ∙ ap (is_faulty world.setup) sent_by ∙ made.faulty in
     record {
       within = known_within trace before replica
           (ap (has_party (ring_of world.setup)) sent_by
@@ -176,7 +176,7 @@ answers_of_faulty trace before me text made replica client number round verdict 
     }
 
 pub answers_from : (trace : Trace) → IsRun trace → ArePlain trace → (before : ℕ) → before ≤ length trace.entries
-    → (me : ClientId) (text : List ℕ) → IsFrom (world_after trace before) me text → AreAnswers trace before text
+    → (me : ClientId) (text : List ℕ) → IsFrom (world_after trace before) (party.Client me) text → AreAnswers trace before text
 answers_from trace is have before within me text (inl sent) replica client number round verdict culled shown mac
     carries =
     answered_by trace is have before sent.letter client number round
@@ -340,7 +340,7 @@ counts_step trace is have before within each event plain =
     λ number state found. counts_more trace before number state (each number state found) in
     world_cases (world_after trace before) (λ (new : WorldState). Each (Counts trace (before + 1)) new.clients)
     (λ event. stay)
-    (λ event number letter me state sent hands found. stay)
+    (λ event text me state from hands found. stay)
     (λ client op state found.
     let holds : Counts trace before client.0 state = each client.0 state found in
     counts_with trace before client.0 clients (client_invoke state op).state each

@@ -242,7 +242,7 @@ module _ (trace : Trace) (count : ℕ) (world : WorldState) (shown : IsShown tra
         → IsShown trace (count + 1) new)
         (λ fit. idle_shown (Inject to text) quiet)
         (λ number letter sent hands fit. received_shown (Inject letter.to letter.text) quiet letter.to letter.text fit)
-        (λ me made hands fit. received_shown (Inject (party.Client me) text) quiet (party.Client me) text fit)
+        (λ made hands fit. received_shown (Inject to text) quiet to text fit)
         plain fits
     event_shown (Tick client) is may plain fits =
         let quiet : (number : ℕ) → begun_at trace (count + 1) number ≡ begun_at trace count number =

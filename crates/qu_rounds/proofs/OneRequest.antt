@@ -304,7 +304,7 @@ module _ (bounds : ℕ) where
       (λ fit. unchanged-once world (Inject to text) before)
       (λ number letter sent hands fit.
       received-once world (Inject letter.to letter.text) letter.to letter.text fit before)
-      (λ me made hands fit. received-once world (Inject (party.Client me) text) (party.Client me) text fit before)
+      (λ made hands fit. received-once world (Inject to text) to text fit before)
       plain fits
   world_step-once world (Tick client) plain fits before =
       step_once world (Tick client) before (λ correct fits.

@@ -178,7 +178,7 @@ module _ (bounds : ℕ) (world : WorldState)
       injected_cases world to text (λ (event : Event) (new : WorldState). IsFitStep world new → IsRoundWorld new)
       (λ fit. unchanged-round world (Inject to text) before)
       (λ number letter sent hands fit. received-round (Inject letter.to letter.text) letter.to letter.text fit)
-      (λ me made hands fit. received-round (Inject (party.Client me) text) (party.Client me) text fit)
+      (λ made hands fit. received-round (Inject to text) to text fit)
       plain fits
   world_step-round (Tick client) plain fits =
       step_round (Tick client) (λ correct fits.

@@ -43,8 +43,8 @@ use Rattle.qu_runs.specs.Carried.{Tells}
 use Rattle.qu_frames.specs.Formats.{frame_form}
 use Rattle.qu_runs.specs.Plain.{ArePlain}
 use Rattle.qu_history.specs.declared.sealed.Sealed.{Sealed}
-use Rattle.qu_runs.proofs.Carrying.{AnswersFit, no_reply, signed_spelled, signed_carries, brings_carries}
-use Rattle.qu_runs.proofs.Fitting.{fit_step}
+use Rattle.qu_runs.proofs.Carrying.{AnswersFit, no_reply, signed_spelled, signed_carries, brings_decoded}
+use Rattle.qu_runs.proofs.Fitting.{fit_step, from_fits}
 use Rattle.qu_frames.specs.Signing.{brought, signed, signature, with_mac}
 use Rattle.qu_seal.specs.Keys.{Ring}
 use Rattle.qu_replica.proofs.FitSteps.{blank_sized}
@@ -162,10 +162,11 @@ replies_within trace is have index entry is_entry =
     let none : All (RepliesWithin bound) [] = All-nil (RepliesWithin bound) in
     entry_cases trace is have index entry is_entry (λ (made : Entry). All (RepliesWithin bound) made.letters)
     (λ event. none)
-    (λ event number letter me state sent hands found.
-    brought_replies bound state (brought state.keys (party.Replica state.me) letter.text)
-    (λ taken brings. (fit_step trace is have index below).answers me state found number letter taken sent
-    (brings_carries state letter taken brings))
+    (λ event text me state from hands found.
+    brought_replies bound state (brought state.keys (party.Replica state.me) text)
+    (λ taken brings. (fit_step trace is have index below).answers me state found taken
+    (from_fits trace is have index (omega arith) (party.Replica me) text from taken
+    (brings_decoded state text taken brings)))
     (replica_within trace index me.0 state found))
     (λ client op state found. invoke_replies bound state op)
     (λ event text client state from hands found. step_replies bound state text)
