@@ -1,6 +1,6 @@
 -- What a replica keeps of a request's sets: histories that were held before, where they are of correct replicas,
 -- whoever sent the request. So as many accepted a candidate, with the faulty ones, as the sets show it.
-use Rattle.std.proofs.Common.{◌≡◌, ℕ, zero, suc, ◌+◌, ◌<◌, ◌≤◌, Bool, true, false, ◌||◌, not, cond, List, [], ◌∷◌, ◌++◌, length, filter, Option, None, Some, IfSome, Ok, refl, sym, ap, subst, ◌∙◌, arith, inl, inr, add-one, get_or, Result}
+use Rattle.std.proofs.Common.{◌≡◌, ℕ, zero, suc, ◌+◌, ◌<◌, ◌≤◌, Bool, true, false, ◌||◌, not, cond, List, [], ◌∷◌, ◌++◌, length, filter, Option, None, Some, Ok, refl, sym, ap, subst, ◌∙◌, arith, inl, inr, add-one, get_or, Result}
 use Rattle.std.specs.Prelude.{slice_get, count_by, Contains, ◌==◌}
 use Rattle.std.specs.List.{AllByRecursion, flat_map}
 use Rattle.std.proofs.lemmas.Bool.{false≢true, cases_Bool, cases_eq, and_parts, cond_both, or_left, or_right, leb-true, ltb-true}
@@ -8,7 +8,6 @@ use Rattle.std.proofs.lemmas.List.Elements.{Contains-append_left, Contains-appen
 use Rattle.std.proofs.lemmas.List.Sums.{sum_by-cons}
 use Rattle.qu_base.specs.declared.party.ObjectId.{ObjectId}
 use Rattle.qu_base.specs.declared.party.ClientId.{ClientId}
-use Rattle.qu_base.specs.declared.party.Party.{Party}
 use Rattle.qu_base.specs.declared.party.Party.TheVariants as party
 use Rattle.qu_base.specs.declared.party.ReplicaId.{ReplicaId}
 use Rattle.qu_base.specs.Bounds.{replicas, quorum}
@@ -45,7 +44,7 @@ use Rattle.qu_runs.specs.Accepted.{accepts}
 use Rattle.qu_runs.specs.Carried.{handed, Brings}
 use Rattle.qu_runs.specs.Digested.{entries_brought, entries_to, shown_in}
 use Rattle.qu_runs.specs.Plain.{ArePlain}
-use Rattle.qu_runs.specs.Premises.{WasShown, AreUnforged}
+use Rattle.qu_runs.specs.Premises.{WasShown}
 use Rattle.qu_runs.specs.Setting.{setting}
 use Rattle.qu_runs.specs.Times.{world_after}
 use Rattle.qu_runs.proofs.FewFaults.{either_counted}
@@ -61,6 +60,7 @@ use Rattle.qu_grounds.proofs.Acceptors.{still_accepts, order_of-none}
 use Rattle.qu_grounds.proofs.Grounds.{is_base}
 use Rattle.qu_grounds.proofs.FullSets.{are_had}
 use Rattle.qu_grounds.proofs.Handled.{handler_at, known_sent}
+use Rattle.qu_grounds.proofs.AskedLetters.{true_to, brought_so}
 use Rattle.qu_grounds.proofs.TrueLetters.{IsTrueLetter, ShowsHeld, shows_held}
 use Rattle.qu_grounds.proofs.Views.{true_world}
 use Rattle.qu_base.specs.declared.bad_text.BadText.{BadText}
@@ -246,28 +246,17 @@ module _ (trace : Trace) (is_run : IsRun trace) (have : ArePlain trace) (time : 
 
   module _ (client : ClientId) (number round : ℕ) (sent : List SetOf) (body : Body) (mac : List ℕ)
       (brings : Brings old text (frame.Request client number round sent body mac)) (had : are_had old sent ≡ true) where
-    -- the bytes bring the replica the request, by the keys of the run
-    brought_so : brought (ring_of trace.setup) (party.Replica me) text
-        ≡ Some (frame.Request client number round sent body mac)
-    brought_so =
-        ap (λ (keys : Ring). brought keys (party.Replica me) text) (sym (keys_are trace time place old is_old))
-        ∙ ap (λ (it : ReplicaId). brought old.keys (party.Replica it) text) (sym (me_is trace time place old is_old))
-        ∙ brings
-
-    -- and so the entries of its sets
+    -- the entries of its sets
     entries_are : entries_to trace.setup text (party.Replica me) ≡ flat_map (λ (set : SetOf). set.entries) sent
     entries_are =
         ap (λ (test : Bool). cond test
         (entries_brought trace.setup (brought (ring_of trace.setup) (party.Replica me) text)) [])
         (handler_at trace time (get_or trace.entries time default).event place old is_old text hands)
-        ∙ ap (entries_brought trace.setup) brought_so
+        ∙ ap (entries_brought trace.setup)
+        (brought_so trace have time below default place old is_old text hands
+        (frame.Request client number round sent body mac) brings)
         ∙ ap (λ (test : Bool). cond test (flat_map (λ (set : SetOf). set.entries) sent) [])
         (known_sent trace time place old is_old sent had)
-
-    true_to : AreUnforged world (party.Replica me) text
-    true_to =
-        subst (λ (it : Option (Party × List ℕ)). IfSome it (λ (given : Party × List ℕ). AreUnforged world given.0 given.1))
-        hands (have.unforged time default below)
 
     abbrev Stays : Sealed → Type 0
     Stays sealed = (((sealed.history).replica).0 < replicas trace.setup.bounds)
@@ -279,7 +268,7 @@ module _ (trace : Trace) (is_run : IsRun trace) (have : ArePlain trace) (time : 
     stays sealed among right = (
       right_within (ring_of trace.setup) me sealed right,
       λ good. shown_was_held sealed
-          (true_to.shown me sealed refl
+          ((true_to trace have time below default place old is_old text hands).shown me sealed refl
           (subst (λ (setup : Setup). Contains (entries_to setup text (party.Replica me)) sealed)
           (sym (setup_after trace time)) (subst (λ (it : List Sealed). Contains it sealed) (sym entries_are) among))
           (ap (λ (setup : Setup). is_right (ring_of setup) me sealed) (setup_after trace time) ∙ right)

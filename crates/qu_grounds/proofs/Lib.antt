@@ -13,6 +13,7 @@ pub mod HeldInRuns
 pub mod Origins
 pub mod FullSets
 pub mod Handled
+pub mod AskedLetters
 pub mod KeptEntries
 pub mod Named
 pub mod Laws
