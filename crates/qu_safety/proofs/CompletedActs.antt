@@ -55,7 +55,9 @@ use Rattle.qu_safety.proofs.KnownRuns.{completion}
 use Rattle.qu_rounds.proofs.Members.{is_among, members_count}
 use Rattle.qu_points.proofs.Recorded.{recorded_op}
 use Rattle.qu_values.proofs.RepliesInRuns.{IsActOn, act_of_done, done_in_run, done_handled}
-use Rattle.qu_values.proofs.Replying.{reply_sent, reply_asks}
+use Rattle.qu_grounds.proofs.AskedLetters.{AskedBy}
+use Rattle.qu_safety.proofs.NoFaulty.{own_client}
+use Rattle.qu_values.proofs.Replying.{reply_sent, reply_letter}
 use Rattle.qu_values.proofs.StoredValues.{version_is}
 use Rattle.qu_values.proofs.UpdateFacts.{UpdateFacts}
 use Rattle.qu_rounds.proofs.Verdicts.{IsDone, fits_act, equal_done}
@@ -135,9 +137,12 @@ module _ (trace : Trace) (is_run : IsRun trace) (have : ArePlain trace) (laws : 
         let number : ℕ = operation.number in
         let asks : IsActOn reply.body =
         act_of_done trace is_run have at below replica client number round stamps answer reply in
+        let letter : AskedBy trace at client number round reply.sets reply.body =
+        reply_letter trace is_run have at below replica client number round (verdict.Done stamps answer) reply
+        (own_client trace is_run operation among) in
         let request : IsRequestOf trace at client number reply.body =
-        request_of trace is_run have at (omega arith) reply.asked reply.letter reply.is_letter client number round
-        reply.sets reply.body (reply_asks _ _ _ _ _ _ _ reply) in
+        request_of trace is_run have at (omega arith) letter.asked letter.letter letter.is_letter client number round
+        reply.sets reply.body letter.is_request in
         let same : request.operation ≡ operation =
         recorded_op trace request.operation operation request.of_trace among
         (ap (λ (it : ClientId). it.0) request.of_client) request.of_number in

@@ -6,6 +6,7 @@ use Rattle.std.proofs.lemmas.List.Elements.{All-contains, All-weaker}
 use Rattle.std.proofs.lemmas.List.Folds.{Any-from_list_any, list_any-from_Any}
 use Rattle.std.proofs.lemmas.Option.{none-some, same_Some, slice_get_within}
 use Rattle.qu_base.specs.declared.party.ClientId.{ClientId}
+use Rattle.qu_base.specs.declared.party.Party.TheVariants as party
 use Rattle.qu_base.specs.declared.party.ObjectId.{ObjectId}
 use Rattle.qu_base.specs.declared.party.ReplicaId.{ReplicaId}
 use Rattle.qu_base.specs.Bounds.{replicas, quorum, AreThresholds}
@@ -59,6 +60,7 @@ use Rattle.qu_runs.specs.Times.{world_after}
 use Rattle.qu_runs.proofs.Settings.{acceptors_counted}
 use Rattle.qu_points.specs.Order.{AnswersFirst, query_effect, effect_of, IsOperationPoint}
 use Rattle.qu_points.proofs.Correct.{operations_correct}
+use Rattle.qu_safety.proofs.NoFaulty.{own_client}
 use Rattle.qu_points.specs.Points.{IsOfCorrect, point_at}
 use Rattle.qu_values.specs.Replies.{culled_in, IsReplyTo, HasTold, TellsQuery}
 use Rattle.qu_values.specs.Updates.{IsEverAccepted}
@@ -71,7 +73,9 @@ use Rattle.qu_grounds.proofs.HeldVersions.{AreOfHeld, HoldsUnder}
 use Rattle.qu_runs.proofs.LaterLetters.{letter_later}
 use Rattle.qu_rounds.proofs.Members.{is_among, members_count}
 use Rattle.qu_values.proofs.RepliesInRuns.{IsAskOf, ask_of_told, told_in_run}
-use Rattle.qu_values.proofs.Replying.{reply_sent, reply_asks}
+use Rattle.qu_grounds.proofs.AskedLetters.{AskedBy}
+use Rattle.qu_trace.specs.Faulty.{is_faulty}
+use Rattle.qu_values.proofs.Replying.{reply_sent, reply_letter}
 use Rattle.qu_rounds.proofs.Verdicts.{equal_told}
 use Rattle.qu_safety.proofs.Along.{objects_in, zip_along, zip_weaker, zip_at}
 use Rattle.qu_values.proofs.StoredValues.{version_is}
@@ -376,12 +380,13 @@ module _ (trace : Trace) (is_run : IsRun trace) (have : ArePlain trace) (laws : 
         ap (λ (it : Stamp). is_below it other.stamp) (sym has.is_told) ∙ has.nothing_above other held
 
     -- the base was shown in the request that was answered first
-    base_shown : AsksAlike trace → (member : ℕ) (tells : Member member) → time ≤ tells.at
+    base_shown : AsksAlike trace → is_faulty trace.setup (party.Client client) ≡ false → (member : ℕ)
+        (tells : Member member) → time ≤ tells.at
         → (answered : IsAnsweredAt trace client number round time)
         → (told : ObjectId × Stamp) (value : Value) (has : TellsOf member tells told value)
         → (entries : List ObjectHistory) × (method_at trace.setup.bounds entries ≡ Some has.base)
         × (quorum trace.setup.bounds ≤ acceptors (setting trace) time told.0 has.base + (setting trace).faults)
-    base_shown alike member tells order answered told value has =
+    base_shown alike correct member tells order answered told value has =
         let at : ℕ = tells.at in
         let object : ObjectId = told.0 in
         let base : Candidate = has.base in
@@ -389,14 +394,18 @@ module _ (trace : Trace) (is_run : IsRun trace) (have : ArePlain trace) (laws : 
         let first = answered.reply in
         let below : at < length trace.entries = tells.below in
         let within : time ≤ length trace.entries = omega arith in
+        let asked : AskedBy trace time client number round first.sets first.body =
+        reply_letter trace is_run have time answered.below answered.replica client number round answered.told first
+        correct in
+        let again : AskedBy trace at client number round mine.sets mine.body =
+        reply_letter trace is_run have at below member client number round (verdict.Told stamps answer) mine correct in
         let same : (first.sets ≡ mine.sets) × (first.body ≡ mine.body) =
-        alike at (omega arith) first.asked mine.asked first.letter mine.letter
-        (letter_later trace time at first.asked first.letter order (omega arith) first.is_letter) mine.is_letter
-        client number round first.sets mine.sets first.body mine.body (reply_asks _ _ _ _ _ _ _ first)
-        (reply_asks _ _ _ _ _ _ _ mine) in
+        alike at (omega arith) asked.asked again.asked asked.letter again.letter
+        (letter_later trace time at asked.asked asked.letter order (omega arith) asked.is_letter) again.is_letter
+        client number round first.sets mine.sets first.body mine.body asked.is_request again.is_request in
         let view : IsOfKept trace time first.sets first.body =
-        view_of_request trace is_run have time within first.asked first.letter first.is_letter client number round
-        first.sets first.body (reply_asks _ _ _ _ _ _ _ first) in
+        view_of_request trace is_run have time within asked.asked asked.letter asked.is_letter client number round
+        first.sets first.body asked.is_request in
         let culled_first : List SetOf = culled_in mine.old first.sets in
         let method : method_at trace.setup.bounds (entries_of object culled_first) ≡ Some base =
         ap (λ (it : List SetOf). method_at trace.setup.bounds (entries_of object (culled_in mine.old it))) same.0 ∙
@@ -444,10 +453,15 @@ module _ (trace : Trace) (is_run : IsRun trace) (have : ArePlain trace) (laws : 
     query_asked operation among of_client of_number query is_query member tells =
         let mine = tells.reply in
         let below : tells.at < length trace.entries = tells.below in
+        let correct : is_faulty trace.setup (party.Client client) ≡ false =
+        ap (λ (it : ClientId). is_faulty trace.setup (party.Client it)) (sym of_client)
+        ∙ own_client trace is_run operation among in
+        let letter : AskedBy trace tells.at client number round mine.sets mine.body =
+        reply_letter trace is_run have tells.at below member client number round (verdict.Told stamps answer) mine
+        correct in
         let request : IsRequestOf trace tells.at client number mine.body =
-        request_of trace is_run have tells.at (omega arith) mine.asked mine.letter mine.is_letter client number round
-        mine.sets
-        mine.body (reply_asks _ _ _ _ _ _ _ mine) in
+        request_of trace is_run have tells.at (omega arith) letter.asked letter.letter letter.is_letter client number
+        round mine.sets mine.body letter.is_request in
         let same : request.operation ≡ operation =
         recorded_op trace request.operation operation request.of_trace among
         (ap (λ (it : ClientId). it.0) (request.of_client ∙ sym of_client)) (request.of_number ∙ sym of_number) in
@@ -475,6 +489,7 @@ module _ (trace : Trace) (is_run : IsRun trace) (have : ArePlain trace) (laws : 
   -- what the members told of an object is the value of its top when the round was first answered
   module _ (client : ClientId) (number round before : ℕ) (stamps : List (ObjectId × Stamp)) (answer : Answer)
       (time : ℕ) (within : time ≤ length trace.entries) (alike : AsksAlike trace)
+      (correct : is_faulty trace.setup (party.Client client) ≡ false)
       (answered : IsAnsweredAt trace client number round time)
       (not_earlier : (at : ℕ) → answers_at trace client number round (suc at) ≡ true → time ≤ at)
       (members : List ℕ) (different : AllPairs (λ (a b : ℕ). a ≢ b) members)
@@ -491,7 +506,8 @@ module _ (trace : Trace) (is_run : IsRun trace) (have : ArePlain trace) (laws : 
         let order : time ≤ tells.at = not_earlier tells.at tells.answered in
         let shown : (entries : List ObjectHistory) × (method_at trace.setup.bounds entries ≡ Some base)
         × (quorum trace.setup.bounds ≤ acceptors (setting trace) time object base + (setting trace).faults) =
-        base_shown client number round before stamps answer time alike member tells order answered told value has in
+        base_shown client number round before stamps answer time alike correct member tells order answered told value
+        has in
         let established : IsEstablished (setting trace) time object base =
         established_by client number round before stamps answer time object base shown.2 in
         let accepted : IsEverAccepted trace object base =
@@ -581,7 +597,8 @@ module _ (trace : Trace) (is_run : IsRun trace) (have : ArePlain trace) (laws : 
               (zip_weaker (HasTold (tells.reply).old (culled_in (tells.reply).old (tells.reply).sets))
               (λ (told : ObjectId × Stamp) (value : Value). HasTopValue trace time told.0 value) stamps
               (tells.tells).values
-              (from_top client number round (reply - 1) stamps answer time within alike answered
+              (from_top client number round (reply - 1) stamps answer time within alike
+              (own_client trace is_run operation among) answered
               (not_earlier client number round first.first time is_after first.not_before) done.members done.different
               done.enough done.within all member tells) (tells.tells).each);
           answer_is = (tells.tells).answer_is

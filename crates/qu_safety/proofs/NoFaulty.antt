@@ -16,13 +16,23 @@ use Rattle.qu_trace.specs.Operation.{operations_of}
 use Rattle.qu_world.specs.Run.{IsRun}
 use Rattle.qu_runs.specs.Decided.{is_on}
 use Rattle.qu_runs.specs.Digested.{IsHandled}
+use Rattle.qu_machine.specs.declared.record.OpRecord.{OpRecord}
 use Rattle.qu_runs.specs.Plain.{ArePlain}
+use Rattle.qu_runs.specs.Premises.{OnlyReplicasAreFaulty}
 use Rattle.qu_grounds.specs.Parts.{Names}
 use Rattle.qu_rounds.specs.Invocations.{IsRequestOf}
 use Rattle.qu_points.specs.Order.{are_in_order, IsOperationPoint, IsFaultyPoint, IsPrintedOrder}
 use Rattle.qu_points.specs.Points.{IsOfCorrect}
 use Rattle.qu_points.proofs.Correct.{operations_correct}
 use Rattle.qu_values.proofs.SentRequests.{asked_by_handled}
+
+-- ---- operations are of correct clients
+
+pub own_client : (trace : Trace) → IsRun trace → (operation : OpRecord) → Contains (operations_of trace.entries) operation
+    → is_faulty trace.setup (party.Client operation.client) ≡ false
+own_client trace is_run operation among =
+    All-contains (IsOfCorrect trace.setup) (operations_of trace.entries) operation
+    (operations_correct trace is_run) among
 
 -- ---- no request of a faulty client is handled
 
@@ -31,13 +41,13 @@ HandledAreCorrect trace = (client : ClientId) (number : ℕ) (parts : List (Obje
     → IsHandled trace client number parts → is_faulty trace.setup (party.Client client) ≡ false
 
 -- what is handled was asked for by an operation
-pub handled_correct : (trace : Trace) → IsRun trace → ArePlain trace → HandledAreCorrect trace
-handled_correct trace is_run have client number parts handled =
+pub handled_correct : (trace : Trace) → IsRun trace → ArePlain trace → OnlyReplicasAreFaulty trace.setup
+    → HandledAreCorrect trace
+handled_correct trace is_run have only client number parts handled =
     let request : IsRequestOf trace _ client number (body.Act parts) =
-    asked_by_handled trace is_run have client number parts handled in
+    asked_by_handled trace is_run have only client number parts handled in
     ap (λ (it : ClientId). is_faulty trace.setup (party.Client it)) (sym request.of_client)
-    ∙ All-contains (IsOfCorrect trace.setup) (operations_of trace.entries) request.operation
-    (operations_correct trace is_run) request.of_trace
+    ∙ own_client trace is_run request.operation request.of_trace
 
 pub no_points_of_faulty : (trace : Trace) → HandledAreCorrect trace → (point : Point) → IsFaultyPoint trace point → ⊥
 no_points_of_faulty trace correct point is =

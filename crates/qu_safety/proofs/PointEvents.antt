@@ -2,7 +2,7 @@
 use Rattle.std.proofs.Common.{◌≡◌, ℕ, zero, suc, ◌<◌, ◌≤◌, true, List, length, get_or, Option, None, Some, refl, sym, ap, subst, ◌∙◌, arith, Result, Ok, inl, inr}
 use Rattle.std.specs.Prelude.{◌==◌, ◌&&◌, slice_get, Contains}
 use Rattle.std.proofs.lemmas.Bool.{false≢true, and_parts, eqb-true}
-use Rattle.std.proofs.lemmas.Option.{slice_get_within, get_or_from_slice_get}
+use Rattle.std.proofs.lemmas.Option.{slice_get_within, get_or_from_slice_get, same_Some}
 use Rattle.qu_base.specs.declared.party.ClientId.{ClientId}
 use Rattle.qu_base.specs.declared.party.ReplicaId.{ReplicaId}
 use Rattle.qu_base.specs.declared.party.ObjectId.{ObjectId}
@@ -55,15 +55,21 @@ use Rattle.qu_grounds.proofs.Accepting.{some_entry, Acceptance}
 use Rattle.qu_grounds.proofs.Laws.{acceptance_of}
 use Rattle.qu_rounds.proofs.Invocations.{request_of}
 use Rattle.qu_points.proofs.Recorded.{recorded_op}
-use Rattle.qu_values.proofs.Replying.{reply_sent, reply_asks}
+use Rattle.qu_values.proofs.Replying.{reply_sent}
+use Rattle.qu_grounds.proofs.AskedLetters.{AskedBy, asked_letter}
+use Rattle.qu_grounds.proofs.Views.{one_decoded}
+use Rattle.qu_safety.proofs.NoFaulty.{own_client}
+use Rattle.qu_trace.specs.Faulty.{is_faulty}
 use Rattle.qu_points.proofs.Taking.{effect_once}
-use Rattle.qu_runs.proofs.Carrying.{tells_as, asks_so, one_carried, brings_carries}
+use Rattle.qu_runs.proofs.Carrying.{tells_as, brings_decoded}
 use Rattle.qu_runs.proofs.Small.{same_point}
-use Rattle.qu_runs.specs.Carried.{Asks, Tells, handed}
+use Rattle.qu_runs.specs.Carried.{Brings, Tells, handed}
 use Rattle.qu_frames.specs.Decoding.{decoded}
 use Rattle.qu_history.specs.declared.sealed.Sealed.{Sealed}
 use Rattle.qu_base.specs.declared.bad_text.BadText.{BadText}
-use Rattle.qu_runs.proofs.Handing.{one_hand}
+use Rattle.qu_replica.specs.State.{ReplicaState}
+use Rattle.qu_base.specs.declared.party.Party.{Party}
+use Rattle.qu_base.specs.declared.party.Party.TheVariants as party
 
 -- ---- answers
 
@@ -122,18 +128,20 @@ one_point trace first second one two same_client same_number =
 
 -- ---- what an event hands over
 
--- the event of the entry with this index hands over a request of this client and number
+-- the event of the entry with this index hands a replica a request of this client and number
 record IsAskedAt (trace : Trace) (time : ℕ) (client : ClientId) (number : ℕ) : Type 0 where
   within : time < length trace.entries
-  asked : ℕ
-  letter : Letter
-  is_letter : letter_of (world_after trace time) asked ≡ Some letter
+  place : ℕ
+  old : ReplicaState
+  is_old : slice_get (world_after trace time).replicas place ≡ Some old
+  text : List ℕ
   is_handed : handed (world_after trace time) (get_or trace.entries time some_entry).event ≡ Some
-      (letter.to, letter.text)
+      (party.Replica (record { 0 = place }), text)
   round : ℕ
   sets : List SetOf
   asks : Body
-  is_request : Asks letter client number round sets asks
+  mac : List ℕ
+  brings : Brings old text (frame.Request client number round sets asks mac)
 
 same_frame : (first second : ClientId) (asked number turn round : ℕ) (sets shown : List SetOf) (asks told : Body)
     (mac seal : List ℕ)
@@ -146,14 +154,22 @@ one_asked : (trace : Trace) (time : ℕ) (client other : ClientId) (number turn 
     (one : IsAskedAt trace time client number) (two : IsAskedAt trace time other turn)
     → (client ≡ other) × (number ≡ turn) × (one.asks ≡ two.asks)
 one_asked trace time client other number turn one two =
-    let hand = one_hand one.letter two.letter (handed (world_after trace time)
-    (get_or trace.entries time some_entry).event) _ refl
-    one.is_handed two.is_handed in
-    same_frame client other number turn one.round two.round one.sets two.sets one.asks two.asks (one.is_request).mac
-    (two.is_request).mac
-    (one_carried two.letter (frame.Request client number one.round one.sets one.asks (one.is_request).mac)
-    (frame.Request other turn two.round two.sets two.asks (two.is_request).mac)
-    (ap decoded (sym hand.1) ∙ (one.is_request).carries) (two.is_request).carries)
+    let same : (party.Replica (record { 0 = one.place }), one.text)
+    ≡ (party.Replica (record { 0 = two.place }), two.text) = same_Some _ _ (sym one.is_handed ∙ two.is_handed) in
+    same_frame client other number turn one.round two.round one.sets two.sets one.asks two.asks one.mac two.mac
+    (one_decoded two.text (frame.Request client number one.round one.sets one.asks one.mac)
+    (frame.Request other turn two.round two.sets two.asks two.mac)
+    (ap decoded (sym (ap (λ (it : Party × List ℕ). it.1) same))
+    ∙ brings_decoded one.old one.text (frame.Request client number one.round one.sets one.asks one.mac) one.brings)
+    (brings_decoded two.old two.text (frame.Request other turn two.round two.sets two.asks two.mac) two.brings))
+
+-- a correct client sent it
+asked_by_letter : (trace : Trace) → ArePlain trace → (time : ℕ) (client : ClientId) (number : ℕ)
+    (asked : IsAskedAt trace time client number) → is_faulty trace.setup (party.Client client) ≡ false
+    → AskedBy trace time client number asked.round asked.sets asked.asks
+asked_by_letter trace have time client number asked correct =
+    asked_letter trace have time asked.within some_entry asked.place asked.old asked.is_old asked.text asked.is_handed
+    client number asked.round asked.sets asked.asks asked.mac asked.brings correct
 
 -- what asks for an operation of the trace asks for what it does, and after it began
 record AsksFor (operation : OpRecord) (time : ℕ) (asks : Body) : Type 0 where
@@ -165,9 +181,11 @@ asks_for : (trace : Trace) → IsRun trace → ArePlain trace → (time : ℕ) (
     operation time asked.asks
 asks_for trace is_run have time operation of_trace asked =
     let within : time < length trace.entries = asked.within in
+    let letter : AskedBy trace time operation.client operation.number asked.round asked.sets asked.asks =
+    asked_by_letter trace have time operation.client operation.number asked (own_client trace is_run operation of_trace) in
     let request : IsRequestOf trace time operation.client operation.number asked.asks =
-    request_of trace is_run have time (omega arith) asked.asked asked.letter asked.is_letter operation.client
-    operation.number asked.round asked.sets asked.asks asked.is_request in
+    request_of trace is_run have time (omega arith) letter.asked letter.letter letter.is_letter operation.client
+    operation.number asked.round asked.sets asked.asks letter.is_request in
     let same : request.operation ≡ operation =
     recorded_op trace request.operation operation request.of_trace of_trace
     (ap (λ (it : ClientId). it.0) request.of_client) request.of_number in
@@ -184,15 +202,17 @@ module _ (trace : Trace) (is_run : IsRun trace) (have : ArePlain trace) where
       → IsReplyTo trace time replica client number round verdict → IsAskedAt trace time client number
   asked_by_reply time replica client number round verdict reply = record {
     within = slice_get_within trace.entries time reply.entry reply.is_entry;
-    asked = reply.asked;
-    letter = reply.letter;
-    is_letter = reply.is_letter;
+    place = replica;
+    old = reply.old;
+    is_old = reply.is_old;
+    text = reply.text;
     is_handed = ap (λ (it : Entry). handed (world_after trace time) it.event)
         (get_or_from_slice_get trace.entries time reply.entry some_entry reply.is_entry) ∙ reply.is_handed;
     round = round;
     sets = reply.sets;
     asks = reply.body;
-    is_request = reply_asks trace time replica client number round verdict reply;
+    mac = reply.mac;
+    brings = reply.brings;
   }
 
   sends_asked : (client : ClientId) (number round time : ℕ) (found : Option Entry) → slice_get trace.entries time
@@ -242,16 +262,16 @@ module _ (trace : Trace) (is_run : IsRun trace) (have : ArePlain trace) where
         parts = one.parts;
         asked = record {
           within = within;
-          asked = delivered.number;
-          letter = delivered.letter;
-          is_letter = delivered.is_letter;
+          place = place;
+          old = accepted.old;
+          is_old = accepted.is_old;
+          text = delivered.text;
           is_handed = ap (handed (world_after trace time)) (sym accepted.event_is) ∙ delivered.is_handed;
           round = one.round;
           sets = one.sent;
           asks = body.Act one.parts;
-          is_request = asks_so delivered.letter delivered.carried one.client one.number one.round one.sent
-              (body.Act one.parts) one.mac
-              (brings_carries accepted.old delivered.letter delivered.carried delivered.brings) one.is_request;
+          mac = one.mac;
+          brings = delivered.brings ∙ ap (λ (it : Frame). Some it) one.is_request;
         };
         is_act = refl;
         made = accepted_made trace is_run time within object place candidate accepted;
@@ -296,10 +316,14 @@ module _ (trace : Trace) (is_run : IsRun trace) (have : ArePlain trace) where
               let same =
               one_made_for trace one_act it.candidate upon.client operation.client upon.number operation.number
               upon.parts parts upon.made (it.is_of).made in
+              let letter : AskedBy trace first.time upon.client upon.number asked.round asked.sets asked.asks =
+              asked_by_letter trace have first.time upon.client upon.number asked
+              (ap (λ (who : ClientId). is_faulty trace.setup (party.Client who)) same.0
+              ∙ own_client trace is_run operation among) in
               let request : IsRequestOf trace first.time upon.client upon.number asked.asks =
-              request_of trace is_run have first.time (omega (arith, last_is trace, within, earlier)) asked.asked
-              asked.letter
-              asked.is_letter upon.client upon.number asked.round asked.sets asked.asks asked.is_request in
+              request_of trace is_run have first.time (omega (arith, last_is trace, within, earlier)) letter.asked
+              letter.letter letter.is_letter upon.client upon.number asked.round asked.sets asked.asks
+              letter.is_request in
               let begun : (request.operation).invoked ≤ first.time = request.begun in
               let records : request.operation ≡ operation =
               recorded_op trace request.operation operation request.of_trace among

@@ -28,10 +28,10 @@ pub fn order_of(alloc: Global, trace: &Trace) -> Result<List<Point>, NoMemory>
     ensures printed { IfOk result (λ order. IsPrintedOrder trace.now order) }
     ensures serial { IfOk result (λ order. MeetsPremises trace.now → OnlyReplicasAreFaulty trace.now.setup → IsSerial trace.now.setup.kinds
         (operations_of trace.now.entries) order) }
-    ensures chained { OnOk result (MeetsPremises trace.now → OnlyReplicasAreFaulty trace.now.setup → IsChained trace.now) }
-    ensures named { OnOk result (MeetsPremises trace.now → OnlyReplicasAreFaulty trace.now.setup → StampsNameHistories trace.now) }
-    ensures jointly { OnOk result (MeetsPremises trace.now → OnlyReplicasAreFaulty trace.now.setup → DecidesJointly trace.now) }
-    ensures in_turn { OnOk result (MeetsPremises trace.now → OnlyReplicasAreFaulty trace.now.setup → DecidesInTurn trace.now) }
+    ensures chained { OnOk result (MeetsPremises trace.now → IsChained trace.now) }
+    ensures named { OnOk result (MeetsPremises trace.now → StampsNameHistories trace.now) }
+    ensures jointly { OnOk result (MeetsPremises trace.now → DecidesJointly trace.now) }
+    ensures in_turn { OnOk result (MeetsPremises trace.now → DecidesInTurn trace.now) }
     ensures once { OnOk result (MeetsPremises trace.now → OnlyReplicasAreFaulty trace.now.setup → DecidesOnce trace.now) }
     ensures by_quorums { OnOk result (MeetsPremises trace.now → OnlyReplicasAreFaulty trace.now.setup → CompletesByQuorums trace.now) }
 {

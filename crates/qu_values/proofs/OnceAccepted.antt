@@ -1,6 +1,6 @@
--- No candidate of an update is an ancestor of another: a client sends an act upon full sets in one round at most, and
--- what these sets show was accepted before any candidate of the act.
-use Rattle.std.proofs.Common.{◌≡◌, ℕ, ◌<◌, true, List, length, Some, refl, sym, ap, subst, ◌∙◌, arith, inl, inr, filter, not, suc, ◌≤◌, ◌∷◌, [], add-one, Bool, ◌+◌}
+-- No candidate of a correct client's update is an ancestor of another: a client sends an act upon full sets in one round
+-- at most, and what these sets show was accepted before any candidate of the act.
+use Rattle.std.proofs.Common.{◌≡◌, ℕ, ◌<◌, true, List, length, Some, refl, sym, ap, subst, ◌∙◌, arith, inl, inr, filter, not, suc, ◌≤◌, ◌∷◌, [], add-one, Bool, ◌+◌, false}
 use Rattle.std.specs.Prelude.{slice_get, nat_lt}
 use Rattle.qu_base.specs.declared.party.ObjectId.{ObjectId}
 use Rattle.qu_stamp.specs.declared.candidate.Candidate.{Candidate}
@@ -23,8 +23,8 @@ use Rattle.qu_runs.proofs.LaterLetters.{letter_later}
 use Rattle.qu_values.proofs.OneAct.{ActsAreOne, one_made_for}
 use Rattle.qu_rounds.proofs.OneRequest.{one_full_request}
 use Rattle.qu_runs.proofs.OpeningReplicas.{bounds_are}
-use Rattle.qu_runs.specs.Carried.{Asks}
-use Rattle.qu_runs.proofs.Carrying.{asks_so, asks_as, brings_carries}
+use Rattle.qu_runs.specs.Carried.{Asks, handed}
+use Rattle.qu_runs.proofs.Carrying.{asks_as}
 use Rattle.qu_chain.specs.Setting.{Setting, IsAccepted, IsAncestor, acceptors}
 use Rattle.qu_chain.specs.Laws.{Laws}
 use Rattle.qu_chain.specs.Joint.{Joint}
@@ -47,6 +47,11 @@ use Rattle.std.proofs.lemmas.Bool.Decides.{nat_tests}
 use Rattle.qu_runs.proofs.WorldGrowth.{world_after-next}
 use Rattle.qu_runs.specs.Times.{world_after}
 use Rattle.qu_world.specs.Step.{world_step}
+use Rattle.qu_trace.specs.Faulty.{is_faulty}
+use Rattle.qu_base.specs.declared.party.Party.TheVariants as party
+use Rattle.qu_grounds.proofs.AskedLetters.{AskedBy, asked_letter}
+use Rattle.qu_frames.specs.declared.frame.Frame.{Frame}
+use Rattle.qu_base.specs.declared.party.ClientId.{ClientId}
 
 -- ---- an ancestor was accepted before
 
@@ -118,10 +123,11 @@ record Upon (trace : Trace) (count : ℕ) (update : Update) (object : ObjectId) 
   prior : candidate.prior ≡ base.stamp
 
 module _ (trace : Trace) (is_run : IsRun trace) (have : ArePlain trace) (one_act : ActsAreOne trace) where
-  upon_at : (update : Update) (time : ℕ) (object : ObjectId) (place : ℕ) (candidate : Candidate)
+  upon_at : (update : Update) → is_faulty trace.setup (party.Client update.client) ≡ false
+      → (time : ℕ) (object : ObjectId) (place : ℕ) (candidate : Candidate)
       → time < length trace.entries → Acceptance trace time object place candidate → IsOf trace update object candidate
       → Upon trace time update object candidate
-  upon_at update time object place candidate within accepted is_of =
+  upon_at update correct time object place candidate within accepted is_of =
       let delivered : IsDelivered (world_after trace time) accepted.event place accepted.old accepted.new object =
       accepted.delivered in
       let one : Accepts accepted.old accepted.new delivered.carried = delivered.accepts in
@@ -139,19 +145,21 @@ module _ (trace : Trace) (is_run : IsRun trace) (have : ArePlain trace) (one_act
       let full : are_full (accepted.old).keys.bounds one.sets ≡ true =
       (delivered_upon (world_after trace time) accepted.event place accepted.old accepted.new object delivered
       accepted.is_old (ap (λ (it : WorldState). slice_get it.replicas place) next ∙ accepted.is_new)).full in
+      let asks : AskedBy trace time one.client one.number one.round one.sent (body.Act one.parts) =
+      asked_letter trace have time within some_entry place accepted.old accepted.is_old delivered.text
+      (ap (handed (world_after trace time)) (sym accepted.event_is) ∙ delivered.is_handed) one.client one.number
+      one.round one.sent (body.Act one.parts) one.mac (delivered.brings ∙ ap (λ (it : Frame). Some it) one.is_request)
+      (ap (λ (it : ClientId). is_faulty trace.setup (party.Client it)) acts.0 ∙ correct) in
       record {
-        at = delivered.number;
-        letter = delivered.letter;
-        is_letter = delivered.is_letter;
+        at = asks.asked;
+        letter = asks.letter;
+        is_letter = asks.is_letter;
         round = one.round;
         sent = one.sent;
         is_request =
-            asks_as delivered.letter one.client update.client one.number update.number one.round one.round one.sent
+            asks_as asks.letter one.client update.client one.number update.number one.round one.round one.sent
             (body.Act one.parts) (body.Act update.parts) acts.0 acts.1 refl
-            (ap (λ (parts : List (ObjectId × Method)). body.Act parts) acts.2)
-            (asks_so delivered.letter delivered.carried one.client one.number one.round one.sent
-            (body.Act one.parts) one.mac
-            (brings_carries accepted.old delivered.letter delivered.carried delivered.brings) one.is_request);
+            (ap (λ (parts : List (ObjectId × Method)). body.Act parts) acts.2) asks.is_request;
         full =
             full_sent trace.setup.bounds (accepted.old).keys (accepted.old).me one.sent
             (ap (are_full trace.setup.bounds) one.culls ∙ ap (λ (size : ℕ). are_full size one.sets) (sym bounds) ∙ full);
@@ -164,7 +172,8 @@ module _ (trace : Trace) (is_run : IsRun trace) (have : ArePlain trace) (one_act
         prior = ap (λ (it : Candidate). it.prior) (sym accepted.candidate_is) ∙ why.prior;
       }
 
-  module _ (laws : Laws (setting trace)) (joint : Joint (setting trace)) (update : Update) (object : ObjectId) where
+  module _ (laws : Laws (setting trace)) (joint : Joint (setting trace)) (update : Update)
+      (correct : is_faulty trace.setup (party.Client update.client) ≡ false) (object : ObjectId) where
     -- the first acceptance of a candidate of the update
     first_of_update : (candidate : Candidate) → IsOf trace update object candidate
         → IsEverAccepted trace object candidate → First (setting trace) (setting trace).last object candidate
@@ -179,7 +188,7 @@ module _ (trace : Trace) (is_run : IsRun trace) (have : ArePlain trace) (one_act
         → Upon trace first.time update object candidate
     upon_first candidate is_of first =
         let within : first.time < (setting trace).last = first.within in
-        upon_at update first.time object first.replica candidate (omega (arith, last_is trace, within))
+        upon_at update correct first.time object first.replica candidate (omega (arith, last_is trace, within))
         (acceptance_of trace is_run have first.time object first.replica candidate first.new) is_of
 
     -- what a quorum accepted with the faulty ones, some correct one did

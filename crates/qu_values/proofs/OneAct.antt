@@ -23,6 +23,7 @@ use Rattle.qu_runs.specs.Plain.{HasOpParts, ArePlain}
 use Rattle.qu_values.proofs.SentRequests.{asked_by_handled}
 use Rattle.qu_runs.proofs.Ranges.{Fits, operation_fits}
 use Rattle.qu_runs.proofs.DigestedTexts.{request_digested}
+use Rattle.qu_runs.specs.Premises.{OnlyReplicasAreFaulty}
 
 -- ---- its text was digested
 
@@ -47,11 +48,11 @@ pub act_by : (parts : List (ObjectId × Method)) (what : Op) → body.Act parts 
 act_by parts (op.Act act) same = cc
 act_by parts (op.Query query) same = absurd (cc)
 
-pub fit : (trace : Trace) → IsRun trace → ArePlain trace → (client : ClientId) (number : ℕ)
+pub fit : (trace : Trace) → IsRun trace → ArePlain trace → OnlyReplicasAreFaulty trace.setup → (client : ClientId) (number : ℕ)
     (parts : List (ObjectId × Method)) → IsHandled trace client number parts → IsFit client number parts
-fit trace is_run have client number parts it =
+fit trace is_run have only client number parts it =
     let request : IsRequestOf trace (length trace.entries) client number (body.Act parts) =
-    asked_by_handled trace is_run have client number parts it in
+    asked_by_handled trace is_run have only client number parts it in
     let fits : Fits request.operation = operation_fits trace is_run have request.operation request.of_trace in
     record {
       client = subst (λ (who : ClientId). who.0 < 2 ^ 16) request.of_client fits.client;
@@ -74,10 +75,11 @@ ActsAreOne trace = (client other : ClientId) (number turn : ℕ) (parts others :
     → act_digest client number parts ≡ act_digest other turn others → (client ≡ other) × (number ≡ turn)
     × (parts ≡ others)
 
-pub acts_are_one : (trace : Trace) → IsRun trace → ArePlain trace → NoCollision trace → ActsAreOne trace
-acts_are_one trace is_run have no_collision client other number turn parts others one two same =
-    let first : IsFit client number parts = fit trace is_run have client number parts one in
-    let second : IsFit other turn others = fit trace is_run have other turn others two in
+pub acts_are_one : (trace : Trace) → IsRun trace → ArePlain trace → OnlyReplicasAreFaulty trace.setup → NoCollision trace
+    → ActsAreOne trace
+acts_are_one trace is_run have only no_collision client other number turn parts others one two same =
+    let first : IsFit client number parts = fit trace is_run have only client number parts one in
+    let second : IsFit other turn others = fit trace is_run have only other turn others two in
     let texts : text_of client number parts ≡ text_of other turn others =
     no_collision (text_of client number parts) (text_of other turn others)
     (text_digested trace client number parts one) (text_digested trace other turn others two)

@@ -23,7 +23,7 @@ use Rattle.qu_replica.specs.Step.{on_received, carried_out, replica_step}
 use Rattle.qu_trace.specs.declared.trace.Trace.{Trace}
 use Rattle.qu_world.specs.Run.{IsRun}
 use Rattle.qu_machine.proofs.Firsts.{contains_at}
-use Rattle.qu_values.proofs.Replying.{reply_asks}
+use Rattle.qu_values.proofs.Replying.{reply_parts}
 use Rattle.qu_grounds.proofs.FullSets.{culled_had, not_unknown}
 use Rattle.qu_grounds.proofs.Handled.{handled_upon}
 use Rattle.qu_runs.specs.Digested.{IsHandled}
@@ -32,10 +32,8 @@ use Rattle.qu_runs.specs.Plain.{ArePlain}
 use Rattle.qu_grounds.proofs.HeldInRuns.{held_versions}
 use Rattle.qu_grounds.proofs.HeldVersions.{AreOfHeld}
 use Rattle.qu_values.proofs.TrueReplies.{done_is_true, act_is_not_told, told_is_true, query_is_not_done, done_is_known}
-use Rattle.qu_grounds.proofs.Views.{request_has_parts}
 use Rattle.qu_runs.specs.Carried.{Brings}
 use Rattle.qu_frames.specs.declared.frame.Frame.TheVariants as frame
-use Rattle.qu_frames.specs.declared.frame.Letter.{Letter}
 
 -- ---- bodies
 
@@ -102,13 +100,13 @@ module _ (state : ReplicaState) (client : ClientId) (number : ℕ) (sets : List 
 -- ---- replies
 
 -- what the replica becomes, where its decision is known
-after_decision : (old new : ReplicaState) (letter : Letter) (client : ClientId) (number round : ℕ)
+after_decision : (old new : ReplicaState) (text : List ℕ) (client : ClientId) (number round : ℕ)
     (sets : List SetOf) (asks : Body) (given : Verdict) (accepted : List Accepted)
-    → new ≡ (replica_step old letter.text).0 → (mac : List ℕ)
-    → Brings old letter (frame.Request client number round sets asks mac)
+    → new ≡ (replica_step old text).0 → (mac : List ℕ)
+    → Brings old text (frame.Request client number round sets asks mac)
     → decision_on old (asked_at old client number sets asks) asks ≡ Answers given accepted
     → new ≡ accept_all old accepted
-after_decision old new letter client number round sets asks given accepted step mac brings decided =
+after_decision old new text client number round sets asks given accepted step mac brings decided =
     step ∙ ap (λ it. (on_received old it).0) brings
     ∙ ap (λ (it : Decision). (carried_out old client number round sets it).0) decided
 
@@ -116,9 +114,7 @@ module _ (trace : Trace) (is_run : IsRun trace) (have : ArePlain trace) (at : �
     (below : at < length trace.entries) (replica : ℕ) (client : ClientId) (number round : ℕ) where
   body_has_parts : (given : Verdict) (reply : IsReplyTo trace at replica client number round given)
       → IsTrue (has_parts reply.body)
-  body_has_parts given reply =
-      request_has_parts trace is_run have at (omega arith) reply.asked reply.letter reply.is_letter client number
-      round reply.sets reply.body (reply_asks trace at replica client number round given reply)
+  body_has_parts given reply = reply_parts trace is_run have at below replica client number round given reply
 
   old_of_held : (given : Verdict) (reply : IsReplyTo trace at replica client number round given) → AreOfHeld reply.old
   old_of_held given reply = held_versions trace is_run have at (omega arith) replica reply.old reply.is_old
@@ -146,7 +142,7 @@ module _ (trace : Trace) (is_run : IsRun trace) (have : ArePlain trace) (at : �
     done_in_run reply =
         let act : IsActOn reply.body = act_of_done reply in
         let is_new : reply.new ≡ accept_all reply.old reply.accepted =
-        after_decision reply.old reply.new reply.letter client number round reply.sets reply.body
+        after_decision reply.old reply.new reply.text client number round reply.sets reply.body
         (verdict.Done stamps answer) reply.accepted reply.step reply.mac reply.brings reply.decided in
         subst (λ (it : ReplicaState). TellsDone it client (act_digest client number act.parts) act.parts stamps answer)
         (sym is_new)
@@ -166,7 +162,7 @@ module _ (trace : Trace) (is_run : IsRun trace) (have : ArePlain trace) (at : �
         stamps answer reply.accepted (decided_act reply) in
         handled_upon trace is_run at below reply.entry (contains_at trace.entries at reply.entry reply.is_entry)
         replica reply.old reply.is_old
-        reply.letter reply.is_handed reply.to client number round reply.sets parts reply.mac
+        reply.text reply.is_handed client number round reply.sets parts reply.mac
         (reply.brings ∙ ap (λ (it : Body). Some (frame.Request client number round reply.sets it reply.mac))
         act.is_act)
         (sym (culled_had reply.old (reply.old).keys (reply.old).me reply.sets)

@@ -2,7 +2,7 @@
 use Rattle.qu_world.proofs.Steps as steps
 use Rattle.qu_world.proofs.Steps.{AtCorrect}
 use Rattle.qu_world.specs.Step.{moved}
-use Rattle.std.proofs.Common.{◌≡◌, ℕ, zero, suc, ◌+◌, ◌<◌, List, [], ◌∷◌, ◌++◌, length, get_or, Option, None, Some, refl, sym, subst, ap, ◌∙◌, arith, map}
+use Rattle.std.proofs.Common.{◌≡◌, ℕ, zero, suc, ◌+◌, ◌<◌, List, [], ◌∷◌, ◌++◌, length, get_or, Option, None, Some, refl, sym, subst, ap, ◌∙◌, arith, map, IsTrue, false, Ok}
 use Rattle.std.specs.Prelude.{slice_get, Contains}
 use Rattle.std.specs.List.{AllByRecursion}
 use Rattle.std.proofs.lemmas.Option.{none-some, same_Some, get_or_from_slice_get}
@@ -44,32 +44,26 @@ use Rattle.qu_world.specs.Step.{world_step, unchanged, at_replica, at_client, re
 use Rattle.qu_world.specs.Run.{IsRun}
 use Rattle.qu_runs.specs.Times.{world_after}
 use Rattle.qu_values.specs.Replies.{IsReplyTo}
-use Rattle.qu_runs.specs.Plain.{ArePlain, IsPlain}
+use Rattle.qu_runs.specs.Plain.{ArePlain}
 use Rattle.qu_world.proofs.Each.{each_found, set_here}
 use Rattle.qu_runs.proofs.Entries.{entry_recorded}
 use Rattle.qu_grounds.proofs.OwnHistories.{IsInPlace, step-in_place}
 use Rattle.qu_grounds.proofs.Views.{true_world}
 use Rattle.qu_runs.proofs.WorldGrowth.{world_after-next}
-use Rattle.qu_runs.specs.Carried.{Tells, Carries, Brings, handed, Asks}
+use Rattle.qu_runs.specs.Carried.{Tells, Carries, Brings, handed}
 use Rattle.qu_frames.specs.Formats.{frame_form}
 use Rattle.qu_history.specs.declared.sealed.Sealed.{Sealed}
-use Rattle.qu_runs.proofs.Carrying.{AnswersFit, no_reply, signed_spelled, signed_carries, brings_carries}
-use Rattle.qu_runs.proofs.Fitting.{fit_step}
+use Rattle.qu_runs.proofs.Carrying.{AnswersFit, no_reply, signed_spelled, signed_carries, brings_decoded}
+use Rattle.qu_runs.proofs.Fitting.{fit_step, handed_fits}
 use Rattle.qu_frames.specs.Signing.{brought, signed, signature}
 use Rattle.qu_seal.specs.Keys.{Ring}
 use Rattle.qu_replica.proofs.FitSteps.{blank_sized}
-use Rattle.qu_runs.proofs.Handing.{letter_handed, injected_cases}
-
--- the request that a reply answers
-pub reply_asks : (trace : Trace) (at replica : ℕ) (client : ClientId) (number round : ℕ) (verdict : Verdict)
-    (reply : IsReplyTo trace at replica client number round verdict)
-    → Asks reply.letter client number round reply.sets reply.body
-reply_asks trace at replica client number round verdict reply =
-    record {
-      mac = reply.mac;
-      carries = brings_carries reply.old reply.letter
-          (frame.Request client number round reply.sets reply.body reply.mac) reply.brings;
-    }
+use Rattle.qu_runs.proofs.Handing.{letter_handed, offered_handed}
+use Rattle.qu_runs.proofs.FitParts.{fits_parts}
+use Rattle.qu_replica.specs.Growth.{has_parts}
+use Rattle.qu_trace.specs.Faulty.{is_faulty}
+use Rattle.qu_grounds.proofs.AskedLetters.{AskedBy, asked_letter}
+use Rattle.qu_frames.specs.Decoding.{decoded}
 
 -- ---- clients send requests
 
@@ -108,18 +102,15 @@ step_requests state text =
 
 -- ---- who sends a reply
 
--- the letter at this place among those that a step sends is a replica's, upon a letter that is delivered to it
+-- the letter at this place among those that a step sends is a replica's, upon a text that is handed to it
 record IsAnswer (old new : WorldState) (event : Event) (place : ℕ) (sent : Letter) : Type 0 where
-  asked : ℕ
-  letter : Letter
-  is_letter : letter_of old asked ≡ Some letter
-  is_handed : handed old event ≡ Some (letter.to, letter.text)
+  text : List ℕ
   me : ReplicaId
-  to : letter.to ≡ party.Replica me
+  is_handed : handed old event ≡ Some (party.Replica me, text)
   state : ReplicaState
   is_state : slice_get old.replicas me.0 ≡ Some state
-  is_new : slice_get new.replicas me.0 ≡ Some (replica_step state letter.text).0
-  sent_by : slice_get (replica_step state letter.text).1 place ≡ Some sent
+  is_new : slice_get new.replicas me.0 ≡ Some (replica_step state text).0
+  sent_by : slice_get (replica_step state text).1 place ≡ Some sent
 
 -- what a step records, and whose the replies are
 record Sends (old new : WorldState) (event : Event) : Type 0 where
@@ -151,65 +142,55 @@ client_sends world event me move (Some state) moves = record {
       verdict shown tells);
 }
 
-replica_sends : (world : WorldState) (event : Event) (asked : ℕ) (letter : Letter) (me : ReplicaId)
-    (found : Option ReplicaState) → letter_of world asked ≡ Some letter → handed world event ≡ Some
-    (letter.to, letter.text) → letter.to ≡ party.Replica me → slice_get world.replicas me.0 ≡ found
-    → Sends world (at_replica world event me letter.text found) event
-replica_sends world event asked letter me None is_letter hands to is = unchanged_sends world event
-replica_sends world event asked letter me (Some state) is_letter hands to is = record {
+replica_sends : (world : WorldState) (event : Event) (text : List ℕ) (me : ReplicaId)
+    (found : Option ReplicaState) → handed world event ≡ Some (party.Replica me, text)
+    → slice_get world.replicas me.0 ≡ found → Sends world (at_replica world event me text found) event
+replica_sends world event text me None hands is = unchanged_sends world event
+replica_sends world event text me (Some state) hands is = record {
   entry = _;
   of_event = refl;
   made = refl;
   replies = λ place sent found _ _ _ _ _ _ tells. record {
-    asked = asked;
-    letter = letter;
-    is_letter = is_letter;
-    is_handed = hands;
+    text = text;
     me = me;
-    to = to;
+    is_handed = hands;
     state = state;
     is_state = is;
-    is_new = set_here world.replicas me.0 state (replica_step state letter.text).0 is;
+    is_new = set_here world.replicas me.0 state (replica_step state text).0 is;
     sent_by = found;
   };
 }
 
-received_sends : (world : WorldState) (event : Event) (asked : ℕ) (letter : Letter) (to : Party)
-    → letter_of world asked ≡ Some letter → handed world event ≡ Some (letter.to, letter.text) → letter.to ≡ to
-    → Sends world (received world event to letter.text) event
-received_sends world event asked letter (party.Replica me) is_letter hands is_to =
-    replica_sends world event asked letter me (slice_get world.replicas me.0) is_letter hands is_to refl
-received_sends world event asked letter (party.Client me) is_letter hands is_to =
-    client_sends world event me (λ (state : ClientState). client_step state letter.text)
-    (numbered world.clients me.0) (λ state. step_requests state letter.text)
+received_sends : (world : WorldState) (event : Event) (to : Party) (text : List ℕ)
+    → handed world event ≡ Some (to, text) → Sends world (received world event to text) event
+received_sends world event (party.Replica me) text hands =
+    replica_sends world event text me (slice_get world.replicas me.0) hands refl
+received_sends world event (party.Client me) text hands =
+    client_sends world event me (λ (state : ClientState). client_step state text)
+    (numbered world.clients me.0) (λ state. step_requests state text)
 
 delivered_sends : (world : WorldState) (asked : ℕ) → AtCorrect world (Deliver asked) → (found : Option Letter)
     → letter_of world asked ≡ found → Sends world (delivered world (Deliver asked) found) (Deliver asked)
 delivered_sends world asked correct None is = unchanged_sends world (Deliver asked)
 delivered_sends world asked correct (Some letter) is =
-    received_sends world (Deliver asked) asked letter letter.to is (letter_handed world asked letter correct is) refl
+    received_sends world (Deliver asked) letter.to letter.text (letter_handed world asked letter correct is)
 
 step_sent : (world : WorldState) (event : Event) → (AtCorrect world event → Sends world (moved world event) event)
     → Sends world (world_step world event) event
 step_sent world event step =
     steps.step_cases (λ (made : WorldState). Sends world made event) world event (unchanged_sends world event) step
 
-step_sends : (world : WorldState) (event : Event) → IsPlain world event → Sends world (world_step world event) event
-step_sends world (Invoke client op) plain =
+step_sends : (world : WorldState) (event : Event) → Sends world (world_step world event) event
+step_sends world (Invoke client op) =
     step_sent world (Invoke client op) (λ correct.
     client_sends world (Invoke client op) client (λ (state : ClientState). client_invoke state op)
     (numbered world.clients client.0) (λ state. invoke_requests state op))
-step_sends world (Inject to text) plain =
-    injected_cases world to text (λ (event : Event) (new : WorldState). Sends world new event)
-    (unchanged_sends world (Inject to text))
-    (λ number letter is hands. received_sends world (Inject letter.to letter.text) number letter letter.to is hands
-    refl)
-    (λ me made hands. client_sends world (Inject (party.Client me) text) me
-    (λ (state : ClientState). client_step state text) (numbered world.clients me.0)
-    (λ state. step_requests state text)) plain
-step_sends world (Deliver asked) plain =
+step_sends world (Inject to text) =
+    step_sent world (Inject to text) (λ correct.
+    received_sends world (Inject to text) to text (offered_handed world (Inject to text) to text correct refl))
+step_sends world (Deliver asked) =
     step_sent world (Deliver asked) (λ correct. delivered_sends world asked correct (letter_of world asked) refl)
-step_sends world (Tick client) plain =
+step_sends world (Tick client) =
     step_sent world (Tick client) (λ correct.
     client_sends world (Tick client) client client_tick (numbered world.clients client.0) (λ state. tt))
 
@@ -293,30 +274,30 @@ module _ (replica : ReplicaId) (client : ClientId) (number round : ℕ) (verdict
       fits refl place sent found is_reply
   reply_decided state _ fits place sent found is_reply = absurd (none-some sent found)
 
--- the same of the text of a letter
-record IsDecidedUpon (state : ReplicaState) (letter : Letter) (replica : ReplicaId) (client : ClientId)
+-- the same of a text
+record IsDecidedUpon (state : ReplicaState) (text : List ℕ) (replica : ReplicaId) (client : ClientId)
     (number round : ℕ) (verdict : Verdict) : Type 0 where
   sets : List SetOf
   body : Body
   mac : List ℕ
-  brings : Brings state letter (frame.Request client number round sets body mac)
+  brings : Brings state text (frame.Request client number round sets body mac)
   accepted : List Accepted
   decided : decision_on state (asked_at state client number sets body) body ≡ Answers verdict accepted
-  from : replica ≡ ((replica_step state letter.text).0).me
+  from : replica ≡ ((replica_step state text).0).me
 
-decided_upon : (state : ReplicaState) (letter : Letter) (replica : ReplicaId) (client : ClientId)
+decided_upon : (state : ReplicaState) (text : List ℕ) (replica : ReplicaId) (client : ClientId)
     (number round : ℕ) (verdict : Verdict) (shown : List Sealed) (read : Option Frame)
-    → brought state.keys (party.Replica state.me) letter.text ≡ read
-    → ((carried : Frame) → Carries letter carried → AnswersFit state carried)
-    → (place : ℕ) (sent : Letter) → slice_get (replica_step state letter.text).1 place ≡ Some sent
-    → Tells sent replica client number round verdict shown → IsDecidedUpon state letter replica client number
+    → brought state.keys (party.Replica state.me) text ≡ read
+    → ((taken : Frame) → decoded text ≡ Ok taken → AnswersFit state taken)
+    → (place : ℕ) (sent : Letter) → slice_get (replica_step state text).1 place ≡ Some sent
+    → Tells sent replica client number round verdict shown → IsDecidedUpon state text replica client number
     round verdict
-decided_upon state letter replica client number round verdict shown None read fits place sent found tells =
+decided_upon state text replica client number round verdict shown None read fits place sent found tells =
     absurd (none-some sent (ap (λ it. slice_get (on_received state it).1 place) (sym read) ∙ found))
-decided_upon state letter replica client number round verdict shown (Some taken) read fits place sent found tells =
+decided_upon state text replica client number round verdict shown (Some taken) read fits place sent found tells =
     let made : IsDecidedOn state taken replica client number round verdict =
     reply_decided replica client number round verdict tells.culled shown tells.mac state taken
-    (fits taken (brings_carries state letter taken read)) place sent
+    (fits taken (brings_decoded state text taken read)) place sent
     (ap (λ it. slice_get (on_received state it).1 place) (sym read) ∙ found) tells.carries in
     record {
       sets = made.sets;
@@ -335,7 +316,7 @@ named_here : (me replica : ReplicaId) (state : ReplicaState) → replica ≡ sta
     → me.0 ≡ replica.0
 named_here me replica state from in_place = sym (ap (λ (it : ReplicaId). it.0) from ∙ in_place.me)
 
--- a reply that an entry sends is a replica's to a request that the event of the entry delivers
+-- a reply that an entry sends is a replica's to a request that the event of the entry hands over
 pub reply_sent : (trace : Trace) → IsRun trace → ArePlain trace → (at : ℕ) → at < length trace.entries
     → (entry : Entry) → slice_get trace.entries at ≡ Some entry → (letter : Letter) → Contains entry.letters letter
     → (replica : ReplicaId) (client : ClientId) (number round : ℕ) (verdict : Verdict) (shown : List Sealed)
@@ -350,36 +331,36 @@ reply_sent trace is_run have at below entry is_entry letter holding replica clie
     ∙ sym (world_after-next trace at entry below) in
     let sends : Sends old new entry.event =
     subst (λ (it : WorldState). Sends old it entry.event) next
-    (step_sends old entry.event (subst (IsPlain old) event_is (have.plain_at at entry below))) in
+    (step_sends old entry.event) in
     let recorded : sends.entry ≡ entry = entry_recorded trace is_run at below entry sends.entry is_entry sends.made in
     let place : ℕ = holding.0 in
     let stands : slice_get (sends.entry).letters place ≡ Some letter =
     ap (λ (it : Entry). slice_get it.letters place) recorded ∙ at_contains entry.letters letter holding in
     let answer : IsAnswer old new entry.event place letter =
     sends.replies place letter stands replica client number round verdict shown is in
-    let made : IsDecidedUpon answer.state answer.letter replica client number round verdict =
-    decided_upon answer.state answer.letter replica client number round verdict shown
-    (brought (answer.state).keys (party.Replica (answer.state).me) (answer.letter).text) refl
-    (λ carried carries. (fit_step trace is_run have at below).answers answer.me answer.state answer.is_state
-    answer.asked answer.letter carried answer.is_letter carries) place letter answer.sent_by is in
-    let in_place : IsInPlace (answer.me).0 (replica_step answer.state (answer.letter).text).0 =
-    step-in_place (answer.me).0 answer.state (answer.letter).text
+    let handed_here : handed old (get_or trace.entries at entry).event ≡ Some (party.Replica answer.me, answer.text) =
+    ap (handed old) event_is ∙ answer.is_handed in
+    let made : IsDecidedUpon answer.state answer.text replica client number round verdict =
+    decided_upon answer.state answer.text replica client number round verdict shown
+    (brought (answer.state).keys (party.Replica (answer.state).me) answer.text) refl
+    (λ taken decodes. (fit_step trace is_run have at below).answers answer.me answer.state answer.is_state taken
+    (handed_fits trace is_run have at entry below (party.Replica answer.me) answer.text handed_here taken decodes))
+    place letter answer.sent_by is in
+    let in_place : IsInPlace (answer.me).0 (replica_step answer.state answer.text).0 =
+    step-in_place (answer.me).0 answer.state answer.text
     ((true_world trace is_run have at (omega arith)).replicas (answer.me).0 answer.state answer.is_state) in
     let here : (answer.me).0 ≡ replica.0 =
-    named_here answer.me replica (replica_step answer.state (answer.letter).text).0 made.from in_place in
+    named_here answer.me replica (replica_step answer.state answer.text).0 made.from in_place in
     subst (λ (it : ℕ). IsReplyTo trace at it client number round verdict) here
     (record {
       old = answer.state;
       is_old = answer.is_state;
-      new = (replica_step answer.state (answer.letter).text).0;
+      new = (replica_step answer.state answer.text).0;
       is_new = answer.is_new;
-      asked = answer.asked;
       entry = entry;
       is_entry = is_entry;
-      letter = answer.letter;
-      is_letter = answer.is_letter;
+      text = answer.text;
       is_handed = answer.is_handed;
-      to = answer.to;
       sets = made.sets;
       body = made.body;
       mac = made.mac;
@@ -388,3 +369,31 @@ reply_sent trace is_run have at below entry is_entry letter holding replica clie
       accepted = made.accepted;
       decided = made.decided;
     })
+
+-- ---- its request
+
+module _ (trace : Trace) (is_run : IsRun trace) (have : ArePlain trace) (at : ℕ) (below : at < length trace.entries)
+    (replica : ℕ) (client : ClientId) (number round : ℕ) (verdict : Verdict)
+    (reply : IsReplyTo trace at replica client number round verdict) where
+  -- the entry's event hands it over
+  pub reply_handed : handed (world_after trace at) (get_or trace.entries at reply.entry).event
+      ≡ Some (party.Replica (record { 0 = replica }), reply.text)
+  reply_handed =
+      ap (λ (it : Entry). handed (world_after trace at) it.event)
+      (get_or_from_slice_get trace.entries at reply.entry reply.entry reply.is_entry) ∙ reply.is_handed
+
+  -- it asks for what an operation may ask for
+  pub reply_parts : IsTrue (has_parts reply.body)
+  reply_parts =
+      fits_parts (frame.Request client number round reply.sets reply.body reply.mac)
+      (handed_fits trace is_run have at reply.entry below (party.Replica (record { 0 = replica })) reply.text reply_handed
+      (frame.Request client number round reply.sets reply.body reply.mac)
+      (brings_decoded reply.old reply.text (frame.Request client number round reply.sets reply.body reply.mac)
+      reply.brings))
+
+  -- a correct client sent it
+  pub reply_letter : is_faulty trace.setup (party.Client client) ≡ false
+      → AskedBy trace at client number round reply.sets reply.body
+  reply_letter correct =
+      asked_letter trace have at below reply.entry replica reply.old reply.is_old reply.text reply_handed client number
+      round reply.sets reply.body reply.mac reply.brings correct

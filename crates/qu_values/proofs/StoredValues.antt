@@ -1,6 +1,6 @@
 -- Every replica that accepted a candidate stores the version of the candidate with it.
 use Rattle.std.proofs.Common.{◌≡◌, ℕ, zero, suc, ◌+◌, ◌<◌, ◌≤◌, Bool, true, false, ◌&&◌, cond, List, [], ◌∷◌, length, get_or, Some, inl, inr, refl, sym, ap, subst, ◌∙◌, arith, add-one}
-use Rattle.std.specs.Prelude.{◌==◌, slice_get, Contains}
+use Rattle.std.specs.Prelude.{◌==◌, slice_get}
 use Rattle.std.proofs.lemmas.Bool.{false≢true, cases_Bool, cases_eq, or_cases, and_from, and_parts, eq-eqb, eqb-true}
 use Rattle.std.proofs.lemmas.Option.{none-some, same_Some}
 use Rattle.qu_base.specs.declared.party.ObjectId.{ObjectId}
@@ -18,7 +18,6 @@ use Rattle.qu_objects.specs.declared.kind.KindName.{KindName}
 use Rattle.qu_objects.specs.declared.version.Version.{Version}
 use Rattle.qu_objects.specs.Kind.{fresh_value}
 use Rattle.qu_frames.specs.declared.frame.Body.TheVariants as body
-use Rattle.qu_frames.specs.declared.frame.Letter.{Letter}
 use Rattle.qu_replica.specs.State.{ReplicaState, candidates_in, own_candidates, opening_histories, opening_versions, opening_state}
 use Rattle.qu_replica.specs.Growth.{Grows}
 use Rattle.qu_replica.specs.Versions.{version_at}
@@ -30,7 +29,7 @@ use Rattle.qu_base.specs.declared.party.Party.TheVariants as party
 use Rattle.std.specs.Prelude.{if◌then◌else◌}
 use Rattle.qu_trace.specs.declared.trace.Setup.{Setup}
 use Rattle.qu_trace.specs.Faulty.{is_faulty}
-use Rattle.qu_world.specs.State.{WorldState, kinds_at, letter_of, ring_of}
+use Rattle.qu_world.specs.State.{WorldState, kinds_at, ring_of}
 use Rattle.qu_world.specs.Step.{world_step}
 use Rattle.qu_world.specs.Run.{IsRun}
 use Rattle.qu_replica.specs.Rows.{asked_of}
@@ -47,25 +46,22 @@ use Rattle.qu_runs.specs.Times.{world_after}
 use Rattle.qu_values.specs.Updates.{IsEverAccepted}
 use Rattle.qu_values.specs.Values.{HasVersion}
 use Rattle.qu_runs.specs.Setting.{setting}
-use Rattle.qu_runs.specs.Plain.{ArePlain, IsPlain}
-use Rattle.qu_grounds.specs.Views.{IsOfKept}
+use Rattle.qu_runs.specs.Plain.{ArePlain}
 use Rattle.qu_grounds.proofs.Parts.{named_or_not}
 use Rattle.qu_grounds.proofs.Laws.{new_accepted}
-use Rattle.qu_grounds.proofs.Acceptors.{method_is_shown}
+use Rattle.qu_grounds.proofs.KeptEntries.{base_accepted as accepted_of_base}
+use Rattle.qu_grounds.proofs.FullSets.{are_had, culled_had, delivered_upon}
 use Rattle.qu_grounds.proofs.Grounds.{above_base}
 use Rattle.qu_runs.proofs.Befores.{WasBefore, was_before}
-use Rattle.qu_grounds.proofs.Happenings.{event_moves}
+use Rattle.qu_grounds.proofs.Happenings.{HandsParts, hands_parts, event_moves}
 use Rattle.qu_grounds.proofs.HeldVersions.{HoldsUnder, AreOfHeld, opening_of_held, still_of_held, version_of_fresh}
 use Rattle.qu_values.proofs.Updates.{same_accepted}
 use Rattle.qu_values.proofs.EverAccepted.{held_ever, quorum_ever}
-use Rattle.qu_replica.specs.Growth.{HasParts}
-use Rattle.qu_grounds.proofs.Views.{sent_has_parts, view_of_request}
 use Rattle.qu_history.specs.declared.sets.SetOf.{SetOf}
 use Rattle.qu_runs.proofs.WorldGrowth.{world_after-next}
 use Rattle.qu_runs.proofs.Small.{some_entry}
 use Rattle.qu_runs.proofs.OpeningReplicas.{opening_at}
-use Rattle.qu_runs.specs.Carried.{Carries, Asks, Brings}
-use Rattle.qu_runs.proofs.Carrying.{asks_so, brings_carries}
+use Rattle.qu_runs.specs.Carried.{Brings, handed}
 use Rattle.qu_frames.specs.declared.frame.Frame.{Frame}
 
 -- the replica stores the version of the candidate
@@ -177,23 +173,18 @@ opening-versioned trace me = record {
 
 module _ (trace : Trace) (laws : Laws (setting trace)) (joint : Joint (setting trace)) (is_run : IsRun trace)
     (have : ArePlain trace) (count : ℕ) (within : count ≤ length trace.entries) where
-  module _ (number : ℕ) (letter : Letter) (sent : letter_of (world_after trace count) number ≡ Some letter)
-      (carried : Frame) (place : ℕ) (old new : ReplicaState) (brings : Brings old letter carried)
+  module _ (below : count < length trace.entries) (default : Entry) (text : List ℕ) (carried : Frame) (place : ℕ)
+      (hands : handed (world_after trace count) (get_or trace.entries count default).event
+      ≡ Some (party.Replica (record { 0 = place }), text)) (old new : ReplicaState) (brings : Brings old text carried)
       (is_old : slice_get (world_after trace count).replicas place ≡ Some old) (before : IsVersioned trace old)
-      (one : Accepts old new carried) where
-    asks : Asks letter one.client one.number one.round one.sent (body.Act one.parts)
-    asks = asks_so letter carried one.client one.number one.round one.sent (body.Act one.parts) one.mac
-        (brings_carries old letter carried brings) one.is_request
-
-    view : IsOfKept trace count one.sent (body.Act one.parts)
-    view = view_of_request trace is_run have count within number letter sent one.client one.number one.round one.sent
-        (body.Act one.parts) asks
-
+      (one : Accepts old new carried) (had : are_had old one.sent ≡ true) where
     -- a quorum showed the base, so it was accepted
     base_accepted : (object : ObjectId) → Names one.parts object → IsEverAccepted trace object (one.bases object)
     base_accepted object names =
         quorum_ever trace laws count within object (one.bases object)
-        (method_is_shown trace count one.sent (body.Act one.parts) view old.keys old.me object (one.bases object)
+        (accepted_of_base trace is_run have count below default place old is_old text hands one.client one.number
+        one.round one.sent (body.Act one.parts) one.mac
+        (brings ∙ ap (λ (it : Frame). Some it) one.is_request) had object (one.bases object)
         (ap (λ (sets : List SetOf). method_at trace.setup.bounds (entries_of object sets)) one.culls
         ∙ ap (λ (bounds : ℕ). method_at bounds (entries_of object one.sets)) (sym before.bounds)
         ∙ (one.grounds object names).method))
@@ -255,8 +246,8 @@ still_stores trace old new grows object candidate stored =
 
 module _ (trace : Trace) (laws : Laws (setting trace)) (joint : Joint (setting trace)) (is_run : IsRun trace)
     (have : ArePlain trace) (count : ℕ) (within : count ≤ length trace.entries) (below : count < length trace.entries)
-    (entry : Entry) (of_trace : Contains trace.entries entry) (event : Event) (event_is : event ≡ entry.event)
-    (plain : IsPlain (world_after trace count) event) (place : ℕ) (old new : ReplicaState)
+    (default : Entry) (event : Event) (event_is : event ≡ (get_or trace.entries count default).event)
+    (place : ℕ) (old new : ReplicaState)
     (is_old : slice_get (world_after trace count).replicas place ≡ Some old)
     (is_new : slice_get (world_step (world_after trace count) event).replicas place ≡ Some new)
     (is_next : slice_get (world_after trace (count + 1)).replicas place ≡ Some new) (grows : Grows old new)
@@ -267,18 +258,30 @@ module _ (trace : Trace) (laws : Laws (setting trace)) (joint : Joint (setting t
 
     one_handled : (object : ObjectId) → Names one.parts object → IsHandled trace one.client one.number one.parts
     one_handled object names =
-        handled trace is_run count below entry of_trace event event_is place old new is_old is_new object
+        handled trace is_run count below (get_or trace.entries count default)
+        (Contains-get_or trace.entries count default below) event event_is place old new is_old is_new object
         (record {
-          number = moved.number;
-          letter = moved.letter;
-          is_letter = moved.is_letter;
+          text = moved.text;
           is_handed = moved.is_handed;
-          to = moved.to;
           carried = moved.carried;
           brings = moved.brings;
           accepts = one;
           names = names;
         })
+
+    -- its sets are of objects that the replica has
+    had_by : (object : ObjectId) → Names one.parts object → are_had old one.sent ≡ true
+    had_by object names =
+        sym (culled_had old old.keys old.me one.sent) ∙ ap (are_had old) one.culls
+        ∙ (delivered_upon (world_after trace count) event place old new object
+        (record {
+          text = moved.text;
+          is_handed = moved.is_handed;
+          carried = moved.carried;
+          brings = moved.brings;
+          accepts = one;
+          names = names;
+        }) is_old is_new).had
 
     now_new : (object : ObjectId) → Names one.parts object
         → IsNew (setting trace) count object place (one.candidates object)
@@ -319,9 +322,9 @@ module _ (trace : Trace) (laws : Laws (setting trace)) (joint : Joint (setting t
           | inr last ↦ elim (or_cases (same fresh candidate) false last) [
             | inl is ↦
                 subst (Stores trace object new) (equal_by_same fresh candidate is)
-                (accepted_stores trace laws joint is_run have count within moved.number moved.letter moved.is_letter
-                moved.carried place old new moved.brings is_old before one (one_handled object names) now_accepted
-                companions object names)
+                (accepted_stores trace laws joint is_run have count within below default moved.text moved.carried place
+                (ap (handed (world_after trace count)) (sym event_is) ∙ moved.is_handed) old new moved.brings is_old
+                before one (had_by object names) (one_handled object names) now_accepted companions object names)
             | inr never ↦ absurd (false≢true never)
           ]
         ]
@@ -337,10 +340,8 @@ module _ (trace : Trace) (laws : Laws (setting trace)) (joint : Joint (setting t
 
   event-versioned : IsVersioned trace new
   event-versioned =
-      let parts : (number : ℕ) (letter : Letter) → letter_of (world_after trace count) number ≡ Some letter →
-      (carried : Frame) → Carries letter carried → HasParts carried =
-      λ number letter sent. sent_has_parts trace is_run have count within number letter sent in
-      elim (event_moves (world_after trace count) event place old new is_old is_new parts plain) [
+      elim (event_moves (world_after trace count) event place old new is_old is_new
+      (subst (HandsParts (world_after trace count)) (sym event_is) (hands_parts trace is_run have count default below))) [
         | inl alike ↦ subst (IsVersioned trace) (sym alike) before
         | inr moved ↦ record {
           bounds = ap (λ (it : Ring). it.bounds) grows.keys ∙ before.bounds;
@@ -373,8 +374,7 @@ versioned_next trace laws joint is_run have count below before = λ place new is
     ap (λ (world : WorldState). slice_get world.replicas place) (sym next) ∙ is_new in
     let was : WasBefore (world_after trace count).replicas place new =
     was_before (world_after trace count) event place new now in
-    event-versioned trace laws joint is_run have count (omega arith) below (get_or trace.entries count default)
-    (Contains-get_or trace.entries count default below) event refl (have.plain_at count default below) place was.old new
+    event-versioned trace laws joint is_run have count (omega arith) below default event refl place was.old new
     was.is_old now is_new was.grows (before place was.old was.is_old)
 
 versioned : (trace : Trace) → Laws (setting trace) → Joint (setting trace) → IsRun trace → ArePlain trace → (count : ℕ)

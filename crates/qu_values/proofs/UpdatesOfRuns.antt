@@ -42,6 +42,8 @@ use Rattle.qu_values.proofs.Updates.{opening_no_act, same_accepted}
 use Rattle.qu_values.proofs.UpdateFacts.{HasValue, MadeFor, UpdateFacts}
 use Rattle.qu_values.proofs.Values.{one_version}
 use Rattle.qu_grounds.proofs.Parts.{same_named}
+use Rattle.qu_runs.specs.Premises.{OnlyReplicasAreFaulty}
+use Rattle.qu_runs.proofs.Plain.{no_client}
 
 module _ (trace : Trace) where
   in_world : (object : ObjectId) (candidate : Candidate) → IsEverAccepted trace object candidate
@@ -49,7 +51,7 @@ module _ (trace : Trace) where
   unfolding setting
   in_world object candidate accepted = is_accepted_by trace (length trace.entries) object candidate accepted
 
-module _ (trace : Trace) (is_run : IsRun trace) (have : ArePlain trace) where
+module _ (trace : Trace) (is_run : IsRun trace) (have : ArePlain trace) (only : OnlyReplicasAreFaulty trace.setup) where
   -- ---- where an accepted candidate came from
 
   came_from : (object : ObjectId) (candidate : Candidate) → IsEverAccepted trace object candidate
@@ -82,7 +84,7 @@ module _ (trace : Trace) (is_run : IsRun trace) (have : ArePlain trace) where
         came.delivered
 
     request : IsRequestOf trace (length trace.entries) one.client one.number (body.Act one.parts)
-    request = asked_by_handled trace is_run have one.client one.number one.parts was_handled
+    request = asked_by_handled trace is_run have only one.client one.number one.parts was_handled
 
     made_for_one : IsMadeFor trace candidate one.client one.number one.parts
     made_for_one =
@@ -129,7 +131,7 @@ module _ (trace : Trace) (is_run : IsRun trace) (have : ArePlain trace) where
         → IsOf trace update object first → IsOf trace update other second → object ≡ other
     one_object update object other first second one two =
         same_named update.parts object other
-        ((fit trace is_run have update.client update.number update.parts (one.made).handled).parts).0
+        ((fit trace is_run have only update.client update.number update.parts (one.made).handled).parts).0
         one.names two.names
 
     copied : (object : ObjectId) (candidate base : Candidate) (value : Value)
@@ -183,7 +185,8 @@ module _ (trace : Trace) (is_run : IsRun trace) (have : ArePlain trace) where
       spread = λ update object other candidate companion one accepted two besides.
           inl (one_object update object other candidate companion one two);
       once = λ update object first second one accepted two besides.
-          once_accepted trace is_run have one_act laws joint update object first second one accepted two besides
+          once_accepted trace is_run have one_act laws joint update
+          (no_client (trace.setup).liars only update.client) object first second one accepted two besides
           (all_plain object);
       one_version = one_version trace laws joint one_act;
       copied = λ object candidate base value accepted plain not_act prior plain_base base_accepted has.

@@ -20,7 +20,6 @@ use Rattle.qu_objects.specs.declared.version.Version.{Version}
 use Rattle.qu_objects.specs.Performing.{told_answer}
 use Rattle.qu_frames.specs.declared.frame.Body.{Body}
 use Rattle.qu_frames.specs.declared.frame.Frame.TheVariants as frame
-use Rattle.qu_frames.specs.declared.frame.Letter.{Letter}
 use Rattle.qu_frames.specs.declared.verdict.Verdict.{Verdict}
 use Rattle.qu_replica.specs.declared.decision.Accepted.{Accepted}
 use Rattle.qu_replica.specs.declared.decision.Decision.TheVariants.{Answers}
@@ -30,7 +29,6 @@ use Rattle.qu_replica.specs.Step.{replica_step}
 use Rattle.qu_replica.specs.Versions.{version_at}
 use Rattle.qu_trace.specs.declared.trace.Entry.{Entry}
 use Rattle.qu_trace.specs.declared.trace.Trace.{Trace}
-use Rattle.qu_world.specs.State.{letter_of}
 use Rattle.qu_runs.specs.Carried.{handed, Brings}
 use Rattle.qu_runs.specs.Times.{world_after}
 
@@ -86,17 +84,14 @@ pub record IsReplyTo (trace : Trace) (at : ℕ) (replica : ℕ) (client : Client
   pub is_old : slice_get (world_after trace at).replicas replica ≡ Some old
   pub new : ReplicaState
   pub is_new : slice_get (world_after trace (at + 1)).replicas replica ≡ Some new
-  pub asked : ℕ
   pub entry : Entry
   pub is_entry : slice_get trace.entries at ≡ Some entry
-  pub letter : Letter
-  pub is_letter : letter_of (world_after trace at) asked ≡ Some letter
-  pub is_handed : handed (world_after trace at) entry.event ≡ Some (letter.to, letter.text)
-  pub to : letter.to ≡ party.Replica (record { 0 = replica })
+  pub text : List ℕ
+  pub is_handed : handed (world_after trace at) entry.event ≡ Some (party.Replica (record { 0 = replica }), text)
   pub sets : List SetOf
   pub body : Body
   pub mac : List ℕ
-  pub brings : Brings old letter (frame.Request client number round sets body mac)
-  pub step : new ≡ (replica_step old letter.text).0
+  pub brings : Brings old text (frame.Request client number round sets body mac)
+  pub step : new ≡ (replica_step old text).0
   pub accepted : List Accepted
   pub decided : decision_on old (asked_at old client number sets body) body ≡ Answers verdict accepted

@@ -32,11 +32,10 @@ always : {T E : Type 0} {P : Type 0} (result : Result T E) → P → OnOk result
 always (Ok value) it = it
 always (Err failure) it = tt
 
-plain_run : (c : goal.After-printed_order) → IsUnforged c.args.trace.now → OnlyReplicasAreFaulty c.args.trace.now.setup
-    → ArePlain c.args.trace.now
-plain_run c unforged only =
+plain_run : (c : goal.After-printed_order) → IsUnforged c.args.trace.now → ArePlain c.args.trace.now
+plain_run c unforged =
     plain_from c.args.trace.now (subst HaveParts c.as_slice.ensures c.have_parts.ensures.parts)
-    (subst (λ (entries : List Entry). length entries < 2 ^ 63) c.as_slice.ensures c.have_parts.ensures.few) unforged only
+    (subst (λ (entries : List Entry). length entries < 2 ^ 63) c.as_slice.ensures c.have_parts.ensures.few) unforged
 
 -- what the serial order rests on
 record Grounded (trace : Trace) : Type 0 where
@@ -50,8 +49,8 @@ grounded : (c : goal.After-printed_order) → MeetsPremises c.args.trace.now →
     → Grounded c.args.trace.now
 grounded c premises only =
     let trace : Trace = c.args.trace.now in
-    let plain : ArePlain trace = plain_run c premises.unforged only in
-    let one_act : ActsAreOne trace = acts_are_one trace c.requires plain premises.no_collision in
+    let plain : ArePlain trace = plain_run c premises.unforged in
+    let one_act : ActsAreOne trace = acts_are_one trace c.requires plain only premises.no_collision in
     let law : Laws (setting trace) = laws trace c.requires plain in
     let joint : Joint (setting trace) = joint_laws trace c.requires plain premises.no_collision in
     record {
@@ -59,7 +58,7 @@ grounded c premises only =
       one_act = one_act;
       laws = law;
       joint = joint;
-      facts = update_facts trace c.requires plain one_act law joint;
+      facts = update_facts trace c.requires plain only one_act law joint;
     }
 
 pub returns-clause-serial : goal.returns-clause-serial
@@ -71,28 +70,28 @@ returns-clause-serial c =
     let it : Grounded c.args.trace.now = grounded c premises only in
     serial c.args.trace.now c.requires it.plain it.one_act it.laws it.joint it.facts order
     (operation_order c.args.trace.now
-    (no_points_of_faulty c.args.trace.now (handled_correct c.args.trace.now c.requires it.plain)) order printed))
+    (no_points_of_faulty c.args.trace.now (handled_correct c.args.trace.now c.requires it.plain only)) order printed))
     c.printed_order.ensures
 
 pub returns-clause-chained : goal.returns-clause-chained
 returns-clause-chained c =
-    always c.printed_order.result (λ premises only.
-    is_chained c.args.trace.now c.requires (plain_run c premises.unforged only) premises.no_collision)
+    always c.printed_order.result (λ premises.
+    is_chained c.args.trace.now c.requires (plain_run c premises.unforged) premises.no_collision)
 
 pub returns-clause-named : goal.returns-clause-named
 returns-clause-named c =
-    always c.printed_order.result (λ premises only.
-    stamps_name c.args.trace.now c.requires (plain_run c premises.unforged only) premises.no_collision)
+    always c.printed_order.result (λ premises.
+    stamps_name c.args.trace.now c.requires (plain_run c premises.unforged) premises.no_collision)
 
 pub returns-clause-jointly : goal.returns-clause-jointly
 returns-clause-jointly c =
-    always c.printed_order.result (λ premises only.
-    decides_jointly c.args.trace.now c.requires (plain_run c premises.unforged only) premises.no_collision)
+    always c.printed_order.result (λ premises.
+    decides_jointly c.args.trace.now c.requires (plain_run c premises.unforged) premises.no_collision)
 
 pub returns-clause-in_turn : goal.returns-clause-in_turn
 returns-clause-in_turn c =
-    always c.printed_order.result (λ premises only.
-    decides_in_turn c.args.trace.now c.requires (plain_run c premises.unforged only) premises.no_collision)
+    always c.printed_order.result (λ premises.
+    decides_in_turn c.args.trace.now c.requires (plain_run c premises.unforged) premises.no_collision)
 
 pub returns-clause-once : goal.returns-clause-once
 returns-clause-once c =
