@@ -1,0 +1,23 @@
+use Rattle.std.proofs.Common.{◌≡◌, ℕ, false, Option, ◌∙◌, ap}
+use Rattle.std.specs.Prelude.{unwrap_or}
+use Rattle.qu_stamp.specs.declared.candidate.Candidate.{Candidate}
+use Rattle.qu_stamp.specs.Candidate.{opening}
+use Rattle.qu_history.specs.Sets.{entries_of, object_candidate}
+use Rattle.qu_class.specs.Repairable.{greatest_of_kind, base_of}
+use Rattle.qu_class.proofs.OfKind.{plain_is_object_candidate}
+use Rattle.qu_class.proofs.repairable.base_of.Goals as goal
+
+pub returns-clause-value : goal.returns-clause-value
+unfolding base_of
+returns-clause-value c =
+    let entries = entries_of c.args.object c.args.sets.now in
+    let found : c.greatest_of_kind.result ≡ object_candidate c.args.bounds.now entries =
+    c.greatest_of_kind.ensures.value
+    ∙ ap (λ (least : ℕ). greatest_of_kind false least entries) c.r.ensures.value
+    ∙ plain_is_object_candidate c.args.bounds.now entries in
+    c.unwrap_or.ensures
+    ∙ ap (unwrap_or c.greatest_of_kind.result) c.opening.ensures
+    ∙ ap (λ (it : Option Candidate). unwrap_or it opening) found
+
+pub returns-clause-formed : goal.returns-clause-formed
+returns-clause-formed c = record { thresholds = c.r.ensures.thresholds; histories = c.greatest_of_kind.ensures.histories }

@@ -1,0 +1,4 @@
+pub mod Repairable
+pub mod Class
+pub mod Rows
+pub mod Plan

@@ -1,0 +1,87 @@
+ghost use Rattle.std.specs.Prelude.{◌≡◌, ◌≤◌, ◌↔◌, length, Some};
+ghost use Rattle.qu_base.specs.Bounds.{quorum};
+ghost use Rattle.qu_history.specs.Sets.{entries_of, method_at};
+ghost use Rattle.qu_class.specs.Class.{is_latest, is_full, barrier_class, class_of};
+ghost use Rattle.qu_class.specs.Repairable.{barrier_candidate};
+ghost use Rattle.qu_class.specs.Rows.{AreWellFormed, Tells};
+
+use super::repairable::{base_of, greatest_of_kind};
+use qu_base::{Bounds, ObjectId};
+use qu_history::Sets;
+use qu_stamp::{Candidate, Stamp};
+
+/// What the histories of an object tell of it, and with it how it can be repaired.
+#[derive(Clone, Copy, Debug, PartialEq, Eq)]
+pub enum Class {
+    /// A quorum holds this candidate, and none is later: an operation may rest upon it.
+    Method(Candidate),
+    /// None is later than this candidate, and so many hold it that it may be repaired: it is added as it is.
+    InlineMethod(Candidate),
+    /// A quorum holds the latest candidate, a barrier: the object candidate may be copied above it.
+    Copy,
+    /// None is later than this barrier, and so many hold it that it may be repaired: it is added as it is.
+    InlineBarrier(Candidate),
+    /// What is latest cannot be repaired: a barrier has to be set above it, which rests upon this stamp.
+    Barrier { prior: Stamp },
+}
+
+/// The class of an object by the histories of the sets, of which it wants a quorum.
+pub fn classify(sets: &Sets, object: ObjectId, bounds: &Bounds) -> Class
+    requires quorum { quorum bounds.now ≤ length (entries_of object sets.now) }
+    ensures value { result ≡ class_of bounds.now (entries_of object sets.now) }
+    ensures method { (candidate : Candidate) → (result ≡ Class.Method candidate)
+        ↔ (method_at bounds.now (entries_of object sets.now) ≡ Some candidate) }
+    ensures tells { Tells bounds.now (entries_of object sets.now) result }
+{
+    class_of(sets, object, bounds)
+}
+
+/// The first class that fits.
+#[tactic(auto, unfolding(crate::specs::Class::class_of))]
+fn class_of(sets: &Sets, object: ObjectId, bounds: &Bounds) -> Class
+    ensures value { result ≡ class_of bounds.now (entries_of object sets.now) }
+    ensures formed { AreWellFormed bounds.now (entries_of object sets.now) }
+{
+    let base = base_of(sets, object, bounds);
+    if !is_latest(sets, object, &base) {
+        return barrier_class(sets, object, bounds, base.stamp);
+    }
+    if is_full(sets, object, bounds, &base) {
+        Class::Method(base)
+    } else {
+        Class::InlineMethod(base)
+    }
+}
+
+/// The class where the object candidate, which has the stamp `prior`, is not the latest.
+#[tactic(auto, unfolding(crate::specs::Class::barrier_class))]
+fn barrier_class(sets: &Sets, object: ObjectId, bounds: &Bounds, prior: Stamp) -> Class
+    ensures { result ≡ barrier_class bounds.now (entries_of object sets.now) prior
+        (barrier_candidate bounds.now (entries_of object sets.now)) }
+{
+    match greatest_of_kind(sets, object, true, bounds.r()) {
+        Some(barrier) if is_latest(sets, object, &barrier) => {
+            if is_full(sets, object, bounds, &barrier) {
+                Class::Copy
+            } else {
+                Class::InlineBarrier(barrier)
+            }
+        }
+        _ => Class::Barrier { prior },
+    }
+}
+
+/// Whether the candidate has the latest stamp, the opening one where there are no histories.
+#[tactic(auto, unfolding(qu_stamp::specs::Stamp::same_stamp), using(qu_history::proofs::Method::latest_of_none))]
+fn is_latest(sets: &Sets, object: ObjectId, candidate: &Candidate) -> bool
+    ensures { result ≡ is_latest (entries_of object sets.now) candidate.now }
+{
+    candidate.stamp == sets.latest(object).unwrap_or(Stamp::opening())
+}
+
+/// Whether a quorum holds the candidate.
+fn is_full(sets: &Sets, object: ObjectId, bounds: &Bounds, candidate: &Candidate) -> bool
+    ensures { result ≡ is_full bounds.now (entries_of object sets.now) candidate.now }
+{
+    sets.count(object, candidate) >= bounds.q()
+}

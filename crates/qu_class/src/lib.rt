@@ -1,0 +1,9 @@
+//! The class of an object by the histories that replicas showed of it, and the plan of a copy.
+#![tactic(auto)]
+
+mod class;
+mod plan;
+mod repairable;
+
+pub use class::{Class, classify};
+pub use plan::{CopyPlan, evidence, plan_copy};

@@ -1,0 +1,85 @@
+ghost use Rattle.std.specs.Prelude.{◌≡◌, All, IsTrue, filter};
+ghost use Rattle.qu_history.specs.History.{is_history};
+ghost use Rattle.qu_history.specs.Sets.{entries_of, greatest};
+ghost use Rattle.qu_history.specs.Trimming.{greater_found};
+ghost use Rattle.qu_class.specs.Repairable.{is_shown_of_kind, greatest_of_kind, base_of};
+ghost use Rattle.qu_class.specs.Rows.{AreWellFormed};
+
+use qu_base::{Bounds, ObjectId};
+use qu_history::{History, Sets};
+use qu_stamp::Candidate;
+
+/// The object candidate: the greatest candidate without barrier of an order that may be repaired. Each history holds
+/// the opening one.
+pub(super) fn base_of(sets: &Sets, object: ObjectId, bounds: &Bounds) -> Candidate
+    ensures value { result ≡ base_of bounds.now (entries_of object sets.now) }
+    ensures formed { AreWellFormed bounds.now (entries_of object sets.now) }
+{
+    greatest_of_kind(sets, object, false, bounds.r()).unwrap_or(Candidate::opening())
+}
+
+/// The greatest candidate, of those with a barrier or of those without, that at least so many of the histories hold.
+#[tactic(auto, using(qu_history::proofs::Shown::shown_laws))]
+pub(super) fn greatest_of_kind(
+    sets: &Sets,
+    object: ObjectId,
+    barrier: bool,
+    least: u8,
+) -> Option<Candidate>
+    ensures value { result ≡ greatest_of_kind barrier least (entries_of object sets.now) }
+    ensures histories { All (λ entry. IsTrue (is_history entry.candidates)) (entries_of object sets.now) }
+{
+    let entries = sets.find(object);
+    let mut greatest = None;
+    for entry in entries {
+        let last = last_of_kind(sets, object, barrier, least, &entry.history);
+        greatest = greater_found(greatest, last);
+    }
+    greatest
+}
+
+/// The greater of the best so far and what was found.
+fn greater_found(best: Option<Candidate>, found: Option<Candidate>) -> Option<Candidate>
+    ensures { result ≡ greater_found best found }
+{
+    match (best, found) {
+        (Some(best), Some(found)) if best.is_before(&found) => Some(found),
+        (None, found) => found,
+        (best, _) => best,
+    }
+}
+
+/// The greatest such candidate of one history: the last one, since stamps rise.
+#[tactic(auto, using(qu_history::proofs::Shown::last_laws))]
+fn last_of_kind(
+    sets: &Sets,
+    object: ObjectId,
+    barrier: bool,
+    least: u8,
+    history: &History,
+) -> Option<Candidate>
+    ensures value { result ≡ greatest
+        (filter (is_shown_of_kind barrier least (entries_of object sets.now)) history.now.candidates) }
+    ensures rising { IsTrue (is_history history.now.candidates) }
+{
+    let candidates = history.candidates().as_slice();
+    for place in (0..candidates.len()).rev() {
+        if is_shown_of_kind(sets, object, barrier, least, &candidates[place]) {
+            return Some(candidates[place]);
+        }
+    }
+    None
+}
+
+/// Whether the candidate is one of those with a barrier, or of those without, and so many of the histories hold it.
+fn is_shown_of_kind(
+    sets: &Sets,
+    object: ObjectId,
+    barrier: bool,
+    least: u8,
+    candidate: &Candidate,
+) -> bool
+    ensures { result ≡ is_shown_of_kind barrier least (entries_of object sets.now) candidate.now }
+{
+    candidate.stamp.barrier == barrier && sets.count(object, candidate) >= least
+}
