@@ -15,7 +15,7 @@ use Rattle.qu_class.specs.Class.{is_latest, is_full, barrier_class, class_of}
 use Rattle.qu_class.specs.Rows.{AreWellFormed, MayBeRepaired, IsGreatestOfKind, IsLatestOfKind, NoneIsLatest, Tells}
 use Rattle.qu_class.proofs.OfKind.{plain_is_object_candidate, greatest_of_kind_is, greatest_of_kind_tells, none_of_kind, stamp_at_latest, greatest_at_latest, base_is, base_is_greatest}
 
-latest_test : (entries : List ObjectHistory) (candidate : Candidate) → candidate.stamp ≡ latest_of entries
+pub latest_test : (entries : List ObjectHistory) (candidate : Candidate) → candidate.stamp ≡ latest_of entries
     → is_latest entries candidate ≡ true
 latest_test entries candidate latest =
     ap (λ (it : Stamp). same_stamp it (latest_of entries)) latest ∙ same_stamp-self (latest_of entries)

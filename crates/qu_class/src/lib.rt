@@ -7,3 +7,6 @@ mod repairable;
 
 pub use class::{Class, classify};
 pub use plan::{CopyPlan, evidence, plan_copy};
+
+#[cfg(test)]
+mod tests;
