@@ -1,17 +1,18 @@
 -- The histories once a candidate is accepted.
-use Rattle.std.proofs.Common.{◌≡◌, ℕ, zero, suc, ◌<◌, ◌≤◌, true, IsTrue, List, [], ◌∷◌, ◌++◌, length, set, get_or, Some, refl, sym, ap, ◌∙◌, arith}
-use Rattle.std.specs.Prelude.{slice_get}
+use Rattle.std.proofs.Common.{◌≡◌, ℕ, zero, suc, ◌<◌, List, [], ◌∷◌, ◌++◌, length, set, get_or, Option, None, Some, refl, sym, subst, ap, ◌∙◌, arith}
+use Rattle.std.specs.Prelude.{◌+◌, slice_get, IfSome}
 use Rattle.std.proofs.lemmas.Option.{none-some, same_Some}
-use Rattle.qu_base.specs.declared.party.ReplicaId.{ReplicaId}
-use Rattle.qu_stamp.specs.declared.limits.TheConstants.{LAST_TIME}
-use Rattle.qu_stamp.specs.Stamp.{is_below}
+use Rattle.std.proofs.lemmas.List.{length_push}
 use Rattle.qu_stamp.specs.declared.candidate.Candidate.{Candidate}
-use Rattle.qu_history.specs.History.{ObjectHistory, latest}
-use Rattle.qu_replica.specs.State.{candidates_in, with_candidate}
-use Rattle.qu_replica.specs.Growth.{are_own}
+use Rattle.qu_history.specs.History.{ObjectHistory}
+use Rattle.qu_replica.specs.declared.versions.Stored.{Stored}
+use Rattle.qu_replica.specs.declared.decision.Accepted.{Accepted}
+use Rattle.qu_replica.specs.declared.planned.Gain.{Gain}
+use Rattle.qu_replica.specs.State.{ReplicaState, with_candidate, accept, state_after}
+use Rattle.qu_replica.specs.Growth.{AreHistories, MayAccept, MayGain}
 use Rattle.qu_replica.proofs.CulledRequests.{accept_all-named}
 use Rattle.qu_replica.proofs.Growth.{accept_all-me, accept_all-keys, accept_all-bounds}
-use Rattle.qu_replica.proofs.Own.{are_own-with_candidate}
+use Rattle.qu_replica.proofs.Own.{own_history, accept-histories}
 
 pub other_history : (number place : ℕ) (candidate : Candidate) (histories : List ObjectHistory)
     → (place ≡ number → ⊥) → slice_get (with_candidate number candidate histories) place ≡ slice_get histories place
@@ -60,15 +61,61 @@ put_history zero candidate (here ∷ later) history found =
 put_history (suc number) candidate (here ∷ later) history found =
     ap (λ (rest : List ObjectHistory). here ∷ rest) (put_history number candidate later history found)
 
-pub own_put : (me : ReplicaId) (number : ℕ) (candidate : Candidate) (histories : List ObjectHistory)
-    (history : ObjectHistory) → IsTrue (are_own me 0 histories)
-    → is_below (latest (candidates_in (slice_get histories number))) candidate.stamp ≡ true
-    → candidate.stamp.time ≤ LAST_TIME → slice_get (with_candidate number candidate histories) number ≡ Some
-    history → IsTrue (are_own me 0 (set histories number history))
-own_put me number candidate histories history own later in_time found =
-    ap (λ (them : List ObjectHistory). are_own me 0 them) (put_history number candidate histories history found)
-    ∙ are_own-with_candidate me 0 number candidate histories own later in_time
+-- the place of the history that the candidate makes is that of its object
+grown_place : (state : ReplicaState) (accepted : Accepted) (history : ObjectHistory) → AreHistories state
+    → MayAccept state accepted
+    → slice_get (with_candidate (accepted.object).0 accepted.candidate state.histories) (accepted.object).0 ≡ Some
+    history → (history.object).0 ≡ (accepted.object).0
+grown_place state accepted history own may found =
+    (own_history (accept state accepted) (accepted.object).0 history (accept-histories state accepted own may)
+    found).object
 
-pub ruleset puts = (put_history, own_put)
+-- a history with the candidate and its version are what accepting it makes
+pub gain_is_accepted : (state : ReplicaState) (accepted : Accepted) (gain : Gain) → AreHistories state
+    → MayAccept state accepted
+    → slice_get (with_candidate (accepted.object).0 accepted.candidate state.histories) (accepted.object).0 ≡ Some
+    gain.history
+    → gain.versions ≡ (record {
+      object = accepted.object;
+      stamp = accepted.candidate.stamp;
+      state = accepted.state;
+    }) ∷ [] → state_after state (Some gain) ≡ accept state accepted
+gain_is_accepted state accepted gain own may found stored =
+    let place : ((gain.history).object).0 ≡ (accepted.object).0 =
+    grown_place state accepted gain.history own may found in
+    let put : set state.histories ((gain.history).object).0 gain.history
+    ≡ with_candidate (accepted.object).0 accepted.candidate state.histories =
+    ap (λ (at : ℕ). set state.histories at gain.history) place
+    ∙ put_history (accepted.object).0 accepted.candidate state.histories gain.history found in
+    ap (λ (them : List ObjectHistory). record state { histories = them; versions = state.versions ++ gain.versions })
+    put
+    ∙ ap (λ (them : List Stored). record (accept state accepted) { versions = state.versions ++ them }) stored
+
+pub gain_may : (state : ReplicaState) (accepted : Accepted) (gain : Gain) → AreHistories state
+    → MayAccept state accepted
+    → slice_get (with_candidate (accepted.object).0 accepted.candidate state.histories) (accepted.object).0 ≡ Some
+    gain.history
+    → gain.versions ≡ (record {
+      object = accepted.object;
+      stamp = accepted.candidate.stamp;
+      state = accepted.state;
+    }) ∷ [] → length state.versions < 9223372036854775806 → MayGain state gain
+gain_may state accepted gain own may found stored room =
+    let place : ((gain.history).object).0 ≡ (accepted.object).0 =
+    grown_place state accepted gain.history own may found in
+    let few : length (state.versions ++ gain.versions) ≡ length state.versions + 1 =
+    ap (λ (them : List Stored). length (state.versions ++ them)) stored ∙ length_push state.versions _ in
+    record {
+      known = rw place may.known;
+      own = subst AreHistories (sym (gain_is_accepted state accepted gain own may found stored))
+          (accept-histories state accepted own may);
+      room = rw few (omega (arith, room));
+    }
+
+-- what was accepted so is kept
+pub after-histories : (state : ReplicaState) (gain : Option Gain) → AreHistories state
+    → IfSome gain (MayGain state) → AreHistories (state_after state gain)
+after-histories state None own may = own
+after-histories state (Some gain) own may = may.own
 
 pub ruleset answers = (accept_all-me, accept_all-keys, accept_all-bounds, accept_all-named)

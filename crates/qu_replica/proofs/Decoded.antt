@@ -6,7 +6,6 @@ use Rattle.qu_objects.specs.Formats.{method_form, ask_form, act_form, query_form
 use Rattle.qu_frames.specs.declared.frame.Body.{Body}
 use Rattle.qu_frames.specs.declared.frame.Body.TheVariants as body
 use Rattle.qu_frames.specs.Formats.{body_form}
-use Rattle.qu_frames.specs.Decoding.{decoded}
 use Rattle.qu_replica.specs.Growth.{has_parts}
 use Rattle.qu_objects.proofs.ReadingLaws.{in_order}
 

@@ -1,7 +1,7 @@
 -- The letters that answer a text carry frames that fit, and what the replica holds fits after each step.
-use Rattle.std.proofs.Common.{◌≡◌, ℕ, ◌-◌, ◌^◌, ◌≤◌, Bool, true, false, cond, List, [], ◌∷◌, length, map, Option, None, Some, Result, Ok, Err, refl, sym, subst, arith}
-use Rattle.std.specs.Prelude.{IfOk, OnOk, OnErr, is_none, slice_get}
-use Rattle.std.specs.List.{cons_option, AllByRecursion}
+use Rattle.std.proofs.Common.{◌≡◌, ℕ, ◌-◌, ◌^◌, ◌≤◌, Bool, true, false, cond, List, [], ◌∷◌, length, map, Option, None, Some, refl, subst, arith}
+use Rattle.std.specs.Prelude.{is_none, slice_get}
+use Rattle.std.specs.List.{cons_option}
 use Rattle.std.proofs.lemmas.Bool.{le-leb, eq-eqb}
 use Rattle.std.proofs.lemmas.Option.{same_Some}
 use Rattle.qu_frames.specs.declared.limits.TheConstants.{LAST_ROUND}
@@ -25,7 +25,6 @@ use Rattle.qu_frames.specs.declared.limits.TheConstants.{LAST_ROUND}
 use Rattle.qu_frames.specs.declared.frame.Body.{Body}
 use Rattle.qu_frames.specs.declared.frame.Body.TheVariants as body
 use Rattle.qu_frames.specs.declared.frame.Frame.{Frame}
-use Rattle.qu_frames.specs.declared.frame.Letter.{Letter}
 use Rattle.qu_frames.specs.declared.frame.Frame.TheVariants as frame
 use Rattle.qu_frames.specs.declared.verdict.Verdict.{Verdict}
 use Rattle.qu_frames.specs.Blank.{blank_mac}
@@ -37,9 +36,9 @@ use Rattle.qu_replica.specs.declared.decision.Decision.{Decision}
 use Rattle.qu_replica.specs.declared.decision.Decision.TheVariants.{Answers, Waits}
 use Rattle.qu_replica.specs.State.{ReplicaState, accept_all}
 use Rattle.qu_replica.specs.Rows.{Asked, act_asked, asked_at, unknown_in, decision_on}
-use Rattle.qu_replica.specs.Step.{shown, named, answer_frame, carried_out, on_frame, on_received}
+use Rattle.qu_replica.specs.Step.{shown, named, answer_frame, carried_out, on_frame, on_received, replica_step}
 use Rattle.qu_replica.specs.Growth.{MayDecide}
-use Rattle.qu_replica.specs.Fits.{StateFits, LetterFits, StepFits}
+use Rattle.qu_replica.specs.Fits.{StateFits, StepFits}
 use Rattle.qu_replica.proofs.Own.{IsOwn, own_history}
 use Rattle.qu_replica.proofs.Allowed.{decision_on-may}
 use Rattle.qu_replica.proofs.Decoded.{body_has_parts}
@@ -233,21 +232,9 @@ pub on_received-fits : (state : ReplicaState) (found : Option Frame) → StateFi
 on_received-fits state (Some frame) fits within = on_frame-fits state frame fits (within frame refl)
 on_received-fits state None fits within = (fits, tt)
 
--- ---- of a call, which may have failed
-
--- what is made of the frame that a text brings
-pub brought-fits : (state : ReplicaState) (text : List ℕ) (frame : Frame) → AreBytes text
-    → brought state.keys (party.Replica state.me) text ≡ Some frame → StateFits state → StepFits (on_frame state frame)
-brought-fits state text frame are given fits =
-    on_frame-fits state frame fits
-    (decoded_is_spelled text frame are (brought_is_decoded state.keys (party.Replica state.me) text frame given)).0
-
-pub holds_what_fits : {X E : Type 0} (result : Result X E) (old new : ReplicaState) (made : ReplicaState × List Letter)
-    → OnOk result (new ≡ made.0) → OnErr result (new ≡ old) → StateFits old → StepFits made → StateFits new
-holds_what_fits (Ok value) old new made ok err fits step = subst StateFits (sym ok) step.0
-holds_what_fits (Err error) old new made ok err fits step = subst StateFits (sym err) fits
-
-pub sends_what_fits : {E : Type 0} (result : Result (List Letter) E) (made : ReplicaState × List Letter)
-    → IfOk result (λ letters. letters ≡ made.1) → StepFits made → IfOk result (AllByRecursion LetterFits)
-sends_what_fits (Ok letters) made is step = subst (AllByRecursion LetterFits) (sym is) step.1
-sends_what_fits (Err error) made is step = tt
+-- what is made of a text
+pub step-fits : (state : ReplicaState) (text : List ℕ) → AreBytes text → StateFits state
+    → StepFits (replica_step state text)
+step-fits state text are fits =
+    on_received-fits state (brought state.keys (party.Replica state.me) text) fits (λ frame given.
+    (decoded_is_spelled text frame are (brought_is_decoded state.keys (party.Replica state.me) text frame given)).0)

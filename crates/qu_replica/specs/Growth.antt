@@ -1,5 +1,5 @@
 -- What is true of a replica's histories in every state, and how a state may follow another.
-use Rattle.std.specs.Prelude.{◌≡◌, ℕ, Bool, true, ◌+◌, ◌==◌, ◌&&◌, nat_le, ◌<◌, ◌≤◌, List, [], ◌∷◌, ◌++◌, length, IsTrue}
+use Rattle.std.specs.Prelude.{◌≡◌, ℕ, Bool, true, ◌+◌, ◌==◌, ◌&&◌, nat_le, ◌<◌, ◌≤◌, List, [], ◌∷◌, ◌++◌, length, Some, ◌^◌, IsTrue}
 use Rattle.qu_base.specs.declared.party.ObjectId.{ObjectId}
 use Rattle.qu_base.specs.declared.party.ReplicaId.{ReplicaId}
 use Rattle.qu_stamp.specs.declared.limits.TheConstants.{LAST_TIME}
@@ -14,9 +14,10 @@ use Rattle.qu_frames.specs.declared.frame.Frame.{Frame}
 use Rattle.qu_frames.specs.declared.frame.Frame.TheVariants as frame
 use Rattle.qu_replica.specs.declared.versions.Stored.{Stored}
 use Rattle.qu_replica.specs.declared.decision.Accepted.{Accepted}
+use Rattle.qu_replica.specs.declared.planned.Gain.{Gain}
 use Rattle.qu_replica.specs.declared.decision.Decision.{Decision}
 use Rattle.qu_replica.specs.declared.decision.Decision.TheVariants.{Answers, Waits}
-use Rattle.qu_replica.specs.State.{ReplicaState, own_candidates, own_latest}
+use Rattle.qu_replica.specs.State.{ReplicaState, own_candidates, own_latest, state_after}
 
 -- a history of this object at this replica: its stamps rise, up to the last time
 unfoldable pub is_own : ReplicaId → ℕ → ObjectHistory → Bool
@@ -45,6 +46,12 @@ abbrev pub MayAcceptAll : ReplicaState → List Accepted → Type 0
 MayAcceptAll state [] = Unit {0}
 MayAcceptAll state (accepted ∷ []) = MayAccept state accepted
 MayAcceptAll state (first ∷ second ∷ later) = ⊥
+
+-- what a replica's state may gain: the history of an object that it has stays its own, and a list holds all the versions
+pub record MayGain (state : ReplicaState) (gain : Gain) : Type 0 where
+  pub known : ((gain.history).object).0 < length state.histories
+  pub own : AreHistories (state_after state (Some gain))
+  pub room : length (state.versions ++ gain.versions) < 2 ^ 63
 
 abbrev pub MayDecide : ReplicaState → Decision → Type 0
 MayDecide state (Answers verdict accepted) = MayAcceptAll state accepted

@@ -1,5 +1,5 @@
 -- What a replica holds: for each of its objects a history, and versions.
-use Rattle.std.specs.Prelude.{ℕ, zero, suc, ◌+◌, List, [], ◌∷◌, ◌++◌, slice_get, Option, None, Some}
+use Rattle.std.specs.Prelude.{ℕ, zero, suc, ◌+◌, List, [], ◌∷◌, ◌++◌, slice_get, set, Option, None, Some}
 use Rattle.qu_base.specs.declared.party.ObjectId.{ObjectId}
 use Rattle.qu_base.specs.declared.party.ReplicaId.{ReplicaId}
 use Rattle.qu_seal.specs.Keys.{Ring}
@@ -13,6 +13,7 @@ use Rattle.qu_objects.specs.declared.answer.Answer.TheVariants as answer
 use Rattle.qu_objects.specs.Kind.{fresh_value}
 use Rattle.qu_replica.specs.declared.versions.Stored.{Stored}
 use Rattle.qu_replica.specs.declared.decision.Accepted.{Accepted}
+use Rattle.qu_replica.specs.declared.planned.Gain.{Gain}
 
 pub record ReplicaState : Type 0 where
   pub me : ReplicaId
@@ -54,6 +55,14 @@ accept state accepted = record state {
 unfoldable pub accept_all : ReplicaState → List Accepted → ReplicaState
 accept_all state [] = state
 accept_all state (accepted ∷ later) = accept_all (accept state accepted) later
+
+-- the state with what it gains
+abbrev pub state_after : ReplicaState → Option Gain → ReplicaState
+state_after state None = state
+state_after state (Some gain) = record state {
+  histories = set state.histories ((gain.history).object).0 gain.history;
+  versions = state.versions ++ gain.versions;
+}
 
 -- the objects from this number on, as they begin
 unfoldable pub opening_histories : ReplicaId → ℕ → List KindName → List ObjectHistory

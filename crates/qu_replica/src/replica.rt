@@ -1,13 +1,13 @@
-ghost use Rattle.std.specs.Prelude.{◌≡◌, ◌<◌, ◌≤◌, length, slice_get, IfOk, OnOk, OnErr};
+ghost use Rattle.std.specs.Prelude.{◌≡◌, ◌<◌, ◌≤◌, length, slice_get, IfOk, IfSome, OnOk, OnErr};
 ghost use Rattle.std.specs.Option.{option_copied};
 ghost use Rattle.std.specs.List.{AllByRecursion};
 ghost use Rattle.qu_base.specs.Format.{AreBytes};
 ghost use Rattle.qu_base.specs.declared.limits.TheConstants.{OBJECT_IDS, REPLICA_IDS};
-ghost use Rattle.qu_replica.specs.State.{opening_state};
+ghost use Rattle.qu_replica.specs.State.{opening_state, state_after};
 ghost use Rattle.qu_replica.specs.Versions.{version_at};
 ghost use Rattle.qu_replica.specs.Rows.{asked_at, decision_on};
 ghost use Rattle.qu_replica.specs.Step.{named, on_frame, replica_step};
-ghost use Rattle.qu_replica.specs.Growth.{AreHistories, Grows, MayDecide};
+ghost use Rattle.qu_replica.specs.Growth.{AreHistories, Grows, MayDecide, MayGain};
 ghost use Rattle.qu_replica.specs.Fits.{StateFits, LetterFits};
 
 mod opening;
@@ -16,6 +16,7 @@ mod rows;
 
 use crate::asked::{Asked, Heading};
 use crate::decision::Decision;
+use crate::planned::{Gain, Planned};
 use crate::versions::{self, Stored};
 use qu_base::{Bounds, List, NoMemory, ObjectId, Party, ReplicaId};
 use qu_frames::{Body, Frame, Letter, receive};
@@ -24,6 +25,7 @@ use qu_objects::{KindName, Version};
 use qu_seal::KeyRing;
 use qu_stamp::Stamp;
 use std::alloc::Global;
+use std::collections::LinkedList;
 use std::marker::Model;
 
 /// One replica. It keeps a history of each object, and the versions that it accepted.
@@ -33,7 +35,7 @@ pub struct Replica {
     me: ReplicaId,
     keys: KeyRing,
     histories: Vec<History>,
-    versions: Vec<Stored>,
+    versions: LinkedList<Stored>,
 }
 
 impl Model for Replica {
@@ -47,7 +49,7 @@ impl Model for Replica {
       me = replica.me;
       keys = replica.keys;
       histories = replica.histories.items;
-      versions = replica.versions.items;
+      versions = replica.versions;
     } };
 
     ghost invariant = { λ replica. IsTrue (are_own replica.me 0 replica.histories.items) };
@@ -104,13 +106,12 @@ impl Replica {
     pub fn version(&self, object: ObjectId, stamp: &Stamp) -> Option<&Version>
         ensures { option_copied result ≡ version_at object stamp.now self.now.versions }
     {
-        versions::version_at(self.versions.as_slice(), object, stamp)
+        versions::version_at(&self.versions, object, stamp)
     }
 
     /// Handles a text, and gives the letters that answer it: one to a request that it decides, none
     /// to one whose version it lacks, to a reply, to a text that is no frame, and to a frame whose HMAC
     /// is wrong for it. Without memory it stays as it is.
-    #[tactic(auto, using(crate::proofs::Stepped::step_laws))]
     pub fn step(&mut self, text: &[u8]) -> Result<List<Letter>, NoMemory>
         ensures state { OnOk result (self.new ≡ (replica_step self.old text.now).0) }
         ensures letters { IfOk result (λ letters. letters ≡ (replica_step self.old text.now).1) }
@@ -121,19 +122,31 @@ impl Replica {
         ensures sends_what_fits { StateFits self.old → IfOk result (AllByRecursion LetterFits) }
     {
         are_bytes(text);
+        let planned = self.plan(text)?;
+        Ok(self.carry_out(planned))
+    }
+
+    /// What `step` will make of this text. All that the step takes of memory is taken here.
+    #[tactic(auto, using(crate::proofs::Stepped::step_laws))]
+    pub fn plan(&self, text: &[u8]) -> Result<Planned, NoMemory>
+        ensures state { IfOk result (λ planned. state_after self.now planned.gain
+            ≡ (replica_step self.now text.now).0) }
+        ensures letters { IfOk result (λ planned. planned.letters ≡ (replica_step self.now text.now).1) }
+        ensures may { IfOk result (λ planned. IfSome planned.gain (MayGain self.now)) }
+        ensures histories { AreHistories self.now }
+    {
         match receive(self.alloc, &self.keys, Party::Replica(self.me), text)? {
-            Some(frame) => self.on_frame(&frame),
-            None => Ok(List::new(self.alloc)),
+            Some(frame) => self.plan_frame(&frame),
+            None => Ok(Planned::nothing(self.alloc)),
         }
     }
 
-    /// Handles a frame. Without memory it stays as it is.
-    fn on_frame(&mut self, frame: &Frame) -> Result<List<Letter>, NoMemory>
-        ensures state { OnOk result (self.new ≡ (on_frame self.old frame.now).0) }
-        ensures letters { IfOk result (λ letters. letters ≡ (on_frame self.old frame.now).1) }
-        ensures err { OnErr result (self.new ≡ self.old) }
-        ensures histories { AreHistories self.new }
-        ensures grows { Grows self.old self.new }
+    /// What a frame will make. One that is no request is ignored.
+    fn plan_frame(&self, frame: &Frame) -> Result<Planned, NoMemory>
+        ensures state { IfOk result (λ planned. state_after self.now planned.gain
+            ≡ (on_frame self.now frame.now).0) }
+        ensures letters { IfOk result (λ planned. planned.letters ≡ (on_frame self.now frame.now).1) }
+        ensures may { IfOk result (λ planned. IfSome planned.gain (MayGain self.now)) }
     {
         match frame {
             Frame::Request {
@@ -151,11 +164,40 @@ impl Replica {
                     sets,
                 };
                 let handled = self.handle(&heading, body)?;
-                self.carry_out(&heading, handled.named, handled.decision)
+                self.plan_decision(&heading, handled.named, handled.decision)
             }
             Frame::Reply { .. } | Frame::Fetch { .. } | Frame::Fetched { .. } => {
-                Ok(List::new(self.alloc))
+                Ok(Planned::nothing(self.alloc))
             }
+        }
+    }
+
+    /// Makes what was planned of the state that the replica has, which takes no memory.
+    pub fn carry_out(&mut self, planned: Planned) -> List<Letter>
+        requires { IfSome planned.gain (MayGain self.old) }
+        ensures state { self.new ≡ state_after self.old planned.gain }
+        ensures letters { result ≡ planned.letters }
+    {
+        let Planned { gain, letters } = planned;
+        if let Some(gain) = gain {
+            self.take(gain);
+        }
+        letters
+    }
+
+    /// Puts the history in the place of that of its object, and the versions after the others.
+    fn take(&mut self, gain: Gain)
+        requires { MayGain self.old gain }
+        ensures { self.new ≡ state_after self.old (Some gain) }
+    {
+        let Gain {
+            history,
+            mut versions,
+        } = gain;
+        let place = usize::from(history.object().0);
+        self.histories[place] = history;
+        if self.versions.append(&mut versions).is_err() {
+            unreachable!();
         }
     }
 

@@ -1,4 +1,4 @@
-ghost use Rattle.std.specs.Prelude.{◌≡◌, find, IfOk};
+ghost use Rattle.std.specs.Prelude.{◌≡◌, find, [], ◌∷◌, IfOk};
 ghost use Rattle.std.specs.Option.{option_copied};
 ghost use Rattle.qu_replica.specs.Versions.{is_stored, version_at};
 
@@ -6,6 +6,10 @@ use qu_base::{NoMemory, ObjectId};
 use qu_objects::Version;
 use qu_stamp::Stamp;
 use std::alloc::Global;
+use std::collections::LinkedList;
+
+/// How many versions a replica stores before it says that memory is wanting: one fewer than a list holds.
+pub(crate) const MOST_VERSIONS: usize = 0x7fff_ffff_ffff_fffe;
 
 /// A version of an object, under the stamp of its candidate.
 #[derive(Debug, Drop)]
@@ -28,10 +32,21 @@ impl Stored {
     }
 }
 
+/// The list of one version.
+pub(crate) fn one(alloc: Global, stored: Stored) -> Result<LinkedList<Stored>, NoMemory>
+    ensures { IfOk result (λ versions. versions ≡ stored ∷ []) }
+{
+    let mut versions = LinkedList::new(alloc);
+    match versions.push_back(stored) {
+        Ok(()) => Ok(versions),
+        Err(_) => Err(NoMemory),
+    }
+}
+
 /// The version of an object under this stamp.
 #[tactic(auto, using(crate::proofs::Finding::finds))]
 pub(crate) fn version_at<'a>(
-    versions: &'a [Stored],
+    versions: &'a LinkedList<Stored>,
     object: ObjectId,
     stamp: &Stamp,
 ) -> Option<&'a Version>
@@ -45,7 +60,11 @@ pub(crate) fn version_at<'a>(
 
 /// The first entry of an object under this stamp.
 #[tactic(auto, unfolding(qu_stamp::specs::Stamp::same_stamp))]
-fn first_stored<'a>(versions: &'a [Stored], object: ObjectId, stamp: &Stamp) -> Option<&'a Stored>
+fn first_stored<'a>(
+    versions: &'a LinkedList<Stored>,
+    object: ObjectId,
+    stamp: &Stamp,
+) -> Option<&'a Stored>
     ensures { option_copied result ≡ find (is_stored object stamp.now) versions.now }
 {
     versions

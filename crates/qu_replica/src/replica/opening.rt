@@ -8,6 +8,7 @@ use qu_history::History;
 use qu_objects::{Answer, KindName, Value, Version};
 use qu_stamp::Stamp;
 use std::alloc::Global;
+use std::collections::LinkedList;
 
 /// The histories with which the objects of these kinds begin, in their order.
 #[tactic(auto, using(crate::proofs::Opening::histories_step, crate::proofs::Opening::no_histories))]
@@ -28,17 +29,17 @@ pub(super) fn histories(
 
 /// The versions with which the objects of these kinds begin, in their order.
 #[tactic(auto, using(crate::proofs::Opening::versions_step, crate::proofs::Opening::no_versions))]
-pub(super) fn versions(alloc: Global, kinds: &[KindName]) -> Result<Vec<Stored>, NoMemory>
+pub(super) fn versions(alloc: Global, kinds: &[KindName]) -> Result<LinkedList<Stored>, NoMemory>
     requires { length kinds.now ≤ OBJECT_IDS }
-    ensures { IfOk result (λ versions. versions.items ≡ opening_versions 0 kinds.now) }
+    ensures { IfOk result (λ versions. versions ≡ opening_versions 0 kinds.now) }
 {
-    let mut versions = Vec::new(alloc);
+    let mut versions = LinkedList::new(alloc);
     for (number, kind) in kinds.iter().enumerate() {
         let state = Version {
             value: Value::fresh(*kind),
             answer: Answer::Ok(List::new(alloc)),
         };
-        versions.push(Stored {
+        versions.push_back(Stored {
             object: ObjectId(number as u16),
             stamp: Stamp::opening(),
             state,

@@ -1,55 +1,56 @@
-ghost use Rattle.std.specs.Prelude.{◌≡◌, [], ◌∷◌, map, slice_get, IfOk, OnOk, OnErr};
+ghost use Rattle.std.specs.Prelude.{◌≡◌, [], ◌∷◌, map, slice_get, Some, IfOk, IfSome};
 ghost use Rattle.qu_history.specs.Sealing.{sealed_by};
-ghost use Rattle.qu_replica.specs.State.{accept, accept_all};
+ghost use Rattle.qu_replica.specs.State.{accept, accept_all, state_after};
 ghost use Rattle.qu_replica.specs.Step.{shown, named, reply, carried_out};
-ghost use Rattle.qu_replica.specs.Growth.{MayAccept, MayAcceptAll, MayDecide};
+ghost use Rattle.qu_replica.specs.Growth.{MayAccept, MayAcceptAll, MayDecide, MayGain};
 
 use super::Replica;
 use crate::Stored;
 use crate::asked::Heading;
 use crate::decision::{Accepted, Decision};
+use crate::planned::{Gain, Planned};
+use crate::versions::{self, MOST_VERSIONS};
 use qu_base::{List, NoMemory, ObjectId, Party, ReplicaId};
 use qu_frames::{Frame, Letter, Verdict, blank_mac};
 use qu_history::{AddFail, History, Sealed, Sets};
 
 impl Replica {
-    /// Carries a decision out, and gives its letter. Without memory the replica stays as it is.
-    pub(super) fn carry_out(
-        &mut self,
+    /// What it will make to carry a decision out.
+    pub(super) fn plan_decision(
+        &self,
         heading: &Heading,
         culled: List<(ObjectId, ReplicaId)>,
         decision: Decision,
-    ) -> Result<List<Letter>, NoMemory>
-        requires may { MayDecide self.old decision }
-        requires named { culled ≡ named self.old heading.now.sets.now }
-        ensures state { OnOk result
-            (self.new ≡ (carried_out self.old heading.now.client heading.now.number heading.now.round
+    ) -> Result<Planned, NoMemory>
+        requires may { MayDecide self.now decision }
+        requires named { culled ≡ named self.now heading.now.sets.now }
+        ensures state { IfOk result (λ planned. state_after self.now planned.gain
+            ≡ (carried_out self.now heading.now.client heading.now.number heading.now.round
             heading.now.sets.now decision).0) }
-        ensures letters { IfOk result
-            (λ letters. letters ≡ (carried_out self.old heading.now.client heading.now.number heading.now.round
+        ensures letters { IfOk result (λ planned. planned.letters
+            ≡ (carried_out self.now heading.now.client heading.now.number heading.now.round
             heading.now.sets.now decision).1) }
-        ensures err { OnErr result (self.new ≡ self.old) }
+        ensures may { IfOk result (λ planned. IfSome planned.gain (MayGain self.now)) }
     {
         match decision {
-            Decision::Answers { verdict, accepted } => {
-                let letters = self.reply(heading, culled, verdict, accepted.as_slice())?;
-                self.accept_all(accepted.as_slice())?;
-                Ok(letters)
-            }
-            Decision::Waits => Ok(List::new(self.alloc)),
+            Decision::Answers { verdict, accepted } => Ok(Planned {
+                letters: self.reply(heading, culled, verdict, accepted.as_slice())?,
+                gain: self.gain_of(accepted.as_slice())?,
+            }),
+            Decision::Waits => Ok(Planned::nothing(self.alloc)),
         }
     }
 
-    /// Accepts at most one candidate with its version. Without memory the replica stays as it is.
+    /// What the state gains by accepting at most one candidate with its version.
     #[tactic(auto, unfolding(crate::specs::State::accept_all))]
-    fn accept_all(&mut self, accepted: &[Accepted]) -> Result<(), NoMemory>
-        requires { MayAcceptAll self.old accepted.now }
-        ensures ok { OnOk result (self.new ≡ accept_all self.old accepted.now) }
-        ensures err { OnErr result (self.new ≡ self.old) }
+    fn gain_of(&self, accepted: &[Accepted]) -> Result<Option<Gain>, NoMemory>
+        requires { MayAcceptAll self.now accepted.now }
+        ensures state { IfOk result (λ gain. state_after self.now gain ≡ accept_all self.now accepted.now) }
+        ensures may { IfOk result (λ gain. IfSome gain (MayGain self.now)) }
     {
         match accepted {
-            [] => Ok(()),
-            [accepted] => self.accept(accepted),
+            [] => Ok(None),
+            [accepted] => Ok(Some(self.gain(accepted)?)),
             _ => unreachable!(),
         }
     }
@@ -165,22 +166,24 @@ impl Replica {
         }
     }
 
-    /// Accepts a candidate with its version. Without memory the replica stays as it is.
-    #[tactic(auto, using(crate::proofs::Accepting::puts))]
-    fn accept(&mut self, accepted: &Accepted) -> Result<(), NoMemory>
-        requires { MayAccept self.old accepted.now }
-        ensures ok { OnOk result (self.new ≡ accept self.old accepted.now) }
-        ensures err { OnErr result (self.new ≡ self.old) }
+    /// What the state gains by accepting a candidate with its version. More versions than a list holds take
+    /// more memory than there is.
+    fn gain(&self, accepted: &Accepted) -> Result<Gain, NoMemory>
+        requires { MayAccept self.now accepted.now }
+        ensures state { IfOk result (λ gain. state_after self.now (Some gain) ≡ accept self.now accepted.now) }
+        ensures may { IfOk result (MayGain self.now) }
     {
+        if MOST_VERSIONS <= self.versions.len() {
+            return Err(NoMemory);
+        }
         let stored = Stored {
             object: accepted.object,
             stamp: accepted.candidate.stamp,
             state: accepted.state.copy(self.alloc)?,
         };
-        let grown = self.grown(accepted)?;
-        self.versions.try_reserve(1)?;
-        self.versions.push_reserved(stored);
-        self.histories[usize::from(accepted.object.0)] = grown;
-        Ok(())
+        Ok(Gain {
+            history: self.grown(accepted)?,
+            versions: versions::one(self.alloc, stored)?,
+        })
     }
 }

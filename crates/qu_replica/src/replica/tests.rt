@@ -88,7 +88,7 @@ fn time_can_be_spent(rt: HostRuntime) -> Result<(), Fail> {
         value: Value::Counter(5),
         answer: Answer::Refused { at: 0, why: 4 },
     };
-    replica.versions.push(Stored {
+    replica.versions.push_back(Stored {
         object: COUNTER,
         stamp,
         state,

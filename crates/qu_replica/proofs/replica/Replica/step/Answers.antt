@@ -1,31 +1,32 @@
--- What a text makes of what the replica holds and sends, where the call may have failed.
-use Rattle.std.proofs.Common.{◌≡◌, ◌∙◌, sym, ap, Some}
-use Rattle.qu_base.specs.declared.party.Party.TheVariants as party
-use Rattle.qu_frames.specs.Signing.{brought}
-use Rattle.qu_replica.specs.State.{ReplicaState}
-use Rattle.qu_replica.specs.Step.{on_frame}
-use Rattle.qu_replica.proofs.FitSteps.{brought-fits, holds_what_fits, sends_what_fits}
+-- What was planned is what a text makes of what the replica holds and sends.
+use Rattle.std.proofs.Common.{sym, subst, ◌∙◌}
+use Rattle.std.specs.List.{AllByRecursion}
+use Rattle.qu_replica.specs.Growth.{AreHistories, Grows}
+use Rattle.qu_replica.specs.Fits.{StateFits, LetterFits}
+use Rattle.qu_replica.proofs.Accepting.{after-histories}
+use Rattle.qu_replica.proofs.Growth.{step-grows}
+use Rattle.qu_replica.proofs.FitSteps.{step-fits}
 use Rattle.qu_replica.proofs.replica.Replica.step.Goals as goal
 
-pub returns-in-Some-clause-holds_what_fits : goal.returns-in-Some-clause-holds_what_fits
-returns-in-Some-clause-holds_what_fits c =
-    let old : ReplicaState = c.args.self.now in
-    let text = c.args.text.now in
-    let given : brought old.keys (party.Replica old.me) text ≡ Some c.in-Some.frame =
-    sym (ap (λ (state : ReplicaState). brought state.keys (party.Replica state.me) text) c.self.view_is)
-    ∙ sym c.in_ok-frame.ensures ∙ c.in-Some.is in
-    λ fits.
-    holds_what_fits c.on_frame.result old c.on_frame.new.self (on_frame old c.in-Some.frame)
-    c.on_frame.ensures.state c.on_frame.ensures.err fits
-    (brought-fits old text c.in-Some.frame c.are_bytes.ensures given fits)
+pub returns-in_err-planned-clause-histories : goal.returns-in_err-planned-clause-histories
+returns-in_err-planned-clause-histories c = c.plan.ensures.histories
 
-pub returns-in-Some-clause-sends_what_fits : goal.returns-in-Some-clause-sends_what_fits
-returns-in-Some-clause-sends_what_fits c =
-    let old : ReplicaState = c.args.self.now in
-    let text = c.args.text.now in
-    let given : brought old.keys (party.Replica old.me) text ≡ Some c.in-Some.frame =
-    sym (ap (λ (state : ReplicaState). brought state.keys (party.Replica state.me) text) c.self.view_is)
-    ∙ sym c.in_ok-frame.ensures ∙ c.in-Some.is in
-    λ fits.
-    sends_what_fits c.on_frame.result (on_frame old c.in-Some.frame) c.on_frame.ensures.letters
-    (brought-fits old text c.in-Some.frame c.are_bytes.ensures given fits)
+pub returns-clause-histories : goal.returns-clause-histories
+returns-clause-histories c =
+    subst AreHistories (sym c.carry_out.ensures.state)
+    (after-histories c.args.self.now c.in_ok-planned.planned.gain c.plan.ensures.histories c.in_ok-planned.ensures.may)
+
+pub returns-clause-grows : goal.returns-clause-grows
+returns-clause-grows c =
+    subst (Grows c.args.self.now) (sym (c.carry_out.ensures.state ∙ c.in_ok-planned.ensures.state))
+    (step-grows c.args.self.now c.args.text.now)
+
+pub returns-clause-holds_what_fits : goal.returns-clause-holds_what_fits
+returns-clause-holds_what_fits c = λ fits.
+    subst StateFits (sym (c.carry_out.ensures.state ∙ c.in_ok-planned.ensures.state))
+    (step-fits c.args.self.now c.args.text.now c.are_bytes.ensures fits).0
+
+pub returns-clause-sends_what_fits : goal.returns-clause-sends_what_fits
+returns-clause-sends_what_fits c = λ fits.
+    subst (AllByRecursion LetterFits) (sym (c.carry_out.ensures.letters ∙ c.in_ok-planned.ensures.letters))
+    (step-fits c.args.self.now c.args.text.now c.are_bytes.ensures fits).1
