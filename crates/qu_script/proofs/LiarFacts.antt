@@ -1,7 +1,10 @@
 -- Facts on the lines that list faulty replicas.
-use Rattle.std.proofs.Common.{◌≡◌, ℕ, suc, ◌+◌, ◌≤◌, List, [], ◌∷◌, ◌++◌, length, Option, None, Some, refl, sym, ap, ◌∙◌, append_assoc, append-nil, arith}
+use Rattle.std.proofs.Common.{◌≡◌, ℕ, suc, true, IsTrue, ◌+◌, ◌≤◌, List, [], ◌∷◌, ◌++◌, length, Option, None, Some, refl, sym, ap, ◌∙◌, append_assoc, append-nil, arith}
 use Rattle.std.specs.Prelude.{count_by}
+use Rattle.std.specs.List.{list_all}
 use Rattle.std.specs.Option.{option_map}
+use Rattle.std.proofs.lemmas.Bool.{and_from}
+use Rattle.std.proofs.lemmas.List.Folds.{list_all-append}
 use Rattle.std.proofs.lemmas.List.Sums.{count_by-le-length}
 use Rattle.qu_base.specs.declared.party.Party.{Party}
 use Rattle.qu_base.specs.declared.party.Party.TheVariants as party
@@ -74,3 +77,9 @@ liars_end bounds liars least count texts is =
 
 pub few_replicas : (bounds : ℕ) (liars : List Party) → length liars ≤ bounds → count_by is_replica liars ≤ bounds
 few_replicas bounds liars few = omega (arith, count_by-le-length is_replica liars)
+
+-- ---- of what kind they are
+
+pub replicas_push : (liars : List Party) (me : ReplicaId) → IsTrue (list_all is_replica liars)
+    → IsTrue (list_all is_replica (liars ++ party.Replica me ∷ []))
+replicas_push liars me all = list_all-append is_replica liars (party.Replica me ∷ []) ∙ and_from _ _ all refl

@@ -1,7 +1,7 @@
 -- The run that a script describes: the fold of its lines, each of which is some events in the world
 -- in which it stands, or the first line that cannot be.
 use Rattle.std.specs.Prelude.{◌≡◌, ◌≤◌, ◌<◌, ℕ, zero, suc, ◌+◌, ◌==◌, ◌||◌, Bool, true, false, if◌then◌else◌, List, [], ◌∷◌, length, Option, None, Some, Result, Ok, Err}
-use Rattle.std.specs.List.{list_any, list_all}
+use Rattle.std.specs.List.{list_any}
 use Rattle.qu_base.specs.declared.party.ClientId.{ClientId}
 use Rattle.qu_base.specs.declared.party.Party.TheVariants as party
 use Rattle.qu_trace.specs.declared.event.Event.{Event}
@@ -114,22 +114,10 @@ line_made number world (Flow count) = flow_made number (flow_count count) world
 line_made number world (Inject who text) = event_made number world (event.Inject who text)
 line_made number world (Fake me client how good) = fake_made number world client (fake_of world me client how good)
 
--- no event of the line injects bytes
-abbrev pub injects_none : Line → Bool
-injects_none (Call client op) = true
-injects_none (Deliver letters) = true
-injects_none (Flow count) = true
-injects_none (Inject who text) = false
-injects_none (Fake me client how good) = false
-
 -- the world after these lines, each with its number
 unfoldable pub lines_made : WorldState → List (ℕ × Line) → Result WorldState Bad
 lines_made world [] = Ok world
 lines_made world (line ∷ lines) = then_good (line_made line.0 world line.1) (λ after. lines_made after lines)
-
--- no line injects bytes
-unfoldable pub inject_none : List (ℕ × Line) → Bool
-inject_none lines = list_all (λ line. injects_none line.1) lines
 
 -- ---- a script
 

@@ -1,4 +1,5 @@
-ghost use Rattle.std.specs.Prelude.{◌≡◌, ◌≤◌, ◌<◌, length, map, count_by, IfOk, IfSome, MatchOption};
+ghost use Rattle.std.specs.Prelude.{◌≡◌, ◌≤◌, length, map, IfOk, IfSome, IsTrue, MatchOption};
+ghost use Rattle.std.specs.List.{list_all};
 ghost use Rattle.qu_trace.specs.Faulty.{is_replica};
 ghost use Rattle.qu_script.specs.Text.{lines_of, words_of};
 ghost use Rattle.qu_script.specs.Liars.{liar_of, first_liar, liars_from};
@@ -18,6 +19,7 @@ pub fn read_liars<'a>(
     ensures found { IfOk result
         (λ found. (found.0, lines_of found.1.now) ≡ liars_from bounds.now 0 bounds.now (lines_of text.now)) }
     ensures few { IfOk result (λ found. length found.0 ≤ bounds.now) }
+    ensures replicas { IfOk result (λ found. IsTrue (list_all is_replica found.0)) }
     ensures shorter { IfOk result (λ found. length found.1.now ≤ length text.now) }
 {
     let mut liars = List::new(alloc);

@@ -1,5 +1,7 @@
-ghost use Rattle.std.specs.Prelude.{◌≡◌, ◌<◌, ◌≤◌, ◌+◌, ◌^◌, length, IfOk};
+ghost use Rattle.std.specs.Prelude.{◌≡◌, ◌<◌, ◌≤◌, ◌+◌, ◌^◌, length, IfOk, IsTrue};
+ghost use Rattle.std.specs.List.{list_all};
 ghost use Rattle.qu_base.specs.declared.limits.TheConstants.{LAST_CLIENT, MOST_FAULTS};
+ghost use Rattle.qu_trace.specs.Faulty.{is_replica};
 ghost use Rattle.qu_script.specs.Grammar.{IsInRange};
 ghost use Rattle.qu_script.specs.Text.{lines_of};
 ghost use Rattle.qu_script.specs.Script.{Gives, expect, lines_from, script_from, script_of, setup_of};
@@ -82,6 +84,7 @@ fn read_lines(
 pub fn read_script(alloc: Global, text: &[u8]) -> Result<Script, ScriptFail>
     ensures value { Gives (λ script. script) result (script_of text.now) }
     ensures limits { IfOk result (λ script. IsSetup script.setup) }
+    ensures replicas { IfOk result (λ script. IsTrue (list_all is_replica script.setup.liars)) }
 {
     if text.len() > SCRIPT_LIMIT {
         return Err(ScriptFail::Bad(Bad {

@@ -1,8 +1,7 @@
-ghost use Rattle.std.specs.Prelude.{IfOk, IsTrue};
-ghost use Rattle.qu_trace.specs.Injections.{no_injection};
+ghost use Rattle.std.specs.Prelude.{◌≡◌, IfOk};
 ghost use Rattle.qu_world.specs.Run.{IsRun, IsSetup};
 ghost use Rattle.qu_script.specs.Script.{Gives};
-ghost use Rattle.qu_script.specs.Events.{inject_none, run_of};
+ghost use Rattle.qu_script.specs.Events.{run_of};
 
 use super::player::Player;
 use super::{Script, ScriptFail};
@@ -18,8 +17,7 @@ pub fn run_script(alloc: Global, script: &Script) -> Result<Trace, ScriptFail>
     requires { IsSetup script.now.setup }
     ensures value { Gives (λ trace. trace) result (run_of script.now) }
     ensures run { IfOk result IsRun }
-    ensures scripted { IsTrue (inject_none script.now.lines)
-        → IfOk result (λ trace. IsTrue (no_injection trace.entries)) }
+    ensures setup { IfOk result (λ trace. trace.setup ≡ script.now.setup) }
 {
     let setup = script.setup.copy(alloc)?;
     let mut player = Player::start(alloc, setup)?;

@@ -1,11 +1,13 @@
 -- One faulty replica after another.
 use Rattle.std.proofs.Common.{◌≡◌, ◌∙◌, ℕ, suc, ◌+◌, ◌-◌, ◌++◌, ◌∷◌, [], List, length, sym, ap, arith}
+use Rattle.std.specs.List.{list_all}
 use Rattle.std.proofs.lemmas.List.{length_push}
 use Rattle.std.proofs.lemmas.Option.{MatchOption-at_none, MatchOption-at_some}
 use Rattle.qu_base.specs.declared.party.Party.{Party}
 use Rattle.qu_base.specs.declared.party.Party.TheVariants as party
+use Rattle.qu_trace.specs.Faulty.{is_replica}
 use Rattle.qu_script.specs.Text.{lines_of}
-use Rattle.qu_script.proofs.LiarFacts.{liars_with, liars_more, liars_stop, liars_end}
+use Rattle.qu_script.proofs.LiarFacts.{liars_with, liars_more, liars_stop, liars_end, replicas_push}
 use Rattle.qu_script.proofs.liars.read_liars.Goals as goal
 
 pub returns-in_default-clause-found : goal.returns-in_default-clause-found
@@ -38,6 +40,8 @@ loop-index-preserved c =
           ∙ c.loop-index.invariant.found;
       few = ap length c.in_ok-push.ensures.ok ∙ length_push c.loop-index.liars (party.Replica c.in-Some.next.0)
           ∙ ap (λ (count : ℕ). count + 1) c.loop-index.invariant.few;
+      replicas = ap (list_all is_replica) c.in_ok-push.ensures.ok
+          ∙ replicas_push c.loop-index.liars c.in-Some.next.0 c.loop-index.invariant.replicas;
       shorter = omega (arith, shorter, c.loop-index.invariant.shorter);
     }
 
