@@ -1,4 +1,4 @@
-ghost use Rattle.std.specs.Prelude.{◌≡◌, ◌≤◌, map, IfOk};
+ghost use Rattle.std.specs.Prelude.{◌≡◌, map, IfOk};
 ghost use Rattle.qu_script.specs.Grammar.{amount_of, update_by, read_op, op_of, call_of, deliver_of, flow_of, line_of_words};
 
 use super::Line;

@@ -1,7 +1,7 @@
 ghost use Rattle.std.specs.Prelude.{◌≡◌, ◌≤◌, length, map, IfOk, IfSome, IsTrue, MatchOption};
 ghost use Rattle.std.specs.List.{list_all};
 ghost use Rattle.qu_trace.specs.Faulty.{is_replica};
-ghost use Rattle.qu_script.specs.Text.{lines_of, words_of};
+ghost use Rattle.qu_script.specs.Text.{lines_of};
 ghost use Rattle.qu_script.specs.Liars.{liar_of, first_liar, liars_from};
 
 use super::cut::{cut_line, cut_words};
