@@ -1,5 +1,5 @@
 -- The tests for what is forged say what the definition says, of bytes that are handed to a party of a world.
-use Rattle.std.proofs.Common.{◌≡◌, ℕ, zero, suc, Bool, true, false, cond, List, [], Option, None, Some, refl, sym, ap, subst, ◌∙◌, inl, inr, arith}
+use Rattle.std.proofs.Common.{◌≡◌, ℕ, zero, suc, Bool, true, false, cond, List, [], Option, None, Some, Ok, refl, sym, ap, subst, ◌∙◌, inl, inr, arith}
 use Rattle.std.specs.Prelude.{not, ◌&&◌, ◌||◌, nat_eq, slice_get, Contains}
 use Rattle.std.specs.Cmp.Lexicographic.{pointwise, bytes_decides}
 use Rattle.std.specs.List.{list_all, list_any, flat_map}
@@ -14,7 +14,7 @@ use Rattle.qu_history.specs.Culling.{is_right}
 use Rattle.qu_frames.specs.declared.frame.Frame.{Frame}
 use Rattle.qu_frames.specs.declared.frame.Frame.TheVariants as frame
 use Rattle.qu_frames.specs.declared.frame.Letter.{Letter}
-use Rattle.qu_frames.specs.Signing.{sender, brought}
+use Rattle.qu_frames.specs.Signing.{sender, brought, is_signed, if_signed}
 use Rattle.qu_trace.specs.declared.trace.Entry.{Entry}
 use Rattle.qu_trace.specs.declared.trace.Setup.{Setup}
 use Rattle.qu_trace.specs.Faulty.{is_same, is_faulty}
@@ -252,3 +252,35 @@ pub forged_text : (world : WorldState) (to : Party) (text : List ℕ)
     → ¬ (AreUnforged world to text)
 forged_text world to text forged unforged =
     frame_unforged world to text (brought (ring_of world.setup) to text) refl unforged forged
+
+-- ---- the HMAC is verified last
+
+and_true : (signed : Bool) → (signed && true) ≡ signed
+and_true true = refl
+and_true false = refl
+
+and_false : (signed : Bool) → (signed && false) ≡ false
+and_false true = refl
+and_false false = refl
+
+verified : (setup : Setup) (entries : List Entry) (shown : List Shown) (to : Party) (text : List ℕ)
+    (frame : Frame) (signed suspected : Bool)
+    → (is_unsent setup entries to text frame || shows_unshown setup shown to frame) ≡ suspected
+    → is_forged_frame setup entries shown to text (cond signed (Some frame) None) ≡ signed && suspected
+verified setup entries shown to text frame true suspected is = is
+verified setup entries shown to text frame false suspected is = refl
+
+pub forged_if_signed : (setup : Setup) (entries : List Entry) (shown : List Shown) (to : Party) (text : List ℕ)
+    (frame : Frame) → (is_unsent setup entries to text frame || shows_unshown setup shown to frame) ≡ true
+    → is_signed (ring_of setup) to text frame
+    ≡ is_forged_frame setup entries shown to text (if_signed (ring_of setup) to text (Ok frame))
+forged_if_signed setup entries shown to text frame suspected =
+    let signed : Bool = is_signed (ring_of setup) to text frame in
+    sym (verified setup entries shown to text frame signed true suspected ∙ and_true signed)
+
+pub not_forged : (setup : Setup) (entries : List Entry) (shown : List Shown) (to : Party) (text : List ℕ)
+    (frame : Frame) → (is_unsent setup entries to text frame || shows_unshown setup shown to frame) ≡ false
+    → false ≡ is_forged_frame setup entries shown to text (if_signed (ring_of setup) to text (Ok frame))
+not_forged setup entries shown to text frame suspected =
+    let signed : Bool = is_signed (ring_of setup) to text frame in
+    sym (verified setup entries shown to text frame signed false suspected ∙ and_false signed)

@@ -74,7 +74,7 @@ fn follow(
     )? {
         return Ok(Some(Premises::Forged { event }));
     }
-    let texts = texts_at(alloc, trace, entry)?;
+    let texts = texts_at(alloc, &past.digests, trace, entry)?;
     past.digests.note_all(alloc, event, texts.as_slice())?;
     past.shown.add(alloc, entry)?;
     match past.digests.first_clash(texts.as_slice()) {

@@ -1,11 +1,15 @@
-ghost use Rattle.std.specs.Prelude.{◌≡◌, [], ◌∷◌, None, OnOk, IfOk};
+ghost use Rattle.std.specs.Prelude.{◌≡◌, [], ◌∷◌, None, OnOk, IfOk, IfSome};
 ghost use Rattle.std.specs.Option.{option_copied};
 ghost use Rattle.qu_base.specs.declared.party.Digest.{Digest as Key};
+ghost use Rattle.qu_runs.specs.Digested.{frame_text, history_text};
 ghost use Rattle.qu_premise.specs.Digesting.{digest_of_text};
 ghost use Rattle.qu_premise.specs.Digests.{look, Notes, clash_with, clash, earlier_of, first_clash};
 
 use super::text::Text;
-use qu_base::{Digest, NoMemory};
+use qu_base::{Digest, List, NoMemory};
+use qu_frames::before_mac;
+use qu_history::Sealed;
+use qu_seal::{FRAME_TAG, HISTORY_TAG, digest};
 use std::alloc::Global;
 use std::collections::HashMap;
 
@@ -16,10 +20,18 @@ pub struct Seen {
     pub text: Text,
 }
 
+/// How many bytes of each end of a text are in its sample.
+const SAMPLED: usize = 32;
+
+/// How many of both.
+const ENDS: usize = 64;
+
 /// Of each digest the text that first had it.
 #[derive(Drop)]
 pub struct Digests {
     pub seen: HashMap<Digest, Seen>,
+    /// Of each sample the digest of the last text that had it, by which that text is found without its digest.
+    pub sampled: HashMap<Digest, Digest>,
 }
 
 impl Digests {
@@ -28,6 +40,7 @@ impl Digests {
     {
         Digests {
             seen: HashMap::new(alloc),
+            sampled: HashMap::new(alloc),
         }
     }
 
@@ -50,8 +63,45 @@ impl Digests {
             return Ok(());
         }
         let text = text.copy(alloc)?;
+        self.sampled
+            .insert(sample(text.tag(), text.bytes()), digest)?;
         self.seen.insert(digest, Seen { event, text })?;
         Ok(())
+    }
+
+    /// The text with these bytes. Its digest is not computed anew where it was noted.
+    pub fn text(&self, tag: u8, bytes: List<u8>) -> Text
+        ensures { result ≡ record { tag = tag; bytes = bytes } }
+    {
+        match self.known(tag, bytes.as_slice()) {
+            Some(digest) => Text::known(tag, bytes, digest),
+            None => Text::new(tag, bytes),
+        }
+    }
+
+    /// The text of a frame up to its HMAC.
+    pub fn frame_text(&self, alloc: Global, text: &[u8]) -> Result<Text, NoMemory>
+        ensures { IfOk result (λ digested. digested ≡ frame_text text.now) }
+    {
+        let bytes = List::from_clones(alloc, before_mac(text))?;
+        Ok(self.text(FRAME_TAG, bytes))
+    }
+
+    /// The text of a history.
+    pub fn history_text(&self, alloc: Global, sealed: &Sealed) -> Result<Text, NoMemory>
+        ensures { IfOk result (λ digested. digested ≡ history_text sealed.now) }
+    {
+        let bytes = sealed.history.text(alloc)?;
+        Ok(self.text(HISTORY_TAG, bytes))
+    }
+
+    /// The digest of these bytes under this tag, where they were noted.
+    fn known(&self, tag: u8, bytes: &[u8]) -> Option<Digest>
+        ensures { IfSome result (λ digest. digest ≡ digest_of_text (record { tag = tag; bytes = bytes.now })) }
+    {
+        let digest = self.sampled.get(&sample(tag, bytes))?;
+        let seen = self.seen.get(digest)?;
+        seen.text.digest_if(tag, bytes)
     }
 
     /// The earliest event that digested another text with the digest of one of these, all of which were noted.
@@ -86,4 +136,18 @@ fn earlier(first: Option<u64>, second: Option<u64>) -> Option<u64>
         (Some(first), None) => Some(first),
         (None, second) => second,
     }
+}
+
+/// A short digest of both ends of a text, by which it is looked up; texts may share one.
+fn sample(tag: u8, bytes: &[u8]) -> Digest {
+    digest(tag, &ends_of(bytes))
+}
+
+/// The first and the last bytes of a text, before zero bytes where they are fewer.
+fn ends_of(bytes: &[u8]) -> [u8; ENDS] {
+    let count = bytes.len().min(SAMPLED);
+    let mut ends = [0; ENDS];
+    ends[..count].copy_from_slice(&bytes[..count]);
+    ends[SAMPLED..SAMPLED + count].copy_from_slice(&bytes[bytes.len() - count..]);
+    ends
 }

@@ -1,14 +1,15 @@
-ghost use Rattle.std.specs.Prelude.{◌≡◌, IfOk};
+ghost use Rattle.std.specs.Prelude.{◌≡◌, Ok, IfOk};
 ghost use Rattle.std.specs.List.{list_all, list_any};
 ghost use Rattle.qu_base.specs.declared.party.Party.TheVariants as party;
+ghost use Rattle.qu_frames.specs.Signing.{if_signed};
 ghost use Rattle.qu_world.specs.State.{ring_of};
 ghost use Rattle.qu_world.specs.Run.{IsSetup};
 ghost use Rattle.qu_runs.specs.Digested.{is_known, is_handler};
-ghost use Rattle.qu_premise.specs.Forging.{is_letter, is_sent_at, was_sent, is_unsent, is_unshown, has_unshown, asks_unshown, shows_unshown, is_forged_text, is_forged};
+ghost use Rattle.qu_premise.specs.Forging.{is_letter, is_sent_at, was_sent, is_unsent, is_unshown, has_unshown, asks_unshown, shows_unshown, is_forged_frame, is_forged_text, is_forged};
 
 use super::shown::ShownSoFar;
-use qu_base::{NoMemory, Party, ReplicaId};
-use qu_frames::{Frame, Letter, receive};
+use qu_base::{NoMemory, Party, ReadFail, ReplicaId};
+use qu_frames::{Frame, Letter, decode};
 use qu_history::{Sealed, SetOf, Sets};
 use qu_seal::KeyRing;
 use qu_trace::{Entry, Event, Setup};
@@ -48,6 +49,7 @@ pub fn is_forged(
 }
 
 /// Whether bytes that a correct party is handed are forged, or a history in them.
+#[tactic(auto, unfolding(qu_frames::specs::Signing::brought))]
 fn is_forged_text(
     alloc: Global,
     setup: &Setup,
@@ -59,11 +61,35 @@ fn is_forged_text(
     requires { IsSetup setup.now }
     ensures { IfOk result (λ forged. forged ≡ is_forged_text setup.now entries.now shown.now to text.now) }
 {
-    match receive(alloc, &ring_of(setup), to, text)? {
-        Some(frame) if is_unsent(setup, entries, to, text, &frame) => Ok(true),
-        Some(frame) => shows_unshown(alloc, setup, shown, to, &frame),
-        None => Ok(false),
+    match decode(alloc, text) {
+        Ok(frame) => is_forged_frame(alloc, setup, entries, shown, to, text, &frame),
+        Err(ReadFail::Bad(_)) => Ok(false),
+        Err(ReadFail::NoMemory) => Err(NoMemory),
     }
+}
+
+/// Whether bytes of which this frame was decoded are forged, or a history in them. Their HMAC is verified only where
+/// they would be.
+#[tactic(auto, using(crate::proofs::Forgeries::forged_if_signed, crate::proofs::Forgeries::not_forged))]
+fn is_forged_frame(
+    alloc: Global,
+    setup: &Setup,
+    entries: &[Entry],
+    shown: &ShownSoFar,
+    to: Party,
+    text: &[u8],
+    frame: &Frame,
+) -> Result<bool, NoMemory>
+    requires { IsSetup setup.now }
+    ensures { IfOk result (λ forged. forged ≡ is_forged_frame setup.now entries.now shown.now to text.now
+        (if_signed (ring_of setup.now) to text.now (Ok frame.now))) }
+{
+    if is_unsent(setup, entries, to, text, frame)
+        || shows_unshown(alloc, setup, shown, to, frame)?
+    {
+        return Ok(frame.is_signed(&ring_of(setup), to, text));
+    }
+    Ok(false)
 }
 
 /// The keys of a run.

@@ -5,6 +5,7 @@
 mod auditing;
 mod digests;
 mod forging;
+mod reading;
 mod shown;
 mod text;
 mod texts;

@@ -1,11 +1,8 @@
-ghost use Rattle.std.specs.Prelude.{◌≡◌, IfOk};
-ghost use Rattle.qu_runs.specs.Digested.{Text as Digested, frame_text, history_text};
+ghost use Rattle.std.specs.Prelude.{◌≡◌, IfOk, IfSome};
 ghost use Rattle.qu_premise.specs.Digesting.{digest_of_text, same_text};
 
 use qu_base::{Digest, List, NoMemory};
-use qu_frames::before_mac;
-use qu_history::Sealed;
-use qu_seal::{FRAME_TAG, HISTORY_TAG, digest};
+use qu_seal::digest;
 use std::alloc::Global;
 use std::marker::Model;
 
@@ -37,26 +34,42 @@ impl Text {
         Text { tag, bytes, digest }
     }
 
-    /// The text of a frame up to its HMAC.
-    pub fn of_frame(alloc: Global, text: &[u8]) -> Result<Text, NoMemory>
-        ensures { IfOk result (λ digested. digested ≡ frame_text text.now) }
+    /// A text whose digest is known.
+    pub fn known(tag: u8, bytes: List<u8>, digest: Digest) -> Text
+        requires { digest ≡ digest_of_text (record { tag = tag; bytes = bytes }) }
+        ensures { result ≡ record { tag = tag; bytes = bytes } }
     {
-        let bytes = List::from_clones(alloc, before_mac(text))?;
-        Ok(Text::new(FRAME_TAG, bytes))
+        Text { tag, bytes, digest }
     }
 
-    /// The text of a history.
-    pub fn of_history(alloc: Global, sealed: &Sealed) -> Result<Text, NoMemory>
-        ensures { IfOk result (λ digested. digested ≡ history_text sealed.now) }
+    pub fn tag(&self) -> u8
+        ensures { result ≡ self.now.tag }
     {
-        let bytes = sealed.history.text(alloc)?;
-        Ok(Text::new(HISTORY_TAG, bytes))
+        self.tag
+    }
+
+    pub fn bytes(&self) -> &[u8]
+        ensures { result.now ≡ self.now.bytes }
+    {
+        self.bytes.as_slice()
     }
 
     pub fn digest(&self) -> Digest
         ensures { result ≡ digest_of_text self.now }
     {
         self.digest
+    }
+
+    /// The digest of these bytes under this tag, where they are this text.
+    #[tactic(auto, using(crate::proofs::Equalities::digest_of_same))]
+    pub fn digest_if(&self, tag: u8, bytes: &[u8]) -> Option<Digest>
+        ensures { IfSome result (λ digest. digest ≡ digest_of_text (record { tag = tag; bytes = bytes.now })) }
+    {
+        if self.tag == tag && self.bytes.as_slice() == bytes {
+            Some(self.digest)
+        } else {
+            None
+        }
     }
 
     /// Whether the two are one text under one tag.

@@ -1,40 +1,50 @@
 //! The texts that are digested at an event.
-ghost use Rattle.std.specs.Prelude.{◌≡◌, ◌++◌, map, Ok, IfOk, OnOk};
+ghost use Rattle.std.specs.Prelude.{◌≡◌, ◌++◌, map, Ok, IfOk, IfSome, OnOk};
 ghost use Rattle.std.specs.List.{flat_map};
 ghost use Rattle.qu_history.specs.declared.sets.SetOf.{SetOf};
 ghost use Rattle.qu_frames.specs.Decoding.{decoded};
+ghost use Rattle.qu_frames.specs.Signing.{text_digest};
 ghost use Rattle.qu_world.specs.Run.{IsSetup};
 ghost use Rattle.qu_runs.specs.Carried.{offered_by};
-ghost use Rattle.qu_runs.specs.Digested.{texts_at, sent_texts, entries_in, texts_of, request_in, body_texts, history_text};
+ghost use Rattle.qu_runs.specs.Digested.{texts_at, sent_texts, entries_in, texts_of, request_in, body_texts, frame_text, history_text};
+ghost use Rattle.qu_premise.specs.Digesting.{digest_of_text};
 ghost use Rattle.qu_premise.specs.Texts.{handler_of, request_texts, entry_texts, frame_texts, decoded_texts, reached_texts};
 
+use super::digests::Digests;
 use super::forging::{are_known, is_handler, ring_of};
+use super::reading::{culled_text, mac_of};
 use super::shown::shown_by;
 use super::text::Text;
-use qu_base::{ClientId, List, NoMemory, Party, ReadFail, ReplicaId};
-use qu_frames::{Body, Frame, Letter, decode};
+use qu_base::{ClientId, Digest, List, NoMemory, Party, ReadFail, ReplicaId};
+use qu_frames::{Body, Frame, Letter, before_mac, decode};
 use qu_history::{Sealed, Sets};
 use qu_objects::act_text;
-use qu_seal::{ACT_TAG, SETS_TAG};
+use qu_seal::{ACT_TAG, FRAME_TAG, SETS_TAG};
 use qu_trace::{Entry, Event, Setup, Trace};
 use qu_world::letter_at;
 use std::alloc::Global;
 
-/// The texts that are digested at the event of an entry.
+/// The texts that are digested at the event of an entry. What was noted before is not digested anew.
 #[tactic(auto, using(crate::proofs::TextLaws::texts_at_parts))]
-pub fn texts_at(alloc: Global, trace: &Trace, entry: &Entry) -> Result<List<Text>, NoMemory>
+pub fn texts_at(
+    alloc: Global,
+    digests: &Digests,
+    trace: &Trace,
+    entry: &Entry,
+) -> Result<List<Text>, NoMemory>
     requires { IsSetup trace.now.setup }
     ensures { IfOk result (λ texts. texts ≡ texts_at trace.now entry.now) }
 {
     let mut texts = List::new(alloc);
-    add_reached(alloc, trace, &entry.event, &mut texts)?;
-    add_sent(alloc, entry.letters.as_slice(), &mut texts)?;
+    add_reached(alloc, digests, trace, &entry.event, &mut texts)?;
+    add_sent(alloc, digests, entry.letters.as_slice(), &mut texts)?;
     Ok(texts)
 }
 
 /// Adds what is digested of the bytes that an event brings to a correct party.
 fn add_reached(
     alloc: Global,
+    digests: &Digests,
     trace: &Trace,
     event: &Event,
     texts: &mut List<Text>,
@@ -47,12 +57,19 @@ fn add_reached(
     match event {
         Event::Deliver(number) => match letter_at(trace.entries.as_slice(), *number) {
             Some(letter) if !setup.is_faulty(letter.to) => {
-                add_decoded(alloc, setup, letter.to, letter.text.as_slice(), texts)
+                add_decoded(
+                    alloc,
+                    digests,
+                    setup,
+                    letter.to,
+                    letter.text.as_slice(),
+                    texts,
+                )
             }
             Some(_) | None => Ok(()),
         },
         Event::Inject(to, text) if !setup.is_faulty(*to) => {
-            add_decoded(alloc, setup, *to, text.as_slice(), texts)
+            add_decoded(alloc, digests, setup, *to, text.as_slice(), texts)
         }
         Event::Invoke(_, _) | Event::Tick(_) | Event::Inject(_, _) => Ok(()),
     }
@@ -61,6 +78,7 @@ fn add_reached(
 /// Adds what a correct party digests of bytes.
 fn add_decoded(
     alloc: Global,
+    digests: &Digests,
     setup: &Setup,
     to: Party,
     text: &[u8],
@@ -70,15 +88,17 @@ fn add_decoded(
     ensures { OnOk result (texts.new ≡ texts.old ++ decoded_texts setup.now to text.now (decoded text.now)) }
 {
     match decode(alloc, text) {
-        Ok(frame) => add_frame(alloc, setup, to, text, &frame, texts),
+        Ok(frame) => add_frame(alloc, digests, setup, to, text, &frame, texts),
         Err(ReadFail::Bad(_)) => Ok(()),
         Err(ReadFail::NoMemory) => Err(NoMemory),
     }
 }
 
 /// Adds what it digests of them where they are a frame.
+#[tactic(auto, unfolding(qu_frames::specs::Signing::text_digest))]
 fn add_frame(
     alloc: Global,
+    digests: &Digests,
     setup: &Setup,
     to: Party,
     text: &[u8],
@@ -88,20 +108,31 @@ fn add_frame(
     requires { IsSetup setup.now }
     ensures { OnOk result (texts.new ≡ texts.old ++ decoded_texts setup.now to text.now (Ok frame.now)) }
 {
-    let handler = handler_of(setup, to, text, frame);
-    add_request(alloc, setup, frame, handler, texts)?;
-    texts.push(Text::of_frame(alloc, text)?)?;
-    add_entries(alloc, setup, frame, handler, texts)
+    let digested = digests.frame_text(alloc, text)?;
+    let handler = handler_of(setup, to, text, frame, digested.digest());
+    add_request(alloc, digests, setup, frame, handler, texts)?;
+    texts.push(digested)?;
+    add_entries(alloc, digests, setup, frame, handler, texts)
 }
 
-/// The replica that handles the frame of these bytes.
-fn handler_of(setup: &Setup, to: Party, text: &[u8], frame: &Frame) -> Option<ReplicaId>
-    requires { IsSetup setup.now }
+/// The replica that handles the frame of these bytes, which have this digest.
+#[tactic(auto, unfolding(qu_frames::specs::Signing::is_signed))]
+fn handler_of(
+    setup: &Setup,
+    to: Party,
+    text: &[u8],
+    frame: &Frame,
+    digest: Digest,
+) -> Option<ReplicaId>
+    requires setup { IsSetup setup.now }
+    requires digest { digest ≡ text_digest text.now }
     ensures { result ≡ handler_of setup.now to text.now frame.now }
 {
+    let from = frame.sender();
     match to {
-        Party::Replica(me) if is_handler(setup, me) && frame.is_signed(&ring_of(setup), to, text) =>
-            Some(me),
+        Party::Replica(me)
+            if is_handler(setup, me) && ring_of(setup).verifies(from, to, &digest, mac_of(frame)) =>
+            { Some(me) }
         Party::Replica(_) | Party::Client(_) => None,
     }
 }
@@ -109,6 +140,7 @@ fn handler_of(setup: &Setup, to: Party, text: &[u8], frame: &Frame) -> Option<Re
 /// Adds the texts whose digests stand in stamps, where a replica handles the frame.
 fn add_request(
     alloc: Global,
+    digests: &Digests,
     setup: &Setup,
     frame: &Frame,
     handler: Option<ReplicaId>,
@@ -128,9 +160,9 @@ fn add_request(
                 ..
             },
         ) if are_known(setup, sets) => {
-            let culled = sets.cull(alloc, me, &ring_of(setup))?;
-            texts.push(Text::new(SETS_TAG, culled.sets.text(alloc)?))?;
-            add_body(alloc, *client, *number, body, texts)
+            let culled = culled_text(alloc, digests, &ring_of(setup), me, sets)?;
+            texts.push(digests.text(SETS_TAG, culled))?;
+            add_body(alloc, digests, *client, *number, body, texts)
         }
         _ => Ok(()),
     }
@@ -139,6 +171,7 @@ fn add_request(
 /// Adds the text of an act.
 fn add_body(
     alloc: Global,
+    digests: &Digests,
     client: ClientId,
     number: u64,
     body: &Body,
@@ -147,10 +180,10 @@ fn add_body(
     ensures { OnOk result (texts.new ≡ texts.old ++ body_texts client number body.now) }
 {
     match body {
-        Body::Act(act) => Ok(texts.push(Text::new(
-            ACT_TAG,
-            act_text(alloc, client, number, act)?,
-        ))?),
+        Body::Act(act) => {
+            let bytes = act_text(alloc, client, number, act)?;
+            texts.push(digests.text(ACT_TAG, bytes))
+        }
         Body::Ask(_) => Ok(()),
     }
 }
@@ -158,6 +191,7 @@ fn add_body(
 /// Adds the histories of the entries of a request, where a replica handles the frame.
 fn add_entries(
     alloc: Global,
+    digests: &Digests,
     setup: &Setup,
     frame: &Frame,
     handler: Option<ReplicaId>,
@@ -167,46 +201,91 @@ fn add_entries(
 {
     match (handler, frame) {
         (Some(_), Frame::Request { sets, .. }) if are_known(setup, sets) => {
-            add_sets(alloc, sets, texts)
+            add_sets(alloc, digests, sets, texts)
         }
         _ => Ok(()),
     }
 }
 
-fn add_sets(alloc: Global, sets: &Sets, texts: &mut List<Text>) -> Result<(), NoMemory>
+fn add_sets(
+    alloc: Global,
+    digests: &Digests,
+    sets: &Sets,
+    texts: &mut List<Text>,
+) -> Result<(), NoMemory>
     ensures { OnOk result (texts.new ≡ texts.old
         ++ map history_text (flat_map (λ (set : SetOf). set.entries) sets.now)) }
 {
     for set in sets.objects().as_slice() {
-        add_histories(alloc, set.entries.as_slice(), texts)?;
+        add_histories(alloc, digests, set.entries.as_slice(), texts)?;
     }
     Ok(())
 }
 
 /// Adds the texts of these histories.
-fn add_histories(alloc: Global, entries: &[Sealed], texts: &mut List<Text>) -> Result<(), NoMemory>
+fn add_histories(
+    alloc: Global,
+    digests: &Digests,
+    entries: &[Sealed],
+    texts: &mut List<Text>,
+) -> Result<(), NoMemory>
     ensures { OnOk result (texts.new ≡ texts.old ++ map history_text entries.now) }
 {
     for sealed in entries {
-        texts.push(Text::of_history(alloc, sealed)?)?;
+        texts.push(digests.history_text(alloc, sealed)?)?;
     }
     Ok(())
 }
 
 /// Adds what is digested of letters that are sent.
-fn add_sent(alloc: Global, letters: &[Letter], texts: &mut List<Text>) -> Result<(), NoMemory>
+fn add_sent(
+    alloc: Global,
+    digests: &Digests,
+    letters: &[Letter],
+    texts: &mut List<Text>,
+) -> Result<(), NoMemory>
     ensures { OnOk result (texts.new ≡ texts.old ++ flat_map sent_texts letters.now) }
 {
     for letter in letters {
-        add_letter(alloc, letter, texts)?;
+        add_letter(alloc, digests, letter, texts)?;
     }
     Ok(())
 }
 
-fn add_letter(alloc: Global, letter: &Letter, texts: &mut List<Text>) -> Result<(), NoMemory>
+fn add_letter(
+    alloc: Global,
+    digests: &Digests,
+    letter: &Letter,
+    texts: &mut List<Text>,
+) -> Result<(), NoMemory>
     ensures { OnOk result (texts.new ≡ texts.old ++ sent_texts letter.now) }
 {
     let shown = shown_by(alloc, letter)?;
-    texts.push(Text::of_frame(alloc, letter.text.as_slice())?)?;
-    add_histories(alloc, shown.as_slice(), texts)
+    let frame = sent_frame(alloc, digests, letter.text.as_slice(), texts.as_slice())?;
+    texts.push(frame)?;
+    add_histories(alloc, digests, shown.as_slice(), texts)
+}
+
+/// The text of a frame that is sent, up to its HMAC. Where the same was sent just before, to another receiver, its
+/// digest is known.
+fn sent_frame(
+    alloc: Global,
+    digests: &Digests,
+    text: &[u8],
+    before: &[Text],
+) -> Result<Text, NoMemory>
+    ensures { IfOk result (λ digested. digested ≡ frame_text text.now) }
+{
+    let bytes = List::from_clones(alloc, before_mac(text))?;
+    match digest_of_last(before, FRAME_TAG, bytes.as_slice()) {
+        Some(digest) => Ok(Text::known(FRAME_TAG, bytes, digest)),
+        None => Ok(digests.text(FRAME_TAG, bytes)),
+    }
+}
+
+/// The digest of these bytes under this tag, where they are the last of these texts.
+fn digest_of_last(texts: &[Text], tag: u8, bytes: &[u8]) -> Option<Digest>
+    ensures { IfSome result (λ digest. digest ≡ digest_of_text (record { tag = tag; bytes = bytes.now })) }
+{
+    texts.last()?.digest_if(tag, bytes)
 }

@@ -1,0 +1,11 @@
+use Rattle.std.proofs.Common.{◌≡◌, drop}
+use Rattle.std.specs.List.{list_all}
+use Rattle.qu_history.specs.declared.sets.SetOf.{SetOf}
+use Rattle.qu_history.specs.Culling.{is_right}
+use Rattle.qu_premise.proofs.reading.are_right.Given as goal
+
+-- the sets so far are right
+abbrev pub invariant-loop-set : goal.invariant-loop-set
+invariant-loop-set l =
+    list_all (λ (set : SetOf). list_all (is_right l.keys l.me) set.entries) (drop l.set-index l.sets)
+    ≡ list_all (λ (set : SetOf). list_all (is_right l.keys l.me) set.entries) l.sets
