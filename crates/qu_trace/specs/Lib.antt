@@ -1,4 +1,3 @@
 pub mod Faulty
 pub mod Letters
-pub mod Injections
 pub mod Operation
