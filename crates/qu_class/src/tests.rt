@@ -95,7 +95,12 @@ fn classes_are_those_of_the_table(rt: HostRuntime) -> Result<(), Fail> {
         ([1, 4, 0, 0, 0, 0], Class::InlineMethod(first)),
         ([0, 3, 3, 0, 0, 0], Class::InlineMethod(second)),
         ([0, 3, 2, 0, 0, 0], Class::Barrier { prior: first.stamp }),
-        ([1, 2, 2, 0, 0, 0], Class::Barrier { prior: opening.stamp }),
+        (
+            [1, 2, 2, 0, 0, 0],
+            Class::Barrier {
+                prior: opening.stamp,
+            },
+        ),
         ([2, 0, 0, 3, 0, 0], Class::InlineBarrier(barrier())),
         ([0, 0, 0, 0, 3, 2], Class::Copy),
     ] {

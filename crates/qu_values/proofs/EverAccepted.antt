@@ -14,7 +14,6 @@ use Rattle.qu_trace.specs.declared.trace.Trace.{Trace}
 use Rattle.qu_runs.specs.Accepted.{accepts}
 use Rattle.qu_runs.specs.Setting.{setting}
 use Rattle.qu_runs.specs.Times.{world_after}
-
 use Rattle.qu_runs.proofs.OpeningReplicas.{acceptor_is_good, all_replicas}
 use Rattle.qu_values.specs.Updates.{IsEverAccepted}
 use Rattle.qu_chain.specs.Setting.{acceptors}
