@@ -1,5 +1,5 @@
 -- Points are at different events, each after its operation began.
-use Rattle.std.proofs.Common.{◌≡◌, ℕ, zero, suc, ◌<◌, ◌≤◌, true, List, length, get_or, Option, None, Some, refl, sym, ap, subst, ◌∙◌, arith, Result, Ok, inl, inr}
+use Rattle.std.proofs.Common.{◌≡◌, ℕ, zero, suc, ◌<◌, ◌≤◌, true, List, length, get_or, Option, None, Some, refl, sym, ap, subst, ◌∙◌, arith, Result, Ok, inl, inr, false}
 use Rattle.std.specs.Prelude.{◌==◌, ◌&&◌, slice_get, Contains}
 use Rattle.std.proofs.lemmas.Bool.{false≢true, and_parts, eqb-true}
 use Rattle.std.proofs.lemmas.Option.{slice_get_within, get_or_from_slice_get, same_Some}
@@ -32,7 +32,6 @@ use Rattle.qu_machine.proofs.Equalities.{Passes, passes_from_any, client_is}
 use Rattle.qu_trace.specs.declared.trace.Entry.{Entry}
 use Rattle.qu_trace.specs.declared.trace.Trace.{Trace}
 use Rattle.qu_trace.specs.Operation.{operations_of}
-use Rattle.qu_world.specs.State.{letter_of}
 use Rattle.qu_world.specs.Run.{IsRun}
 use Rattle.qu_objects.specs.declared.act.Method.{Method}
 use Rattle.qu_objects.specs.declared.query.Ask.{Ask}
