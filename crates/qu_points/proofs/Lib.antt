@@ -19,3 +19,4 @@ pub mod Correct
 pub mod Bodies
 pub mod FaultyActs
 pub mod Compared
+pub mod SignedActs

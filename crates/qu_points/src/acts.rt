@@ -10,8 +10,9 @@ ghost use Rattle.qu_objects.specs.declared.op.Op.TheVariants as op;
 ghost use Rattle.qu_machine.specs.PointTests.{same_op};
 ghost use Rattle.qu_points.specs.Points.{act_in, handled_acts, is_act};
 
-use qu_base::{ClientId, List, NoMemory, Party, ReplicaId};
-use qu_frames::{Body, Frame, receive};
+use super::verifier::Verifier;
+use qu_base::{ClientId, List, NoMemory, Party, ReadFail, ReplicaId};
+use qu_frames::{Body, Frame, decode};
 use qu_history::Sets;
 use qu_objects::Act;
 use qu_seal::KeyRing;
@@ -26,23 +27,34 @@ pub fn handled_acts(alloc: Global, trace: &Trace) -> Result<List<(ClientId, u64,
     ensures { IfOk result (λ acts. acts ≡ handled_acts trace.now) }
 {
     let mut acts = List::new(alloc);
+    let mut verifier = Verifier::new(ring_of(&trace.setup));
     for entry in trace.entries.as_slice() {
-        add_act(alloc, &mut acts, trace, &entry.event)?;
+        add_act(alloc, &mut acts, &mut verifier, trace, &entry.event)?;
     }
     Ok(acts)
+}
+
+/// The keys of a run.
+fn ring_of(setup: &Setup) -> KeyRing
+    requires { IsSetup setup.now }
+    ensures { result ≡ ring_of setup.now }
+{
+    KeyRing::derive(setup.seed, &setup.bounds, setup.clients)
 }
 
 /// Adds the act that an event lets a replica handle, where it lets it handle one.
 fn add_act(
     alloc: Global,
     acts: &mut List<(ClientId, u64, Act)>,
+    verifier: &mut Verifier,
     trace: &Trace,
     event: &Event,
 ) -> Result<(), NoMemory>
-    requires { IsSetup trace.now.setup }
-    ensures { OnOk result (acts.new ≡ acts.old ++ cons_option (act_in (handled_by trace.now event.now)) []) }
+    requires { verifier.old ≡ ring_of trace.now.setup }
+    ensures keys { verifier.new ≡ verifier.old }
+    ensures acts { OnOk result (acts.new ≡ acts.old ++ cons_option (act_in (handled_by trace.now event.now)) []) }
 {
-    if let Some(act) = handled_act(alloc, trace, event)? {
+    if let Some(act) = handled_act(alloc, verifier, trace, event)? {
         acts.push(act)?;
     }
     Ok(())
@@ -51,18 +63,26 @@ fn add_act(
 /// The act that an event lets a replica handle.
 fn handled_act(
     alloc: Global,
+    verifier: &mut Verifier,
     trace: &Trace,
     event: &Event,
 ) -> Result<Option<(ClientId, u64, Act)>, NoMemory>
-    requires { IsSetup trace.now.setup }
-    ensures { IfOk result (λ act. act ≡ act_in (handled_by trace.now event.now)) }
+    requires { verifier.old ≡ ring_of trace.now.setup }
+    ensures keys { verifier.new ≡ verifier.old }
+    ensures act { IfOk result (λ act. act ≡ act_in (handled_by trace.now event.now)) }
 {
     match event {
         Event::Deliver(number) => match letter_at(trace.entries.as_slice(), *number) {
-            Some(letter) => act_to(alloc, &trace.setup, letter.text.as_slice(), letter.to),
+            Some(letter) => act_to(
+                alloc,
+                verifier,
+                &trace.setup,
+                letter.text.as_slice(),
+                letter.to,
+            ),
             None => Ok(None),
         },
-        Event::Inject(to, text) => act_to(alloc, &trace.setup, text.as_slice(), *to),
+        Event::Inject(to, text) => act_to(alloc, verifier, &trace.setup, text.as_slice(), *to),
         Event::Invoke(_, _) | Event::Tick(_) => Ok(None),
     }
 }
@@ -70,35 +90,47 @@ fn handled_act(
 /// The same of a text that reaches a party.
 fn act_to(
     alloc: Global,
+    verifier: &mut Verifier,
     setup: &Setup,
     text: &[u8],
     to: Party,
 ) -> Result<Option<(ClientId, u64, Act)>, NoMemory>
-    requires { IsSetup setup.now }
-    ensures { IfOk result (λ act. act ≡ act_in (request_to setup.now text.now to)) }
+    requires { verifier.old ≡ ring_of setup.now }
+    ensures keys { verifier.new ≡ verifier.old }
+    ensures act { IfOk result (λ act. act ≡ act_in (request_to setup.now text.now to)) }
 {
     match to {
         Party::Replica(me) if me.0 < setup.bounds.n() && !setup.is_faulty(to) => {
-            act_brought(alloc, setup, text, me)
+            act_brought(alloc, verifier, setup, text, me)
         }
         Party::Replica(_) | Party::Client(_) => Ok(None),
     }
 }
 
-/// The same of a text that reaches a replica.
+/// The same of a text that reaches a replica. The HMAC is verified only of what would be an act.
+#[tactic(auto, unfolding(qu_frames::specs::Signing::brought), using(crate::proofs::SignedActs::signed_act, crate::proofs::SignedActs::unsigned_act, crate::proofs::SignedActs::no_act))]
 fn act_brought(
     alloc: Global,
+    verifier: &mut Verifier,
     setup: &Setup,
     text: &[u8],
     me: ReplicaId,
 ) -> Result<Option<(ClientId, u64, Act)>, NoMemory>
-    requires { IsSetup setup.now }
-    ensures { IfOk result (λ act. act ≡ act_in (request_brought setup.now me
+    requires { verifier.old ≡ ring_of setup.now }
+    ensures keys { verifier.new ≡ verifier.old }
+    ensures act { IfOk result (λ act. act ≡ act_in (request_brought setup.now me
         (brought (ring_of setup.now) (party.Replica me) text.now))) }
 {
-    let keys = KeyRing::derive(setup.seed, &setup.bounds, setup.clients);
-    match receive(alloc, &keys, Party::Replica(me), text)? {
-        Some(frame) => act_in(alloc, setup, &frame),
+    let frame = match decode(alloc, text) {
+        Ok(frame) => frame,
+        Err(ReadFail::Bad(_)) => return Ok(None),
+        Err(ReadFail::NoMemory) => return Err(NoMemory),
+    };
+    match act_in(alloc, setup, &frame)? {
+        Some(act) => {
+            let is_signed = verifier.is_signed(alloc, &frame, Party::Replica(me), text)?;
+            Ok(if is_signed { Some(act) } else { None })
+        }
         None => Ok(None),
     }
 }

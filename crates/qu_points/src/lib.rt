@@ -12,6 +12,7 @@ mod order;
 mod replay;
 mod tracked;
 mod tracker;
+mod verifier;
 
 pub use faulty::parts_fit;
 pub use order::printed_order;

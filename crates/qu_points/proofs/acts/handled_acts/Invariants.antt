@@ -1,8 +1,12 @@
 use Rattle.std.proofs.Common.{◌≡◌, take}
 use Rattle.std.specs.List.{filter_map}
+use Rattle.qu_world.specs.State.{ring_of}
 use Rattle.qu_points.specs.Points.{act_at}
 use Rattle.qu_points.proofs.acts.handled_acts.Given as goal
 
 -- the acts of the entries so far
 abbrev pub invariant-loop-entry : goal.invariant-loop-entry
-invariant-loop-entry l = l.acts ≡ filter_map (act_at l.trace) (take l.entry-index l.entry-items)
+invariant-loop-entry l = record {
+  keys : l.verifier ≡ ring_of l.trace.setup;
+  acts : l.acts ≡ filter_map (act_at l.trace) (take l.entry-index l.entry-items);
+}

@@ -1,0 +1,52 @@
+-- The act of a frame counts where the frame's HMAC is right, and equal bytes have one digest.
+use Rattle.std.proofs.Common.{◌≡◌, ℕ, Bool, true, false, cond, List, Option, None, Some, Ok, refl, sym, ap, ◌∙◌}
+use Rattle.std.specs.Prelude.{nat_eq}
+use Rattle.std.specs.Cmp.Lexicographic.{pointwise, bytes_decides}
+use Rattle.qu_base.specs.declared.party.Digest.{Digest}
+use Rattle.qu_base.specs.declared.party.Party.{Party}
+use Rattle.qu_base.specs.declared.party.ReplicaId.{ReplicaId}
+use Rattle.qu_seal.specs.declared.constants.TheConstants.{FRAME_TAG}
+use Rattle.qu_seal.specs.Digesting.{digest_of}
+use Rattle.qu_seal.specs.Keys.{Ring}
+use Rattle.qu_frames.specs.declared.frame.Frame.{Frame}
+use Rattle.qu_frames.specs.Signing.{is_signed, if_signed}
+use Rattle.qu_trace.specs.declared.trace.Setup.{Setup}
+use Rattle.qu_runs.specs.Digested.{request_in, request_brought}
+use Rattle.qu_points.specs.Points.{NamedAct, act_in}
+
+-- the act of a frame whose HMAC is right, or is not
+act_when : (setup : Setup) (me : ReplicaId) (frame : Frame) (signed : Bool)
+    → act_in (request_brought setup me (cond signed (Some frame) None))
+    ≡ cond signed (act_in (request_in setup me frame)) None
+act_when setup me frame true = refl
+act_when setup me frame false = refl
+
+module _ (setup : Setup) (ring : Ring) (me : ReplicaId) (to : Party) (text : List ℕ) (frame : Frame) where
+  pub signed_act : (act : NamedAct) → Some act ≡ act_in (request_in setup me frame)
+      → is_signed ring to text frame ≡ true
+      → Some act ≡ act_in (request_brought setup me (if_signed ring to text (Ok frame)))
+  signed_act act is signed =
+      is ∙ sym (act_when setup me frame (is_signed ring to text frame)
+      ∙ ap (λ (it : Bool). cond it (act_in (request_in setup me frame)) None) signed)
+
+  pub unsigned_act : is_signed ring to text frame ≡ false
+      → None ≡ act_in (request_brought setup me (if_signed ring to text (Ok frame)))
+  unsigned_act unsigned =
+      sym (act_when setup me frame (is_signed ring to text frame)
+      ∙ ap (λ (it : Bool). cond it (act_in (request_in setup me frame)) None) unsigned)
+
+  pub no_act : None ≡ act_in (request_in setup me frame)
+      → None ≡ act_in (request_brought setup me (if_signed ring to text (Ok frame)))
+  no_act none =
+      sym (act_when setup me frame (is_signed ring to text frame)
+      ∙ ap (λ (it : Option NamedAct). cond (is_signed ring to text frame) it None) (sym none)
+      ∙ either (is_signed ring to text frame))
+    where
+      either : (signed : Bool) → cond signed None None ≡ (let none : Option NamedAct = None in none)
+      either true = refl
+      either false = refl
+
+-- the digest of bytes is that of equal ones
+pub digest_of_same : (digest : Digest) (bytes more : List ℕ) → digest.0 ≡ digest_of FRAME_TAG bytes
+    → pointwise nat_eq bytes more ≡ true → digest.0 ≡ digest_of FRAME_TAG more
+digest_of_same digest bytes more is alike = is ∙ ap (digest_of FRAME_TAG) ((bytes_decides bytes more).0 alike)
