@@ -9,4 +9,6 @@ pub use class::{Class, classify};
 pub use plan::{CopyPlan, evidence, plan_copy};
 
 #[cfg(test)]
+mod random_tests;
+#[cfg(test)]
 mod tests;
