@@ -37,10 +37,10 @@ pub record Reports (trace : Trace) (text : List ℕ) : Type 0 where
   pub chained : MeetsPremises trace → IsChained trace
   pub tells : text ≡ report_of trace premises order
 
--- the headline: where no HMAC of a correct party is forged, and no two texts that the run digests have one digest, one
--- machine that runs whole operations in the printed order gives each completed operation of the run its answer, between
--- its call and its reply, and each update once, whatever the network does and up to b faulty replicas send; and on each
--- object the established candidates are a chain
+-- the headline: where no HMAC of a correct party is forged, and no two different texts that the run digests have one
+-- digest, one machine that runs whole operations in the printed order gives each completed operation of the run its
+-- answer, between its call and its reply, and each update once, whatever the network does and up to b faulty replicas
+-- send; and on each object the established candidates are a chain
 pub record HasOneHistory (trace : Trace) : Type 0 where
   pub order : List Point
   pub is_run : IsRun trace

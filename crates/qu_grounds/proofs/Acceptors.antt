@@ -1,4 +1,4 @@
--- As many replicas accepted a candidate as the sets of a request show it.
+-- The replicas that accepted a candidate are, with the faulty ones, at least as many as the sets of a request show it.
 use Rattle.std.proofs.Common.{◌≡◌, ◌⊎◌, ℕ, zero, suc, ◌+◌, ◌≤◌, Bool, true, cond, List, [], ◌∷◌, map, Option, None, Some, refl, sym, ap, ◌∙◌, arith, inl, inr, add-zero, zero-add, filter, false, ◌||◌}
 use Rattle.std.specs.Prelude.{slice_get, count_by, ◌==◌, not}
 use Rattle.std.specs.List.{AllZip}
@@ -248,7 +248,8 @@ module _ (trace : Trace) (count_is : ℕ) (sets : List SetOf) (body : Body) (of_
       order_of-from object candidate of_kept.kept 0 n may_show
       (λ place sealed is held. shown_of place sealed
       (ap (λ (at : ℕ). kept_of object at of_kept.kept) (sym (zero-add place)) ∙ is) held) in
-      let entries_are : entries_of object sets ≡ entries_of object (sets_of trace.setup.bounds of_kept.kept of_kept.op) =
+      let entries_are : entries_of object sets ≡ entries_of object
+      (sets_of trace.setup.bounds of_kept.kept of_kept.op) =
       ap (entries_of object) of_kept.sets_are in
       elim (entries_of-cases trace.setup.bounds of_kept.kept object (operation_objects of_kept.op)) [
         | inl none ↦

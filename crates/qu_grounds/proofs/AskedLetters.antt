@@ -48,7 +48,8 @@ module _ (trace : Trace) (have : ArePlain trace) (time : ℕ) (below : time < le
   -- nothing in what is handed over is forged
   pub true_to : AreUnforged world (party.Replica me) text
   true_to =
-      subst (λ (it : Option (Party × List ℕ)). IfSome it (λ (given : Party × List ℕ). AreUnforged world given.0 given.1))
+      subst (λ (it : Option (Party × List ℕ)). IfSome it (λ (given : Party × List ℕ). AreUnforged world given.0
+      given.1))
       hands (have.unforged time default below)
 
   -- what the text brings the replica, it brings by the keys of the run

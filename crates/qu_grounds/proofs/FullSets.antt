@@ -30,9 +30,6 @@ use Rattle.qu_world.specs.State.{WorldState}
 use Rattle.qu_world.specs.Step.{world_step, at_replica}
 use Rattle.qu_grounds.specs.Grounds.{Accepts, IsDelivered}
 use Rattle.qu_grounds.specs.Parts.{Names}
-use Rattle.qu_runs.specs.Times.{world_after}
-use Rattle.qu_grounds.specs.Origins.{Origin}
-use Rattle.qu_runs.proofs.OpeningReplicas.{bounds_are}
 use Rattle.qu_grounds.proofs.Acceptance.{accepted_in, AcceptsNothing, unknown, thin, carried, stays}
 use Rattle.qu_world.proofs.Each.{set_here}
 use Rattle.qu_runs.proofs.Handing.{handed_step}
@@ -158,13 +155,3 @@ pub delivered_upon : (world : WorldState) (event : Event) (place : ℕ) (old new
 delivered_upon world event place old new object happened is_old is_new =
     upon_by old new happened.carried object happened.accepts happened.names
     (delivered_to world event place old new object happened is_old is_new)
-
-pub accepted_upon_full : (trace : Trace) (count : ℕ) (object : ObjectId) (candidate : Candidate)
-    (origin : Origin trace count object candidate) → are_full trace.setup.bounds
-    ((origin.delivered).accepts).sets ≡ true
-accepted_upon_full trace count object candidate origin =
-    let sets : List SetOf = ((origin.delivered).accepts).sets in
-    ap (λ (size : ℕ). are_full size sets) (sym (bounds_are trace origin.past origin.place origin.old origin.is_old)) ∙
-    (delivered_upon (world_after trace origin.past) origin.event origin.place origin.old origin.new object
-    origin.delivered origin.is_old
-    (ap (λ (it : WorldState). slice_get it.replicas origin.place) (sym origin.is_step) ∙ origin.is_new)).full

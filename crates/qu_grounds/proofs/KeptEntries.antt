@@ -180,9 +180,11 @@ culled_each P keys me (set ∷ later) each =
     λ sealed among. subst (λ (all : List Sealed). Contains all sealed)
     (sym (flat_map-cons entries_in_set set later)) among in (
       filtered_each P (is_right keys me) set.entries
-          (λ sealed among right. each sealed (within sealed (Contains-append_left set.entries others sealed among)) right),
+          (λ sealed among right. each sealed (within sealed (Contains-append_left set.entries others sealed among))
+          right),
       culled_each P keys me later
-          (λ sealed among right. each sealed (within sealed (Contains-append_right set.entries others sealed among)) right),
+          (λ sealed among right. each sealed (within sealed (Contains-append_right set.entries others sealed among))
+          right),
     )
 
 contained_each : (P : Sealed → Type 0) (items : List Sealed) (item : Sealed) → AllByRecursion P items
@@ -205,7 +207,8 @@ mac_within keys me history (Some mac) is =
 right_within : (keys : Ring) (me : ReplicaId) (sealed : Sealed) → is_right keys me sealed ≡ true
     → ((sealed.history).replica).0 < replicas keys.bounds
 unfolding is_right
-right_within keys me sealed right = mac_within keys me sealed.history (slice_get sealed.macs me.0) (and_parts _ _ right).1
+right_within keys me sealed right = mac_within keys me sealed.history (slice_get sealed.macs me.0)
+    (and_parts _ _ right).1
 
 -- what is found in a reply that is true was held
 found_held : (trace : Trace) (time : ℕ) (read : Result Frame BadText)
@@ -358,7 +361,8 @@ module _ (trace : Trace) (is_run : IsRun trace) (have : ArePlain trace) (time : 
           omega (arith, counted, either, order, orders)
 
       -- and what the sets are based on, so many accepted that with the faulty ones they are a quorum
-      pub base_accepted : method_at trace.setup.bounds (entries_of object (culled old.keys old.me sent)) ≡ Some candidate
+      pub base_accepted : method_at trace.setup.bounds (entries_of object (culled old.keys old.me sent))
+          ≡ Some candidate
           → quorum trace.setup.bounds ≤ acceptors (setting trace) time object candidate + (setting trace).faults
       base_accepted is =
           let shown : quorum trace.setup.bounds

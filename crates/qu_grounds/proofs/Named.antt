@@ -63,7 +63,8 @@ module _ (trace : Trace) (is_run : IsRun trace) (plain : ArePlain trace) where
       let earlier : it.past < length trace.entries = it.earlier in
       let one : Accepts it.old it.new (it.delivered).carried = (it.delivered).accepts in
       let fits : frame_form.Fits (it.delivered).carried =
-      offered_fits trace is_run plain it.past (omega arith) it.event (event_parts it.entry it.of_trace it.event it.event_is)
+      offered_fits trace is_run plain it.past (omega arith) it.event
+      (event_parts it.entry it.of_trace it.event it.event_is)
       (party.Replica (record { 0 = it.place })) (it.delivered).text
       (handed_offers (world_after trace it.past) it.event (party.Replica (record { 0 = it.place })) (it.delivered).text
       (it.delivered).is_handed) (it.delivered).carried

@@ -20,7 +20,7 @@ pub record StampsNameHistories (trace : Trace) : Type 0 where
   -- what a replica accepted is the opening candidate, or it was accepted upon a request
   pub origin : (object : ObjectId) (candidate : Candidate) → IsTrue (is_accepted (last_world trace) object candidate)
       → (candidate ≡ opening) ⊎ Origin trace (length trace.entries) object candidate
-  -- whichever replicas accepted candidates with one stamp, they were shown the same histories
+  -- whichever replicas accepted candidates with one stamp, they kept the same histories in culling
   pub histories : (object : ObjectId) (first second : Candidate)
       (one : Origin trace (length trace.entries) object first)
       (other : Origin trace (length trace.entries) object second)

@@ -153,6 +153,7 @@ agreeing_replied trace before client number round verdict replies all =
         is_entry = it.is_entry;
         letter = it.letter;
         sent = it.sent;
+        from_is = it.from_is;
         told = counted.verdict;
         shown = it.shown;
         is_reply = it.is_reply;

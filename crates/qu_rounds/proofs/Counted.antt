@@ -61,6 +61,7 @@ pub record WasTold (trace : Trace) (before : ℕ) (client : ClientId) (number ro
   pub is_entry : slice_get trace.entries at ≡ Some entry
   pub letter : Letter
   pub sent : Contains entry.letters letter
+  pub from_is : letter.from ≡ party.Replica counted.replica
   pub shown : List Sealed
   pub is_reply : Tells letter counted.replica client number round counted.verdict shown
 
@@ -84,6 +85,7 @@ answered_more trace before client number round counted answered = record {
         is_entry = it.is_entry;
         letter = it.letter;
         sent = it.sent;
+        from_is = it.from_is;
         shown = it.shown;
         is_reply = it.is_reply;
       };
@@ -100,8 +102,9 @@ answered_by trace is have before letter client number round counted shown sent i
     replies_within trace is have sent.at entry sent.there.is_entry in
     let from : RepliesWithin (replicas trace.setup.bounds) letter =
     All-contains (RepliesWithin (replicas trace.setup.bounds)) entry.letters letter replies sent.there.sent in
+    let sent_so = from counted.replica client number round counted.verdict shown is_reply in
     record {
-      within = from counted.replica client number round counted.verdict shown is_reply;
+      within = sent_so.0;
       told = λ good. record {
         at = sent.at;
         earlier = sent.earlier;
@@ -109,6 +112,7 @@ answered_by trace is have before letter client number round counted shown sent i
         is_entry = sent.there.is_entry;
         letter = letter;
         sent = sent.there.sent;
+        from_is = sent_so.1;
         shown = shown;
         is_reply = is_reply;
       };
@@ -130,7 +134,8 @@ sender_known ring to text taken brings = by (decoded text) brings
 
     by : (read : Result Frame BadText) → if_signed ring to text read ≡ Some taken → has_party ring (sender taken) ≡ true
     by (Ok frame) is =
-        let it : (is_signed ring to text frame ≡ true) × (frame ≡ taken) = keyed (is_signed ring to text frame) frame is in
+        let it : (is_signed ring to text frame ≡ true) × (frame ≡ taken) = keyed (is_signed ring to text frame) frame
+        is in
         ap (λ (found : Frame). has_party ring (sender found)) (sym it.1) ∙ has_key frame it.0
     by (Err bad) is = absurd (none-some taken is)
 
@@ -154,7 +159,8 @@ known_within : (trace : Trace) (before : ℕ) (replica : ReplicaId)
     → has_party (ring_of (world_after trace before).setup) (party.Replica replica) ≡ true
     → replica.0 < replicas trace.setup.bounds
 known_within trace before replica known =
-    ltb-true _ _ (ap (λ (setup : Setup). nat_lt replica.0 (replicas setup.bounds)) (sym (setup_after trace before)) ∙ known)
+    ltb-true _ _ (ap (λ (setup : Setup). nat_lt replica.0 (replicas setup.bounds)) (sym (setup_after trace before))
+    ∙ known)
 
 -- a reply that a faulty replica made is of itself
 answers_of_faulty : (trace : Trace) (before : ℕ) (me : ClientId) (text : List ℕ)
@@ -176,7 +182,8 @@ answers_of_faulty trace before me text made replica client number round verdict 
     }
 
 pub answers_from : (trace : Trace) → IsRun trace → ArePlain trace → (before : ℕ) → before ≤ length trace.entries
-    → (me : ClientId) (text : List ℕ) → IsFrom (world_after trace before) (party.Client me) text → AreAnswers trace before text
+    → (me : ClientId) (text : List ℕ) → IsFrom (world_after trace before) (party.Client me) text
+    → AreAnswers trace before text
 answers_from trace is have before within me text (inl sent) replica client number round verdict culled shown mac
     carries =
     answered_by trace is have before sent.letter client number round

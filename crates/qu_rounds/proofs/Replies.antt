@@ -83,11 +83,12 @@ replica_within trace index place state found =
 
 -- ---- who sends replies
 
--- a reply is from a replica below this bound
+-- a reply is from the replica that it names, which is below this bound
 abbrev pub RepliesWithin : ℕ → Letter → Type 0
 RepliesWithin bound letter =
     (replica : ReplicaId) (client : ClientId) (number round : ℕ) (verdict : Verdict) (shown : List Sealed)
-    → Tells letter replica client number round verdict shown → replica.0 < bound
+    → Tells letter replica client number round verdict shown
+    → (replica.0 < bound) × (letter.from ≡ party.Replica replica)
 
 by_replica : (bound : ℕ) (state : ReplicaState) (client : ClientId) (number round : ℕ) (sets : List SetOf)
     (decision : Decision)
@@ -103,8 +104,10 @@ by_replica bound state client number round sets (Answers verdict accepted) fits 
     (signature new.keys (party.Client client) sent) =
     signed_carries (reply new client number round sets verdict) new.keys (party.Client client) sent _
     (fits verdict accepted refl) refl tells.carries in
-    let named : replica ≡ new.me = cc in
-    subst (λ (it : ReplicaId). it.0 < bound) (sym (named ∙ accept_all-me state accepted)) below)
+    let named : replica ≡ new.me = cc in (
+      subst (λ (it : ReplicaId). it.0 < bound) (sym (named ∙ accept_all-me state accepted)) below,
+      ap (λ (it : ReplicaId). party.Replica it) (sym named),
+    ))
     (All-nil (RepliesWithin bound))
 by_replica bound state client number round sets Waits fits below = All-nil (RepliesWithin bound)
 

@@ -1,7 +1,8 @@
--- What a completed operation rests upon: the answers of a quorum to one of its rounds, up to b of which may be of faulty
--- replicas.
+-- What a completed operation rests upon: the answers of a quorum to one of its rounds, at most b of which are of
+-- faulty replicas.
 use Rattle.std.specs.Prelude.{◌≡◌, ◌≢◌, ℕ, ◌+◌, ◌-◌, ◌<◌, ◌≤◌, true, List, length, slice_get, Some, All, AllPairs, Contains}
 use Rattle.qu_base.specs.declared.party.ClientId.{ClientId}
+use Rattle.qu_base.specs.declared.party.Party.TheVariants as party
 use Rattle.qu_base.specs.Bounds.{replicas, quorum}
 use Rattle.qu_history.specs.declared.sealed.Sealed.{Sealed}
 use Rattle.qu_objects.specs.declared.answer.Answer.{Answer}
@@ -25,6 +26,7 @@ pub record RepliedAt (trace : Trace) (at : ℕ) (client : ClientId) (number roun
   pub is_entry : slice_get trace.entries at ≡ Some entry
   pub letter : Letter
   pub sent : Contains entry.letters letter
+  pub from_is : letter.from ≡ party.Replica (record { 0 = replica })
   pub told : Verdict
   pub shown : List Sealed
   pub is_reply : Tells letter (record { 0 = replica }) client number round told shown

@@ -38,12 +38,7 @@ use Rattle.qu_world.specs.State.{WorldState, numbered, with_numbered, letter_of}
 use Rattle.qu_runs.specs.Carried.{Carries, Brings, Asks, Tells}
 use Rattle.qu_world.proofs.Each.{set_here}
 
--- ---- one letter carries one frame
-
-pub one_carried : (letter : Letter) (one other : Frame) → Carries letter one → Carries letter other → one ≡ other
-one_carried letter one other first second =
-    let same : Ok one ≡ Ok other = sym first ∙ second in
-    cc
+-- ---- a letter carries what was sent
 
 -- a letter that was spelled of a frame that fits carries no other
 pub carried_is : (letter : Letter) (sent other : Frame) → frame_form.Fits sent

@@ -171,7 +171,8 @@ module _ (bounds most : ℕ) (few : most + 1 < 2 ^ 64) (size : replicas bounds �
 
 opening_from : (first count : ℕ) (keys : Ring) (kinds : ℕ → List KindName) (place : ℕ)
     (state : ReplicaState) → first + count ≤ REPLICA_IDS → IsTrue (is_replica_count (replicas keys.bounds))
-    → ((number : ℕ) → length (kinds number) ≤ OBJECT_IDS) → slice_get (opening_replicas first count keys kinds) place ≡ Some state
+    → ((number : ℕ) → length (kinds number) ≤ OBJECT_IDS) → slice_get (opening_replicas first count keys kinds) place
+    ≡ Some state
     → StateFits state
 unfolding opening_replicas
 opening_from first zero keys kinds place state few sized kinds_few found = absurd (none-some state found)
@@ -278,7 +279,8 @@ found_fits : (trace : Trace) → IsRun trace → ArePlain trace → (count : ℕ
     → (number : ℕ) (to : Party) (text : List ℕ) (found : Option Letter)
     → letter_of (world_after trace count) number ≡ found → option_map hand found ≡ Some (to, text)
     → (sent : Frame) → decoded text ≡ Ok sent → frame_form.Fits sent
-found_fits trace is_run plain count within number to text None is hands sent decodes = absurd (none-some (to, text) hands)
+found_fits trace is_run plain count within number to text None is hands sent decodes = absurd
+    (none-some (to, text) hands)
 found_fits trace is_run plain count within number to text (Some letter) is hands sent decodes =
     let same : (letter.to, letter.text) ≡ (to, text) = same_Some (letter.to, letter.text) (to, text) hands in
     carried_in_run trace is_run plain count within number letter is sent

@@ -83,14 +83,6 @@ pub handed_offers : (world : WorldState) (event : Event) (to : Party) (text : Li
     (to, text) → offered world event ≡ Some (to, text)
 handed_offers world event to text is = (is_handed world event to text is).offers
 
--- two letters that one event hands over have one receiver and one text
-pub one_hand : (first second : Letter) (given other : Option (Party × List ℕ)) → given ≡ other
-    → given ≡ Some (first.to, first.text) → other ≡ Some (second.to, second.text) → (first.to ≡ second.to)
-    × (first.text ≡ second.text)
-one_hand first second given other same one two =
-    let pairs : hand first ≡ hand second = same_Some (hand first) (hand second) (sym one ∙ same ∙ two) in
-    (ap (λ (it : Party × List ℕ). it.0) pairs, ap (λ (it : Party × List ℕ). it.1) pairs)
-
 -- what is offered to a correct party is handed over
 pub offered_handed : (world : WorldState) (event : Event) (to : Party) (text : List ℕ) → AtCorrect world event
     → offered world event ≡ Some (to, text) → handed world event ≡ Some (to, text)

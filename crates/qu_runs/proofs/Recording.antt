@@ -39,7 +39,8 @@ module _ (world : WorldState) (P : WorldState → Type 0)
     → slice_get world.replicas me.0 ≡ Some state → P (at_replica world event me text (Some state)))
     (invokes : (client : ClientId) (op : Op) (state : ClientState) → numbered world.clients client.0 ≡ Some state
     → P (at_client world (Invoke client op) client (λ (state : ClientState). client_invoke state op) (Some state)))
-    (takes : (event : Event) (text : List ℕ) (client : ClientId) (state : ClientState) → IsFrom world (party.Client client) text
+    (takes : (event : Event) (text : List ℕ) (client : ClientId) (state : ClientState)
+    → IsFrom world (party.Client client) text
     → handed world event ≡ Some (party.Client client, text) → numbered world.clients client.0 ≡ Some state
     → P (at_client world event client (λ (state : ClientState). client_step state text) (Some state)))
     (ticks : (client : ClientId) (state : ClientState) → numbered world.clients client.0 ≡ Some state

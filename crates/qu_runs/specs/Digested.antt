@@ -1,5 +1,5 @@
 -- The requests that replicas handle in a run, the texts that are digested for them, and the premise that no two
--- of these texts have one digest.
+-- different ones of these texts have one digest.
 use Rattle.std.specs.Prelude.{◌≡◌, ℕ, Bool, nat_lt, not, ◌&&◌, if◌then◌else◌, List, [], ◌∷◌, ◌++◌, length, map, Option, None, Some, Result, Ok, Err, Contains}
 use Rattle.std.specs.List.{list_all, flat_map}
 use Rattle.qu_base.specs.declared.party.ClientId.{ClientId}
@@ -173,7 +173,7 @@ texts_at trace entry =
 unfoldable pub digested : Trace → List Text
 digested trace = flat_map (texts_at trace) trace.entries
 
--- no two of them have one digest
+-- no two different ones have one digest
 abbrev pub NoCollision : Trace → Type 0
 NoCollision trace = (first second : Text) → Contains (digested trace) first → Contains (digested trace) second
     → digest_of first.tag first.bytes ≡ digest_of second.tag second.bytes → first ≡ second

@@ -61,8 +61,8 @@ pub record IsOfFaulty (world : WorldState) (to : Party) (text : List ℕ) : Type
 abbrev pub IsFrom : WorldState → Party → List ℕ → Type 0
 IsFrom world to text = WasSent world to text ⊎ IsOfFaulty world to text
 
--- such an event, which hands a party no bytes that it takes but those of a letter that was sent to it, or those of a
--- faulty party
+-- an event that hands a party no bytes that it takes but those of a letter that was sent to it, or those of a faulty
+-- party
 abbrev pub IsPlain : WorldState → Event → Type 0
 IsPlain world (Invoke client op) = (client.0 < 2 ^ 16) × HasOpParts op
 IsPlain world (Deliver letter) = Unit {0}

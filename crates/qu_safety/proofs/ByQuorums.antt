@@ -46,7 +46,8 @@ module _ (trace : Trace) (is_run : IsRun trace) (have : ArePlain trace) (laws : 
     told = tells.said;
     state = (tells.reply).old;
     is_state = (tells.reply).is_old;
-    nothing_above = all_beside (HasTold (tells.reply).old (culled_in (tells.reply).old (tells.reply).sets)) Highest stamps (tells.tells).values
+    nothing_above = all_beside (HasTold (tells.reply).old (culled_in (tells.reply).old (tells.reply).sets)) Highest
+        stamps (tells.tells).values
         (λ told value has held holding. ap (λ (it : Stamp). is_below it held.stamp) (sym has.is_told)
         ∙ has.nothing_above held holding) (tells.tells).each;
   }
@@ -83,6 +84,7 @@ module _ (trace : Trace) (is_run : IsRun trace) (have : ArePlain trace) (laws : 
         members = done.members;
         different = done.different;
         within = done.within;
+        correct = done.correct;
         enough = done.enough;
         told = All-weaker P (ToldFrom trace operation reply done.round told.stamps answer)
             (told_from operation reply done.round answer told.stamps) done.members all;

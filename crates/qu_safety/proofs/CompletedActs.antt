@@ -223,7 +223,8 @@ module _ (trace : Trace) (is_run : IsRun trace) (have : ArePlain trace) (laws : 
     module _ (time : ℕ) (ends : time ≤ length trace.entries) (members : List ℕ)
         (different : AllPairs (λ (a b : ℕ). a ≢ b) members)
         (within : All (λ (member : ℕ). member < replicas trace.setup.bounds) members)
-        (enough : quorum trace.setup.bounds ≤ length members + trace.setup.bounds) (all : All (Has time) members) (first : ℕ)
+        (enough : quorum trace.setup.bounds ≤ length members + trace.setup.bounds) (all : All (Has time) members)
+        (first : ℕ)
         (below : first < replicas trace.setup.bounds) where
       quorum_by : (told : ObjectId × Stamp) → Contains stamps told → (held : Part time first told)
           → quorum trace.setup.bounds ≤ acceptors (setting trace) time told.0 held.candidate + trace.setup.bounds

@@ -289,7 +289,8 @@ pub record CompletedQuery (trace : Trace) (operation : OpRecord) (reply : ℕ) (
 
 -- the point of a completed query is at the event at which it took effect
 pub point_of_query : (trace : Trace) (operation : OpRecord) → Contains (operations_of trace.entries) operation
-    → IsOfCorrect trace.setup operation → (reply : ℕ) (answer : Answer) → operation.reply ≡ Some (reply, outcome.Done answer)
+    → IsOfCorrect trace.setup operation → (reply : ℕ) (answer : Answer) → operation.reply
+    ≡ Some (reply, outcome.Done answer)
     → (at : CompletedQuery trace operation reply answer)
     → IsOperationPoint trace (point_at trace.setup operation at.event)
     × Stands operation (point_at trace.setup operation at.event)
@@ -498,7 +499,8 @@ module _ (trace : Trace) (is_run : IsRun trace) (have : ArePlain trace) (laws : 
       (all : All (ToldBefore trace client number round before stamps answer) members) where
     from_top : (member : ℕ) (tells : ToldBefore trace client number round before stamps answer member)
         (told : ObjectId × Stamp) (value : Value) → Contains stamps told
-        → HasTold (tells.reply).old (culled_in (tells.reply).old (tells.reply).sets) told value → HasTopValue trace time told.0 value
+        → HasTold (tells.reply).old (culled_in (tells.reply).old (tells.reply).sets) told value
+        → HasTopValue trace time told.0 value
     unfolding setting
     from_top member tells told value one has =
         let object : ObjectId = told.0 in
@@ -616,7 +618,8 @@ module _ (trace : Trace) (is_run : IsRun trace) (have : ArePlain trace) (laws : 
             ]
 
     -- the query has its point at that event
-    pub query_has_point : (point : Point) × IsOperationPoint trace point × Stands operation point × (point.event < reply)
+    pub query_has_point : (point : Point) × IsOperationPoint trace point × Stands operation point
+        × (point.event < reply)
     query_has_point =
         let at : CompletedQuery trace operation reply answer = completed_query in
         let is : IsOperationPoint trace (point_at trace.setup operation at.event)

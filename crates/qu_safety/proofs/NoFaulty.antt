@@ -28,7 +28,8 @@ use Rattle.qu_values.proofs.SentRequests.{asked_by_handled}
 
 -- ---- operations are of correct clients
 
-pub own_client : (trace : Trace) → IsRun trace → (operation : OpRecord) → Contains (operations_of trace.entries) operation
+pub own_client : (trace : Trace) → IsRun trace → (operation : OpRecord)
+    → Contains (operations_of trace.entries) operation
     → is_faulty trace.setup (party.Client operation.client) ≡ false
 own_client trace is_run operation among =
     All-contains (IsOfCorrect trace.setup) (operations_of trace.entries) operation

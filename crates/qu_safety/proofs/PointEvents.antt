@@ -110,7 +110,8 @@ reply_in client number round letter answer = reply_in_read client number round l
 -- ---- one point
 
 -- an operation has one point
-pub one_point : (trace : Trace) (first second : Point) → IsOperationPoint trace first → IsOperationPoint trace second → first.client
+pub one_point : (trace : Trace) (first second : Point) → IsOperationPoint trace first → IsOperationPoint trace second
+    → first.client
     ≡ second.client → first.number ≡ second.number → first ≡ second
 one_point trace first second one two same_client same_number =
     let same : one.operation ≡ two.operation =
@@ -181,7 +182,8 @@ asks_for : (trace : Trace) → IsRun trace → ArePlain trace → (time : ℕ) (
 asks_for trace is_run have time operation of_trace asked =
     let within : time < length trace.entries = asked.within in
     let letter : AskedBy trace time operation.client operation.number asked.round asked.sets asked.asks =
-    asked_by_letter trace have time operation.client operation.number asked (own_client trace is_run operation of_trace) in
+    asked_by_letter trace have time operation.client operation.number asked
+    (own_client trace is_run operation of_trace) in
     let request : IsRequestOf trace time operation.client operation.number asked.asks =
     request_of trace is_run have time (omega arith) letter.asked letter.letter letter.is_letter operation.client
     operation.number asked.round asked.sets asked.asks letter.is_request in
@@ -376,7 +378,8 @@ module _ (trace : Trace) (is_run : IsRun trace) (have : ArePlain trace) where
     point_takes point is = takes_at is.operation point.event is.operation.op refl is.effect
 
     -- a point is at an event of the trace
-    pub point_bounds : (point : Point) → IsOperationPoint trace point → (1 ≤ point.event) × (point.event ≤ length trace.entries)
+    pub point_bounds : (point : Point) → IsOperationPoint trace point → (1 ≤ point.event)
+        × (point.event ≤ length trace.entries)
     point_bounds point is =
         let it : TakesAt point.event is.operation = point_takes point is in
         let event : point.event ≡ suc it.time = it.is_after in

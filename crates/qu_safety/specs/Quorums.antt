@@ -18,6 +18,7 @@ use Rattle.qu_machine.specs.declared.record.OpRecord.{OpRecord}
 use Rattle.qu_machine.specs.Serial.{Completes}
 use Rattle.qu_replica.specs.State.{ReplicaState, own_candidates}
 use Rattle.qu_trace.specs.declared.trace.Trace.{Trace}
+use Rattle.qu_trace.specs.Faulty.{is_good}
 use Rattle.qu_trace.specs.Operation.{operations_of}
 use Rattle.qu_rounds.specs.Completions.{RepliedAt, IsCompleted}
 use Rattle.qu_runs.specs.Accepted.{accepts}
@@ -61,6 +62,7 @@ pub record QueryOfQuorum (trace : Trace) (operation : OpRecord) (parts : List (O
   pub members : List ℕ
   pub different : AllPairs (λ (a b : ℕ). a ≢ b) members
   pub within : All (λ (member : ℕ). member < replicas trace.setup.bounds) members
+  pub correct : All (λ (member : ℕ). is_good trace.setup member ≡ true) members
   pub enough : quorum trace.setup.bounds ≤ length members + trace.setup.bounds
   pub told : All (ToldFrom trace operation reply round stamps answer) members
 

@@ -19,21 +19,23 @@ use std::alloc::Global;
 
 /// The points of a run: where each update and each completed query took effect.
 ///
-/// They stand by event. Where no HMAC of a correct party is forged, no two texts that were digested have one
+/// They stand by event. Where no HMAC of a correct party is forged, no two different texts that were digested have one
 /// digest, and no client is faulty, they are a serial order of the operations, whatever up to b faulty replicas send:
 /// one machine that runs whole operations in this order gives each completed one its answer, between its call and its
 /// reply.
 pub fn order_of(alloc: Global, trace: &Trace) -> Result<List<Point>, NoMemory>
     requires { IsRun trace.now }
     ensures printed { IfOk result (λ order. IsPrintedOrder trace.now order) }
-    ensures serial { IfOk result (λ order. MeetsPremises trace.now → OnlyReplicasAreFaulty trace.now.setup → IsSerial trace.now.setup.kinds
-        (operations_of trace.now.entries) order) }
+    ensures serial { IfOk result (λ order. MeetsPremises trace.now → OnlyReplicasAreFaulty trace.now.setup
+        → IsSerial trace.now.setup.kinds (operations_of trace.now.entries) order) }
     ensures chained { OnOk result (MeetsPremises trace.now → IsChained trace.now) }
     ensures named { OnOk result (MeetsPremises trace.now → StampsNameHistories trace.now) }
     ensures jointly { OnOk result (MeetsPremises trace.now → DecidesJointly trace.now) }
     ensures in_turn { OnOk result (MeetsPremises trace.now → DecidesInTurn trace.now) }
-    ensures once { OnOk result (MeetsPremises trace.now → OnlyReplicasAreFaulty trace.now.setup → DecidesOnce trace.now) }
-    ensures by_quorums { OnOk result (MeetsPremises trace.now → OnlyReplicasAreFaulty trace.now.setup → CompletesByQuorums trace.now) }
+    ensures once { OnOk result (MeetsPremises trace.now → OnlyReplicasAreFaulty trace.now.setup
+        → DecidesOnce trace.now) }
+    ensures by_quorums { OnOk result (MeetsPremises trace.now → OnlyReplicasAreFaulty trace.now.setup
+        → CompletesByQuorums trace.now) }
 {
     have_parts(trace.entries.as_slice());
     printed_order(alloc, trace)

@@ -8,7 +8,8 @@ use qu_points::parts_fit;
 use qu_trace::{Entry, Event};
 
 /// Each operation that begins has parts, and its numbers fit their bytes; what is injected are bytes; and a run that is
-/// in memory has fewer than 2^63 events. Types and memory keep this; here it is told of a whole run, and nothing is computed.
+/// in memory has fewer than 2^63 events. Types and memory keep this; here it is told of a whole run, and nothing is
+/// computed.
 pub fn have_parts(entries: &[Entry])
     ensures parts { HaveParts entries.now }
     ensures few { length entries.now < 2 ^ 63 }

@@ -11,7 +11,7 @@ use std::alloc::Global;
 /// Runs a script: its lines make events one after another, and the trace records them.
 ///
 /// The first line with an event that the world refuses, or with a reply that cannot be made, ends the
-/// run, and is told with the reason. Bytes are injected by lines that say so alone.
+/// run, and is told with the reason. The trace has the setup of the script.
 #[tactic(auto, unfolding(crate::specs::Events::run_of))]
 pub fn run_script(alloc: Global, script: &Script) -> Result<Trace, ScriptFail>
     requires { IsSetup script.now.setup }

@@ -1,5 +1,5 @@
--- No candidate of a correct client's update is an ancestor of another: a client sends an act upon full sets in one round
--- at most, and what these sets show was accepted before any candidate of the act.
+-- No candidate of a correct client's update is an ancestor of another: a client sends an act upon full sets in one
+-- round at most, and what these sets show was accepted before any candidate of the act.
 use Rattle.std.proofs.Common.{◌≡◌, ℕ, ◌<◌, true, List, length, Some, refl, sym, ap, subst, ◌∙◌, arith, inl, inr, filter, not, suc, ◌≤◌, ◌∷◌, [], add-one, Bool, ◌+◌, false}
 use Rattle.std.specs.Prelude.{slice_get, nat_lt}
 use Rattle.qu_base.specs.declared.party.ObjectId.{ObjectId}
@@ -162,7 +162,8 @@ module _ (trace : Trace) (is_run : IsRun trace) (have : ArePlain trace) (one_act
             (ap (λ (parts : List (ObjectId × Method)). body.Act parts) acts.2) asks.is_request;
         full =
             full_sent trace.setup.bounds (accepted.old).keys (accepted.old).me one.sent
-            (ap (are_full trace.setup.bounds) one.culls ∙ ap (λ (size : ℕ). are_full size one.sets) (sym bounds) ∙ full);
+            (ap (are_full trace.setup.bounds) one.culls ∙ ap (λ (size : ℕ). are_full size one.sets) (sym bounds)
+            ∙ full);
         keys = (accepted.old).keys;
         me = (accepted.old).me;
         base = one.bases object;

@@ -48,7 +48,8 @@ pub act_by : (parts : List (ObjectId × Method)) (what : Op) → body.Act parts 
 act_by parts (op.Act act) same = cc
 act_by parts (op.Query query) same = absurd (cc)
 
-pub fit : (trace : Trace) → IsRun trace → ArePlain trace → OnlyReplicasAreFaulty trace.setup → (client : ClientId) (number : ℕ)
+pub fit : (trace : Trace) → IsRun trace → ArePlain trace → OnlyReplicasAreFaulty trace.setup
+    → (client : ClientId) (number : ℕ)
     (parts : List (ObjectId × Method)) → IsHandled trace client number parts → IsFit client number parts
 fit trace is_run have only client number parts it =
     let request : IsRequestOf trace (length trace.entries) client number (body.Act parts) =
@@ -75,7 +76,8 @@ ActsAreOne trace = (client other : ClientId) (number turn : ℕ) (parts others :
     → act_digest client number parts ≡ act_digest other turn others → (client ≡ other) × (number ≡ turn)
     × (parts ≡ others)
 
-pub acts_are_one : (trace : Trace) → IsRun trace → ArePlain trace → OnlyReplicasAreFaulty trace.setup → NoCollision trace
+pub acts_are_one : (trace : Trace) → IsRun trace → ArePlain trace → OnlyReplicasAreFaulty trace.setup
+    → NoCollision trace
     → ActsAreOne trace
 acts_are_one trace is_run have only no_collision client other number turn parts others one two same =
     let first : IsFit client number parts = fit trace is_run have only client number parts one in

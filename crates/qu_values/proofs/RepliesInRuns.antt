@@ -183,5 +183,6 @@ module _ (trace : Trace) (is_run : IsRun trace) (have : ArePlain trace) (at : �
         told_of_query reply.old client number (culled_in reply.old reply.sets) reply.accepted stamps answer
         (old_of_held (verdict.Told stamps answer) reply) asked.query
         (subst (λ (it : Body). IsTrue (has_parts it)) asked.is_ask (body_has_parts (verdict.Told stamps answer) reply))
-        (ap (λ (it : Body). decision_on reply.old (asked_at reply.old client number reply.sets it) it) (sym asked.is_ask)
+        (ap (λ (it : Body). decision_on reply.old (asked_at reply.old client number reply.sets it) it)
+        (sym asked.is_ask)
         ∙ reply.decided)

@@ -386,7 +386,8 @@ module _ (trace : Trace) (is_run : IsRun trace) (have : ArePlain trace) (at : â„
   pub reply_parts : IsTrue (has_parts reply.body)
   reply_parts =
       fits_parts (frame.Request client number round reply.sets reply.body reply.mac)
-      (handed_fits trace is_run have at reply.entry below (party.Replica (record { 0 = replica })) reply.text reply_handed
+      (handed_fits trace is_run have at reply.entry below (party.Replica (record { 0 = replica })) reply.text
+      reply_handed
       (frame.Request client number round reply.sets reply.body reply.mac)
       (brings_decoded reply.old reply.text (frame.Request client number round reply.sets reply.body reply.mac)
       reply.brings))

@@ -341,7 +341,8 @@ module _ (trace : Trace) (laws : Laws (setting trace)) (joint : Joint (setting t
   event-versioned : IsVersioned trace new
   event-versioned =
       elim (event_moves (world_after trace count) event place old new is_old is_new
-      (subst (HandsParts (world_after trace count)) (sym event_is) (hands_parts trace is_run have count default below))) [
+      (subst (HandsParts (world_after trace count)) (sym event_is)
+      (hands_parts trace is_run have count default below))) [
         | inl alike ↦ subst (IsVersioned trace) (sym alike) before
         | inr moved ↦ record {
           bounds = ap (λ (it : Ring). it.bounds) grows.keys ∙ before.bounds;

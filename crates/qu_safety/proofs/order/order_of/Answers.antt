@@ -45,7 +45,8 @@ record Grounded (trace : Trace) : Type 0 where
   joint : Joint (setting trace)
   facts : UpdateFacts trace
 
-grounded : (c : goal.After-printed_order) → MeetsPremises c.args.trace.now → OnlyReplicasAreFaulty c.args.trace.now.setup
+grounded : (c : goal.After-printed_order) → MeetsPremises c.args.trace.now
+    → OnlyReplicasAreFaulty c.args.trace.now.setup
     → Grounded c.args.trace.now
 grounded c premises only =
     let trace : Trace = c.args.trace.now in
@@ -64,7 +65,8 @@ grounded c premises only =
 pub returns-clause-serial : goal.returns-clause-serial
 returns-clause-serial c =
     IfOk-weaker c.printed_order.result (IsPrintedOrder c.args.trace.now)
-    (λ (order : List Point). MeetsPremises c.args.trace.now → OnlyReplicasAreFaulty c.args.trace.now.setup → IsSerial c.args.trace.now.setup.kinds
+    (λ (order : List Point). MeetsPremises c.args.trace.now → OnlyReplicasAreFaulty c.args.trace.now.setup
+    → IsSerial c.args.trace.now.setup.kinds
     (operations_of c.args.trace.now.entries) order)
     (λ order printed premises only.
     let it : Grounded c.args.trace.now = grounded c premises only in
