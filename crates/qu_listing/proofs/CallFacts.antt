@@ -8,12 +8,12 @@ use Rattle.std.specs.declared.hash.BuildHasherDefault.{BuildHasherDefault}
 use Rattle.std.specs.HashMap.{get, HashMap}
 use Rattle.std.specs.Map.{lookup}
 use Rattle.qu_base.specs.declared.party.ClientId.{ClientId}
-use Rattle.qu_seal.specs.Keys.{Ring}
 use Rattle.qu_objects.specs.declared.op.Op.{Op}
 use Rattle.qu_frames.specs.declared.frame.Letter.{Letter}
 use Rattle.qu_trace.specs.declared.event.Event.{Event}
 use Rattle.qu_trace.specs.declared.event.Event.TheVariants.{Invoke, Deliver, Tick, Inject}
 use Rattle.qu_trace.specs.declared.trace.Entry.{Entry}
+use Rattle.qu_trace.specs.declared.trace.Setup.{Setup}
 use Rattle.qu_trace.specs.Letters.{letters_of}
 use Rattle.qu_trace.specs.Operation.{invokes, begun_by}
 use Rattle.qu_listing.specs.declared.known.Sent.{Sent}
@@ -83,19 +83,19 @@ counts_same earlier entry calls none counts client =
     let same = counts client in
     omega (arith, same, at_end)
 
-pub knows_nothing : (ring : Ring) (sent : List Sent) (calls : HashMap ℕ ℕ (BuildHasherDefault FoldHasher))
-    → sent ≡ [] → calls.entries ≡ [] → Knows ring [] (record { sent = sent; calls = calls })
+pub knows_nothing : (setup : Setup) (sent : List Sent) (calls : HashMap ℕ ℕ (BuildHasherDefault FoldHasher))
+    → sent ≡ [] → calls.entries ≡ [] → Knows setup [] (record { sent = sent; calls = calls })
 unfolding begun_by letters_of
-knows_nothing ring sent calls none empty = record {
+knows_nothing setup sent calls none empty = record {
   sent = none;
   calls = λ client. ap (λ entries. unwrap_or (lookup (nat_eq client.0) entries) 0) empty;
 }
 
 -- what is known of the letter with a number
-pub letter_known : (ring : Ring) (letters : List Letter) (sent : List Sent) (number : ℕ) → 0 < number
-    → sent ≡ map (sent_of ring) letters
-    → slice_get sent (number - 1) ≡ option_map (sent_of ring) (sent_letter number letters)
-letter_known ring letters sent zero some is = absurd (omega (arith, some))
-letter_known ring letters sent (suc number) some is =
+pub letter_known : (setup : Setup) (letters : List Letter) (sent : List Sent) (number : ℕ) → 0 < number
+    → sent ≡ map (sent_of setup) letters
+    → slice_get sent (number - 1) ≡ option_map (sent_of setup) (sent_letter number letters)
+letter_known setup letters sent zero some is = absurd (omega (arith, some))
+letter_known setup letters sent (suc number) some is =
     let e : suc number - 1 ≡ number = omega arith in
-    rw e (rw is (slice_get-map (sent_of ring) letters number))
+    rw e (rw is (slice_get-map (sent_of setup) letters number))

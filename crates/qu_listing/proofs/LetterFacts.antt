@@ -2,8 +2,8 @@
 use Rattle.std.proofs.Common.{◌≡◌, List, [], ◌∷◌, ◌++◌, map, ap, sym, ◌∙◌, append-nil}
 use Rattle.std.proofs.lemmas.List.{map-append}
 use Rattle.std.proofs.lemmas.Grind.{flat_map-append}
-use Rattle.qu_seal.specs.Keys.{Ring}
 use Rattle.qu_trace.specs.declared.trace.Entry.{Entry}
+use Rattle.qu_trace.specs.declared.trace.Setup.{Setup}
 use Rattle.qu_trace.specs.Letters.{letters_of}
 use Rattle.qu_listing.specs.declared.known.Sent.{Sent}
 use Rattle.qu_listing.specs.Known.{sent_of}
@@ -17,10 +17,10 @@ letters_more earlier entry =
     (append-nil entry.letters)
 
 -- and what is known of them
-pub sent_more : (ring : Ring) (earlier : List Entry) (entry : Entry) (sent sent' : List Sent)
-    → sent ≡ map (sent_of ring) (letters_of earlier) → sent' ≡ sent ++ map (sent_of ring) entry.letters
-    → sent' ≡ map (sent_of ring) (letters_of (earlier ++ entry ∷ []))
-sent_more ring earlier entry sent sent' before grown =
-    grown ∙ ap (λ front. front ++ map (sent_of ring) entry.letters) before
-    ∙ sym (map-append (sent_of ring) (letters_of earlier) entry.letters)
-    ∙ ap (map (sent_of ring)) (sym (letters_more earlier entry))
+pub sent_more : (setup : Setup) (earlier : List Entry) (entry : Entry) (sent sent' : List Sent)
+    → sent ≡ map (sent_of setup) (letters_of earlier) → sent' ≡ sent ++ map (sent_of setup) entry.letters
+    → sent' ≡ map (sent_of setup) (letters_of (earlier ++ entry ∷ []))
+sent_more setup earlier entry sent sent' before grown =
+    grown ∙ ap (λ front. front ++ map (sent_of setup) entry.letters) before
+    ∙ sym (map-append (sent_of setup) (letters_of earlier) entry.letters)
+    ∙ ap (map (sent_of setup)) (sym (letters_more earlier entry))

@@ -2,3 +2,4 @@ pub mod CallFacts
 pub mod DigestFacts
 pub mod EventFacts
 pub mod LetterFacts
+pub mod ReceiverFacts

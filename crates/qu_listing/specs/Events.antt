@@ -4,13 +4,12 @@ use Rattle.std.specs.List.{flat_map, enumerate_from}
 use Rattle.std.specs.Fmt.{decimal}
 use Rattle.qu_base.specs.declared.party.ClientId.{ClientId}
 use Rattle.qu_base.specs.declared.party.Party.TheVariants as party
-use Rattle.qu_seal.specs.Keys.{Ring}
 use Rattle.qu_objects.specs.declared.op.Outcome.{Outcome}
 use Rattle.qu_objects.specs.declared.op.Outcome.TheVariants.{Done, GaveUp}
 use Rattle.qu_frames.specs.declared.frame.Frame.{Frame}
 use Rattle.qu_frames.specs.declared.frame.Letter.{Letter}
 use Rattle.qu_frames.specs.Decoding.{decoded}
-use Rattle.qu_frames.specs.Signing.{sender, brought}
+use Rattle.qu_frames.specs.Signing.{sender}
 use Rattle.qu_trace.specs.declared.event.Event.{Event}
 use Rattle.qu_trace.specs.declared.event.Event.TheVariants.{Invoke, Deliver, Tick, Inject}
 use Rattle.qu_trace.specs.declared.trace.Entry.{Entry}
@@ -22,6 +21,7 @@ use Rattle.qu_print.specs.Lines.{lines_text}
 use Rattle.qu_print.specs.Words.{name_text, op_text, answer_text}
 use Rattle.qu_listing.specs.Names.{party_text, count_text}
 use Rattle.qu_listing.specs.Frames.{frame_text, carried_text}
+use Rattle.qu_listing.specs.Receivers.{taken}
 
 -- ---- the line of a letter
 
@@ -38,7 +38,7 @@ letter_lines first letters = map (λ place. letter_line place.0 place.1) (enumer
 
 -- ---- the line of an event
 
--- a party ignores a text that brings it no frame
+-- a party ignores a text of which it takes no frame
 abbrev pub taken_text : Option Frame → List ℕ
 taken_text None = codes ", ignored"
 taken_text (Some frame) = []
@@ -48,25 +48,25 @@ abbrev pub sent_letter : ℕ → List Letter → Option Letter
 sent_letter zero letters = None
 sent_letter (suc number) letters = slice_get letters number
 
-abbrev pub receiver_text : Ring → Option Letter → List ℕ
-receiver_text ring None = codes "nobody"
-receiver_text ring (Some letter) = party_text letter.to ++ taken_text (brought ring letter.to letter.text)
+abbrev pub receiver_text : Setup → Option Letter → List ℕ
+receiver_text setup None = codes "nobody"
+receiver_text setup (Some letter) = party_text letter.to ++ taken_text (taken setup letter.to letter.text)
 
--- injected bytes bring a frame of the party that it names, or are ignored
+-- a frame that is taken of injected bytes is told as one of the party that it names
 abbrev pub injected_text : Option Frame → List ℕ
 injected_text None = codes ", ignored"
 injected_text (Some frame) = codes " as " ++ party_text (sender frame) ++ codes ": " ++ frame_text frame
 
 -- what happens, behind these earlier entries
-abbrev pub event_text : Ring → List Entry → Event → List ℕ
-event_text ring earlier (Invoke client op) =
+abbrev pub event_text : Setup → List Entry → Event → List ℕ
+event_text setup earlier (Invoke client op) =
     codes "call " ++ name_text client (begun_by client earlier + 1) ++ codes " " ++ op_text op
-event_text ring earlier (Deliver number) =
-    codes "deliver " ++ decimal number ++ codes " to " ++ receiver_text ring (sent_letter number (letters_of earlier))
-event_text ring earlier (Tick client) = codes "tick " ++ party_text (party.Client client)
-event_text ring earlier (Inject to text) =
+event_text setup earlier (Deliver number) =
+    codes "deliver " ++ decimal number ++ codes " to " ++ receiver_text setup (sent_letter number (letters_of earlier))
+event_text setup earlier (Tick client) = codes "tick " ++ party_text (party.Client client)
+event_text setup earlier (Inject to text) =
     codes "inject " ++ count_text (length text) (codes "byte") ++ codes " to " ++ party_text to
-    ++ injected_text (brought ring to text)
+    ++ injected_text (taken setup to text)
 
 abbrev pub outcome_text : Outcome → List ℕ
 outcome_text (Done answer) = codes " with " ++ answer_text answer
@@ -78,25 +78,21 @@ end_text None = []
 end_text (Some ended) = codes ", ends " ++ name_text ended.0 ended.1 ++ outcome_text ended.2
 
 -- the event behind these entries has the number that comes next
-unfoldable pub event_line : Ring → List Entry → Entry → List ℕ
-event_line ring earlier entry =
-    codes "event " ++ decimal (length earlier + 1) ++ codes " " ++ event_text ring earlier entry.event
+unfoldable pub event_line : Setup → List Entry → Entry → List ℕ
+event_line setup earlier entry =
+    codes "event " ++ decimal (length earlier + 1) ++ codes " " ++ event_text setup earlier entry.event
     ++ end_text entry.ended
 
 -- ---- the listing
 
 -- letters are numbered on, from event to event
-unfoldable pub event_lines : Ring → List Entry → Entry → List (List ℕ)
-event_lines ring earlier entry =
-    event_line ring earlier entry ∷ letter_lines (length (letters_of earlier) + 1) entry.letters
+unfoldable pub event_lines : Setup → List Entry → Entry → List (List ℕ)
+event_lines setup earlier entry =
+    event_line setup earlier entry ∷ letter_lines (length (letters_of earlier) + 1) entry.letters
 
-unfoldable pub listing : Ring → List Entry → List (List ℕ)
-listing ring entries = flat_map (λ place. event_lines ring (take place.0 entries) place.1) (enumerate_from 0 entries)
-
--- the keys of a run
-abbrev pub keys_of : Setup → Ring
-keys_of setup = record { seed = setup.seed; bounds = setup.bounds; clients = setup.clients }
+unfoldable pub listing : Setup → List Entry → List (List ℕ)
+listing setup entries = flat_map (λ place. event_lines setup (take place.0 entries) place.1) (enumerate_from 0 entries)
 
 -- the events of the run by their numbers, each with the letters that it sent
 unfoldable pub events_of : Trace → List ℕ
-events_of trace = lines_text (listing (keys_of trace.setup) trace.entries)
+events_of trace = lines_text (listing trace.setup trace.entries)

@@ -2,5 +2,6 @@ pub mod Digests
 pub mod Names
 pub mod Verdicts
 pub mod Frames
+pub mod Receivers
 pub mod Events
 pub mod Known

@@ -1,35 +1,35 @@
 //! What reaches parties.
 ghost use Rattle.std.specs.Prelude.{◌≡◌, [], ◌++◌, if◌then◌else◌, length, OnOk, string_bytes, codes};
 ghost use Rattle.std.specs.Fmt.{decimal};
-ghost use Rattle.qu_frames.specs.Signing.{brought};
 ghost use Rattle.qu_trace.specs.Letters.{letters_of};
 ghost use Rattle.qu_listing.specs.Names.{party_text, count_text};
 ghost use Rattle.qu_listing.specs.Events.{sent_letter, receiver_text, injected_text};
 ghost use Rattle.qu_listing.specs.Known.{Knows};
+ghost use Rattle.qu_listing.specs.Receivers.{taken};
 
 use super::frames::put_frame;
 use super::known::Known;
 use super::names::{put_count, put_party};
+use super::receivers::Receivers;
 use qu_base::{NoMemory, Party};
-use qu_frames::{Frame, receive};
-use qu_seal::KeyRing;
+use qu_frames::Frame;
 use qu_trace::Entry;
 use std::alloc::Global;
 
 /// Writes which letter is delivered to whom, and whether it is ignored.
 pub fn put_delivery(
     text: &mut String,
-    keys: &KeyRing,
+    receivers: &Receivers,
     known: &Known,
     earlier: &[Entry],
     number: u64,
 ) -> Result<(), NoMemory>
-    requires { Knows keys.now earlier.now known.now }
+    requires { Knows receivers.now earlier.now known.now }
     ensures { OnOk result (string_bytes text.new ≡ string_bytes text.old ++ codes "deliver " ++ decimal number
-        ++ codes " to " ++ receiver_text keys.now (sent_letter number (letters_of earlier.now))) }
+        ++ codes " to " ++ receiver_text receivers.now (sent_letter number (letters_of earlier.now))) }
 {
     write!(text, "deliver {number} to ")?;
-    match known.letter(keys, earlier, number) {
+    match known.letter(receivers, earlier, number) {
         Some(sent) => {
             put_party(text, sent.to)?;
             put_ignored(text, sent.ignored)
@@ -51,23 +51,23 @@ fn put_ignored(text: &mut String, ignored: bool) -> Result<(), NoMemory>
     Ok(())
 }
 
-/// Writes how many bytes are injected to whom, and what frame they bring.
+/// Writes how many bytes are injected to whom, and what frame it takes of them.
 pub fn put_injection(
     alloc: Global,
     text: &mut String,
-    keys: &KeyRing,
+    receivers: &Receivers,
     to: Party,
     bytes: &[u8],
 ) -> Result<(), NoMemory>
     ensures { OnOk result (string_bytes text.new ≡ string_bytes text.old ++ codes "inject "
         ++ count_text (length bytes.now) (codes "byte") ++ codes " to " ++ party_text to
-        ++ injected_text (brought keys.now to bytes.now)) }
+        ++ injected_text (taken receivers.now to bytes.now)) }
 {
     text.push_str("inject ")?;
     put_count(text, bytes.len(), "byte")?;
     text.push_str(" to ")?;
     put_party(text, to)?;
-    let frame = receive(alloc, keys, to, bytes)?;
+    let frame = receivers.take(alloc, to, bytes)?;
     put_injected(text, &frame)
 }
 

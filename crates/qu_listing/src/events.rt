@@ -8,24 +8,23 @@ use super::deliveries::{put_delivery, put_injection};
 use super::known::Known;
 use super::letters::put_letters;
 use super::names::put_party;
+use super::receivers::Receivers;
 use qu_base::{ClientId, List, NoMemory, Party};
 use qu_objects::Outcome;
 use qu_print::{put_answer, put_op};
-use qu_seal::KeyRing;
 use qu_trace::{Entry, Event, Trace};
 use std::alloc::Global;
 
 /// A line for each event of a run, with the operation that it ends, and below it a line for each letter
-/// that it sends. What reaches a party and brings it no frame is told as ignored.
+/// that it sends. A text of which its receiver takes no frame is told as ignored.
 #[tactic(auto, unfolding(crate::specs::Events::events_of))]
 pub fn events_text(alloc: Global, trace: &Trace) -> Result<List<u8>, NoMemory>
     requires { trace.now.setup.clients ≤ LAST_CLIENT }
     ensures { IfOk result (λ text. text ≡ events_of trace.now) }
 {
-    let setup = &trace.setup;
-    let keys = KeyRing::derive(setup.seed, &setup.bounds, setup.clients);
+    let receivers = Receivers::new(&trace.setup);
     let mut text = String::new(alloc);
-    put_events(alloc, &mut text, &keys, trace.entries.as_slice())?;
+    put_events(alloc, &mut text, &receivers, trace.entries.as_slice())?;
     Ok(List::from(text.into_bytes()))
 }
 
@@ -34,15 +33,15 @@ pub fn events_text(alloc: Global, trace: &Trace) -> Result<List<u8>, NoMemory>
 fn put_events(
     alloc: Global,
     text: &mut String,
-    keys: &KeyRing,
+    receivers: &Receivers,
     entries: &[Entry],
 ) -> Result<(), NoMemory>
     ensures { OnOk result (string_bytes text.new
-        ≡ string_bytes text.old ++ lines_text (listing keys.now entries.now)) }
+        ≡ string_bytes text.old ++ lines_text (listing receivers.now entries.now)) }
 {
     let mut known = Known::new(alloc);
     for (index, entry) in entries.iter().enumerate() {
-        put_event(alloc, text, keys, &mut known, &entries[..index], entry)?;
+        put_event(alloc, text, receivers, &mut known, &entries[..index], entry)?;
     }
     Ok(())
 }
@@ -52,18 +51,18 @@ fn put_events(
 fn put_event(
     alloc: Global,
     text: &mut String,
-    keys: &KeyRing,
+    receivers: &Receivers,
     known: &mut Known,
     earlier: &[Entry],
     entry: &Entry,
 ) -> Result<(), NoMemory>
-    requires { Knows keys.now earlier.now known.old }
+    requires { Knows receivers.now earlier.now known.old }
     ensures text { OnOk result (string_bytes text.new
-        ≡ string_bytes text.old ++ lines_text (event_lines keys.now earlier.now entry.now)) }
-    ensures known { OnOk result (Knows keys.now (earlier.now ++ entry.now ∷ []) known.new) }
+        ≡ string_bytes text.old ++ lines_text (event_lines receivers.now earlier.now entry.now)) }
+    ensures known { OnOk result (Knows receivers.now (earlier.now ++ entry.now ∷ []) known.new) }
 {
-    put_event_line(alloc, text, keys, known, earlier, entry)?;
-    put_letters(alloc, text, keys, &mut known.sent, entry.letters.as_slice())?;
+    put_event_line(alloc, text, receivers, known, earlier, entry)?;
+    put_letters(alloc, text, receivers, &mut known.sent, entry.letters.as_slice())?;
     known.note_call(earlier, entry)?;
     Ok(())
 }
@@ -73,18 +72,18 @@ fn put_event(
 fn put_event_line(
     alloc: Global,
     text: &mut String,
-    keys: &KeyRing,
+    receivers: &Receivers,
     known: &Known,
     earlier: &[Entry],
     entry: &Entry,
 ) -> Result<(), NoMemory>
-    requires { Knows keys.now earlier.now known.now }
+    requires { Knows receivers.now earlier.now known.now }
     ensures { OnOk result (string_bytes text.new
-        ≡ string_bytes text.old ++ event_line keys.now earlier.now entry.now ++ 10 ∷ []) }
+        ≡ string_bytes text.old ++ event_line receivers.now earlier.now entry.now ++ 10 ∷ []) }
 {
     let number = earlier.len() as u64 + 1;
     write!(text, "event {number} ")?;
-    put_happened(alloc, text, keys, known, earlier, &entry.event)?;
+    put_happened(alloc, text, receivers, known, earlier, &entry.event)?;
     put_end(text, &entry.ended)?;
     text.push_str("\n")?;
     Ok(())
@@ -94,14 +93,14 @@ fn put_event_line(
 fn put_happened(
     alloc: Global,
     text: &mut String,
-    keys: &KeyRing,
+    receivers: &Receivers,
     known: &Known,
     earlier: &[Entry],
     event: &Event,
 ) -> Result<(), NoMemory>
-    requires { Knows keys.now earlier.now known.now }
+    requires { Knows receivers.now earlier.now known.now }
     ensures { OnOk result (string_bytes text.new
-        ≡ string_bytes text.old ++ event_text keys.now earlier.now event.now) }
+        ≡ string_bytes text.old ++ event_text receivers.now earlier.now event.now) }
 {
     match event {
         Event::Invoke(client, op) => {
@@ -109,12 +108,12 @@ fn put_happened(
             write!(text, "call {client}.{number} ")?;
             put_op(text, op)
         }
-        Event::Deliver(number) => put_delivery(text, keys, known, earlier, *number),
+        Event::Deliver(number) => put_delivery(text, receivers, known, earlier, *number),
         Event::Tick(client) => {
             text.push_str("tick ")?;
             put_party(text, Party::Client(*client))
         }
-        Event::Inject(to, bytes) => put_injection(alloc, text, keys, *to, bytes.as_slice()),
+        Event::Inject(to, bytes) => put_injection(alloc, text, receivers, *to, bytes.as_slice()),
     }
 }
 

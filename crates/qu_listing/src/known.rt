@@ -1,12 +1,12 @@
 ghost use Rattle.std.specs.Prelude.{◌≡◌, [], ◌∷◌, ◌++◌, ◌<◌, ◌^◌, OnOk, option_map};
-ghost use Rattle.qu_seal.specs.Keys.{Ring};
+ghost use Rattle.qu_trace.specs.declared.trace.Setup.{Setup};
 ghost use Rattle.qu_trace.specs.Operation.{begun_by};
 ghost use Rattle.qu_trace.specs.Letters.{letters_of};
 ghost use Rattle.qu_listing.specs.Events.{sent_letter};
 ghost use Rattle.qu_listing.specs.Known.{Knows, CountsCalls, sent_of};
 
+use super::receivers::Receivers;
 use qu_base::{ClientId, List, NoMemory, Party};
-use qu_seal::KeyRing;
 use qu_trace::{Entry, Event};
 use std::alloc::Global;
 use std::collections::HashMap;
@@ -15,7 +15,7 @@ use std::collections::HashMap;
 #[derive(Clone, Copy, Debug)]
 pub struct Sent {
     pub to: Party,
-    /// Whether it brings its receiver no frame.
+    /// Whether its receiver takes no frame of it.
     pub ignored: bool,
 }
 
@@ -32,7 +32,7 @@ impl Known {
     /// What is known before the first event.
     #[tactic(auto, unfolding(qu_trace::specs::Operation::begun_by, qu_trace::specs::Letters::letters_of))]
     pub fn new(alloc: Global) -> Known
-        ensures { (keys : Ring) → Knows keys [] result }
+        ensures { (setup : Setup) → Knows setup [] result }
     {
         Known {
             sent: List::new(alloc),
@@ -55,9 +55,9 @@ impl Known {
     }
 
     /// The letter with a number, from 1.
-    pub fn letter(&self, keys: &KeyRing, earlier: &[Entry], number: u64) -> Option<Sent>
-        requires { Knows keys.now earlier.now self.now }
-        ensures { result ≡ option_map (sent_of keys.now) (sent_letter number (letters_of earlier.now)) }
+    pub fn letter(&self, receivers: &Receivers, earlier: &[Entry], number: u64) -> Option<Sent>
+        requires { Knows receivers.now earlier.now self.now }
+        ensures { result ≡ option_map (sent_of receivers.now) (sent_letter number (letters_of earlier.now)) }
     {
         if number == 0 {
             return None;

@@ -9,9 +9,9 @@ ghost use Rattle.qu_listing.specs.Known.{sent_of};
 use super::frames::put_frame;
 use super::known::Sent;
 use super::names::put_party;
+use super::receivers::Receivers;
 use qu_base::{List, NoMemory, ReadFail};
 use qu_frames::{Letter, decode};
-use qu_seal::KeyRing;
 use std::alloc::Global;
 
 /// Writes a line for each letter behind those that were sent, and then knows of them too.
@@ -19,17 +19,17 @@ use std::alloc::Global;
 pub fn put_letters(
     alloc: Global,
     text: &mut String,
-    keys: &KeyRing,
+    receivers: &Receivers,
     sent: &mut List<Sent>,
     letters: &[Letter],
 ) -> Result<(), NoMemory>
     ensures text { OnOk result (string_bytes text.new
         ≡ string_bytes text.old ++ lines_text (letter_lines (length sent.old + 1) letters.now)) }
-    ensures sent { OnOk result (sent.new ≡ sent.old ++ map (sent_of keys.now) letters.now) }
+    ensures sent { OnOk result (sent.new ≡ sent.old ++ map (sent_of receivers.now) letters.now) }
 {
     for letter in letters {
         let number = sent.len() as u128 + 1;
-        let told = put_letter(alloc, text, keys, number, letter)?;
+        let told = put_letter(alloc, text, receivers, number, letter)?;
         sent.push(told)?;
     }
     Ok(())
@@ -40,17 +40,17 @@ pub fn put_letters(
 fn put_letter(
     alloc: Global,
     text: &mut String,
-    keys: &KeyRing,
+    receivers: &Receivers,
     number: u128,
     letter: &Letter,
 ) -> Result<Sent, NoMemory>
     ensures text { OnOk result (string_bytes text.new
         ≡ string_bytes text.old ++ letter_line number letter.now ++ 10 ∷ []) }
-    ensures sent { IfOk result (λ sent. sent ≡ sent_of keys.now letter.now) }
+    ensures sent { IfOk result (λ sent. sent ≡ sent_of receivers.now letter.now) }
 {
     write!(text, "  letter {number} ")?;
     put_route(text, letter)?;
-    let ignored = put_carried(alloc, text, keys, letter)?;
+    let ignored = put_carried(alloc, text, receivers, letter)?;
     text.push_str("\n")?;
     Ok(Sent {
         to: letter.to,
@@ -69,22 +69,22 @@ fn put_route(text: &mut String, letter: &Letter) -> Result<(), NoMemory>
     Ok(())
 }
 
-/// Writes the frame that a letter carries, and tells whether it brings its receiver none.
-#[tactic(auto, unfolding(qu_frames::specs::Signing::brought))]
+/// Writes the frame that a letter carries, and tells whether its receiver takes none of it.
+#[tactic(auto, unfolding(crate::specs::Receivers::taken, qu_frames::specs::Signing::brought))]
 fn put_carried(
     alloc: Global,
     text: &mut String,
-    keys: &KeyRing,
+    receivers: &Receivers,
     letter: &Letter,
 ) -> Result<bool, NoMemory>
     ensures text { OnOk result (string_bytes text.new
         ≡ string_bytes text.old ++ carried_text (decoded letter.now.text)) }
-    ensures ignored { IfOk result (λ ignored. ignored ≡ (sent_of keys.now letter.now).ignored) }
+    ensures ignored { IfOk result (λ ignored. ignored ≡ (sent_of receivers.now letter.now).ignored) }
 {
     match decode(alloc, letter.text.as_slice()) {
         Ok(frame) => {
             put_frame(text, &frame)?;
-            Ok(!frame.is_signed(keys, letter.to, letter.text.as_slice()))
+            Ok(receivers.ignores(letter.to, &frame, letter.text.as_slice()))
         }
         Err(ReadFail::Bad(_)) => {
             text.push_str("no frame")?;

@@ -8,6 +8,7 @@ mod frames;
 mod known;
 mod letters;
 mod names;
+mod receivers;
 mod told;
 mod verdicts;
 

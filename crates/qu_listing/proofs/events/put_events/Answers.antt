@@ -6,7 +6,7 @@ use Rattle.qu_listing.proofs.events.put_events.Goals as goal
 
 pub loop-index-init : goal.loop-index-init
 unfolding listing
-loop-index-init c = record { text = refl; known = c.new-known.ensures c.args.keys.now }
+loop-index-init c = record { text = refl; known = c.new-known.ensures c.args.receivers.now }
 
 pub loop-index-preserved : goal.loop-index-preserved
 loop-index-preserved c =
@@ -14,8 +14,8 @@ loop-index-preserved c =
     let index = c.loop-index.index in
     let earlier = take index entries in
     record {
-      text = event_step c.args.keys.now index entries earlier c.index-entries-index.result _ _ _ c.loop-index-test.true
+      text = event_step c.args.receivers.now index entries earlier c.index-entries-index.result _ _ _ c.loop-index-test.true
           c.index-entries-index.is refl c.loop-index.invariant.text c.in_ok-put_event.ensures.text;
-      known = known_step c.args.keys.now index entries earlier c.index-entries-index.result c.put_event.new.known
+      known = known_step c.args.receivers.now index entries earlier c.index-entries-index.result c.put_event.new.known
           c.loop-index-test.true c.index-entries-index.is refl c.in_ok-put_event.ensures.known;
     }

@@ -11,6 +11,6 @@ invariant-loop-letter l = record {
   text : string_bytes l.text
       ++ lines_text (letter_lines (length l.sent + 1) (drop l.letter-index l.letters))
       ≡ string_bytes l.initial.text ++ lines_text (letter_lines (length l.initial.sent + 1) l.letters);
-  sent : l.sent ++ map (sent_of l.keys) (drop l.letter-index l.letters)
-      ≡ l.initial.sent ++ map (sent_of l.keys) l.letters;
+  sent : l.sent ++ map (sent_of l.receivers) (drop l.letter-index l.letters)
+      ≡ l.initial.sent ++ map (sent_of l.receivers) l.letters;
 }

@@ -6,5 +6,5 @@ use Rattle.qu_listing.proofs.known.Known.letter.Goals as goal
 
 pub returns : goal.returns
 returns c =
-    c.copied.ensures ∙ c.get.ensures ∙ letter_known c.args.keys.now (letters_of c.args.earlier.now) c.args.self.now.sent
+    c.copied.ensures ∙ c.get.ensures ∙ letter_known c.args.receivers.now (letters_of c.args.earlier.now) c.args.self.now.sent
     c.args.number (let some = c.if-number-eq0.false in grind arith) c.requires.sent

@@ -3,4 +3,4 @@ use Rattle.qu_listing.proofs.CallFacts.{knows_nothing}
 use Rattle.qu_listing.proofs.known.Known.new.Goals as goal
 
 pub returns : goal.returns
-returns c = λ keys. knows_nothing keys c.new.result c.new-2.result c.new.ensures c.new-2.ensures.empty
+returns c = λ setup. knows_nothing setup c.new.result c.new-2.result c.new.ensures c.new-2.ensures.empty
