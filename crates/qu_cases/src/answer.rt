@@ -3,7 +3,7 @@ use super::names::{Named, bytes_of};
 use super::no_answer::NoAnswer;
 use super::parts::Part;
 use super::program::Program;
-use super::{changes, events, program, runs, seals};
+use super::{audits, changes, events, program, runs, seals};
 use std::alloc::Global;
 use std::rt::Files;
 
@@ -21,6 +21,7 @@ pub fn answer(
         "page" => program::page(rt, case, out),
         "events" => events::events(alloc, names, case.lines, out),
         "listed" => events::listed(alloc, names, case.lines, out),
+        "audit" => audits::audited(alloc, names, case, out),
         "pieces" => program::pieces(alloc, case, out),
         "sim" | "qu" | "qu-letters" | "letters" | "injected" | "order" => {
             of_script(alloc, case, out)

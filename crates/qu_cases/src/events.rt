@@ -31,7 +31,7 @@ pub fn events(
     out: &mut String,
 ) -> Result<(), NoAnswer> {
     let (setup, lines) = lines.split_once("\n\n").unwrap_or((lines, ""));
-    let trace = make_lines(alloc, names, setup, lines, out)?;
+    let trace = make_lines(alloc, names, setup, lines, start(alloc, setup)?, out)?;
     Ok(points(alloc, &trace, out)?)
 }
 
@@ -44,7 +44,7 @@ pub fn listed(
 ) -> Result<(), NoAnswer> {
     let (setup, lines) = lines.split_once("\n\n").unwrap_or((lines, ""));
     let mut made = String::new(alloc);
-    let trace = make_lines(alloc, names, setup, lines, &mut made)?;
+    let trace = make_lines(alloc, names, setup, lines, start(alloc, setup)?, &mut made)?;
     let text = events_text(alloc, &trace)?;
     put_whole(alloc, text.as_slice(), out)
 }
@@ -54,17 +54,17 @@ fn put_whole(alloc: Global, text: &[u8], out: &mut String) -> Result<(), NoAnswe
     Ok(out.push_str(text.as_str().trim_end())?)
 }
 
-/// The run of these lines.
-fn make_lines(
+/// The run of these lines in a world that has these setup lines.
+pub fn make_lines(
     alloc: Global,
     names: &[Named],
     setup: &str,
     lines: &str,
+    mut world: World,
     out: &mut String,
 ) -> Result<Trace, NoAnswer>
     ensures { IfOk result IsRun }
 {
-    let mut world = start(alloc, setup)?;
     // All keys that there may be, so that a frame of a client outside the setup can be made.
     let of = &world.trace().setup;
     let keys = KeyRing::derive(of.seed, &of.bounds, LAST_CLIENT);

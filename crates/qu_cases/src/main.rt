@@ -5,6 +5,7 @@
 #![tactic(auto)]
 
 mod answer;
+mod audits;
 mod case;
 mod changes;
 mod events;
