@@ -1,5 +1,5 @@
 -- A faulty party ignores every text, and a correct one a frame whose HMAC is wrong for it.
-use Rattle.std.proofs.Common.{◌≡◌, Bool, true, false, sym, ap, ◌∙◌}
+use Rattle.std.proofs.Common.{◌≡◌, true, false, sym, ap, ◌∙◌}
 use Rattle.std.specs.Prelude.{not}
 use Rattle.qu_seal.specs.Keys.{Ring}
 use Rattle.qu_frames.specs.Signing.{is_signed}

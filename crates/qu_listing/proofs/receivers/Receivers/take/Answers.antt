@@ -1,5 +1,5 @@
 -- A faulty party takes nothing, and a correct one what the text brings it.
-use Rattle.std.proofs.Common.{◌≡◌, Bool, true, false, List, ℕ, Option, sym, ap, ◌∙◌}
+use Rattle.std.proofs.Common.{◌≡◌, true, false, Option, sym, ap, ◌∙◌}
 use Rattle.std.proofs.lemmas.Result.{IfOk-weaker}
 use Rattle.qu_seal.specs.Keys.{Ring}
 use Rattle.qu_frames.specs.declared.frame.Frame.{Frame}
