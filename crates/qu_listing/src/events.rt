@@ -62,7 +62,13 @@ fn put_event(
     ensures known { OnOk result (Knows receivers.now (earlier.now ++ entry.now ∷ []) known.new) }
 {
     put_event_line(alloc, text, receivers, known, earlier, entry)?;
-    put_letters(alloc, text, receivers, &mut known.sent, entry.letters.as_slice())?;
+    put_letters(
+        alloc,
+        text,
+        receivers,
+        &mut known.sent,
+        entry.letters.as_slice(),
+    )?;
     known.note_call(earlier, entry)?;
     Ok(())
 }
