@@ -1,5 +1,5 @@
 -- The point of an update is at the step that decides it.
-use Rattle.std.proofs.Common.{◌≡◌, ℕ, zero, suc, ◌-◌, ◌<◌, ◌≤◌, true, List, length, refl, sym, subst, ◌∙◌, arith, inl, inr}
+use Rattle.std.proofs.Common.{◌≡◌, ℕ, zero, suc, ◌-◌, ◌<◌, ◌≤◌, true, List, length, refl, sym, subst, ◌∙◌, arith, inl, inr, ap}
 use Rattle.std.specs.Prelude.{Contains}
 use Rattle.std.specs.List.{All}
 use Rattle.std.proofs.lemmas.Bool.{false≢true, cases_Bool}
@@ -27,16 +27,25 @@ use Rattle.qu_trace.specs.Operation.{operations_of}
 use Rattle.qu_runs.specs.Decided.{TookEffect}
 use Rattle.qu_runs.specs.Digested.{IsHandled, IsMadeFor}
 use Rattle.qu_runs.specs.Setting.{setting}
-use Rattle.qu_points.specs.Order.{DecidesAt, effect_of, IsOperationPoint}
+use Rattle.qu_runs.specs.Plain.{ArePlain}
+use Rattle.qu_rounds.specs.Invocations.{IsRequestOf}
+use Rattle.qu_world.specs.Run.{IsRun}
+use Rattle.qu_trace.specs.Faulty.{is_faulty}
+use Rattle.qu_base.specs.declared.party.ClientId.{ClientId}
+use Rattle.qu_base.specs.declared.party.Party.TheVariants as party
+use Rattle.qu_frames.specs.declared.frame.Body.TheVariants as body
+use Rattle.qu_points.specs.Order.{DecidesAt, effect_of, IsOperationPoint, IsPoint, IsPrintedOrder}
 use Rattle.qu_points.specs.Points.{IsOfCorrect, point_at}
 use Rattle.qu_values.specs.Updates.{Update, IsOf, IsEverAccepted}
 use Rattle.qu_grounds.specs.Parts.{Names}
 use Rattle.qu_points.proofs.Folding.{IsQuestion}
-use Rattle.qu_safety.proofs.NoFaulty.{IsOperationOrder, on_named}
+use Rattle.qu_safety.proofs.OwnClients.{on_named}
 use Rattle.qu_values.proofs.MachineValues.{IsValues, object_known, known_object, stay, change}
 use Rattle.qu_values.proofs.OneAct.{ActsAreOne, one_made_for}
 use Rattle.qu_values.proofs.Updates.{last_is, acts, one_of, opening_no_act}
-use Rattle.qu_values.proofs.UpdateFacts.{MadeFor, UpdateFacts}
+use Rattle.qu_values.proofs.UpdateFacts.{MadeFor, UpdateFacts, NoneIsRepeated}
+use Rattle.qu_values.proofs.SentRequests.{made_for_operation, asked_by_handled}
+use Rattle.qu_values.proofs.OneAct.{act_by}
 
 -- the operation has a point, which is before the event of its reply
 pub record StandsBefore (trace : Trace) (operation : OpRecord) (reply : ℕ) : Type 0 where
@@ -46,7 +55,7 @@ pub record StandsBefore (trace : Trace) (operation : OpRecord) (reply : ℕ) : T
   pub before : point.event < reply
 
 module _ (trace : Trace) (laws : Laws (setting trace)) (joint : Joint (setting trace)) (one_act : ActsAreOne trace)
-    (facts : UpdateFacts trace) where
+    (facts : UpdateFacts trace) (once : NoneIsRepeated trace) where
   accepted_by : (time : ℕ) → time ≤ (setting trace).last → (object : ObjectId) (candidate : Candidate)
       → IsDecided (setting trace) time object candidate → IsEverAccepted trace object candidate
   accepted_by time within object candidate decided =
@@ -74,8 +83,8 @@ module _ (trace : Trace) (laws : Laws (setting trace)) (joint : Joint (setting t
       facts.made took.object took.candidate (accepted_by time within took.object took.candidate decided)
       (rw took.of_act refl) in
       let same =
-      one_made_for trace one_act took.candidate (made.operation).client update.client (made.operation).number
-      update.number made.parts update.parts (made.is_of).made its in
+      one_made_for trace one_act took.candidate (made.update).client update.client (made.update).number
+      update.number (made.update).parts update.parts (made.is_of).made its in
       record {
         object = took.object;
         candidate = took.candidate;
@@ -120,8 +129,8 @@ module _ (trace : Trace) (laws : Laws (setting trace)) (joint : Joint (setting t
       decided-later (setting trace) laws (suc end) (setting trace).last within object candidate decided in
       let here : (it : Candidate) × IsTop (setting trace) end object it =
       top (setting trace) laws joint end (omega arith) object
-      (known_object trace laws joint one_act facts object
-      (object_known trace laws joint one_act facts object candidate
+      (known_object trace laws joint one_act facts once object
+      (object_known trace laws joint one_act facts once object candidate
       (accepted_by (suc end) within object candidate decided))) in
       elim (cases_Bool (is_below (here.0).stamp candidate.stamp)) [
         | inl above ↦ record {
@@ -199,7 +208,7 @@ module _ (trace : Trace) (laws : Laws (setting trace)) (joint : Joint (setting t
             let it : HasEffect earlier update =
             effect_by earlier (omega (arith, last_is trace, within, before)) update (is_of.made).handled took in
             first_of (setting trace) laws joint Update (IsOf trace) (one_of trace one_act) facts.shared
-            facts.spread facts.once (acts trace) update time object candidate is_of turn
+            facts.spread once (acts trace) update time object candidate is_of turn
             it.object it.candidate it.is_of
             (decided-later (setting trace) laws earlier time (omega arith) it.object it.candidate it.decided);
       }
@@ -209,7 +218,8 @@ module _ (trace : Trace) (laws : Laws (setting trace)) (joint : Joint (setting t
       → IsOfCorrect trace.setup operation → (parts : List (ObjectId × Method)) → operation.op ≡ op.Act parts
       → (time : ℕ) (object : ObjectId) (candidate : Candidate)
       → IsOf trace (record { client = operation.client; number = operation.number; parts = parts }) object candidate
-      → IsDecidedBy (setting trace) time object candidate → IsOperationPoint trace (point_at trace.setup operation (suc time))
+      → IsDecidedBy (setting trace) time object candidate → IsOperationPoint trace
+      (point_at trace.setup operation (suc time))
   turn_point operation among own parts is_act time object candidate is_of turn = record {
     operation = operation;
     of_trace = among;
@@ -243,6 +253,88 @@ module _ (trace : Trace) (laws : Laws (setting trace)) (joint : Joint (setting t
         before = omega arith;
       }
 
+  -- ---- points of updates
+
+  -- a point of the run at the event of this step, of the update
+  record PointOf (time : ℕ) (update : Update) : Type 0 where
+    point : Point
+    is_point : IsPoint trace point
+    event : point.event ≡ suc time
+    is_act : point.op ≡ op.Act update.parts
+
+  -- an update has a point at a step that decides it: of an operation, or of a faulty client
+  update_point : IsRun trace → ArePlain trace → (update : Update) (time : ℕ) (object : ObjectId)
+      (candidate : Candidate) → IsOf trace update object candidate → IsDecidedBy (setting trace) time object candidate
+      → PointOf time update
+  update_point is_run have update time object candidate is_of turn =
+      elim (cases_Bool (is_faulty trace.setup (party.Client update.client))) [
+        | inl faulty ↦ record {
+          point = record {
+            event = suc time;
+            client = update.client;
+            number = update.number;
+            op = op.Act update.parts;
+            faulty = true;
+          };
+          is_point = inr (record {
+            parts = update.parts;
+            op = refl;
+            declared = faulty;
+            mark = refl;
+            effect = turn_decides update time object candidate is_of turn;
+          });
+          event = refl;
+          is_act = refl;
+        }
+        | inr correct ↦
+            let request : IsRequestOf trace (length trace.entries) update.client update.number
+            (body.Act update.parts) =
+            asked_by_handled trace is_run have update.client update.number update.parts (is_of.made).handled correct in
+            let asks : (request.operation).op ≡ op.Act update.parts =
+            act_by update.parts (request.operation).op request.asks in
+            record {
+              point = point_at trace.setup request.operation (suc time);
+              is_point = inl (turn_point request.operation request.of_trace
+                  (ap (λ (who : ClientId). is_faulty trace.setup (party.Client who)) request.of_client ∙ correct)
+                  update.parts asks time object candidate (record {
+                    made = made_for_operation trace (length trace.entries) candidate update.client update.number
+                        update.parts (body.Act update.parts) request is_of.made;
+                    names = is_of.names;
+                  }) turn);
+              event = refl;
+              is_act = asks;
+            }
+      ]
+
+  -- the update of a point
+  pub record UpdateAt (point : Point) (parts : List (ObjectId × Method)) : Type 0 where
+    pub client : ClientId
+    pub number : ℕ
+    pub of_client : client ≡ point.client
+    pub of_number : number ≡ point.number
+    pub decides : DecidesAt trace client number parts point.event
+
+  same_parts : (parts others : List (ObjectId × Method)) → op.Act parts ≡ op.Act others → parts ≡ others
+  same_parts parts others same = cc
+
+  pub point_update : (point : Point) (parts : List (ObjectId × Method)) → point.op ≡ op.Act parts → IsPoint trace point
+      → UpdateAt point parts
+  point_update point parts is (inl it) = record {
+    client = (it.operation).client;
+    number = (it.operation).number;
+    of_client = it.client;
+    of_number = it.number;
+    decides = subst (λ (what : Op). effect_of trace it.operation point.event what) (it.op ∙ is) it.effect;
+  }
+  point_update point parts is (inr it) = record {
+    client = point.client;
+    number = point.number;
+    of_client = refl;
+    of_number = refl;
+    decides = subst (λ (its : List (ObjectId × Method)). DecidesAt trace point.client point.number its point.event)
+        (same_parts it.parts parts (sym it.op ∙ is)) it.effect;
+  }
+
   -- ---- the values of the machine at points
 
   no_question : (what : Op) (parts : List (ObjectId × Method)) → what ≡ op.Act parts → IsQuestion what → ⊥
@@ -250,39 +342,33 @@ module _ (trace : Trace) (laws : Laws (setting trace)) (joint : Joint (setting t
   no_question (op.Query query) parts is question = absurd (cc)
 
   abbrev Values : ℕ → List Value → Type 0
-  Values time values = IsValues trace laws joint one_act facts time values
+  Values time values = IsValues trace laws joint one_act facts once time values
 
   -- an event without a point of an update leaves the values
-  pub quiet_values : (order : List Point) → IsOperationOrder trace order
-      → All (IsOfCorrect trace.setup) (operations_of trace.entries) → (time : ℕ) (values : List Value)
-      → time < length trace.entries → Values time values
+  pub quiet_values : IsRun trace → ArePlain trace → (order : List Point) → IsPrintedOrder trace order
+      → (time : ℕ) (values : List Value) → time < length trace.entries → Values time values
       → ((point : Point) → Contains order point → point.event ≡ suc time → IsQuestion point.op)
       → Values (suc time) values
-  quiet_values order printed correct time values within are quiet =
-      stay trace laws joint one_act facts time (omega (arith, last_is trace, within)) values are
+  quiet_values is_run have order printed time values within are quiet =
+      stay trace laws joint one_act facts once time (omega (arith, last_is trace, within)) values are
       (λ object act is_act turn.
       let made : MadeFor trace object act =
       facts.made object act (accepted_by (suc time) (omega (arith, last_is trace, within)) object act turn.after) is_act
       in
-      no_question (made.operation).op made.parts made.is_act
-      (quiet (point_at trace.setup made.operation (suc time))
-      (printed.complete (point_at trace.setup made.operation (suc time))
-      (turn_point made.operation made.of_trace
-      (All-contains (IsOfCorrect trace.setup) (operations_of trace.entries) made.operation correct made.of_trace)
-      made.parts made.is_act time object act made.is_of turn)) refl))
+      let it : PointOf time made.update = update_point is_run have made.update time object act made.is_of turn in
+      no_question (it.point).op (made.update).parts it.is_act
+      (quiet it.point (printed.complete it.point it.is_point) it.event))
 
   -- one with such a point does what the update does
-  pub loud_values : (order : List Point) → IsOperationOrder trace order → (time : ℕ) (values : List Value) (point : Point)
+  pub loud_values : (order : List Point) → IsPrintedOrder trace order → (time : ℕ) (values : List Value) (point : Point)
       (parts : List (ObjectId × Method)) → time < length trace.entries → Values time values
       → Contains order point → point.event ≡ suc time → point.op ≡ op.Act parts
       → Values (suc time) (act_values values parts)
   loud_values order printed time values point parts within are contained at is =
-      let it : IsOperationPoint trace point = printed.sound point contained in
-      let operation : OpRecord = it.operation in
-      let decides : DecidesAt trace operation.client operation.number parts (suc time) =
-      subst (λ (event : ℕ). DecidesAt trace operation.client operation.number parts event) at
-      (subst (λ (what : Op). effect_of trace operation point.event what) (it.op ∙ is) it.effect) in
-      let update : Update = record { client = operation.client; number = operation.number; parts = parts } in
-      let here : IsTurnOf time update = turn_of update time decides in
-      change trace laws joint one_act facts time (omega (arith, last_is trace, within)) values are update here.object
+      let it : UpdateAt point parts = point_update point parts is (printed.sound point contained) in
+      let update : Update = record { client = it.client; number = it.number; parts = parts } in
+      let here : IsTurnOf time update =
+      turn_of update time (subst (λ (event : ℕ). DecidesAt trace it.client it.number parts event) at it.decides) in
+      change trace laws joint one_act facts once time (omega (arith, last_is trace, within)) values are update
+      here.object
       here.candidate here.is_of here.turn

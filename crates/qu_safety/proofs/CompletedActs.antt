@@ -56,7 +56,7 @@ use Rattle.qu_rounds.proofs.Members.{is_among, members_count}
 use Rattle.qu_points.proofs.Recorded.{recorded_op}
 use Rattle.qu_values.proofs.RepliesInRuns.{IsActOn, act_of_done, done_in_run, done_handled}
 use Rattle.qu_grounds.proofs.AskedLetters.{AskedBy}
-use Rattle.qu_safety.proofs.NoFaulty.{own_client}
+use Rattle.qu_safety.proofs.OwnClients.{own_client}
 use Rattle.qu_values.proofs.Replying.{reply_sent, reply_letter}
 use Rattle.qu_values.proofs.StoredValues.{version_is}
 use Rattle.qu_values.proofs.UpdateFacts.{UpdateFacts}

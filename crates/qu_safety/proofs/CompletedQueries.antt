@@ -60,7 +60,7 @@ use Rattle.qu_runs.specs.Times.{world_after}
 use Rattle.qu_runs.proofs.Settings.{acceptors_counted}
 use Rattle.qu_points.specs.Order.{AnswersFirst, query_effect, effect_of, IsOperationPoint}
 use Rattle.qu_points.proofs.Correct.{operations_correct}
-use Rattle.qu_safety.proofs.NoFaulty.{own_client}
+use Rattle.qu_safety.proofs.OwnClients.{own_client}
 use Rattle.qu_points.specs.Points.{IsOfCorrect, point_at}
 use Rattle.qu_values.specs.Replies.{culled_in, IsReplyTo, HasTold, TellsQuery}
 use Rattle.qu_values.specs.Updates.{IsEverAccepted}

@@ -6,14 +6,14 @@ use Rattle.qu_trace.specs.declared.trace.Trace.{Trace}
 use Rattle.qu_runs.specs.Setting.{setting}
 use Rattle.qu_values.specs.Updates.{DecidesOnce, IsOf, Update}
 use Rattle.qu_values.proofs.OneAct.{ActsAreOne}
-use Rattle.qu_values.proofs.UpdateFacts.{UpdateFacts}
+use Rattle.qu_values.proofs.UpdateFacts.{UpdateFacts, NoneIsRepeated}
 use Rattle.qu_values.proofs.Updates.{one_of, acts}
 
 pub decides_once : (trace : Trace) → Laws (setting trace) → Joint (setting trace) → ActsAreOne trace
-    → UpdateFacts trace → DecidesOnce trace
-decides_once trace laws joint one_act facts = record {
+    → UpdateFacts trace → NoneIsRepeated trace → DecidesOnce trace
+decides_once trace laws joint one_act facts none_repeated = record {
   once = decided_once (setting trace) laws joint Update (IsOf trace) (one_of trace one_act) facts.shared facts.spread
-      facts.once (acts trace);
+      none_repeated (acts trace);
   one_update = one_update (setting trace) laws joint Update (IsOf trace) (one_of trace one_act) facts.shared
-      facts.spread facts.once (acts trace);
+      facts.spread none_repeated (acts trace);
 }

@@ -1,5 +1,5 @@
 pub mod Along
-pub mod NoFaulty
+pub mod OwnClients
 pub mod PointEvents
 pub mod SerialFields
 pub mod CompletedQueries

@@ -39,14 +39,14 @@ use Rattle.qu_runs.specs.Setting.{setting}
 use Rattle.qu_values.specs.Updates.{Update, IsOf}
 use Rattle.qu_safety.proofs.ActPoints.{IsTurnOf, turn_at}
 use Rattle.qu_values.proofs.Updates.{last_is, acts, one_of, opening_no_act}
-use Rattle.qu_values.proofs.UpdateFacts.{UpdateFacts}
+use Rattle.qu_values.proofs.UpdateFacts.{UpdateFacts, NoneIsRepeated}
 use Rattle.qu_values.proofs.OneAct.{ActsAreOne, one_made_for}
 use Rattle.qu_grounds.proofs.Handled.{accepted_made}
 use Rattle.qu_runs.specs.Digested.{IsMadeFor}
 use Rattle.qu_grounds.specs.Grounds.{Accepts, IsDelivered}
 use Rattle.qu_rounds.specs.Invocations.{IsRequestOf}
 use Rattle.qu_runs.specs.Times.{world_after}
-use Rattle.qu_points.specs.Order.{AnswersFirst, query_effect, effect_of, IsOperationPoint}
+use Rattle.qu_points.specs.Order.{AnswersFirst, query_effect, effect_of, IsOperationPoint, IsFaultyPoint, IsPoint}
 use Rattle.qu_runs.specs.Answers.{is_answer, answers, sends_answer}
 use Rattle.qu_values.specs.Replies.{IsReplyTo}
 use Rattle.qu_runs.specs.Plain.{ArePlain}
@@ -57,7 +57,7 @@ use Rattle.qu_points.proofs.Recorded.{recorded_op}
 use Rattle.qu_values.proofs.Replying.{reply_sent}
 use Rattle.qu_grounds.proofs.AskedLetters.{AskedBy, asked_letter}
 use Rattle.qu_grounds.proofs.Views.{one_decoded}
-use Rattle.qu_safety.proofs.NoFaulty.{own_client}
+use Rattle.qu_safety.proofs.OwnClients.{own_client}
 use Rattle.qu_trace.specs.Faulty.{is_faulty}
 use Rattle.qu_points.proofs.Taking.{effect_once}
 use Rattle.qu_runs.proofs.Carrying.{tells_as, brings_decoded}
@@ -279,12 +279,12 @@ module _ (trace : Trace) (is_run : IsRun trace) (have : ArePlain trace) where
       }
 
   module _ (one_act : ActsAreOne trace) (laws : Laws (setting trace)) (joint : Joint (setting trace))
-      (facts : UpdateFacts trace) where
+      (facts : UpdateFacts trace) (once : NoneIsRepeated trace) where
     abbrev update_of : OpRecord → List (ObjectId × Method) → Update
     update_of operation parts = record { client = operation.client; number = operation.number; parts = parts }
 
     -- the event of such a step hands over the request of an act
-    turn_asked : (time : ℕ) (update : Update) → (turn : IsTurnOf trace laws joint one_act facts time update)
+    turn_asked : (time : ℕ) (update : Update) → (turn : IsTurnOf trace laws joint one_act facts once time update)
         → (object : ObjectId) × (candidate : Candidate) × TakesAct time object candidate
     turn_asked time update it =
         let within : time < (setting trace).last = (it.turn).within in
@@ -300,7 +300,7 @@ module _ (trace : Trace) (is_run : IsRun trace) (have : ArePlain trace) where
     -- an update began before the step that decides it: before its candidate was accepted first
     turn_begun : (time : ℕ) (operation : OpRecord) → Contains (operations_of trace.entries) operation
         → (parts : List (ObjectId × Method))
-        → IsTurnOf trace laws joint one_act facts time (update_of operation parts) → operation.invoked ≤ time
+        → IsTurnOf trace laws joint one_act facts once time (update_of operation parts) → operation.invoked ≤ time
     turn_begun time operation among parts it =
         let within : time < (setting trace).last = (it.turn).within in
         elim (first_new (setting trace) laws (suc time) within it.object it.candidate
@@ -339,7 +339,7 @@ module _ (trace : Trace) (is_run : IsRun trace) (have : ArePlain trace) where
     -- how an operation takes effect at the event of the entry with this index
     data Takes (time : ℕ) (operation : OpRecord) : Type 0 where
       decided : (parts : List (ObjectId × Method))
-          → IsTurnOf trace laws joint one_act facts time (update_of operation parts) → Takes time operation
+          → IsTurnOf trace laws joint one_act facts once time (update_of operation parts) → Takes time operation
       answered : (query : List (ObjectId × Ask)) → operation.op ≡ op.Query query
           → IsAskedAt trace time operation.client operation.number → Takes time operation
 
@@ -363,8 +363,8 @@ module _ (trace : Trace) (is_run : IsRun trace) (have : ArePlain trace) where
         → effect_of trace operation event what → TakesAt event operation
     takes_at operation event (op.Act parts) is effect =
         let it : (time : ℕ) × (event ≡ suc time)
-        × IsTurnOf trace laws joint one_act facts time (update_of operation parts) =
-        turn_at trace laws joint one_act facts (update_of operation parts) event effect in
+        × IsTurnOf trace laws joint one_act facts once time (update_of operation parts) =
+        turn_at trace laws joint one_act facts once (update_of operation parts) event effect in
         let within : it.0 < (setting trace).last = ((it.2).turn).within in
         record {
           time = it.0;
@@ -376,15 +376,6 @@ module _ (trace : Trace) (is_run : IsRun trace) (have : ArePlain trace) where
 
     point_takes : (point : Point) → (is : IsOperationPoint trace point) → TakesAt point.event is.operation
     point_takes point is = takes_at is.operation point.event is.operation.op refl is.effect
-
-    -- a point is at an event of the trace
-    pub point_bounds : (point : Point) → IsOperationPoint trace point → (1 ≤ point.event)
-        × (point.event ≤ length trace.entries)
-    point_bounds point is =
-        let it : TakesAt point.event is.operation = point_takes point is in
-        let event : point.event ≡ suc it.time = it.is_after in
-        let within : it.time < length trace.entries = it.within in
-        (omega arith, omega arith)
 
     begun : (time : ℕ) (operation : OpRecord) → Contains (operations_of trace.entries) operation
         → Takes time operation → operation.invoked ≤ time
@@ -401,7 +392,7 @@ module _ (trace : Trace) (is_run : IsRun trace) (have : ArePlain trace) where
         omega arith
 
     -- an event that decides an update answers no query
-    not_both : (time : ℕ) (update : Update) → IsTurnOf trace laws joint one_act facts time update
+    not_both : (time : ℕ) (update : Update) → IsTurnOf trace laws joint one_act facts once time update
         → (operation : OpRecord) → Contains (operations_of trace.entries) operation
         → (query : List (ObjectId × Ask)) → operation.op ≡ op.Query query
         → IsAskedAt trace time operation.client operation.number → ⊥
@@ -423,7 +414,7 @@ module _ (trace : Trace) (is_run : IsRun trace) (have : ArePlain trace) where
     one_takes time first second one two (Takes.decided parts turn) (Takes.decided others other) =
         let same : update_of first parts ≡ update_of second others =
         one_update (setting trace) laws joint Update (IsOf trace) (one_of trace one_act) facts.shared
-        facts.spread facts.once (acts trace) (update_of first parts) (update_of second others)
+        facts.spread once (acts trace) (update_of first parts) (update_of second others)
         time turn.object other.object turn.candidate other.candidate turn.is_of other.is_of turn.turn other.turn in
         (ap (λ (it : Update). it.client) same, ap (λ (it : Update). it.number) same)
     one_takes time first second one two (Takes.decided parts turn) (Takes.answered query is asked) =
@@ -434,10 +425,90 @@ module _ (trace : Trace) (is_run : IsRun trace) (have : ArePlain trace) where
         let same = one_asked trace time first.client second.client first.number second.number asked besides in
         (same.0, same.1)
 
-    -- points differ in their events
-    pub points_apart : (first second : Point) → IsOperationPoint trace first → IsOperationPoint trace second
+    -- ---- points of faulty clients
+
+    -- the update of a point of a faulty client
+    abbrev update_by : (point : Point) → IsFaultyPoint trace point → Update
+    update_by point is = record { client = point.client; number = point.number; parts = is.parts }
+
+    -- it takes effect at the event of the entry with this index
+    record TurnsAt (event : ℕ) (update : Update) : Type 0 where
+      time : ℕ
+      is_after : event ≡ suc time
+      within : time < length trace.entries
+      turn : IsTurnOf trace laws joint one_act facts once time update
+
+    faulty_turns : (point : Point) → (is : IsFaultyPoint trace point) → TurnsAt point.event (update_by point is)
+    faulty_turns point is =
+        let it = turn_at trace laws joint one_act facts once (update_by point is) point.event is.effect in
+        let within : it.0 < (setting trace).last = ((it.2).turn).within in
+        record { time = it.0; is_after = it.1; within = omega (arith, last_is trace, within); turn = it.2 }
+
+    -- a point is at an event of the trace
+    pub point_bounds : (point : Point) → IsPoint trace point → (1 ≤ point.event) × (point.event ≤ length trace.entries)
+    point_bounds point (inl is) =
+        let it : TakesAt point.event is.operation = point_takes point is in
+        let event : point.event ≡ suc it.time = it.is_after in
+        let within : it.time < length trace.entries = it.within in
+        (omega arith, omega arith)
+    point_bounds point (inr is) =
+        let it : TurnsAt point.event (update_by point is) = faulty_turns point is in
+        let event : point.event ≡ suc it.time = it.is_after in
+        let within : it.time < length trace.entries = it.within in
+        (omega arith, omega arith)
+
+    -- an event that decides an update of a faulty client is where no operation takes effect
+    not_of_both : (time : ℕ) (update : Update) → IsTurnOf trace laws joint one_act facts once time update
+        → is_faulty trace.setup (party.Client update.client) ≡ true
+        → (operation : OpRecord) → Contains (operations_of trace.entries) operation → Takes time operation → ⊥
+    not_of_both time update turn declared operation among (Takes.decided parts other) =
+        let same : update ≡ update_of operation parts =
+        one_update (setting trace) laws joint Update (IsOf trace) (one_of trace one_act) facts.shared
+        facts.spread once (acts trace) update (update_of operation parts) time turn.object other.object turn.candidate
+        other.candidate turn.is_of other.is_of turn.turn other.turn in
+        false≢true (sym (own_client trace is_run operation among)
+        ∙ ap (λ (it : Update). is_faulty trace.setup (party.Client it.client)) (sym same) ∙ declared)
+    not_of_both time update turn declared operation among (Takes.answered query is asked) =
+        not_both time update turn operation among query is asked
+
+    apart_from_faulty : (first second : Point) → (one : IsOperationPoint trace first)
+        → (two : IsFaultyPoint trace second)
+        → first.event ≡ second.event → ⊥
+    apart_from_faulty first second one two same =
+        let it : TakesAt first.event one.operation = point_takes first one in
+        let its : TurnsAt second.event (update_by second two) = faulty_turns second two in
+        let event : first.event ≡ suc it.time = it.is_after in
+        let other : second.event ≡ suc its.time = its.is_after in
+        let time : it.time ≡ its.time = omega arith in
+        not_of_both its.time (update_by second two) its.turn two.declared one.operation one.of_trace
+        (subst (λ (at : ℕ). Takes at one.operation) time it.takes)
+
+    -- points of faulty clients with one update are one
+    same_faulty : (first second : Point) → (one : IsFaultyPoint trace first) → (two : IsFaultyPoint trace second)
+        → first.event ≡ second.event → update_by first one ≡ update_by second two → first ≡ second
+    same_faulty first second one two event same =
+        same_point first second event (ap (λ (it : Update). it.client) same) (ap (λ (it : Update). it.number) same)
+        (one.op ∙ ap (λ (it : Update). op.Act it.parts) same ∙ sym two.op) (one.mark ∙ sym two.mark)
+
+    faulty_apart : (first second : Point) → IsFaultyPoint trace first → IsFaultyPoint trace second
         → first.event ≡ second.event → first ≡ second
-    points_apart first second one two same =
+    faulty_apart first second one two same =
+        let it : TurnsAt first.event (update_by first one) = faulty_turns first one in
+        let its : TurnsAt second.event (update_by second two) = faulty_turns second two in
+        let event : first.event ≡ suc it.time = it.is_after in
+        let other : second.event ≡ suc its.time = its.is_after in
+        let time : it.time ≡ its.time = omega arith in
+        let here : IsTurnOf trace laws joint one_act facts once its.time (update_by first one) =
+        subst (λ (at : ℕ). IsTurnOf trace laws joint one_act facts once at (update_by first one)) time it.turn in
+        let there : IsTurnOf trace laws joint one_act facts once its.time (update_by second two) = its.turn in
+        same_faulty first second one two same
+        (one_update (setting trace) laws joint Update (IsOf trace) (one_of trace one_act) facts.shared
+        facts.spread once (acts trace) (update_by first one) (update_by second two) its.time here.object there.object
+        here.candidate there.candidate here.is_of there.is_of here.turn there.turn)
+
+    operations_apart : (first second : Point) → IsOperationPoint trace first → IsOperationPoint trace second
+        → first.event ≡ second.event → first ≡ second
+    operations_apart first second one two same =
         let it : TakesAt first.event one.operation = point_takes first one in
         let its : TakesAt second.event two.operation = point_takes second two in
         let event : first.event ≡ suc it.time = it.is_after in
@@ -449,3 +520,11 @@ module _ (trace : Trace) (is_run : IsRun trace) (have : ArePlain trace) where
         (subst (λ (at : ℕ). Takes at one.operation) time it.takes) its.takes in
         one_point trace first second one two (sym one.client ∙ fields.0 ∙ two.client)
         (sym one.number ∙ fields.1 ∙ two.number)
+
+    -- points differ in their events
+    pub points_apart : (first second : Point) → IsPoint trace first → IsPoint trace second
+        → first.event ≡ second.event → first ≡ second
+    points_apart first second (inl one) (inl two) same = operations_apart first second one two same
+    points_apart first second (inl one) (inr two) same = absurd (apart_from_faulty first second one two same)
+    points_apart first second (inr one) (inl two) same = absurd (apart_from_faulty second first two one (sym same))
+    points_apart first second (inr one) (inr two) same = faulty_apart first second one two same

@@ -1,4 +1,5 @@
--- An order of operations holds those of its trace alone, each once and after it began.
+-- A printed order holds the operations of its trace, each once and after it began, and updates of faulty clients, each
+-- once.
 use Rattle.std.proofs.Common.{◌≡◌, ℕ, zero, suc, ◌<◌, true, false, List, [], ◌∷◌, Some, sym, ap, subst, ◌∙◌, arith, inl, inr}
 use Rattle.std.specs.Prelude.{slice_get, Contains}
 use Rattle.std.proofs.lemmas.Bool.{false≢true, cases_order}
@@ -6,7 +7,7 @@ use Rattle.std.proofs.lemmas.Option.{none-some, same_Some}
 use Rattle.qu_base.specs.declared.party.ClientId.{ClientId}
 use Rattle.qu_machine.specs.declared.record.OpRecord.{OpRecord}
 use Rattle.qu_machine.specs.declared.record.Point.{Point}
-use Rattle.qu_machine.specs.Serial.{Stands, StandsAt, StandsAtMostOnce, IsKnown, IsLoneUpdate}
+use Rattle.qu_machine.specs.Serial.{Stands, StandsAt, StandsAtMostOnce, IsKnown, IsUpdate, Agree, IsLoneUpdate}
 use Rattle.qu_machine.proofs.Firsts.{contains_at}
 use Rattle.qu_trace.specs.declared.trace.Trace.{Trace}
 use Rattle.qu_trace.specs.Operation.{operations_of}
@@ -14,11 +15,17 @@ use Rattle.qu_world.specs.Run.{IsRun}
 use Rattle.qu_chain.specs.Laws.{Laws}
 use Rattle.qu_chain.specs.Joint.{Joint}
 use Rattle.qu_runs.specs.Setting.{setting}
-use Rattle.qu_values.proofs.UpdateFacts.{UpdateFacts}
+use Rattle.qu_values.proofs.UpdateFacts.{UpdateFacts, NoneIsRepeated}
 use Rattle.qu_values.proofs.OneAct.{ActsAreOne}
-use Rattle.qu_points.specs.Order.{is_earlier, are_in_order, IsOperationPoint}
+use Rattle.qu_points.specs.Order.{is_earlier, are_in_order, IsOperationPoint, IsFaultyPoint, IsPoint, IsPrintedOrder, DecidesAt}
+use Rattle.qu_points.specs.Points.{as_operation}
+use Rattle.qu_points.proofs.Taking.{effect_once}
+use Rattle.qu_runs.proofs.Small.{same_point}
+use Rattle.qu_base.specs.declared.party.ObjectId.{ObjectId}
+use Rattle.qu_objects.specs.declared.act.Method.{Method}
+use Rattle.qu_objects.specs.declared.op.Op.{Op}
+use Rattle.qu_objects.specs.declared.op.Op.TheVariants as op
 use Rattle.qu_runs.specs.Plain.{ArePlain}
-use Rattle.qu_safety.proofs.NoFaulty.{IsOperationOrder}
 use Rattle.qu_safety.proofs.PointEvents.{begun_before, one_point}
 use Rattle.qu_points.proofs.Recorded.{recorded_op}
 use Rattle.qu_points.proofs.Sorted.{is_earlier-self, is_earlier-chain, in_order_parts, in_order_tail}
@@ -64,15 +71,29 @@ one_place points at other point order here there =
 
 -- ---- what an order of operations holds
 
-module _ (trace : Trace) (order : List Point) (is_order : IsOperationOrder trace order) where
-  pub point_at_place : (at : ℕ) (point : Point) → slice_get order at ≡ Some point → IsOperationPoint trace point
-  point_at_place at point there = is_order.sound point (contains_at order at point there)
+module _ (trace : Trace) (order : List Point) (is_order : IsPrintedOrder trace order) where
+  -- a point without the mark is one of an operation
+  by_operation : (point : Point) → IsPoint trace point → point.faulty ≡ false → IsOperationPoint trace point
+  by_operation point (inl it) correct = it
+  by_operation point (inr it) correct = absurd (false≢true (sym correct ∙ it.mark))
 
-  -- each point is one of the operations
+  by_faulty : (point : Point) → IsPoint trace point → point.faulty ≡ true → IsFaultyPoint trace point
+  by_faulty point (inl it) faulty = absurd (false≢true (sym it.mark ∙ faulty))
+  by_faulty point (inr it) faulty = it
+
+  pub is_point_at : (at : ℕ) (point : Point) → slice_get order at ≡ Some point → IsPoint trace point
+  is_point_at at point there = is_order.sound point (contains_at order at point there)
+
+  pub point_at_place : (operation : OpRecord) (at : ℕ) (point : Point) → StandsAt operation order at point
+      → IsOperationPoint trace point
+  point_at_place operation at point here =
+      by_operation point (is_point_at at point here.there) (here.stands).correct
+
+  -- each point without the mark is one of the operations
   pub points_known : (at : ℕ) (point : Point) → slice_get order at ≡ Some point → point.faulty ≡ false → IsKnown
       (operations_of trace.entries) point
   points_known at point there correct =
-      let is : IsOperationPoint trace point = point_at_place at point there in
+      let is : IsOperationPoint trace point = by_operation point (is_point_at at point there) correct in
       record {
         operation = is.operation;
         of_list = is.of_trace;
@@ -80,10 +101,40 @@ module _ (trace : Trace) (order : List Point) (is_order : IsOperationOrder trace
             { correct = correct; client = is.client; number = is.number; op = is.op };
       }
 
-  -- no point is that of a faulty client
+  -- an update of a faulty client has one point
+  one_faulty : (first second : Point) → (one : IsFaultyPoint trace first) → (two : IsFaultyPoint trace second)
+      → Agree first second → first ≡ second
+  one_faulty first second one two agree =
+      let parts : one.parts ≡ two.parts = acts_are one.parts two.parts (sym one.op ∙ agree.op ∙ two.op) in
+      same_point first second
+      (effect_once trace (as_operation (second.client, second.number, two.parts)) first.event second.event
+      (op.Act two.parts)
+      (subst (λ (its : List (ObjectId × Method)). DecidesAt trace second.client second.number its first.event) parts
+      (subst (λ (it : ℕ). DecidesAt trace second.client it one.parts first.event) agree.number
+      (subst (λ (it : ClientId). DecidesAt trace it first.number one.parts first.event) agree.client one.effect)))
+      two.effect)
+      agree.client agree.number agree.op agree.faulty
+    where
+      acts_are : (parts others : List (ObjectId × Method)) → op.Act parts ≡ op.Act others → parts ≡ others
+      acts_are parts others same = cc
+
+  is_update : (point : Point) (what : Op) (parts : List (ObjectId × Method)) → what ≡ op.Act parts → IsUpdate what
+  is_update point (op.Act act) parts is = tt
+  is_update point (op.Query query) parts is = absurd (cc)
+
+  -- each point with the mark is one of an update, and agrees with no other
   pub points_faulty : (at : ℕ) (point : Point) → slice_get order at ≡ Some point → point.faulty ≡ true
       → IsLoneUpdate order at point
-  points_faulty at point there faulty = absurd (false≢true (sym (point_at_place at point there).mark ∙ faulty))
+  points_faulty at point there faulty =
+      let is : IsFaultyPoint trace point = by_faulty point (is_point_at at point there) faulty in
+      record {
+        update = is_update point point.op is.parts is.op;
+        alone = λ other second besides agree.
+            let its : IsFaultyPoint trace second =
+            by_faulty second (is_point_at other second besides) (sym agree.faulty ∙ faulty) in
+            one_place order at other second is_order.in_order
+            (there ∙ ap Some (one_faulty point second is its agree)) besides;
+      }
 
   -- the operation that stands at a place is that of the point
   pub stands_of : (operation : OpRecord) → Contains (operations_of trace.entries) operation → (point : Point)
@@ -96,19 +147,20 @@ module _ (trace : Trace) (order : List Point) (is_order : IsOperationOrder trace
       → StandsAt operation order other second → other ≡ at
   stands_alone operation at other first second here there =
       let same : first ≡ second =
-      one_point trace first second (point_at_place at first here.there) (point_at_place other second there.there)
+      one_point trace first second (point_at_place operation at first here)
+      (point_at_place operation other second there)
       (sym (here.stands).client ∙ (there.stands).client) (sym (here.stands).number ∙ (there.stands).number) in
       one_place order at other second is_order.in_order (here.there ∙ ap Some same) there.there
 
   module _ (is_run : IsRun trace) (have : ArePlain trace) (one_act : ActsAreOne trace) (laws : Laws (setting trace))
-      (joint : Joint (setting trace)) (facts : UpdateFacts trace) where
+      (joint : Joint (setting trace)) (facts : UpdateFacts trace) (once : NoneIsRepeated trace) where
     -- each operation stands at one place at most, after its invocation
     pub stand_at_most_once : (operation : OpRecord) → Contains (operations_of trace.entries) operation
         → StandsAtMostOnce operation order
     stand_at_most_once operation of_trace = record {
       alone = stands_alone operation;
       after = λ at point here.
-          let is : IsOperationPoint trace point = point_at_place at point here.there in
+          let is : IsOperationPoint trace point = point_at_place operation at point here in
           subst (λ (it : OpRecord). it.invoked < point.event) (stands_of operation of_trace point here.stands is)
-          (begun_before trace is_run have one_act laws joint facts point is);
+          (begun_before trace is_run have one_act laws joint facts once point is);
     }

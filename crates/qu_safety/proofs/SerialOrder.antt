@@ -1,5 +1,5 @@
--- The order of the points of its operations is a serial order of the operations of a run.
-use Rattle.std.proofs.Common.{◌≡◌, ℕ, zero, suc, ◌-◌, ◌<◌, ◌≤◌, List, [], ◌∷◌, length, take, Some, refl, sym, ap, subst, ◌∙◌, arith}
+-- The printed order of a run is a serial order of its operations.
+use Rattle.std.proofs.Common.{◌≡◌, ℕ, zero, suc, ◌-◌, ◌<◌, ◌≤◌, List, [], ◌∷◌, length, take, Some, refl, sym, ap, subst, ◌∙◌, arith, inl}
 use Rattle.std.specs.Prelude.{slice_get, slice_index_or, Contains}
 use Rattle.std.specs.List.{AllZip}
 use Rattle.std.proofs.lemmas.List.Elements.{All-contains}
@@ -29,14 +29,13 @@ use Rattle.qu_trace.specs.Operation.{operations_of}
 use Rattle.qu_world.specs.Run.{IsRun}
 use Rattle.qu_runs.specs.Plain.{ArePlain}
 use Rattle.qu_runs.specs.Setting.{setting}
-use Rattle.qu_points.specs.Order.{DecidesAt, effect_of, IsOperationPoint}
+use Rattle.qu_points.specs.Order.{DecidesAt, effect_of, IsOperationPoint, IsPrintedOrder}
 use Rattle.qu_points.specs.Points.{IsOfCorrect, point_at}
 use Rattle.qu_points.proofs.Correct.{operations_correct}
 use Rattle.qu_points.proofs.Rising.{rising_from_order}
 use Rattle.qu_rounds.proofs.OneRound.{one_round_request}
 use Rattle.qu_values.specs.Updates.{Update, IsOf}
 use Rattle.qu_values.specs.Values.{HasVersion}
-use Rattle.qu_safety.proofs.NoFaulty.{IsOperationOrder}
 use Rattle.qu_safety.proofs.ActPoints.{StandsBefore, IsTurnOf, turn_of, act_has_point, quiet_values, loud_values}
 use Rattle.qu_safety.proofs.CompletedActs.{CompletedAct, completed_act}
 use Rattle.qu_safety.proofs.CompletedQueries.{CompletedQuery, HasTopValue, completed_query, point_of_query, query_has_point}
@@ -45,9 +44,9 @@ use Rattle.qu_safety.proofs.KnownRuns.{completion}
 use Rattle.qu_values.proofs.MachineValues.{IsValues, step_of, first_values, value_of_top, done, Steps, befores_are}
 use Rattle.qu_values.proofs.OneAct.{ActsAreOne}
 use Rattle.qu_safety.proofs.PointEvents.{point_bounds, one_point, points_apart}
-use Rattle.qu_safety.proofs.SerialFields.{point_at_place, points_known, points_faulty, stand_at_most_once, stands_of}
+use Rattle.qu_safety.proofs.SerialFields.{is_point_at, point_at_place, points_known, points_faulty, stand_at_most_once, stands_of}
 use Rattle.qu_values.proofs.Updates.{last_is, acts, one_of, one_companion}
-use Rattle.qu_values.proofs.UpdateFacts.{IsPerformed, UpdateFacts}
+use Rattle.qu_values.proofs.UpdateFacts.{IsPerformed, UpdateFacts, NoneIsRepeated}
 
 -- a member of a list stands at a place
 record PlaceOf (order : List Point) (point : Point) : Type 0 where
@@ -64,32 +63,34 @@ place_of : (order : List Point) (point : Point) → Contains order point → Pla
 place_of order point held = record { at = held.0; there = index_in order held.0 point held.1 held.2 }
 
 module _ (trace : Trace) (is_run : IsRun trace) (have : ArePlain trace) (one_act : ActsAreOne trace)
-    (laws : Laws (setting trace)) (joint : Joint (setting trace)) (facts : UpdateFacts trace) (order : List Point)
-    (printed : IsOperationOrder trace order) where
+    (laws : Laws (setting trace)) (joint : Joint (setting trace)) (facts : UpdateFacts trace)
+    (once : NoneIsRepeated trace) (order : List Point)
+    (printed : IsPrintedOrder trace order) where
   -- the client of an operation is correct
   own : (operation : OpRecord) → Contains (operations_of trace.entries) operation → IsOfCorrect trace.setup operation
   own operation among =
-      All-contains (IsOfCorrect trace.setup) (operations_of trace.entries) operation (operations_correct trace is_run) among
+      All-contains (IsOfCorrect trace.setup) (operations_of trace.entries) operation (operations_correct trace is_run)
+      among
 
   rising : IsRising order
   rising = rising_from_order order printed.in_order
       (λ first second one two same.
-      points_apart trace is_run have one_act laws joint facts first second (printed.sound first one)
+      points_apart trace is_run have one_act laws joint facts once first second (printed.sound first one)
       (printed.sound second two) same)
 
   -- ---- the values of the machine at a point
 
   abbrev Values : ℕ → List Value → Type 0
-  Values time values = IsValues trace laws joint one_act facts time values
+  Values time values = IsValues trace laws joint one_act facts once time values
 
   values_along : (at : ℕ) (point : Point) → slice_get order at ≡ Some point → (time : ℕ) → point.event ≡ suc time
       → Values time (values_after trace.setup.kinds (take at order))
   values_along at point there time same =
-      fold_along trace.setup.kinds order (length trace.entries) (IsValues trace laws joint one_act facts) rising
-      (λ it held. point_bounds trace is_run have one_act laws joint facts it (printed.sound it held))
-      (first_values trace laws joint one_act facts)
-      (quiet_values trace laws joint one_act facts order printed (operations_correct trace is_run))
-      (loud_values trace laws joint one_act facts order printed)
+      fold_along trace.setup.kinds order (length trace.entries) (IsValues trace laws joint one_act facts once) rising
+      (λ it held. point_bounds trace is_run have one_act laws joint facts once it (printed.sound it held))
+      (first_values trace laws joint one_act facts once)
+      (quiet_values trace laws joint one_act facts once is_run have order printed)
+      (loud_values trace laws joint one_act facts once order printed)
       at point there time same
 
   -- the values of the objects that a query names
@@ -102,7 +103,7 @@ module _ (trace : Trace) (is_run : IsRun trace) (have : ArePlain trace) (one_act
   values_asked time within values are (part ∷ parts) [] each = absurd each
   values_asked time within values are (part ∷ parts) (value ∷ tops) each =
       let it : HasTopValue trace time part.0 value = each.0 in
-      rw (value_of_top trace laws joint one_act facts time (omega (arith, last_is trace, within)) values are part.0
+      rw (value_of_top trace laws joint one_act facts once time (omega (arith, last_is trace, within)) values are part.0
       it.base
       value it.top it.has)
       (ap (λ (more : List Value). value ∷ more) (values_asked time within values are parts tops each.1))
@@ -115,7 +116,8 @@ module _ (trace : Trace) (is_run : IsRun trace) (have : ArePlain trace) (one_act
   stands_before operation among reply answer replied (op.Act act) is =
       let it : CompletedAct trace operation reply answer =
       completed_act trace is_run have laws joint facts operation among reply answer replied act is in
-      act_has_point trace laws joint one_act facts operation among (own operation among) it.parts it.is_act reply it.begins it.within
+      act_has_point trace laws joint one_act facts once operation among (own operation among) it.parts it.is_act reply
+      it.begins it.within
       it.object it.candidate it.is_of it.decided
   stands_before operation among reply answer replied (op.Query query) is =
       let found =
@@ -128,16 +130,16 @@ module _ (trace : Trace) (is_run : IsRun trace) (have : ArePlain trace) (one_act
   completed operation reply answer among completes =
       let it : StandsBefore trace operation reply =
       stands_before operation among reply answer completes operation.op refl in
-      let place : PlaceOf order it.point = place_of order it.point (printed.complete it.point it.is_point) in
-      let once : StandsAtMostOnce operation order =
-      stand_at_most_once trace order printed is_run have one_act laws joint facts operation among in
+      let place : PlaceOf order it.point = place_of order it.point (printed.complete it.point (inl it.is_point)) in
+      let at_most : StandsAtMostOnce operation order =
+      stand_at_most_once trace order printed is_run have one_act laws joint facts once operation among in
       let here : StandsAt operation order place.at it.point = record { there = place.there; stands = it.stands } in
       record {
         at = place.at;
         point = it.point;
         stands = here;
-        alone = λ other second there. once.alone place.at other it.point second here there;
-        after = once.after place.at it.point here;
+        alone = λ other second there. at_most.alone place.at other it.point second here there;
+        after = at_most.after place.at it.point here;
         before = it.before;
       }
 
@@ -145,7 +147,7 @@ module _ (trace : Trace) (is_run : IsRun trace) (have : ArePlain trace) (one_act
 
   -- the machine's answer to an update at the step that decides it is that stored with each of its candidates
   act_answers_at : (update : Update) (time : ℕ) (values : List Value) → Values time values
-      → IsTurnOf trace laws joint one_act facts time update
+      → IsTurnOf trace laws joint one_act facts once time update
       → (object : ObjectId) (candidate : Candidate) → IsOf trace update object candidate
       → IsDecided (setting trace) (setting trace).last object candidate
       → (version : Version) → HasVersion trace object candidate version
@@ -153,25 +155,28 @@ module _ (trace : Trace) (is_run : IsRun trace) (have : ArePlain trace) (one_act
   act_answers_at update time values are here object candidate is_of decided version has =
       let within : time < (setting trace).last = (here.turn).within in
       let performed : IsPerformed trace update here.object here.candidate =
-      done trace laws joint one_act facts time within values are update here.object here.candidate here.is_of here.turn
+      done trace laws joint one_act facts once time within values are update here.object here.candidate here.is_of
+      here.turn
       in
       let found =
-      step_of (Steps trace laws joint one_act facts time within values are update here.object here.candidate here.is_of
+      step_of (Steps trace laws joint one_act facts once time within values are update here.object here.candidate
+      here.is_of
       here.turn)
       object update.parts performed.steps performed.each is_of.names in
-      let once : IsOneAct (setting trace) here.object object here.candidate candidate =
+      let one : IsOneAct (setting trace) here.object object here.candidate candidate =
       decided_once (setting trace) laws joint Update (IsOf trace) (one_of trace one_act) facts.shared
-      facts.spread facts.once (acts trace) update here.object object here.candidate candidate
+      facts.spread once (acts trace) update here.object object here.candidate candidate
       here.is_of is_of (decided_at_last (setting trace) laws joint time here.object here.candidate here.turn) decided in
       let same : (found.1).companion ≡ candidate =
       one_companion trace laws joint here.object object here.candidate (found.1).companion candidate
-      (found.1).is_companion once (found.1).accepted
+      (found.1).is_companion one (found.1).accepted
       (accepted_by_decided (setting trace) laws (setting trace).last object candidate decided) in
       let versions : (found.1).version ≡ version =
       facts.one_version object candidate (found.1).version version
       (subst (λ (it : Candidate). HasVersion trace object it (found.1).version) same (found.1).has) has in
       ap (performed_answer update.parts)
-      (befores_are trace laws joint one_act facts time within values are update here.object here.candidate here.is_of
+      (befores_are trace laws joint one_act facts once time within values are update here.object here.candidate
+      here.is_of
       here.turn)
       ∙ sym (found.1).answer_is
       ∙ ap (λ (it : Version). it.answer) versions
@@ -182,7 +187,7 @@ module _ (trace : Trace) (is_run : IsRun trace) (have : ArePlain trace) (one_act
       → StandsAt operation order at point → (time : ℕ) → point.event ≡ suc time
       → answer_at trace.setup.kinds order at point ≡ answer
   act_answers operation reply answer among completes act is_act at point here time same =
-      let it : IsOperationPoint trace point = point_at_place trace order printed at point here.there in
+      let it : IsOperationPoint trace point = point_at_place trace order printed operation at point here in
       let done : CompletedAct trace operation reply answer =
       completed_act trace is_run have laws joint facts operation among reply answer completes act is_act in
       let operations : it.operation ≡ operation = stands_of trace order printed operation among point here.stands it in
@@ -192,8 +197,8 @@ module _ (trace : Trace) (is_run : IsRun trace) (have : ArePlain trace) (one_act
       subst (λ (event : ℕ). DecidesAt trace operation.client operation.number done.parts event) same
       (subst (λ (one : Op). effect_of trace operation point.event one) done.is_act effect) in
       let update : Update = record { client = operation.client; number = operation.number; parts = done.parts } in
-      let turn : IsTurnOf trace laws joint one_act facts time update =
-      turn_of trace laws joint one_act facts update time decides in
+      let turn : IsTurnOf trace laws joint one_act facts once time update =
+      turn_of trace laws joint one_act facts once update time decides in
       let are : Values time (values_after trace.setup.kinds (take at order)) =
       values_along at point here.there time same in
       let ends : reply ≤ length trace.entries = done.within in
@@ -213,15 +218,17 @@ module _ (trace : Trace) (is_run : IsRun trace) (have : ArePlain trace) (one_act
       let done : CompletedQuery trace operation reply answer =
       completed_query trace is_run have laws joint facts (completion trace is_run have)
       (one_round_request trace is_run have) operation among reply answer completes query is_query in
-      let there : IsOperationPoint trace (point_at trace.setup operation done.event) × Stands operation (point_at trace.setup operation done.event) =
+      let there : IsOperationPoint trace (point_at trace.setup operation done.event)
+      × Stands operation (point_at trace.setup operation done.event) =
       point_of_query trace operation among (own operation among) reply answer completes done in
       let same : point ≡ point_at trace.setup operation done.event =
-      one_point trace point (point_at trace.setup operation done.event) (point_at_place trace order printed at point here.there)
+      one_point trace point (point_at trace.setup operation done.event)
+      (point_at_place trace order printed operation at point here)
       there.0 (sym (here.stands).client) (sym (here.stands).number) in
       let event : point.event ≡ suc done.time = ap (λ (it : Point). it.event) same ∙ done.is_after in
       let bounds : (1 ≤ point.event) × (point.event ≤ length trace.entries) =
-      point_bounds trace is_run have one_act laws joint facts point
-      (point_at_place trace order printed at point here.there) in
+      point_bounds trace is_run have one_act laws joint facts once point
+      (is_point_at trace order printed at point here.there) in
       let most : point.event ≤ length trace.entries = bounds.1 in
       let are : Values done.time (values_after trace.setup.kinds (take at order)) =
       values_along at point here.there done.time event in
@@ -236,8 +243,8 @@ module _ (trace : Trace) (is_run : IsRun trace) (have : ArePlain trace) (one_act
       → answer_at trace.setup.kinds order at point ≡ answer
   answers_of operation reply answer among completes (op.Act act) is at point here =
       let bounds : (1 ≤ point.event) × (point.event ≤ length trace.entries) =
-      point_bounds trace is_run have one_act laws joint facts point
-      (point_at_place trace order printed at point here.there) in
+      point_bounds trace is_run have one_act laws joint facts once point
+      (is_point_at trace order printed at point here.there) in
       let some : 1 ≤ point.event = bounds.0 in
       act_answers operation reply answer among completes act is at point here (point.event - 1) (omega arith)
   answers_of operation reply answer among completes (op.Query query) is at point here =
@@ -247,7 +254,7 @@ module _ (trace : Trace) (is_run : IsRun trace) (have : ArePlain trace) (one_act
   serial = record {
     rising = rising;
     completed = completed;
-    once = stand_at_most_once trace order printed is_run have one_act laws joint facts;
+    once = stand_at_most_once trace order printed is_run have one_act laws joint facts once;
     known = points_known trace order printed;
     faulty = points_faulty trace order printed;
     answers = λ operation reply answer among completes at point here.

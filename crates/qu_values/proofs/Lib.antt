@@ -1,5 +1,6 @@
-pub mod OneAct
 pub mod SentRequests
+pub mod FitActs
+pub mod OneAct
 pub mod EverAccepted
 pub mod Updates
 pub mod OnceAccepted

@@ -37,7 +37,7 @@ use Rattle.qu_values.specs.Values.{HasVersion}
 use Rattle.qu_values.proofs.OneAct.{ActsAreOne}
 use Rattle.qu_values.proofs.PerformedUpdates.{performed}
 use Rattle.qu_values.proofs.Updates.{acts, one_of, same_accepted, one_companion}
-use Rattle.qu_values.proofs.UpdateFacts.{HasValue, MadeFor, ValueStep, befores, afters, IsStep, IsPerformed, UpdateFacts}
+use Rattle.qu_values.proofs.UpdateFacts.{HasValue, MadeFor, ValueStep, befores, afters, IsStep, IsPerformed, UpdateFacts, NoneIsRepeated}
 
 -- ---- lists
 
@@ -115,7 +115,7 @@ value_after P object value is values (part ∷ parts) (step ∷ steps) each belo
     elsewhere apart (inr same) = inr (set_other values (part.0).0 object.0 step.after apart ∙ same)
 
 module _ (trace : Trace) (laws : Laws (setting trace)) (joint : Joint (setting trace)) (one_act : ActsAreOne trace)
-    (facts : UpdateFacts trace) where
+    (facts : UpdateFacts trace) (once : NoneIsRepeated trace) where
   abbrev pub last : ℕ
   last = (setting trace).last
 
@@ -340,12 +340,10 @@ module _ (trace : Trace) (laws : Laws (setting trace)) (joint : Joint (setting t
           by other below old new (Moved.loud act is_act act_turn prior passes) =
               let made : MadeFor trace other act =
               facts.made other act (accepted_at_last (setting trace) laws joint time other act act_turn) is_act in
-              let its : Update =
-              record { client = (made.operation).client; number = (made.operation).number; parts = made.parts } in
-              let same : its ≡ update =
+              let same : made.update ≡ update =
               one_update (setting trace) laws joint Update (IsOf trace) (one_of trace one_act) facts.shared
-              facts.spread facts.once (acts trace)
-              its update time other object act candidate made.is_of is_of act_turn turn in
+              facts.spread once (acts trace)
+              made.update update time other object act candidate made.is_of is_of act_turn turn in
               let names : Names update.parts other =
               subst (λ (it : Update). Names it.parts other) same (made.is_of).names in
               let here : (step : ValueStep) × Steps other step =

@@ -1,5 +1,5 @@
 -- Where no two texts have one digest, two acts that were handled and have one digest are one.
-use Rattle.std.proofs.Common.{◌≡◌, ℕ, ◌<◌, ◌^◌, List, length, Some, refl, sym, ap, subst, ◌∙◌, arith}
+use Rattle.std.proofs.Common.{◌≡◌, ℕ, List, Some, refl, sym, ap, ◌∙◌, arith}
 use Rattle.std.specs.Prelude.{Contains}
 use Rattle.std.proofs.lemmas.Option.{same_Some}
 use Rattle.qu_base.specs.declared.party.ClientId.{ClientId}
@@ -18,12 +18,9 @@ use Rattle.qu_frames.specs.Body.{body_of}
 use Rattle.qu_trace.specs.declared.trace.Trace.{Trace}
 use Rattle.qu_world.specs.Run.{IsRun}
 use Rattle.qu_runs.specs.Digested.{Request, IsHandled, IsMadeFor, Text, texts_of, digested, NoCollision}
-use Rattle.qu_rounds.specs.Invocations.{IsRequestOf}
-use Rattle.qu_runs.specs.Plain.{HasOpParts, ArePlain}
-use Rattle.qu_values.proofs.SentRequests.{asked_by_handled}
-use Rattle.qu_runs.proofs.Ranges.{Fits, operation_fits}
+use Rattle.qu_runs.specs.Plain.{ArePlain}
+use Rattle.qu_values.proofs.FitActs.{IsFit, fit}
 use Rattle.qu_runs.proofs.DigestedTexts.{request_digested}
-use Rattle.qu_runs.specs.Premises.{OnlyReplicasAreFaulty}
 
 -- ---- its text was digested
 
@@ -37,29 +34,10 @@ text_digested trace client number parts it =
     let among : Contains (texts_of (Some request)) (text_of client number parts) = (1, omega arith, refl) in
     request_digested trace it.entry (Some request) (text_of client number parts) it.of_trace it.handled among
 
--- ---- its numbers fit
-
-pub record IsFit (who : ClientId) (turn : ℕ) (these : List (ObjectId × Method)) : Type 0 where
-  pub client : who.0 < 2 ^ 16
-  pub number : turn < 2 ^ 64
-  pub parts : HasOpParts (op.Act these)
-
+-- an operation that asks for an act is one
 pub act_by : (parts : List (ObjectId × Method)) (what : Op) → body.Act parts ≡ body_of what → what ≡ op.Act parts
 act_by parts (op.Act act) same = cc
 act_by parts (op.Query query) same = absurd (cc)
-
-pub fit : (trace : Trace) → IsRun trace → ArePlain trace → OnlyReplicasAreFaulty trace.setup
-    → (client : ClientId) (number : ℕ)
-    (parts : List (ObjectId × Method)) → IsHandled trace client number parts → IsFit client number parts
-fit trace is_run have only client number parts it =
-    let request : IsRequestOf trace (length trace.entries) client number (body.Act parts) =
-    asked_by_handled trace is_run have only client number parts it in
-    let fits : Fits request.operation = operation_fits trace is_run have request.operation request.of_trace in
-    record {
-      client = subst (λ (who : ClientId). who.0 < 2 ^ 16) request.of_client fits.client;
-      number = subst (λ (one : ℕ). one < 2 ^ 64) request.of_number fits.number;
-      parts = subst HasOpParts (act_by parts (request.operation).op request.asks) fits.parts;
-    }
 
 -- ---- acts of one digest
 
@@ -76,12 +54,10 @@ ActsAreOne trace = (client other : ClientId) (number turn : ℕ) (parts others :
     → act_digest client number parts ≡ act_digest other turn others → (client ≡ other) × (number ≡ turn)
     × (parts ≡ others)
 
-pub acts_are_one : (trace : Trace) → IsRun trace → ArePlain trace → OnlyReplicasAreFaulty trace.setup
-    → NoCollision trace
-    → ActsAreOne trace
-acts_are_one trace is_run have only no_collision client other number turn parts others one two same =
-    let first : IsFit client number parts = fit trace is_run have only client number parts one in
-    let second : IsFit other turn others = fit trace is_run have only other turn others two in
+pub acts_are_one : (trace : Trace) → IsRun trace → ArePlain trace → NoCollision trace → ActsAreOne trace
+acts_are_one trace is_run have no_collision client other number turn parts others one two same =
+    let first : IsFit client number parts = fit trace is_run have client number parts one in
+    let second : IsFit other turn others = fit trace is_run have other turn others two in
     let texts : text_of client number parts ≡ text_of other turn others =
     no_collision (text_of client number parts) (text_of other turn others)
     (text_digested trace client number parts one) (text_digested trace other turn others two)

@@ -1,4 +1,4 @@
--- A request that was handled was sent, and belongs to an operation.
+-- A request of a correct client that was handled was sent, and belongs to an operation.
 use Rattle.qu_runs.specs.Digested.{is_handler}
 use Rattle.std.proofs.Common.{◌≡◌, ℕ, ◌<◌, ◌≤◌, Bool, true, false, cond, List, length, Option, None, Some, refl, sym, ap, subst, ◌∙◌, arith, inl, inr}
 use Rattle.std.specs.Prelude.{Contains}
@@ -37,9 +37,8 @@ use Rattle.qu_runs.specs.Plain.{IsPlain, ArePlain}
 use Rattle.qu_runs.proofs.Carrying.{asks_so}
 use Rattle.qu_frames.specs.Signing.{brought, sender}
 use Rattle.qu_frames.proofs.Signed.{brought_is_decoded}
-use Rattle.qu_runs.proofs.Plain.{setup_after, no_client}
-use Rattle.qu_trace.specs.Faulty.{is_replica, is_faulty}
-use Rattle.qu_runs.specs.Premises.{OnlyReplicasAreFaulty}
+use Rattle.qu_runs.proofs.Plain.{setup_after}
+use Rattle.qu_trace.specs.Faulty.{is_faulty}
 use Rattle.std.proofs.lemmas.Bool.{false≢true}
 
 -- so it was made for the operation that the request is one of
@@ -74,7 +73,7 @@ carried setup me (frame.Request client number round sets asked mac) request is =
     (round, sets, mac, ap (λ (one : Request). frame.Request one.client one.number round sets one.body mac) same)
 carried setup me _ request is = absurd (none-some request is)
 
-carried_to : (setup : Setup) (text : List ℕ) (to : Party) (request : Request)
+pub carried_to : (setup : Setup) (text : List ℕ) (to : Party) (request : Request)
     → request_to setup text to ≡ Some request
     → (me : ReplicaId) × (request_brought setup me (brought (ring_of setup) to text) ≡ Some request)
 carried_to setup text (party.Replica me) request is = (
@@ -85,7 +84,7 @@ carried_to setup text (party.Replica me) request is = (
 carried_to setup text (party.Client me) request is = absurd (none-some request is)
 
 -- a frame was brought that is this request
-carried_so : (setup : Setup) (me : ReplicaId) (letter : Letter) (read : Option Frame) (request : Request)
+pub carried_so : (setup : Setup) (me : ReplicaId) (letter : Letter) (read : Option Frame) (request : Request)
     → brought (ring_of setup) letter.to letter.text ≡ read → request_brought setup me read ≡ Some request
     → (round : ℕ) × (sets : List SetOf) × Asks letter request.client request.number round sets request.body
 carried_so setup me letter (Some sent) request brings is =
@@ -97,7 +96,7 @@ carried_so setup me letter (Some sent) request brings is =
     )
 carried_so setup me letter None request brings is = absurd (none-some request is)
 
-sent_by : (trace : Trace) (number : ℕ) (found : Option Letter) (request : Request)
+pub sent_by : (trace : Trace) (number : ℕ) (found : Option Letter) (request : Request)
     → numbered (letters_of trace.entries) number ≡ found → request_by trace.setup found ≡ Some request
     → IsSent trace request
 sent_by trace number None request found is = absurd (none-some request is)
@@ -107,50 +106,54 @@ sent_by trace number (Some letter) request found is =
     to.1 in
     record { number = number; letter = letter; is_letter = found; round = it.0; sets = it.1; is_request = it.2 }
 
--- injected bytes that are handled were sent, where no client is faulty
-of_faulty_client : (setup : Setup) → list_all is_replica setup.liars ≡ true → (me : ReplicaId) (read : Option Frame)
-    (request : Request) → request_brought setup me read ≡ Some request
+-- injected bytes that are handled were sent, where the client of the request is correct
+of_faulty_client : (setup : Setup) (me : ReplicaId) (read : Option Frame) (request : Request)
+    → request_brought setup me read ≡ Some request → is_faulty setup (party.Client request.client) ≡ false
     → ((taken : Frame) → read ≡ Some taken → is_faulty setup (sender taken) ≡ true) → ⊥
-of_faulty_client setup only me None request is faulty = none-some request is
-of_faulty_client setup only me (Some (frame.Request client number round sets body mac)) request is faulty =
-    false≢true (sym (no_client setup.liars only client) ∙ faulty (frame.Request client number round sets body mac) refl)
-of_faulty_client setup only me (Some _) request is faulty = none-some request is
+of_faulty_client setup me None request is correct faulty = none-some request is
+of_faulty_client setup me (Some (frame.Request client number round sets body mac)) request is correct faulty =
+    let it : Request =
+    record { client = client; number = number; sets = culled (ring_of setup) me sets; body = body } in
+    let same : it ≡ request = (cond_some (list_all (is_known setup) sets) it request is).1 in
+    false≢true (sym (ap (λ (one : Request). is_faulty setup (party.Client one.client)) same ∙ correct)
+    ∙ faulty (frame.Request client number round sets body mac) refl)
+of_faulty_client setup me (Some _) request is correct faulty = none-some request is
 
-sent_before : (trace : Trace) → IsRun trace → OnlyReplicasAreFaulty trace.setup → (time : ℕ)
-    → time ≤ length trace.entries
+sent_before : (trace : Trace) → IsRun trace → (time : ℕ) → time ≤ length trace.entries
     → (to : Party) (text : List ℕ) → IsPlain (world_after trace time) (Inject to text) → (request : Request)
+    → is_faulty trace.setup (party.Client request.client) ≡ false
     → request_to trace.setup text to ≡ Some request → IsSent trace request
-sent_before trace is_run only time within to text (inl ignored) request is =
+sent_before trace is_run time within to text (inl ignored) request correct is =
     let none : request_to trace.setup text to ≡ None =
     ap (λ (setup : Setup). request_to setup text to) (sym (setup_after trace time)) ∙ ignored.nothing in
     absurd (none-some request (sym none ∙ is))
-sent_before trace is_run only time within to text (inr (inl sent)) request is =
+sent_before trace is_run time within to text (inr (inl sent)) request correct is =
     let letter : Letter = sent.letter in
     let given : request_to trace.setup letter.text letter.to ≡ Some request =
     ap (λ (it : List ℕ). request_to trace.setup it letter.to) sent.text_is
     ∙ ap (request_to trace.setup text) sent.to_is ∙ is in
     sent_by trace sent.number (Some letter) request
     (letter_stays trace is_run time within sent.number letter sent.is_letter) given
-sent_before trace is_run only time within to text (inr (inr made)) request is =
+sent_before trace is_run time within to text (inr (inr made)) request correct is =
     let given = carried_to trace.setup text to request is in
     let same : (setup : Setup) → Option Frame = λ setup. brought (ring_of setup) to text in
-    absurd (of_faulty_client trace.setup only given.0 (brought (ring_of trace.setup) to text) request given.1
+    absurd (of_faulty_client trace.setup given.0 (brought (ring_of trace.setup) to text) request given.1 correct
     (λ taken brings.
     let taken_is : made.taken ≡ taken =
     same_Some made.taken taken (sym made.brings ∙ ap same (setup_after trace time) ∙ brings) in
     ap (λ (setup : Setup). is_faulty setup (sender taken)) (sym (setup_after trace time))
     ∙ ap (λ (it : Frame). is_faulty (world_after trace time).setup (sender it)) (sym taken_is) ∙ made.faulty))
 
-pub sent : (trace : Trace) → IsRun trace → OnlyReplicasAreFaulty trace.setup → (time : ℕ)
-    → time ≤ length trace.entries → (event : Event)
-    → IsPlain (world_after trace time) event → (request : Request) → handled_by trace event ≡ Some request
+pub sent : (trace : Trace) → IsRun trace → (time : ℕ) → time ≤ length trace.entries → (event : Event)
+    → IsPlain (world_after trace time) event → (request : Request)
+    → is_faulty trace.setup (party.Client request.client) ≡ false → handled_by trace event ≡ Some request
     → IsSent trace request
-sent trace is_run only time within (Invoke client op) plain request is = absurd (none-some request is)
-sent trace is_run only time within (Deliver number) plain request is =
+sent trace is_run time within (Invoke client op) plain request correct is = absurd (none-some request is)
+sent trace is_run time within (Deliver number) plain request correct is =
     sent_by trace number (numbered (letters_of trace.entries) number) request refl is
-sent trace is_run only time within (Tick client) plain request is = absurd (none-some request is)
-sent trace is_run only time within (Inject to text) plain request is =
-    sent_before trace is_run only time within to text plain request is
+sent trace is_run time within (Tick client) plain request correct is = absurd (none-some request is)
+sent trace is_run time within (Inject to text) plain request correct is =
+    sent_before trace is_run time within to text plain request correct is
 
 -- each entry of a plain trace is plain
 pub plain_among : (trace : Trace) (entry : Entry) → ArePlain trace → (among : Contains trace.entries entry)
@@ -169,13 +172,13 @@ asked_by trace is_run have request it =
     (ap (λ (entries : List Entry). numbered (letters_of entries) it.number) all ∙ it.is_letter)
     request.client request.number it.round it.sets request.body it.is_request
 
-pub asked_by_handled : (trace : Trace) → IsRun trace → ArePlain trace → OnlyReplicasAreFaulty trace.setup
-    → (client : ClientId) (number : ℕ)
+pub asked_by_handled : (trace : Trace) → IsRun trace → ArePlain trace → (client : ClientId) (number : ℕ)
     (parts : List (ObjectId × Method)) → IsHandled trace client number parts
+    → is_faulty trace.setup (party.Client client) ≡ false
     → IsRequestOf trace (length trace.entries) client number (body.Act parts)
-asked_by_handled trace is_run have only client number parts it =
+asked_by_handled trace is_run have client number parts it correct =
     let request : Request = record { client = client; number = number; sets = it.sets; body = body.Act parts } in
     asked_by trace is_run have request
-    (sent trace is_run only (it.of_trace).0
+    (sent trace is_run (it.of_trace).0
     (let below : (it.of_trace).0 < length trace.entries = (it.of_trace).1 in omega arith) (it.entry).event
-    (plain_among trace it.entry have it.of_trace) request it.handled)
+    (plain_among trace it.entry have it.of_trace) request correct it.handled)

@@ -1,25 +1,21 @@
 -- What the values along the order rest on, of the updates of a run: what a later rule of the protocol changes,
 -- it has to show again, and nothing above it.
 use Rattle.std.proofs.Common.{◌≡◌, ◌⊎◌, true, false, List, [], ◌∷◌, Some}
-use Rattle.std.specs.Prelude.{Contains}
 use Rattle.std.specs.List.{AllZip}
 use Rattle.qu_chain.specs.Joint.{IsOneAct, HasMember}
 use Rattle.qu_base.specs.declared.party.ObjectId.{ObjectId}
 use Rattle.qu_stamp.specs.declared.candidate.Candidate.{Candidate}
 use Rattle.qu_history.specs.History.{ObjectHistory}
 use Rattle.qu_history.specs.Sets.{method_at}
-use Rattle.qu_chain.specs.Setting.{Apart, IsAncestor}
+use Rattle.qu_chain.specs.Setting.{Apart}
 use Rattle.qu_objects.specs.declared.act.Method.{Method}
 use Rattle.qu_objects.specs.declared.answer.Answer.{Answer}
 use Rattle.qu_objects.specs.declared.kind.Value.{Value}
-use Rattle.qu_objects.specs.declared.op.Op.TheVariants as op
 use Rattle.qu_objects.specs.declared.version.Version.{Version}
 use Rattle.qu_objects.specs.Performing.{performed_answer, performed_values}
-use Rattle.qu_machine.specs.declared.record.OpRecord.{OpRecord}
 use Rattle.qu_trace.specs.declared.trace.Trace.{Trace}
-use Rattle.qu_trace.specs.Operation.{operations_of}
 use Rattle.qu_runs.specs.Setting.{setting}
-use Rattle.qu_values.specs.Updates.{Update, IsOf, IsEverAccepted}
+use Rattle.qu_values.specs.Updates.{Update, IsOf, IsEverAccepted, IsNotRepeated}
 use Rattle.qu_values.specs.Values.{HasVersion}
 
 -- the candidate's version has this value
@@ -28,14 +24,10 @@ pub record HasValue (trace : Trace) (object : ObjectId) (candidate : Candidate) 
   pub has : HasVersion trace object candidate version
   pub value_is : version.value ≡ value
 
--- an operation of the trace for whose update the candidate was made
+-- an update of the run for which the candidate was made
 pub record MadeFor (trace : Trace) (object : ObjectId) (candidate : Candidate) : Type 0 where
-  pub operation : OpRecord
-  pub of_trace : Contains (operations_of trace.entries) operation
-  pub parts : List (ObjectId × Method)
-  pub is_act : operation.op ≡ op.Act parts
-  pub is_of : IsOf trace (record { client = operation.client; number = operation.number; parts = parts }) object
-      candidate
+  pub update : Update
+  pub is_of : IsOf trace update object candidate
 
 -- ---- what an update does to values
 
@@ -77,8 +69,12 @@ pub record IsPerformed (trace : Trace) (update : Update) (object : ObjectId) (ca
 
 -- ---- the facts
 
+-- no update is repeated
+abbrev pub NoneIsRepeated : Trace → Type 0
+NoneIsRepeated trace = (update : Update) → IsNotRepeated trace update
+
 pub record UpdateFacts (trace : Trace) : Type 0 where
-  -- an accepted candidate of an operation was made for an update of the trace
+  -- an accepted candidate of an operation was made for an update
   pub made : (object : ObjectId) (candidate : Candidate) → IsEverAccepted trace object candidate
       → (setting trace).is_act candidate ≡ true → MadeFor trace object candidate
   -- it has no barrier
@@ -98,11 +94,6 @@ pub record UpdateFacts (trace : Trace) : Type 0 where
       → IsOf trace update object candidate → IsEverAccepted trace object candidate
       → IsOf trace update other companion → IsEverAccepted trace other companion
       → (object ≡ other) ⊎ HasMember (setting trace) object candidate other
-  -- no accepted candidate of an update is an ancestor of another
-  pub once : (update : Update) (object : ObjectId) (first second : Candidate)
-      → IsOf trace update object first → IsEverAccepted trace object first
-      → IsOf trace update object second → IsEverAccepted trace object second
-      → IsAncestor (setting trace) (setting trace).last object first second → ⊥
   -- a candidate has one version
   pub one_version : (object : ObjectId) (candidate : Candidate) (first second : Version)
       → HasVersion trace object candidate first → HasVersion trace object candidate second → first ≡ second

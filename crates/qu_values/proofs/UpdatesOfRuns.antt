@@ -1,10 +1,12 @@
--- The updates of a run are as the values along the order ask: no copies, no groups, and none is done upon itself.
+-- The updates of a run are as the values along the order ask: no copies, no groups, and none of a correct client is
+-- done upon itself.
 use Rattle.std.proofs.Common.{◌≡◌, ◌⊎◌, true, false, not, length, None, Some, refl, sym, ap, subst, ◌∙◌, arith, inl, inr}
 use Rattle.std.specs.Prelude.{slice_get, is_some, Option}
-use Rattle.std.proofs.lemmas.Bool.{false≢true}
+use Rattle.std.proofs.lemmas.Bool.{false≢true, cases_Bool}
 use Rattle.std.proofs.lemmas.Option.{none-some}
 use Rattle.qu_base.specs.declared.party.Digest.{Digest}
 use Rattle.qu_base.specs.declared.party.ObjectId.{ObjectId}
+use Rattle.qu_base.specs.declared.party.Party.TheVariants as party
 use Rattle.qu_stamp.specs.declared.candidate.Candidate.{Candidate}
 use Rattle.qu_stamp.specs.declared.stamp.Stamp.{Stamp}
 use Rattle.qu_stamp.specs.Stamp.{is_below}
@@ -17,29 +19,29 @@ use Rattle.qu_objects.specs.declared.kind.Value.{Value}
 use Rattle.qu_objects.specs.declared.version.Version.{Version}
 use Rattle.qu_frames.specs.declared.frame.Body.TheVariants as body
 use Rattle.qu_trace.specs.declared.trace.Trace.{Trace}
+use Rattle.qu_trace.specs.Faulty.{is_faulty}
 use Rattle.qu_world.specs.State.{WorldState}
 use Rattle.qu_world.specs.Run.{IsRun}
 use Rattle.qu_runs.specs.Accepted.{accepts, is_accepted}
 use Rattle.qu_runs.specs.Digested.{IsHandled, IsMadeFor}
 use Rattle.qu_runs.specs.Plain.{ArePlain}
 use Rattle.qu_runs.specs.Setting.{setting}
-use Rattle.qu_rounds.specs.Invocations.{IsRequestOf}
 use Rattle.qu_grounds.specs.Chained.{last_world}
 use Rattle.qu_grounds.specs.Grounds.{IsGround, Accepts}
 use Rattle.qu_replica.specs.Rows.{asked_of}
 use Rattle.qu_grounds.specs.Origins.{Origin}
 use Rattle.qu_runs.proofs.Settings.{AcceptedAt, accepted_somewhere, is_accepted_by}
 use Rattle.qu_grounds.proofs.Grounds.{above_base}
-use Rattle.qu_values.specs.Updates.{Update, IsOf, IsEverAccepted}
+use Rattle.qu_values.specs.Updates.{Update, IsOf, IsEverAccepted, FaultyRepeatNone}
 use Rattle.qu_values.specs.Values.{HasVersion}
 use Rattle.qu_grounds.proofs.Handled.{handled, made_for}
-use Rattle.qu_values.proofs.SentRequests.{made_for_operation, asked_by_handled}
-use Rattle.qu_values.proofs.OneAct.{ActsAreOne, act_by, fit}
+use Rattle.qu_values.proofs.OneAct.{ActsAreOne}
+use Rattle.qu_values.proofs.FitActs.{fit}
 use Rattle.qu_grounds.proofs.Origins.{accepted_from}
 use Rattle.qu_values.proofs.OnceAccepted.{once_accepted}
 use Rattle.qu_values.proofs.StoredValues.{version_held}
 use Rattle.qu_values.proofs.Updates.{opening_no_act, same_accepted}
-use Rattle.qu_values.proofs.UpdateFacts.{HasValue, MadeFor, UpdateFacts}
+use Rattle.qu_values.proofs.UpdateFacts.{HasValue, MadeFor, UpdateFacts, NoneIsRepeated}
 use Rattle.qu_values.proofs.Values.{one_version}
 use Rattle.qu_grounds.proofs.Parts.{same_named}
 use Rattle.qu_runs.specs.Premises.{OnlyReplicasAreFaulty}
@@ -51,7 +53,7 @@ module _ (trace : Trace) where
   unfolding setting
   in_world object candidate accepted = is_accepted_by trace (length trace.entries) object candidate accepted
 
-module _ (trace : Trace) (is_run : IsRun trace) (have : ArePlain trace) (only : OnlyReplicasAreFaulty trace.setup) where
+module _ (trace : Trace) (is_run : IsRun trace) (have : ArePlain trace) where
   -- ---- where an accepted candidate came from
 
   came_from : (object : ObjectId) (candidate : Candidate) → IsEverAccepted trace object candidate
@@ -83,9 +85,6 @@ module _ (trace : Trace) (is_run : IsRun trace) (have : ArePlain trace) (only : 
         (ap (λ (it : WorldState). slice_get it.replicas came.place) (sym came.is_step) ∙ came.is_new) object
         came.delivered
 
-    request : IsRequestOf trace (length trace.entries) one.client one.number (body.Act one.parts)
-    request = asked_by_handled trace is_run have only one.client one.number one.parts was_handled
-
     made_for_one : IsMadeFor trace candidate one.client one.number one.parts
     made_for_one =
         made_for trace came.old came.new (came.delivered).carried object one (came.delivered).names candidate
@@ -93,15 +92,8 @@ module _ (trace : Trace) (is_run : IsRun trace) (have : ArePlain trace) (only : 
 
     made_by : MadeFor trace object candidate
     made_by = record {
-      operation = request.operation;
-      of_trace = request.of_trace;
-      parts = one.parts;
-      is_act = act_by one.parts (request.operation).op request.asks;
-      is_of = record {
-        made = made_for_operation trace (length trace.entries) candidate one.client one.number one.parts
-            (body.Act one.parts) request made_for_one;
-        names = (came.delivered).names;
-      };
+      update = record { client = one.client; number = one.number; parts = one.parts };
+      is_of = record { made = made_for_one; names = (came.delivered).names };
     }
 
     no_barrier : (setting trace).plain candidate ≡ true
@@ -131,7 +123,7 @@ module _ (trace : Trace) (is_run : IsRun trace) (have : ArePlain trace) (only : 
         → IsOf trace update object first → IsOf trace update other second → object ≡ other
     one_object update object other first second one two =
         same_named update.parts object other
-        ((fit trace is_run have only update.client update.number update.parts (one.made).handled).parts).0
+        ((fit trace is_run have update.client update.number update.parts (one.made).handled).parts).0
         one.names two.names
 
     copied : (object : ObjectId) (candidate base : Candidate) (value : Value)
@@ -184,12 +176,23 @@ module _ (trace : Trace) (is_run : IsRun trace) (have : ArePlain trace) (only : 
       shared = no_group;
       spread = λ update object other candidate companion one accepted two besides.
           inl (one_object update object other candidate companion one two);
-      once = λ update object first second one accepted two besides.
-          once_accepted trace is_run have one_act laws joint update
-          (no_client (trace.setup).liars only update.client) object first second one accepted two besides
-          (all_plain object);
       one_version = one_version trace laws joint one_act;
       copied = λ object candidate base value accepted plain not_act prior plain_base base_accepted has.
           copied object candidate base value accepted not_act prior base_accepted has;
       stored = λ object candidate accepted is_act. stored object candidate accepted;
     }
+
+    -- no update of a correct client is repeated, so none is where those of faulty ones are not
+    pub none_is_repeated : FaultyRepeatNone trace → NoneIsRepeated trace
+    none_is_repeated faulty update object first second one accepted two besides ancestor =
+        elim (cases_Bool (is_faulty trace.setup (party.Client update.client))) [
+          | inl is_faulty ↦ faulty update is_faulty object first second one accepted two besides ancestor
+          | inr correct ↦
+              once_accepted trace is_run have one_act laws joint update correct object first second one accepted two
+              besides (all_plain object) ancestor
+        ]
+
+-- where replicas alone are faulty, no client has an update that it could repeat
+pub faulty_repeat_none : (trace : Trace) → OnlyReplicasAreFaulty trace.setup → FaultyRepeatNone trace
+faulty_repeat_none trace only update faulty =
+    absurd (false≢true (sym (no_client (trace.setup).liars only update.client) ∙ faulty))

@@ -1,6 +1,7 @@
 -- The report has an order that is serial where the premises hold.
 use Rattle.std.proofs.Common.{ap, ◌∙◌}
 use Rattle.qu_print.specs.Report.{report_of}
+use Rattle.qu_values.proofs.UpdatesOfRuns.{faulty_repeat_none}
 use Rattle.qu_cli.proofs.EndFacts.{tells_report}
 use Rattle.qu_cli.proofs.simulation.told_text.Goals as goal
 
@@ -14,7 +15,7 @@ returns-in_ok-text-in-Sim c =
       order = order.order;
       audited = premises.ensures.answer;
       ordered = order.ensures.printed;
-      serial = λ holds. order.ensures.serial holds c.requires.replicas;
-      chained = λ holds. order.ensures.chained holds c.requires.replicas;
+      serial = λ holds. order.ensures.serial holds (faulty_repeat_none trace c.requires.replicas);
+      chained = order.ensures.chained;
       tells = c.in_ok-text-in-Sim.ensures ∙ ap (report_of trace premises.premises) c.as_slice.ensures;
     })

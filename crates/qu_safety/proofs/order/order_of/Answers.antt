@@ -11,7 +11,7 @@ use Rattle.qu_chain.specs.Laws.{Laws}
 use Rattle.qu_chain.specs.Joint.{Joint}
 use Rattle.qu_runs.specs.Setting.{setting}
 use Rattle.qu_runs.specs.Plain.{HaveParts, ArePlain}
-use Rattle.qu_runs.specs.Premises.{IsUnforged, MeetsPremises, OnlyReplicasAreFaulty}
+use Rattle.qu_runs.specs.Premises.{IsUnforged, MeetsPremises}
 use Rattle.qu_runs.proofs.Plain.{plain_from}
 use Rattle.qu_points.specs.Order.{IsPrintedOrder}
 use Rattle.qu_grounds.proofs.Chained.{is_chained, decides_in_turn, decides_jointly}
@@ -21,9 +21,9 @@ use Rattle.qu_safety.proofs.DecidedOnce.{decides_once}
 use Rattle.qu_safety.proofs.ByQuorums.{completes_by_quorums}
 use Rattle.qu_grounds.proofs.Named.{stamps_name}
 use Rattle.qu_values.proofs.OneAct.{ActsAreOne, acts_are_one}
-use Rattle.qu_values.proofs.UpdateFacts.{UpdateFacts}
-use Rattle.qu_values.proofs.UpdatesOfRuns.{update_facts}
-use Rattle.qu_safety.proofs.NoFaulty.{handled_correct, no_points_of_faulty, operation_order}
+use Rattle.qu_values.specs.Updates.{FaultyRepeatNone}
+use Rattle.qu_values.proofs.UpdateFacts.{UpdateFacts, NoneIsRepeated}
+use Rattle.qu_values.proofs.UpdatesOfRuns.{update_facts, none_is_repeated}
 use Rattle.qu_safety.proofs.SerialOrder.{serial}
 use Rattle.qu_safety.proofs.order.order_of.Goals as goal
 
@@ -44,14 +44,13 @@ record Grounded (trace : Trace) : Type 0 where
   laws : Laws (setting trace)
   joint : Joint (setting trace)
   facts : UpdateFacts trace
+  once : FaultyRepeatNone trace → NoneIsRepeated trace
 
-grounded : (c : goal.After-printed_order) → MeetsPremises c.args.trace.now
-    → OnlyReplicasAreFaulty c.args.trace.now.setup
-    → Grounded c.args.trace.now
-grounded c premises only =
+grounded : (c : goal.After-printed_order) → MeetsPremises c.args.trace.now → Grounded c.args.trace.now
+grounded c premises =
     let trace : Trace = c.args.trace.now in
     let plain : ArePlain trace = plain_run c premises.unforged in
-    let one_act : ActsAreOne trace = acts_are_one trace c.requires plain only premises.no_collision in
+    let one_act : ActsAreOne trace = acts_are_one trace c.requires plain premises.no_collision in
     let law : Laws (setting trace) = laws trace c.requires plain in
     let joint : Joint (setting trace) = joint_laws trace c.requires plain premises.no_collision in
     record {
@@ -59,20 +58,19 @@ grounded c premises only =
       one_act = one_act;
       laws = law;
       joint = joint;
-      facts = update_facts trace c.requires plain only one_act law joint;
+      facts = update_facts trace c.requires plain one_act law joint;
+      once = none_is_repeated trace c.requires plain one_act law joint;
     }
 
 pub returns-clause-serial : goal.returns-clause-serial
 returns-clause-serial c =
     IfOk-weaker c.printed_order.result (IsPrintedOrder c.args.trace.now)
-    (λ (order : List Point). MeetsPremises c.args.trace.now → OnlyReplicasAreFaulty c.args.trace.now.setup
-    → IsSerial c.args.trace.now.setup.kinds
-    (operations_of c.args.trace.now.entries) order)
-    (λ order printed premises only.
-    let it : Grounded c.args.trace.now = grounded c premises only in
-    serial c.args.trace.now c.requires it.plain it.one_act it.laws it.joint it.facts order
-    (operation_order c.args.trace.now
-    (no_points_of_faulty c.args.trace.now (handled_correct c.args.trace.now c.requires it.plain only)) order printed))
+    (λ (order : List Point). MeetsPremises c.args.trace.now → FaultyRepeatNone c.args.trace.now
+    → IsSerial c.args.trace.now.setup.kinds (operations_of c.args.trace.now.entries) order)
+    (λ order printed premises none_repeated.
+    let it : Grounded c.args.trace.now = grounded c premises in
+    serial c.args.trace.now c.requires it.plain it.one_act it.laws it.joint it.facts (it.once none_repeated) order
+    printed)
     c.printed_order.ensures
 
 pub returns-clause-chained : goal.returns-clause-chained
@@ -97,12 +95,12 @@ returns-clause-in_turn c =
 
 pub returns-clause-once : goal.returns-clause-once
 returns-clause-once c =
-    always c.printed_order.result (λ premises only.
-    let it : Grounded c.args.trace.now = grounded c premises only in
-    decides_once c.args.trace.now it.laws it.joint it.one_act it.facts)
+    always c.printed_order.result (λ premises none_repeated.
+    let it : Grounded c.args.trace.now = grounded c premises in
+    decides_once c.args.trace.now it.laws it.joint it.one_act it.facts (it.once none_repeated))
 
 pub returns-clause-by_quorums : goal.returns-clause-by_quorums
 returns-clause-by_quorums c =
-    always c.printed_order.result (λ premises only.
-    let it : Grounded c.args.trace.now = grounded c premises only in
+    always c.printed_order.result (λ premises.
+    let it : Grounded c.args.trace.now = grounded c premises in
     completes_by_quorums c.args.trace.now c.requires it.plain it.laws it.joint it.facts)
