@@ -1,0 +1,3 @@
+pub mod KeyedLaws
+pub mod OneObject
+pub mod RowLaws

@@ -1,0 +1,11 @@
+//! What the versions of objects keep of clients, so that an update that comes again is told its answer and
+//! never performed twice.
+#![tactic(auto)]
+
+mod performing;
+mod repeats;
+mod rows;
+
+pub use performing::{Performed, perform};
+pub use repeats::{Standing, standing_of};
+pub use rows::{row_of, with_row};

@@ -1,0 +1,82 @@
+ghost use Rattle.std.specs.Prelude.{◌≡◌, [], ◌∷◌, length, map, IfOk};
+ghost use Rattle.qu_objects.specs.Performing.{performed_answer, performed_values};
+ghost use Rattle.qu_kept.specs.Rows.{with_row};
+ghost use Rattle.qu_kept.specs.Performing.{values_of, row_for, state_after, performed_states};
+
+use super::with_row;
+use qu_base::{ClientId, List, NoMemory};
+use qu_objects::{Act, Answer, KeptRow, ObjState, Value, act_digest};
+use qu_stamp::Stamp;
+use std::alloc::Global;
+
+/// What an act makes of the versions of its objects, and the answer.
+#[derive(Debug, Drop)]
+pub struct Performed {
+    pub states: List<ObjState>,
+    pub answer: Answer,
+}
+
+/// Performs an act of a client, which is its operation with this number, counted from 1, on the versions of the
+/// act's objects. Those and the stamps of the new versions are given in the order of the act's parts.
+///
+/// All values change or none. Each version keeps the act and its answer in any case.
+#[tactic(auto, using(crate::proofs::OneObject::performed_one, crate::proofs::OneObject::values_one))]
+pub fn perform(
+    alloc: Global,
+    states: &[ObjState],
+    act: &Act,
+    by: ClientId,
+    number: u64,
+    stamps: &[Stamp],
+) -> Result<Performed, NoMemory>
+    requires states { length states.now ≡ length act.now }
+    requires stamps { length stamps.now ≡ length act.now }
+    ensures states { IfOk result (λ performed. performed.states
+        ≡ performed_states by number act.now stamps.now states.now) }
+    ensures answer { IfOk result (λ performed. performed.answer ≡ performed_answer act.now (values_of states.now)) }
+    ensures values { IfOk result (λ performed. values_of performed.states
+        ≡ performed_values act.now (values_of states.now)) }
+    ensures rows { IfOk result (λ performed. map (λ state. state.kept) performed.states
+        ≡ map (λ state. with_row (row_for by number act.now states.now) state.kept) states.now) }
+{
+    match (states, act.parts().as_slice(), stamps) {
+        ([state], [_], [_]) => perform_one(alloc, state, act, by, number),
+        _ => unreachable!(),
+    }
+}
+
+/// The same on the version of one object, whose links stay.
+#[tactic(auto, using(crate::proofs::OneObject::values_one))]
+fn perform_one(
+    alloc: Global,
+    state: &ObjState,
+    act: &Act,
+    by: ClientId,
+    number: u64,
+) -> Result<Performed, NoMemory>
+    requires { length act.now ≡ 1 }
+    ensures states { IfOk result (λ performed. performed.states
+        ≡ map (λ value. state_after (row_for by number act.now (state.now ∷ [])) value [] state.now)
+        (performed_values act.now (state.now.value ∷ []))) }
+    ensures answer { IfOk result (λ performed. performed.answer ≡ performed_answer act.now (state.now.value ∷ [])) }
+{
+    let made = qu_objects::perform(alloc, &[state.value], act)?;
+    let row = KeptRow {
+        client: by,
+        number,
+        act: act_digest(alloc, by, number, act)?,
+        answer: made.answer.copy(alloc)?,
+    };
+    let [value] = made.values.as_slice() else {
+        unreachable!()
+    };
+    let state = ObjState {
+        value: *value,
+        kept: with_row(alloc, state.kept.as_slice(), row)?,
+        links: state.links.copy(alloc)?,
+    };
+    Ok(Performed {
+        states: List::one(alloc, state)?,
+        answer: made.answer,
+    })
+}

@@ -1,0 +1,65 @@
+ghost use Rattle.std.specs.Prelude.{◌≡◌, length, if◌then◌else◌, IfOk};
+ghost use Rattle.std.specs.Option.{option_copied};
+ghost use Rattle.qu_kept.specs.declared.repeats.Standing.TheVariants.{Fresh};
+ghost use Rattle.qu_kept.specs.Standing.{is_of_act, told_again, spent_or, standing_of};
+
+use super::row_of;
+use qu_base::{ClientId, Digest, NoMemory, ObjectId};
+use qu_objects::{Act, Answer, KeptRow, ObjState};
+use std::alloc::Global;
+
+/// How an act of a client stands to what the versions of its objects keep of this client.
+#[derive(Debug, Drop, PartialEq, Eq)]
+pub enum Standing {
+    /// Its number is above all that are kept: it was not performed on these versions.
+    Fresh,
+    /// It is the client's last act on each of its objects, and answered this.
+    Already(Answer),
+    /// It is not, and this object is the first that keeps a number which is at least its own, namely this one.
+    Spent { object: ObjectId, number: u64 },
+}
+
+/// How the act of this client with this number and digest stands to versions of its objects, given in the order
+/// of its parts.
+pub fn standing_of(
+    alloc: Global,
+    states: &[ObjState],
+    act: &Act,
+    by: ClientId,
+    number: u64,
+    digest: &Digest,
+) -> Result<Standing, NoMemory>
+    requires { length states.now ≡ length act.now }
+    ensures { IfOk result (λ standing. standing ≡ standing_of by number digest.now act.now states.now) }
+{
+    match (states, act.parts().as_slice()) {
+        ([state], [(object, _)]) => {
+            let row = row_of(state.kept.as_slice(), by);
+            by_row(alloc, *object, row, number, digest)
+        }
+        _ => unreachable!(),
+    }
+}
+
+/// The same for an act on one object, which keeps this row of the client.
+fn by_row(
+    alloc: Global,
+    object: ObjectId,
+    row: Option<&KeptRow>,
+    number: u64,
+    digest: &Digest,
+) -> Result<Standing, NoMemory>
+    ensures { IfOk result (λ standing. standing ≡ (if is_of_act number digest.now (option_copied row.entry)
+        then told_again (option_copied row.entry) else spent_or number object Fresh (option_copied row.entry))) }
+{
+    match row {
+        Some(row) if row.number == number && row.act == *digest => {
+            Ok(Standing::Already(row.answer.copy(alloc)?))
+        }
+        Some(row) if number <= row.number => Ok(Standing::Spent {
+            object,
+            number: row.number,
+        }),
+        Some(_) | None => Ok(Standing::Fresh),
+    }
+}
