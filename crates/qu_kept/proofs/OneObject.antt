@@ -1,6 +1,6 @@
 -- An act on one object changes one value, and its object's links stay.
-use Rattle.std.proofs.Common.{◌≡◌, ℕ, ◌==◌, Bool, true, false, not, cond, List, [], ◌∷◌, length, refl, ap, ◌∙◌, arith}
-use Rattle.std.specs.Prelude.{map, zip}
+use Rattle.std.proofs.Common.{◌≡◌, ℕ, ◌==◌, true, List, [], ◌∷◌, length, get_or, refl, sym, ap, ◌∙◌, arith}
+use Rattle.std.specs.Prelude.{map, zip, IsTrue}
 use Rattle.std.proofs.lemmas.Bool.Decides.{nat_tests}
 use Rattle.qu_base.specs.declared.party.ClientId.{ClientId}
 use Rattle.qu_base.specs.declared.party.ObjectId.{ObjectId}
@@ -11,6 +11,7 @@ use Rattle.qu_objects.specs.declared.kind.Applied.{Applied}
 use Rattle.qu_objects.specs.declared.kind.Applied.TheVariants.{Changed, Refused}
 use Rattle.qu_objects.specs.declared.state.ObjState.{ObjState}
 use Rattle.qu_objects.specs.Kind.{applied}
+use Rattle.qu_objects.specs.Parts.{are_parts}
 use Rattle.qu_objects.specs.Performing.{refusal_from, changed_values, values_by, performed_values}
 use Rattle.qu_kept.specs.Performing.{row_for, links_to_others, state_after, performed_states}
 
@@ -43,10 +44,40 @@ states_of client number part stamp state (value ∷ []) one =
     (no_others part stamp)
 states_of client number part stamp state (value ∷ other ∷ values) one = absurd (omega arith)
 
-pub performed_one : (client : ClientId) (number : ℕ) (part : ObjectId × Method) (stamp : Stamp) (state : ObjState)
-    → performed_states client number (part ∷ []) (stamp ∷ []) (state ∷ []) ≡ map
-    (λ value. state_after (row_for client number (part ∷ []) (state ∷ [])) value [] state)
-    (performed_values (part ∷ []) (state.value ∷ []))
-performed_one client number part stamp state =
+-- ---- the lists of an act with one part
+
+one_part : (parts : List (ObjectId × Method)) → IsTrue (are_parts parts) → length parts ≡ 1
+one_part [] is = absurd cc
+one_part (part ∷ []) is = refl
+one_part (part ∷ other ∷ parts) is = absurd cc
+
+-- a list of one item, which is this one
+only : {X : Type 0} (items : List X) (item : X) → length items ≡ 1 → item ≡ get_or items 0 item → items ≡ item ∷ []
+only [] item one is = absurd (omega arith)
+only (first ∷ []) item one is = rw is refl
+only (first ∷ second ∷ items) item one is = absurd (omega arith)
+
+performed_parts : (client : ClientId) (number : ℕ) (parts : List (ObjectId × Method)) (stamps : List Stamp)
+    (state : ObjState) → length parts ≡ 1 → length stamps ≡ 1
+    → performed_states client number parts stamps (state ∷ []) ≡ map
+    (λ value. state_after (row_for client number parts (state ∷ [])) value [] state)
+    (performed_values parts (state.value ∷ []))
+performed_parts client number [] stamps state one each = absurd (omega arith)
+performed_parts client number (part ∷ []) [] state one each = absurd (omega arith)
+performed_parts client number (part ∷ []) (stamp ∷ []) state one each =
     states_of client number part stamp state (performed_values (part ∷ []) (state.value ∷ []))
     (values_one (part ∷ []) state.value refl)
+performed_parts client number (part ∷ []) (stamp ∷ other ∷ stamps) state one each = absurd (omega arith)
+performed_parts client number (part ∷ other ∷ parts) stamps state one each = absurd (omega arith)
+
+pub performed_one : (client : ClientId) (number : ℕ) (shown parts : List (ObjectId × Method)) (stamps : List Stamp)
+    (states : List ObjState) (state : ObjState) → IsTrue (are_parts shown) → shown ≡ parts
+    → length states ≡ length parts → length stamps ≡ length parts → state ≡ get_or states 0 state
+    → performed_states client number parts stamps states ≡ map
+    (λ value. state_after (row_for client number parts (state ∷ [])) value [] state)
+    (performed_values parts (state.value ∷ []))
+performed_one client number shown parts stamps states state in_order same states_fit stamps_fit is =
+    let shown_one : length shown ≡ 1 = one_part shown in_order in
+    let one : length parts ≡ 1 = ap length (sym same) ∙ shown_one in
+    rw (only states state (states_fit ∙ one) is)
+    (performed_parts client number parts stamps state one (stamps_fit ∙ one))

@@ -20,7 +20,7 @@ pub struct Performed {
 /// act's objects. Those and the stamps of the new versions are given in the order of the act's parts.
 ///
 /// All values change or none. Each version keeps the act and its answer in any case.
-#[tactic(auto, using(crate::proofs::OneObject::performed_one, crate::proofs::OneObject::values_one))]
+#[tactic(auto, using(crate::proofs::OneObject::values_one))]
 pub fn perform(
     alloc: Global,
     states: &[ObjState],
