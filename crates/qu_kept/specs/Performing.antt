@@ -54,3 +54,10 @@ performed_states client number parts stamps states =
     let changed = (each.1).1 in
     state_after (row_for client number parts states) changed.0 (links_to_others (each.0).0 stamp parts) changed.1)
     (zip parts (zip stamps (zip (performed_values parts (values_of states)) states)))
+
+-- their links
+abbrev pub performed_links : List (ObjectId × Method) → List Stamp → List ObjState → List (List Link)
+performed_links parts stamps states =
+    map (λ (each : (ObjectId × Method) × (Stamp × ObjState)).
+    with_links (links_to_others (each.0).0 (each.1).0 parts) ((each.1).1).links)
+    (zip parts (zip stamps states))

@@ -1,7 +1,11 @@
-ghost use Rattle.std.specs.Prelude.{◌≡◌, [], ◌∷◌, length, map, IfOk};
+ghost use Rattle.std.specs.Prelude.{◌≡◌, ◌≢◌, [], ◌∷◌, length, map, IfOk};
 ghost use Rattle.qu_objects.specs.Performing.{performed_answer, performed_values};
-ghost use Rattle.qu_kept.specs.Rows.{with_row};
-ghost use Rattle.qu_kept.specs.Performing.{values_of, row_for, state_after, performed_states};
+ghost use Rattle.qu_base.specs.declared.party.ClientId.{ClientId as Client};
+ghost use Rattle.qu_objects.specs.Digesting.{act_digest};
+ghost use Rattle.qu_kept.specs.declared.repeats.Standing.TheVariants.{Already};
+ghost use Rattle.qu_kept.specs.Rows.{row_of, with_row};
+ghost use Rattle.qu_kept.specs.Standing.{standing_of};
+ghost use Rattle.qu_kept.specs.Performing.{values_of, row_for, state_after, performed_states, performed_links};
 
 use super::with_row;
 use qu_base::{ClientId, List, NoMemory};
@@ -38,6 +42,12 @@ pub fn perform(
         ≡ performed_values act.now (values_of states.now)) }
     ensures rows { IfOk result (λ performed. map (λ state. state.kept) performed.states
         ≡ map (λ state. with_row (row_for by number act.now states.now) state.kept) states.now) }
+    ensures links { IfOk result (λ performed. map (λ state. state.links) performed.states
+        ≡ performed_links act.now stamps.now states.now) }
+    ensures others { (other : Client) → other.0 ≢ by.0 → IfOk result (λ performed.
+        map (λ state. row_of other state.kept) performed.states ≡ map (λ state. row_of other state.kept) states.now) }
+    ensures repeated { IfOk result (λ performed. standing_of by number (act_digest by number act.now) act.now
+        performed.states ≡ Already performed.answer) }
 {
     match (states, act.parts().as_slice(), stamps) {
         ([state], [_], [_]) => perform_one(alloc, state, act, by, number),
