@@ -155,8 +155,10 @@ rising_filtered key passes [] rising = tt
 rising_filtered key passes (item ∷ items) rising =
     elim (passes item)
     as (λ (test : Bool). Rising key (cond test (item ∷ filter passes items) (filter passes items))) [
-      | true ↦ (all_filtered (λ other. key item < key other) passes items rising.0,
-        rising_filtered key passes items rising.1)
+      | true ↦ (
+        all_filtered (λ other. key item < key other) passes items rising.0,
+        rising_filtered key passes items rising.1,
+      )
       | false ↦ rising_filtered key passes items rising.1
     ]
 
@@ -169,7 +171,7 @@ rising_append key item (first ∷ front) back rising lower higher later = (
   all_append (λ other. key first < key other) front (item ∷ back) rising.0 (
     lower.0,
     all_both (λ other. key item < key other) (λ other. key item < key other) (λ other. key first < key other)
-    (λ other above also. below_both (key first) (key item) (key other) lower.0 above) back higher higher,
+        (λ other above also. below_both (key first) (key item) (key other) lower.0 above) back higher higher,
   ),
   rising_append key item front back rising.1 lower.1 higher later,
 )

@@ -1,3 +1,4 @@
 pub mod KeyedLaws
 pub mod OneObject
 pub mod RowLaws
+pub mod StandingLaws

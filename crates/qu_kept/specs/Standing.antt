@@ -1,6 +1,6 @@
 -- How an act of a client stands to what the versions of its objects keep of this client.
-use Rattle.std.specs.Prelude.{ℕ, ◌==◌, Bool, false, ◌&&◌, nat_le, if◌then◌else◌, List, [], ◌∷◌, Option, None, Some}
-use Rattle.std.specs.List.{list_all}
+use Rattle.std.specs.Prelude.{ℕ, ◌<◌, ⊤, ◌==◌, Bool, false, ◌&&◌, nat_le, if◌then◌else◌, List, [], ◌∷◌, Option, None, Some}
+use Rattle.std.specs.List.{list_all, AllByRecursion}
 use Rattle.qu_base.specs.declared.party.ClientId.{ClientId}
 use Rattle.qu_base.specs.declared.party.Digest.{Digest}
 use Rattle.qu_base.specs.declared.party.ObjectId.{ObjectId}
@@ -46,3 +46,11 @@ abbrev pub standing_of : ClientId → ℕ → Digest → List (ObjectId × Metho
 standing_of client number act parts states =
     if is_repeated client number act states then told_by_first client states
     else first_spent client number parts states
+
+-- every number that is kept of the client is below this one
+abbrev pub IsLower : ℕ → Option KeptRow → Type 0
+IsLower number None = ⊤
+IsLower number (Some row) = row.number < number
+
+abbrev pub AreLower : ClientId → ℕ → List ObjState → Type 0
+AreLower client number states = AllByRecursion (λ state. IsLower number (row_of client state.kept)) states

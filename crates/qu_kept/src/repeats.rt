@@ -1,7 +1,9 @@
-ghost use Rattle.std.specs.Prelude.{◌≡◌, length, if◌then◌else◌, IfOk};
+ghost use Rattle.std.specs.Prelude.{◌≡◌, ◌↔◌, ◌≤◌, ℕ, length, if◌then◌else◌, IsTrue, IfOk};
 ghost use Rattle.std.specs.Option.{option_copied};
-ghost use Rattle.qu_kept.specs.declared.repeats.Standing.TheVariants.{Fresh};
-ghost use Rattle.qu_kept.specs.Standing.{is_of_act, told_again, spent_or, standing_of};
+ghost use Rattle.qu_base.specs.declared.party.ObjectId.{ObjectId as Object};
+ghost use Rattle.qu_objects.specs.Parts.{are_parts};
+ghost use Rattle.qu_kept.specs.declared.repeats.Standing.TheVariants.{Fresh, Spent};
+ghost use Rattle.qu_kept.specs.Standing.{is_of_act, told_again, spent_or, standing_of, AreLower};
 
 use super::row_of;
 use qu_base::{ClientId, Digest, NoMemory, ObjectId};
@@ -30,7 +32,26 @@ pub fn standing_of(
     digest: &Digest,
 ) -> Result<Standing, NoMemory>
     requires { length states.now ≡ length act.now }
-    ensures { IfOk result (λ standing. standing ≡ standing_of by number digest.now act.now states.now) }
+    ensures value { IfOk result (λ standing. standing ≡ standing_of by number digest.now act.now states.now) }
+    ensures fresh { IfOk result (λ standing. standing ≡ Fresh ↔ AreLower by number states.now) }
+    ensures spent { (object : Object) (kept : ℕ)
+        → IfOk result (λ standing. standing ≡ Spent object kept → number ≤ kept) }
+{
+    stands(alloc, states, act, by, number, digest)
+}
+
+/// The same.
+fn stands(
+    alloc: Global,
+    states: &[ObjState],
+    act: &Act,
+    by: ClientId,
+    number: u64,
+    digest: &Digest,
+) -> Result<Standing, NoMemory>
+    requires { length states.now ≡ length act.now }
+    ensures value { IfOk result (λ standing. standing ≡ standing_of by number digest.now act.now states.now) }
+    ensures in_order { IsTrue (are_parts act.now) }
 {
     match (states, act.parts().as_slice()) {
         ([state], [(object, _)]) => {
