@@ -13,7 +13,7 @@ use Rattle.qu_objects.specs.Parts.{are_parts}
 use Rattle.qu_kept.specs.declared.repeats.Standing.{Standing}
 use Rattle.qu_kept.specs.declared.repeats.Standing.TheVariants.{Fresh, Already, Spent}
 use Rattle.qu_kept.specs.Rows.{row_of}
-use Rattle.qu_kept.specs.Standing.{is_of_act, told_again, spent_or, standing_of, IsLower, AreLower}
+use Rattle.qu_kept.specs.Standing.{is_of_act, told_again, spent_or, standing_of, is_repeated, is_already, IsLower, AreLower}
 
 -- ---- by the one row
 
@@ -37,6 +37,21 @@ fresh_by_row : (number : ℕ) (act : Digest) (object : ObjectId) (found : Option
 fresh_by_row number act object None = (λ fresh. (tt, tt), λ lower. refl)
 fresh_by_row number act object (Some row) =
     fresh_some (row.number == number) (same_digest row.act act) (nat_le number row.number) object number row refl refl
+
+already_some : (same digests passed : Bool) (object : ObjectId) (row : KeptRow)
+    → is_already (if (same && digests) && true then Already row.answer
+    else (if passed then Spent object row.number else Fresh)) ≡ ((same && digests) && true)
+already_some true true passed object row = refl
+already_some true false true object row = refl
+already_some true false false object row = refl
+already_some false digests true object row = refl
+already_some false digests false object row = refl
+
+already_by_row : (number : ℕ) (act : Digest) (object : ObjectId) (found : Option KeptRow)
+    → is_already (by_row number act object found) ≡ (is_of_act number act found && true)
+already_by_row number act object None = refl
+already_by_row number act object (Some row) =
+    already_some (row.number == number) (same_digest row.act act) (nat_le number row.number) object row
 
 spent_some : (same digests passed : Bool) (object named : ObjectId) (number kept : ℕ) (row : KeptRow)
     → nat_le number row.number ≡ passed
@@ -70,6 +85,16 @@ fresh_where client number act (part ∷ []) (state ∷ []) in_order fit =
     fresh_by_row number act part.0 (row_of client state.kept)
 fresh_where client number act (part ∷ []) (state ∷ other ∷ states) in_order fit = absurd (omega arith)
 fresh_where client number act (part ∷ other ∷ parts) states in_order fit = absurd cc
+
+pub already_where : (client : ClientId) (number : ℕ) (act : Digest) (parts : List (ObjectId × Method))
+    (states : List ObjState) → IsTrue (are_parts parts) → length states ≡ length parts
+    → is_already (standing_of client number act parts states) ≡ is_repeated client number act states
+already_where client number act [] states in_order fit = absurd cc
+already_where client number act (part ∷ []) [] in_order fit = absurd (omega arith)
+already_where client number act (part ∷ []) (state ∷ []) in_order fit =
+    already_by_row number act part.0 (row_of client state.kept)
+already_where client number act (part ∷ []) (state ∷ other ∷ states) in_order fit = absurd (omega arith)
+already_where client number act (part ∷ other ∷ parts) states in_order fit = absurd cc
 
 pub spent_where : (client : ClientId) (number : ℕ) (act : Digest) (parts : List (ObjectId × Method))
     (states : List ObjState) (named : ObjectId) (kept : ℕ) → IsTrue (are_parts parts) → length states ≡ length parts

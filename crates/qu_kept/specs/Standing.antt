@@ -1,5 +1,5 @@
 -- How an act of a client stands to what the versions of its objects keep of this client.
-use Rattle.std.specs.Prelude.{ℕ, ◌<◌, ⊤, ◌==◌, Bool, false, ◌&&◌, nat_le, if◌then◌else◌, List, [], ◌∷◌, Option, None, Some}
+use Rattle.std.specs.Prelude.{ℕ, ◌<◌, ⊤, ◌==◌, Bool, true, false, ◌&&◌, nat_le, if◌then◌else◌, List, [], ◌∷◌, Option, None, Some}
 use Rattle.std.specs.List.{list_all, AllByRecursion}
 use Rattle.qu_base.specs.declared.party.ClientId.{ClientId}
 use Rattle.qu_base.specs.declared.party.Digest.{Digest}
@@ -54,3 +54,8 @@ IsLower number (Some row) = row.number < number
 
 abbrev pub AreLower : ClientId → ℕ → List ObjState → Type 0
 AreLower client number states = AllByRecursion (λ state. IsLower number (row_of client state.kept)) states
+
+abbrev pub is_already : Standing → Bool
+is_already Fresh = false
+is_already (Already answer) = true
+is_already (Spent object number) = false

@@ -3,7 +3,7 @@ ghost use Rattle.std.specs.Option.{option_copied};
 ghost use Rattle.qu_base.specs.declared.party.ObjectId.{ObjectId as Object};
 ghost use Rattle.qu_objects.specs.Parts.{are_parts};
 ghost use Rattle.qu_kept.specs.declared.repeats.Standing.TheVariants.{Fresh, Spent};
-ghost use Rattle.qu_kept.specs.Standing.{is_of_act, told_again, spent_or, standing_of, AreLower};
+ghost use Rattle.qu_kept.specs.Standing.{is_of_act, told_again, spent_or, standing_of, is_already, is_repeated, AreLower};
 
 use super::row_of;
 use qu_base::{ClientId, Digest, NoMemory, ObjectId};
@@ -34,6 +34,7 @@ pub fn standing_of(
     requires { length states.now ≡ length act.now }
     ensures value { IfOk result (λ standing. standing ≡ standing_of by number digest.now act.now states.now) }
     ensures fresh { IfOk result (λ standing. standing ≡ Fresh ↔ AreLower by number states.now) }
+    ensures already { IfOk result (λ standing. is_already standing ≡ is_repeated by number digest.now states.now) }
     ensures spent { (object : Object) (kept : ℕ)
         → IfOk result (λ standing. standing ≡ Spent object kept → number ≤ kept) }
 {
