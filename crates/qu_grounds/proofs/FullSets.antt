@@ -25,7 +25,6 @@ use Rattle.qu_replica.specs.Rows.{Asked, asked_at, refuse, row_unknown, row_thin
 use Rattle.qu_replica.specs.Step.{carried_out, on_frame, on_received, replica_step}
 use Rattle.qu_client.specs.Rounds.{are_full}
 use Rattle.qu_trace.specs.declared.event.Event.{Event}
-use Rattle.qu_trace.specs.declared.trace.Trace.{Trace}
 use Rattle.qu_world.specs.State.{WorldState}
 use Rattle.qu_world.specs.Step.{world_step, at_replica}
 use Rattle.qu_grounds.specs.Grounds.{Accepts, IsDelivered}

@@ -14,7 +14,6 @@ pub mod OpeningReplicas
 pub mod Keyed
 pub mod Plain
 pub mod Handing
-pub mod Ranges
 pub mod LaterLetters
 pub mod Recording
 pub mod Objects
