@@ -22,6 +22,7 @@ pub fn answer(
         "events" => events::events(alloc, names, case.lines, out),
         "listed" => events::listed(alloc, names, case.lines, out),
         "audit" => audits::audited(alloc, names, case, out),
+        "ordered" => audits::ordered(alloc, names, case, out),
         "pieces" => program::pieces(alloc, case, out),
         "sim" | "qu" | "qu-letters" | "letters" | "injected" | "order" => {
             of_script(alloc, case, out)

@@ -7,6 +7,7 @@ use super::case::{Case, party};
 use super::events::make_lines;
 use super::names::Named;
 use super::no_answer::NoAnswer;
+use super::runs::points;
 use qu_base::{ClientId, List, NoMemory, Party};
 use qu_premise::audit;
 use qu_script::read_script;
@@ -22,11 +23,36 @@ pub fn audited(
     case: &Case<'_>,
     out: &mut String,
 ) -> Result<(), NoAnswer> {
+    audited_run(alloc, names, case, out)?;
+    Ok(())
+}
+
+/// The same, with the points of the run behind it, and what the judge says of their order.
+pub fn ordered(
+    alloc: Global,
+    names: &[Named],
+    case: &Case<'_>,
+    out: &mut String,
+) -> Result<(), NoAnswer> {
+    let trace = audited_run(alloc, names, case, out)?;
+    out.push_str("\n")?;
+    Ok(points(alloc, &trace, out)?)
+}
+
+fn audited_run(
+    alloc: Global,
+    names: &[Named],
+    case: &Case<'_>,
+    out: &mut String,
+) -> Result<Trace, NoAnswer>
+    ensures { IfOk result IsRun }
+{
     let (setup, lines) = case.lines.split_once("\n\n").unwrap_or((case.lines, ""));
     let world = world_with(alloc, setup, case.word(0))?;
     let trace = make_lines(alloc, names, setup, lines, world, out)?;
     let premises = premises_of(alloc, &trace)?;
-    Ok(put_premises(premises, out)?)
+    put_premises(premises, out)?;
+    Ok(trace)
 }
 
 /// The world with which the run of a setup begins, where the client of a word, as `c2`, is faulty too.

@@ -102,7 +102,8 @@ pub fn order(alloc: Global, script: &[u8], out: &mut String) -> Result<(), NoAns
     Ok(points(alloc, &trace, out)?)
 }
 
-/// The event, client and number of each point of a run, and what the judge says of their order.
+/// The event, client and number of each point of a run, with a mark where the client is faulty, and what the judge says
+/// of their order.
 pub fn points(alloc: Global, trace: &Trace, out: &mut String) -> Result<(), NoMemory>
     requires { IsRun trace.now }
 {
@@ -121,7 +122,12 @@ fn printed(alloc: Global, trace: &Trace) -> Result<List<Point>, NoMemory>
 fn put_points(order: &[Point], out: &mut String) -> Result<(), AllocError> {
     out.push_str("points")?;
     for point in order {
-        write!(out, " {}:{}.{}", point.event, point.client.0, point.number)?;
+        let mark = if point.faulty { "faulty-" } else { "" };
+        write!(
+            out,
+            " {}:{mark}{}.{}",
+            point.event, point.client.0, point.number
+        )?;
     }
     out.push_str("\n")
 }
