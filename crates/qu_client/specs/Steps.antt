@@ -37,9 +37,11 @@ goes_on begun = record { state = begun.0; letters = begun.1; ended = None }
 abbrev pub ends : ClientState → Outcome → Stepped
 ends state outcome = record { state = record state { work = None }; letters = []; ended = Some outcome }
 
--- the answer of a verdict that fits the operation
+-- the answer of a verdict that fits the operation: an act was performed now, or was performed before; a query was
+-- answered
 abbrev pub fitting : Op → Verdict → Option Answer
 fitting (op.Act parts) (verdict.Done stamps answer) = Some answer
+fitting (op.Act parts) (verdict.Already answer) = Some answer
 fitting (op.Query parts) (verdict.Told stamps answer) = Some answer
 fitting _ _ = None
 

@@ -7,12 +7,14 @@ use qu_base::Bounds;
 use qu_frames::Verdict;
 use qu_objects::{Answer, Op};
 
-/// The answer of a verdict that fits the operation.
+/// The answer of a verdict that fits the operation. Done and Already both fit an act, and are
+/// counted apart.
 pub fn fitting<'v>(op: &Op, verdict: &'v Verdict) -> Option<&'v Answer>
     ensures { option_copied result ≡ fitting op.now verdict.now }
 {
     match (op, verdict) {
         (Op::Act(_), Verdict::Done { answer, .. }) => Some(answer),
+        (Op::Act(_), Verdict::Already(answer)) => Some(answer),
         (Op::Query(_), Verdict::Told { answer, .. }) => Some(answer),
         _ => None,
     }

@@ -24,7 +24,7 @@ use Rattle.qu_frames.specs.Signing.{sender, mac_of, with_mac, before_mac, text_d
 use Rattle.qu_frames.proofs.Decoded.{spelled_is_decoded}
 
 -- the bytes before the HMAC
-fields_of : Frame → List ℕ
+unfoldable pub fields_of : Frame → List ℕ
 fields_of (Request client number round sets asked mac) =
     to_be_bytes w8
     1 ++ (to_be_bytes w8
@@ -62,7 +62,7 @@ nine : (a b c d e f g h i j : List ℕ) → a ++ (b ++ (c ++ (d ++ (e ++ (f ++ (
     ≡ (a ++ (b ++ (c ++ (d ++ (e ++ (f ++ (g ++ (h ++ i)))))))) ++ j
 nine a b c d e f g h i j = simp append_assoc
 
-spelled_fields : (frame : Frame) → frame_form.spell frame ≡ fields_of frame ++ mac_of frame
+pub spelled_fields : (frame : Frame) → frame_form.spell frame ≡ fields_of frame ++ mac_of frame
 unfolding frame_form kind_form request_frame reply_frame fetch_frame fetched_frame fields_of
 spelled_fields (Request client number round sets asked mac) =
     seven (to_be_bytes w8 1) (to_be_bytes w8 1) (to_be_bytes w16 client.0) (to_be_bytes w64 number)
@@ -91,7 +91,7 @@ mac_with (Reply replica client number round verdict culled shown mac) other = re
 mac_with (Fetch replica object stamp mac) other = refl
 mac_with (Fetched replica object stamp state mac) other = refl
 
-without : (fields mac : List ℕ) → length mac ≡ 32 → before_mac (fields ++ mac) ≡ fields
+pub without : (fields mac : List ℕ) → length mac ≡ 32 → before_mac (fields ++ mac) ≡ fields
 without fields mac size =
     let all : length (fields ++ mac) ≡ length fields + length mac = length-append fields mac in
     take_at fields mac (length (fields ++ mac) - 32) (omega arith)

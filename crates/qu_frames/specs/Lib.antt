@@ -5,3 +5,4 @@ pub mod Formats
 pub mod Decoding
 pub mod Blank
 pub mod Signing
+pub mod Reading

@@ -6,3 +6,4 @@ pub mod Text
 pub mod Culling
 pub mod Trimming
 pub mod Sealing
+pub mod Digested

@@ -1,9 +1,11 @@
 ghost use Rattle.std.specs.Prelude.{◌≡◌, ◌++◌, [], ◌∷◌, IfOk, OnOk, IsTrue};
 ghost use Rattle.std.specs.Option.{option_copied};
 ghost use Rattle.qu_history.specs.Culling.{history_digest, mac_is_right, is_right, culled_set, culled, left_of, left_out};
+ghost use Rattle.qu_history.specs.Digested.{entry_digests, history_digests};
 ghost use Rattle.qu_history.specs.Formats.{history_form};
 ghost use Rattle.qu_history.specs.Sealing.{are_right};
 
+use super::digested::history_digests;
 use super::{History, Sealed, SetOf, Sets};
 use qu_base::{Digest, List, NoMemory, ObjectId, Outbytes, Party, ReplicaId};
 use qu_seal::{HISTORY_TAG, KeyRing, digest};
@@ -50,39 +52,46 @@ impl History {
 
 impl Sealed {
     /// Whether it has an HMAC for each replica, and that for this reader is right.
-    #[tactic(auto, unfolding(crate::specs::Culling::is_right))]
     pub fn is_right(&self, alloc: Global, me: ReplicaId, keys: &KeyRing) -> Result<bool, NoMemory>
         ensures { IfOk result (λ right. right ≡ is_right keys.now me self.now) }
     {
-        if self.macs.len() != usize::from(keys.bounds().n()) {
-            return Ok(false);
-        }
-        mac_is_right(
-            alloc,
-            &self.history,
-            me,
-            keys,
-            self.macs.get(usize::from(me.0)),
-        )
+        let text = self.history.digest(alloc)?;
+        Ok(self.is_right_by(&text, me, keys))
+    }
+
+    /// The same, where this is the digest of its history.
+    #[tactic(auto, unfolding(crate::specs::Culling::is_right))]
+    pub(crate) fn is_right_by(&self, text: &Digest, me: ReplicaId, keys: &KeyRing) -> bool
+        requires { text.now ≡ history_digest self.now.history }
+        ensures { result ≡ is_right keys.now me self.now }
+    {
+        self.macs.len() == usize::from(keys.bounds().n())
+            && mac_is_right(
+                &self.history,
+                text,
+                me,
+                keys,
+                self.macs.get(usize::from(me.0)),
+            )
     }
 }
 
-/// Whether the HMAC of a history for this reader is there, and right.
+/// Whether the HMAC of a history with this digest for this reader is there, and right.
 fn mac_is_right(
-    alloc: Global,
     history: &History,
+    text: &Digest,
     me: ReplicaId,
     keys: &KeyRing,
     mac: Option<&[u8; 32]>,
-) -> Result<bool, NoMemory>
-    ensures { IfOk result (λ right. right ≡ mac_is_right keys.now me history.now (option_copied mac.entry)) }
+) -> bool
+    requires { text.now ≡ history_digest history.now }
+    ensures { result ≡ mac_is_right keys.now me history.now (option_copied mac.entry) }
 {
     let Some(mac) = mac else {
-        return Ok(false);
+        return false;
     };
     let from = Party::Replica(history.replica());
-    let text = history.digest(alloc)?;
-    Ok(keys.verifies(from, Party::Replica(me), &text, mac))
+    keys.verifies(from, Party::Replica(me), text, mac)
 }
 
 impl Sets {
@@ -95,8 +104,31 @@ impl Sets {
         ensures whole { IsTrue (are_right keys.now me self.now)
             → IfOk result (λ found. (found.sets ≡ self.now) × (found.left ≡ [])) }
     {
+        let digests = history_digests(alloc, self.objects().as_slice())?;
+        self.cull_by(alloc, digests.as_slice(), me, keys)
+    }
+
+    /// The same, where these are the digests of the histories.
+    pub(crate) fn cull_by(
+        &self,
+        alloc: Global,
+        digests: &[List<Digest>],
+        me: ReplicaId,
+        keys: &KeyRing,
+    ) -> Result<Culled, NoMemory>
+        requires { digests.now ≡ history_digests self.now }
+        ensures sets { IfOk result (λ found. found.sets ≡ culled keys.now me self.now) }
+        ensures left { IfOk result (λ found. found.left ≡ left_out keys.now me self.now) }
+    {
         let mut left = List::new(alloc);
-        let objects = cull_all(alloc, self.objects().as_slice(), me, keys, &mut left)?;
+        let objects = cull_all(
+            alloc,
+            self.objects().as_slice(),
+            digests,
+            me,
+            keys,
+            &mut left,
+        )?;
         Ok(Culled {
             sets: Sets { objects },
             left,
@@ -105,20 +137,22 @@ impl Sets {
 }
 
 /// The objects without such entries, which are added to those that are left out.
-#[tactic(auto, unfolding(crate::specs::Culling::culled, crate::specs::Culling::left_out))]
+#[tactic(auto, unfolding(crate::specs::Culling::culled, crate::specs::Culling::left_out, crate::specs::Digested::history_digests))]
 fn cull_all(
     alloc: Global,
     sets: &[SetOf],
+    digests: &[List<Digest>],
     me: ReplicaId,
     keys: &KeyRing,
     left: &mut List<(ObjectId, ReplicaId)>,
 ) -> Result<List<SetOf>, NoMemory>
+    requires { digests.now ≡ history_digests sets.now }
     ensures stays { IfOk result (λ objects. objects ≡ culled keys.now me sets.now) }
     ensures left { OnOk result (left.new ≡ left.old ++ left_out keys.now me sets.now) }
 {
     let mut objects = List::new(alloc);
-    for set in sets {
-        objects.push(cull_set(alloc, set, me, keys, left)?)?;
+    for (place, set) in sets.iter().enumerate() {
+        objects.push(cull_set(alloc, set, digests[place].as_slice(), me, keys, left)?)?;
     }
     Ok(objects)
 }
@@ -127,16 +161,19 @@ fn cull_all(
 fn cull_set(
     alloc: Global,
     set: &SetOf,
+    digests: &[Digest],
     me: ReplicaId,
     keys: &KeyRing,
     left: &mut List<(ObjectId, ReplicaId)>,
 ) -> Result<SetOf, NoMemory>
+    requires { digests.now ≡ entry_digests set.now.entries }
     ensures stays { IfOk result (λ found. found ≡ culled_set keys.now me set.now) }
     ensures left { OnOk result (left.new ≡ left.old ++ left_of keys.now me set.now) }
 {
+    let all = set.entries.as_slice();
     let mut entries = List::new(alloc);
-    for entry in set.entries.as_slice() {
-        if entry.is_right(alloc, me, keys)? {
+    for (place, entry) in all.iter().enumerate() {
+        if entry.is_right_by(&digests[place], me, keys) {
             entries.push(entry.copy(alloc)?)?;
         } else {
             left.push((set.object, entry.history.replica()))?;

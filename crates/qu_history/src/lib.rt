@@ -2,6 +2,7 @@
 #![tactic(auto)]
 
 mod culling;
+mod digested;
 mod entries;
 mod formats;
 mod history;
@@ -18,6 +19,7 @@ mod writing;
 mod writing_sets;
 
 pub use culling::Culled;
+pub use digested::Digested;
 pub use formats::formats_are_codes;
 pub use history::{AddFail, History};
 pub use limits::{HISTORY_LIMIT, OBJECTS_LIMIT, SETS_YET, limits_are_these};

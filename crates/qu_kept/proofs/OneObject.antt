@@ -2,6 +2,7 @@
 use Rattle.std.proofs.Common.{◌≡◌, ℕ, ◌==◌, true, List, [], ◌∷◌, length, get_or, refl, sym, ap, ◌∙◌, arith}
 use Rattle.std.specs.Prelude.{◌≢◌, ◌&&◌, if◌then◌else◌, Option, Some, Result, Ok, Err, IfOk, map, zip, IsTrue}
 use Rattle.std.proofs.lemmas.Bool.Decides.{nat_tests}
+use Rattle.std.proofs.lemmas.List.{length-map}
 use Rattle.qu_base.specs.declared.party.ClientId.{ClientId}
 use Rattle.qu_base.specs.declared.party.ObjectId.{ObjectId}
 use Rattle.qu_stamp.specs.declared.stamp.Stamp.{Stamp}
@@ -34,7 +35,7 @@ values_one [] value one = absurd (omega arith)
 values_one (part ∷ []) value one = values_one_by value (applied part.1 value)
 values_one (part ∷ other ∷ parts) value one = absurd (omega arith)
 
-no_others : (part : ObjectId × Method) (stamp : Stamp) → links_to_others part.0 stamp (part ∷ []) ≡ []
+pub no_others : (part : ObjectId × Method) (stamp : Stamp) → links_to_others part.0 stamp (part ∷ []) ≡ []
 no_others part stamp =
     let same : ((part.0).0 == (part.0).0) ≡ true = grind (arith, nat_tests) in
     rw same refl
@@ -77,6 +78,24 @@ performed_parts client number (part ∷ []) (stamp ∷ []) state one each =
     (values_one (part ∷ []) state.value refl)
 performed_parts client number (part ∷ []) (stamp ∷ other ∷ stamps) state one each = absurd (omega arith)
 performed_parts client number (part ∷ other ∷ parts) stamps state one each = absurd (omega arith)
+
+-- by the value after it
+pub performed_to : (client : ClientId) (number : ℕ) (parts : List (ObjectId × Method)) (stamps : List Stamp)
+    (state : ObjState) (after : Value) → length parts ≡ 1 → length stamps ≡ 1
+    → performed_values parts (state.value ∷ []) ≡ after ∷ []
+    → performed_states client number parts stamps (state ∷ [])
+    ≡ state_after (row_for client number parts (state ∷ [])) after [] state ∷ []
+performed_to client number parts stamps state after one each is =
+    performed_parts client number parts stamps state one each
+    ∙ ap (map (λ value. state_after (row_for client number parts (state ∷ [])) value [] state)) is
+
+pub performed_length : (client : ClientId) (number : ℕ) (parts : List (ObjectId × Method)) (stamp : Stamp)
+    (state : ObjState) → length parts ≡ 1 → length (performed_states client number parts (stamp ∷ []) (state ∷ [])) ≡ 1
+performed_length client number parts stamp state one =
+    ap length (performed_parts client number parts (stamp ∷ []) state one refl)
+    ∙ length-map (performed_values parts (state.value ∷ []))
+    (λ value. state_after (row_for client number parts (state ∷ [])) value [] state)
+    ∙ values_one parts state.value one
 
 pub performed_one : (client : ClientId) (number : ℕ) (shown parts : List (ObjectId × Method)) (stamps : List Stamp)
     (states : List ObjState) (state : ObjState) → IsTrue (are_parts shown) → shown ≡ parts

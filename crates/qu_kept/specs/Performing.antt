@@ -18,14 +18,17 @@ use Rattle.qu_kept.specs.Rows.{with_row}
 abbrev pub values_of : List ObjState → List Value
 values_of states = map (λ state. state.value) states
 
--- what is kept of an act of a client: its number and digest, and what it answers
-abbrev pub row_for : ClientId → ℕ → List (ObjectId × Method) → List ObjState → KeptRow
-row_for client number parts states = record {
+-- what is kept of an act of a client: its number and digest, and what it answers upon these values
+abbrev pub row_by : ClientId → ℕ → List (ObjectId × Method) → List Value → KeptRow
+row_by client number parts values = record {
   client = client;
   number = number;
   act = act_digest client number parts;
-  answer = performed_answer parts (values_of states);
+  answer = performed_answer parts values;
 }
+
+abbrev pub row_for : ClientId → ℕ → List (ObjectId × Method) → List ObjState → KeptRow
+row_for client number parts states = row_by client number parts (values_of states)
 
 abbrev pub linked_object : Link → ℕ
 linked_object link = (link.object).0

@@ -16,18 +16,20 @@ use Rattle.qu_history.specs.History.{ObjectHistory, latest}
 use Rattle.qu_history.specs.Sets.{histories, entries_of, latest_of, method_at, if_method, object_candidate, candidates_of, greatest}
 use Rattle.qu_objects.specs.declared.act.Method.{Method}
 use Rattle.qu_objects.specs.declared.query.Ask.{Ask}
-use Rattle.qu_objects.specs.declared.answer.Answer.{Answer}
-use Rattle.qu_objects.specs.declared.kind.Value.{Value}
-use Rattle.qu_objects.specs.declared.version.Version.{Version}
+use Rattle.qu_objects.specs.declared.state.ObjState.{ObjState}
+use Rattle.qu_kept.specs.declared.repeats.Standing.{Standing}
+use Rattle.qu_kept.specs.declared.repeats.Standing.TheVariants.{Fresh, Already, Spent}
 use Rattle.qu_frames.specs.declared.frame.Body.{Body}
 use Rattle.qu_frames.specs.declared.frame.Body.TheVariants as body
 use Rattle.qu_frames.specs.declared.verdict.Refusal.{Refusal}
 use Rattle.qu_frames.specs.declared.verdict.Refusal.TheVariants.{UnknownObject, NotCurrent, TimeSpent, HistoryFull}
+use Rattle.qu_frames.specs.declared.verdict.Refusal.TheVariants as refusal
 use Rattle.qu_frames.specs.declared.verdict.Verdict.TheVariants.{Done}
+use Rattle.qu_frames.specs.declared.verdict.Verdict.TheVariants as verdict
 use Rattle.qu_replica.specs.declared.decision.Decision.{Decision}
 use Rattle.qu_replica.specs.declared.decision.Decision.TheVariants.{Answers, Waits}
 use Rattle.qu_replica.specs.State.{ReplicaState, own_candidates, own_latest}
-use Rattle.qu_replica.specs.Rows.{Asked, refuse, base_of, shown_of, fresh_stamp, fresh_on, accepted_by, row_unknown, row_thin, row_retry, row_current, row_method, row_version, row_time, row_full, row_done, row_told, first_given, decide_act, decide_ask, decision_on}
+use Rattle.qu_replica.specs.Rows.{Asked, refuse, base_of, shown_of, fresh_stamp, fresh_on, accepted_by, done_again, repeated, row_unknown, row_thin, row_retry, row_current, row_method, row_version, row_kept, row_time, row_full, row_done, row_told, first_given, decide_act, decide_ask, decision_on}
 use Rattle.qu_replica.specs.Step.{carried_out}
 use Rattle.qu_replica.specs.Growth.{AreHistories, MayAccept, MayAcceptAll, MayDecide, has_parts}
 use Rattle.qu_replica.proofs.Own.{accept_all-histories}
@@ -117,20 +119,34 @@ fresh_later latest own fresh next current =
       | inr within ↦ is_below_by_time own fresh (omega arith)
     ]
 
-answering : (state : ReplicaState) (test : Bool) (stamps : List (ObjectId × Stamp)) (kept : Option Answer)
-    → MayGive state (cond test (option_map (λ (answer : Answer). Answers (Done stamps answer) []) kept) None)
-answering state false stamps kept decision given = absurd (none-some decision given)
-answering state true stamps None decision given = absurd (none-some decision given)
-answering state true stamps (Some answer) decision given =
+answering : (state : ReplicaState) (test : Bool) (stamps : List (ObjectId × Stamp)) (standing : Standing)
+    → MayGive state (cond test (done_again stamps standing) None)
+answering state false stamps standing decision given = absurd (none-some decision given)
+answering state true stamps Fresh decision given = absurd (none-some decision given)
+answering state true stamps (Spent object number) decision given = absurd (none-some decision given)
+answering state true stamps (Already answer) decision given =
     subst (MayDecide state) (same_Some (Answers (Done stamps answer) []) decision given) tt
+
+repeating : (state : ReplicaState) (standing : Standing) → MayGive state (repeated standing)
+repeating state Fresh decision given = absurd (none-some decision given)
+repeating state (Spent object number) decision given =
+    subst (MayDecide state) (same_Some (refuse (refusal.Spent object number)) decision given) tt
+repeating state (Already answer) decision given =
+    subst (MayDecide state) (same_Some (Answers (verdict.Already answer) []) decision given) tt
 
 waiting : (state : ReplicaState) (test : Bool) → MayGive state (cond test (Some Waits) None)
 waiting state false decision given = absurd (none-some decision given)
 waiting state true decision given = subst (MayDecide state) (same_Some Waits decision given) tt
 
-retry : (state : ReplicaState) (asked : Asked) (objects : List ObjectId) → MayGive state (row_retry state asked objects)
+retry : (state : ReplicaState) (asked : Asked) (parts : List (ObjectId × Method)) (objects : List ObjectId)
+    → MayGive state (row_retry state asked parts objects)
 unfolding row_retry
-retry state asked objects = answering state _ _ _
+retry state asked parts objects = answering state _ _ _
+
+kept : (state : ReplicaState) (asked : Asked) (parts : List (ObjectId × Method)) (objects : List ObjectId)
+    → MayGive state (row_kept state asked parts objects)
+unfolding row_kept
+kept state asked parts objects = repeating state _
 
 version : (state : ReplicaState) (asked : Asked) (objects : List ObjectId)
     → MayGive state (row_version state asked objects)
@@ -162,7 +178,7 @@ may_accept_fresh : (state : ReplicaState) (asked : Asked) (object : ObjectId)
     → is_below (latest_of (shown_of asked object)) (own_latest state object) ≡ false
     → nat_le LAST_TIME (latest_of (shown_of asked object)).time ≡ false
     → nat_le HISTORY_LIMIT (length (own_candidates state object)) ≡ false
-    → (fresh : Candidate) → fresh_on state asked object ≡ Some fresh → (version : Version)
+    → (fresh : Candidate) → fresh_on state asked object ≡ Some fresh → (version : ObjState)
     → MayAccept state (record { object = object; candidate = fresh; state = version })
 may_accept_fresh state asked object known current in_time room fresh made version =
     let parts : (base_of state asked object ≡ None → ⊥) × (fresh.stamp ≡ fresh_stamp asked object) =
@@ -178,16 +194,16 @@ may_accept_fresh state asked object known current in_time room fresh made versio
       in_time = in_time_of (latest_of (shown_of asked object)) fresh.stamp next (leb-false _ _ in_time);
     }
 
-may_accept_made : (state : ReplicaState) (asked : Asked) (answer : Answer) (object : ObjectId)
-    (values : List Value) (made : Option Candidate) → fresh_on state asked object ≡ made
-    → ((fresh : Candidate) → fresh_on state asked object ≡ Some fresh → (version : Version)
+may_accept_made : (state : ReplicaState) (asked : Asked) (object : ObjectId) (versions : List ObjState)
+    (made : Option Candidate) → fresh_on state asked object ≡ made
+    → ((fresh : Candidate) → fresh_on state asked object ≡ Some fresh → (version : ObjState)
     → MayAccept state (record { object = object; candidate = fresh; state = version }))
-    → MayAcceptAll state (accepted_by state asked answer (object ∷ []) values)
+    → MayAcceptAll state (accepted_by state asked (object ∷ []) versions)
 unfolding accepted_by
-may_accept_made state asked answer object [] made is_made may = tt
-may_accept_made state asked answer object (value ∷ values) None is_made may = rw (is_made, MayAcceptAll) tt
-may_accept_made state asked answer object (value ∷ values) (Some fresh) is_made may =
-    rw (is_made, MayAcceptAll) (may fresh is_made (record { value = value; answer = answer }))
+may_accept_made state asked object [] made is_made may = tt
+may_accept_made state asked object (version ∷ versions) None is_made may = rw (is_made, MayAcceptAll) tt
+may_accept_made state asked object (version ∷ versions) (Some fresh) is_made may =
+    rw (is_made, MayAcceptAll) (may fresh is_made version)
 
 pub no_first : (why : ObjectId → Refusal) (bad : Bool) (object : ObjectId)
     → option_map (λ (it : ObjectId). refuse (why it)) (cond bad (Some object) None) ≡ None → bad ≡ false
@@ -206,7 +222,7 @@ done : (state : ReplicaState) (asked : Asked) (part : ObjectId × Method) (objec
 unfolding row_current row_time row_full row_done
 done state asked part object unknown current time full decision given =
     subst (MayDecide state) (same_Some _ decision given)
-    (may_accept_made state asked _ object _ _ refl
+    (may_accept_made state asked object _ _ refl
     (may_accept_fresh state asked object (no_unknown state asked unknown)
     (no_first (λ it. NotCurrent it (own_latest state it)) _ object current) (no_first TimeSpent _ object time)
     (no_first HistoryFull _ object full)))
@@ -221,13 +237,14 @@ unfolding decide_act
 may_act state asked part object =
     past state _ _ (unknown state asked) (λ known.
     past state _ _ (thin state asked) (λ _.
-    past state _ _ (retry state asked (object ∷ [])) (λ _.
+    past state _ _ (retry state asked (part ∷ []) (object ∷ [])) (λ _.
     past state _ _ (current state asked (object ∷ [])) (λ is_current.
     past state _ _ (method state asked (object ∷ [])) (λ _.
     past state _ _ (version state asked (object ∷ [])) (λ _.
+    past state _ _ (kept state asked (part ∷ []) (object ∷ [])) (λ _.
     past state _ _ (time state asked (object ∷ [])) (λ in_time.
     past state _ _ (full state asked (object ∷ [])) (λ room.
-    past state _ _ (done state asked part object known is_current in_time room) (λ _. nothing state)))))))))
+    past state _ _ (done state asked part object known is_current in_time room) (λ _. nothing state))))))))))
 
 may_ask : (state : ReplicaState) (asked : Asked) (part : ObjectId × Ask) (object : ObjectId)
     → MayDecide state (decide_ask state asked (part ∷ []) (object ∷ []))

@@ -1,10 +1,12 @@
 -- What a replica decides upon a request that fits, fits: its verdict, and the candidates that it accepts.
-use Rattle.std.proofs.Common.{◌≡◌, ◌-◌, ℕ, ◌+◌, ◌<◌, ◌≤◌, Bool, true, false, not, ◌||◌, cond, List, [], ◌∷◌, length, Option, None, Some, inl, inr, refl, sym, ap, subst, ◌∙◌, arith}
+use Rattle.std.proofs.Common.{◌≡◌, ◌-◌, ◌^◌, ℕ, ◌+◌, ◌<◌, ◌≤◌, Bool, true, false, not, ◌&&◌, ◌||◌, cond, List, [], ◌∷◌, length, Option, None, Some, inl, inr, refl, sym, ap, subst, ◌∙◌, arith}
 use Rattle.std.specs.Prelude.{IsTrue, ◌==◌, find, is_none, option_map, option_and_then, slice_get}
+use Rattle.std.specs.List.{AllByRecursion, cons_option}
 use Rattle.std.proofs.lemmas.Bool.Decides.{nat_tests}
 use Rattle.std.proofs.lemmas.Bool.{cases_Bool, and_parts, false≢true, leb-false}
 use Rattle.std.proofs.lemmas.Option.{none-some, same_Some, cond_some}
 use Rattle.qu_base.specs.declared.limits.TheConstants.{LAST_CLIENT, OBJECT_IDS}
+use Rattle.qu_base.specs.declared.party.ClientId.{ClientId}
 use Rattle.qu_base.specs.declared.party.Digest.{Digest}
 use Rattle.qu_base.specs.declared.party.ObjectId.{ObjectId}
 use Rattle.qu_base.specs.Format.{FitsFrom}
@@ -24,25 +26,34 @@ use Rattle.qu_history.proofs.Method.{method_at_plain}
 use Rattle.qu_objects.specs.declared.act.Method.{Method}
 use Rattle.qu_objects.specs.declared.query.Ask.{Ask}
 use Rattle.qu_objects.specs.declared.answer.Answer.{Answer}
-use Rattle.qu_objects.specs.declared.version.Version.{Version}
+use Rattle.qu_objects.specs.declared.state.KeptRow.{KeptRow}
+use Rattle.qu_objects.specs.declared.state.ObjState.{ObjState}
+use Rattle.qu_kept.specs.declared.repeats.Standing.{Standing}
+use Rattle.qu_kept.specs.declared.repeats.Standing.TheVariants.{Fresh, Already, Spent}
+use Rattle.qu_kept.specs.Performing.{row_by, state_after}
+use Rattle.qu_kept.specs.Rows.{client_of, row_of, with_row}
+use Rattle.qu_kept.specs.Standing.{is_of_act, told_again, spent_or, standing_of}
+use Rattle.qu_kept.proofs.KeyedLaws.{all_with}
+use Rattle.qu_kept.proofs.OneObject.{performed_to}
 use Rattle.qu_objects.specs.Formats.{answer_form}
 use Rattle.qu_objects.specs.Performing.{performed_answer, told_answer}
 use Rattle.qu_frames.specs.declared.verdict.Refusal.{Refusal}
 use Rattle.qu_frames.specs.declared.verdict.Refusal.TheVariants.{UnknownObject, Thin, NotCurrent, NotMethod, TimeSpent, HistoryFull}
+use Rattle.qu_frames.specs.declared.verdict.Refusal.TheVariants as refusal
 use Rattle.qu_frames.specs.declared.verdict.ClassCode.TheVariants.{Barrier}
-use Rattle.qu_frames.specs.declared.verdict.Verdict.TheVariants.{Done, Refused}
+use Rattle.qu_frames.specs.declared.verdict.Verdict.TheVariants.{Refused}
 use Rattle.qu_frames.specs.Formats.{verdict_form}
 use Rattle.qu_replica.specs.declared.decision.Decision.{Decision}
 use Rattle.qu_replica.specs.declared.decision.Decision.TheVariants.{Answers, Waits}
 use Rattle.qu_replica.specs.State.{ReplicaState, candidates_in, own_candidates, own_latest}
-use Rattle.qu_replica.specs.Rows.{Asked, refuse, base_of, base_version, shown_of, fresh_stamp, fresh_on, fresh_stamps, row_unknown, row_thin, row_retry, kept_answer, is_held, row_current, row_method, row_version, row_time, row_full, row_done, row_told, first_given, decide_act, decide_ask}
+use Rattle.qu_replica.specs.Rows.{Asked, refuse, base_of, base_version, shown_of, fresh_stamp, fresh_on, fresh_stamps, standing_in, done_again, repeated, row_unknown, row_thin, row_retry, is_held, row_current, row_method, row_version, row_kept, row_time, row_full, row_done, row_told, first_given, decide_act, decide_ask}
 use Rattle.qu_replica.specs.Versions.{version_at}
-use Rattle.qu_replica.specs.Fits.{ValueFits, StateFits}
+use Rattle.qu_replica.specs.Fits.{ValueFits, RowFits, VersionFits, StateFits}
 use Rattle.qu_replica.proofs.Own.{own_history}
 use Rattle.qu_replica.proofs.Held.{is_held_by, own_in_time}
-use Rattle.qu_replica.proofs.Carried.{stamps_one, done_one, told_one}
+use Rattle.qu_replica.proofs.Carried.{stamps_one, versions_one, fresh_on-stamp, done_one, told_one}
 use Rattle.qu_replica.proofs.FitStamps.{stamp_fits, not_opening, prior_fits, opening_fits, stamps_fit, shown_fit, base_latest, base_shown}
-use Rattle.qu_replica.proofs.FitVerdicts.{unknown_fits, thin_fits, time_fits, full_fits, method_fits, current_fits, done_fits, told_fits, performed_fits, after_fits, read_fits}
+use Rattle.qu_replica.proofs.FitVerdicts.{unknown_fits, thin_fits, time_fits, full_fits, method_fits, current_fits, done_fits, told_fits, performed_fits, after_fits, read_fits, already_fits, spent_fits}
 use Rattle.qu_replica.proofs.FitState.{AcceptAllFit, version_fits}
 use Rattle.qu_replica.proofs.Allowed.{no_first}
 
@@ -50,6 +61,7 @@ use Rattle.qu_replica.proofs.Allowed.{no_first}
 pub record AskedFits (asked : Asked) : Type 0 where
   pub low : 1 ≤ (asked.client).0
   pub high : (asked.client).0 ≤ LAST_CLIENT
+  pub number : asked.number ≤ 2 ^ 64 - 1
   pub sets : sets_form.Fits asked.sets
   pub act : (digest : Digest) → asked.act ≡ Some digest → length digest.0 ≡ 32
   pub set : length (asked.set).0 ≡ 32
@@ -171,11 +183,6 @@ module _ (state : ReplicaState) (asked : Asked) (fits : StateFits state) (asks :
       let base = fresh_base (base_of state asked object) fresh made in
       subst FreshFits base.2 (fresh_upon base.0 base.1 in_time)
 
-  fresh_on-stamp : (fresh : Candidate) → fresh_on state asked object ≡ Some fresh
-      → fresh.stamp ≡ fresh_stamp asked object
-  fresh_on-stamp fresh made = let base = fresh_base (base_of state asked object) fresh made in
-      ap (λ (it : Candidate). it.stamp) (sym base.2)
-
   -- what the replica accepted last
   latest_in : (found : Option ObjectHistory) → slice_get state.histories object.0 ≡ found
       → stamp_form.Fits (latest (candidates_in found))
@@ -242,40 +249,105 @@ module _ (state : ReplicaState) (asked : Asked) (fits : StateFits state) (asks :
   unfolding is_held
   held_fresh holding = held_from (fresh_on state asked object) refl holding
 
-  kept : (fresh : Candidate) → fresh_on state asked object ≡ Some fresh
-      → (latest_of (shown_of asked object)).time + 1 ≤ LAST_TIME → (found : Option Version)
-      → version_at object (fresh_stamp asked object) state.versions ≡ found
-      → Gives (option_map (λ (it : Answer). Answers (Done (fresh_stamps state asked (object ∷ [])) it) [])
-      (option_map (λ (it : Version). it.answer) found))
-  kept fresh made in_time None is = λ decision given. absurd (none-some decision given)
-  kept fresh made in_time (Some version) is = λ decision given.
-      let answered : answer_form.Fits version.answer =
-      (version_fits object (fresh_stamp asked object) state.versions version fits.versions is).answer fresh_other in
-      let verdict : verdict_form.Fits (Done ((object, fresh.stamp) ∷ []) version.answer) =
-      done_fits object within fresh.stamp version.answer (fresh_on-fits fresh made in_time).stamp answered in
+  -- what is kept of a client can be told
+  row_found : (client : ClientId) (rows : List KeptRow) → AllByRecursion RowFits rows → (row : KeptRow)
+      → row_of client rows ≡ Some row → RowFits row
+  row_found client [] all row found = absurd (none-some row found)
+  row_found client (first ∷ later) all row found =
+      elim (cases_Bool (client_of first == client.0)) [
+        | inl is ↦
+            subst RowFits
+            (same_Some first row
+            (sym (ap (λ (test : Bool). cond test (Some first) (row_of client later)) is) ∙ found)) all.0
+        | inr not ↦
+            row_found client later all.1 row
+            (sym (ap (λ (test : Bool). cond test (Some first) (row_of client later)) not) ∙ found)
+      ]
+
+  abbrev StandingFits : Standing → Type 0
+  StandingFits Fresh = Unit {0}
+  StandingFits (Already answer) = answer_form.Fits answer
+  StandingFits (Spent on number) = (on ≡ object) × (number ≤ 2 ^ 64 - 1)
+
+  stands_by : (same passed : Bool) (row : KeptRow) → RowFits row
+      → StandingFits (cond (same && true) (told_again (Some row)) (cond passed (Spent object row.number) Fresh))
+  stands_by true passed row fits = fits.answer
+  stands_by false true row fits = (refl, fits.number)
+  stands_by false false row fits = tt
+
+  stands_so : (number : ℕ) (act : Digest) (found : Option KeptRow)
+      → ((row : KeptRow) → found ≡ Some row → RowFits row)
+      → StandingFits (cond (is_of_act number act found && true) (told_again found)
+      (spent_or number object Fresh found))
+  stands_so number act None fits = tt
+  stands_so number act (Some row) fits = stands_by _ _ row (fits row refl)
+
+  standing_fits : (method : Method) (version : ObjState) → VersionFits version → (act : Option Digest)
+      → StandingFits (elim act [
+        | None ↦ Fresh
+        | Some digest ↦ standing_of asked.client asked.number digest ((object, method) ∷ []) (version ∷ [])
+      ])
+  standing_fits method version fits None = tt
+  standing_fits method version fits (Some act) =
+      stands_so asked.number act (row_of asked.client version.kept)
+      (row_found asked.client version.kept fits.kept)
+
+  again_fits : (stamp : Stamp) → stamp_form.Fits stamp → (standing : Standing) → StandingFits standing
+      → Gives (done_again ((object, stamp) ∷ []) standing)
+  again_fits stamp fits Fresh stands = λ decision given. absurd (none-some decision given)
+  again_fits stamp fits (Spent on number) stands = λ decision given. absurd (none-some decision given)
+  again_fits stamp fits (Already answer) stands = λ decision given.
+      subst DecisionFits (same_Some _ decision given) (done_fits object within stamp answer fits stands, tt)
+
+  repeated_fits : (standing : Standing) → StandingFits standing → Gives (repeated standing)
+  repeated_fits Fresh stands = λ decision given. absurd (none-some decision given)
+  repeated_fits (Already answer) stands = λ decision given.
+      subst DecisionFits (same_Some _ decision given) (already_fits answer stands, tt)
+  repeated_fits (Spent on number) stands = λ decision given.
       subst DecisionFits (same_Some _ decision given) (
-        subst (λ (stamps : List (ObjectId × Stamp)). verdict_form.Fits (Done stamps version.answer))
-            (sym (stamps_one state asked object fresh made)) verdict,
+        subst (λ (it : ObjectId). verdict_form.Fits (Refused (refusal.Spent it number))) (sym stands.0)
+            (spent_fits object within number stands.1),
         tt,
       )
 
-  retry : Gives (row_retry state asked (object ∷ []))
-  unfolding row_retry kept_answer
-  retry = if_given _ _ (λ all.
+  kept_again : (method : Method) (fresh : Candidate) → fresh_on state asked object ≡ Some fresh
+      → (latest_of (shown_of asked object)).time + 1 ≤ LAST_TIME → (found : Option ObjState)
+      → version_at object (fresh_stamp asked object) state.versions ≡ found
+      → Gives (done_again (fresh_stamps state asked (object ∷ []))
+      (standing_in asked ((object, method) ∷ []) (cons_option found [])))
+  kept_again method fresh made in_time None is = none_kept asked.act
+    where
+      none_kept : (act : Option Digest) → Gives (done_again (fresh_stamps state asked (object ∷ []))
+          (elim act [
+            | None ↦ Fresh
+            | Some digest ↦ standing_of asked.client asked.number digest ((object, method) ∷ []) []
+          ]))
+      none_kept None = λ decision given. absurd (none-some decision given)
+      none_kept (Some digest) = λ decision given. absurd (none-some decision given)
+  kept_again method fresh made in_time (Some version) is =
+      subst (λ (stamps : List (ObjectId × Stamp)). Gives (done_again stamps
+      (standing_in asked ((object, method) ∷ []) (version ∷ [])))) (sym (stamps_one state asked object fresh made))
+      (again_fits fresh.stamp (fresh_on-fits fresh made in_time).stamp _
+      (standing_fits method version
+      (version_fits object (fresh_stamp asked object) state.versions version fits.versions is) asked.act))
+
+  retry : (method : Method) → Gives (row_retry state asked ((object, method) ∷ []) (object ∷ []))
+  unfolding row_retry
+  retry method = if_given _ _ (λ all.
       let found = held_fresh (and_parts _ _ all).0 in
       let in_time : ((found.0).stamp).time ≤ LAST_TIME = own_in_time state object found.0 fits.own found.2 in
-      let time_is : ((found.0).stamp).time ≡ (latest_of (shown_of asked object)).time + 1 =
-      ap (λ (it : Stamp). it.time) (fresh_on-stamp found.0 found.1) in
-      kept found.0 found.1 (omega (arith, time_is, in_time))
+      let time_is : (latest_of (shown_of asked object)).time + 1 ≡ ((found.0).stamp).time =
+      ap (λ (it : Stamp). it.time) (fresh_on-stamp state asked object found.0 found.1) in
+      kept_again method found.0 found.1 (omega (arith, time_is, in_time))
       (version_at object (fresh_stamp asked object) state.versions) refl)
 
   -- the version upon which an operation rests
-  some_version : (found : Option Version) → cond (is_none found || false) (Some Waits) None ≡ None
-      → (version : Version) × (found ≡ Some version)
+  some_version : (found : Option ObjState) → cond (is_none found || false) (Some Waits) None ≡ None
+      → (version : ObjState) × (found ≡ Some version)
   some_version None none = absurd (none-some Waits (sym none))
   some_version (Some version) none = (version, refl)
 
-  has_version : row_version state asked (object ∷ []) ≡ None → (version : Version)
+  has_version : row_version state asked (object ∷ []) ≡ None → (version : ObjState)
       × (base_version state asked object ≡ Some version)
   unfolding row_version
   has_version none = some_version (base_version state asked object) none
@@ -284,15 +356,26 @@ module _ (state : ReplicaState) (asked : Asked) (fits : StateFits state) (asks :
   unfolding row_time
   has_time none = leb-false _ _ (no_first TimeSpent _ object none)
 
-  version_of : (found : Option Candidate) (version : Version)
+  version_of : (found : Option Candidate) (version : ObjState)
       → option_and_then (λ (it : Candidate). version_at object it.stamp state.versions) found ≡ Some version
       → (base : Candidate) × (found ≡ Some base) × (version_at object base.stamp state.versions ≡ Some version)
   version_of None version is = absurd (none-some version is)
   version_of (Some base) version is = (base, refl, is)
 
-  done : (part : ObjectId × Method) (version : Version) → base_version state asked object ≡ Some version
-      → (latest_of (shown_of asked object)).time < LAST_TIME → Gives (row_done state asked (part ∷ []) (object ∷ []))
-  done part version is_version spent = λ decision given.
+  repeats : (method : Method) (version : ObjState) → base_version state asked object ≡ Some version
+      → Gives (row_kept state asked ((object, method) ∷ []) (object ∷ []))
+  unfolding row_kept
+  repeats method version is_version =
+      let upon = version_of (base_of state asked object) version is_version in
+      subst (λ (before : List ObjState). Gives (repeated (standing_in asked ((object, method) ∷ []) before)))
+      (sym (versions_one state asked object version is_version))
+      (repeated_fits _ (standing_fits method version
+      (version_fits object (upon.0).stamp state.versions version fits.versions upon.2) asked.act))
+
+  done : (method : Method) (version : ObjState) → base_version state asked object ≡ Some version
+      → (latest_of (shown_of asked object)).time < LAST_TIME
+      → Gives (row_done state asked ((object, method) ∷ []) (object ∷ []))
+  done method version is_version spent = λ decision given.
       let upon = version_of (base_of state asked object) version is_version in
       let base : Candidate = upon.0 in
       let fresh : Candidate = record { stamp = fresh_stamp asked object; prior = base.stamp } in
@@ -303,20 +386,33 @@ module _ (state : ReplicaState) (asked : Asked) (fits : StateFits state) (asks :
         prior = it.stamp;
       } in candidate) found) upon.1 in
       let fresh_fit : FreshFits fresh = fresh_upon base upon.1 (omega (arith, spent)) in
-      let value_fits : ValueFits version.value =
-      (version_fits object base.stamp state.versions version fits.versions upon.2).value in
-      let answer : Answer = performed_answer (part ∷ []) (version.value ∷ []) in
-      let answered : answer_form.Fits answer = performed_fits part version.value value_fits in
-      let after = after_fits part version.value value_fits in
+      let version_fit : VersionFits version =
+      version_fits object base.stamp state.versions version fits.versions upon.2 in
+      let parts : List (ObjectId × Method) = (object, method) ∷ [] in
+      let answer : Answer = performed_answer parts (version.value ∷ []) in
+      let answered : answer_form.Fits answer = performed_fits (object, method) version.value version_fit.value in
+      let after = after_fits (object, method) version.value version_fit.value in
+      let row : KeptRow = row_by asked.client asked.number parts (version.value ∷ []) in
+      let kept : AllByRecursion RowFits (with_row row version.kept) =
+      all_with client_of RowFits row version.kept (record { number = asks.number; answer = answered })
+      version_fit.kept in
       subst DecisionFits
       (same_Some _ decision
-      (sym (done_one state asked (part ∷ []) object fresh version after.0 answer made is_version after.1 refl)
-      ∙ given)) (
+      (sym (done_one state asked parts object fresh version (state_after row after.0 [] version) answer made is_version
+      (performed_to asked.client asked.number parts (fresh_stamp asked object ∷ []) version after.0 refl refl after.1)
+      refl) ∙ given)) (
         done_fits object within fresh.stamp answer fresh_fit.stamp answered,
-        (record { stamp = fresh_fit.stamp; prior = fresh_fit.prior; value = after.2; answer = answered }, tt),
+        (
+          record {
+            stamp = fresh_fit.stamp;
+            prior = fresh_fit.prior;
+            version = record { value = after.2; kept = kept };
+          },
+          tt,
+        ),
       )
 
-  told : (part : ObjectId × Ask) (version : Version) → base_version state asked object ≡ Some version
+  told : (part : ObjectId × Ask) (version : ObjState) → base_version state asked object ≡ Some version
       → Gives (row_told state asked (part ∷ []) (object ∷ []))
   told part version is_version = λ decision given.
       let upon = version_of (base_of state asked object) version is_version in
@@ -334,16 +430,18 @@ module _ (state : ReplicaState) (asked : Asked) (fits : StateFits state) (asks :
 
   -- ---- all rows
 
-  pub act_decision-fits : (part : ObjectId × Method) → DecisionFits (decide_act state asked (part ∷ []) (object ∷ []))
+  pub act_decision-fits : (on : Method)
+      → DecisionFits (decide_act state asked ((object, on) ∷ []) (object ∷ []))
   unfolding decide_act
-  act_decision-fits part =
+  act_decision-fits on =
       past _ _ unknown
       (λ _. past _ _ thin
-      (λ _. past _ _ retry (λ _. past _ _ current (λ _. past _ _ method (λ _. past _ _ lacking (λ is_version.
-      past _ _ time
+      (λ _. past _ _ (retry on) (λ _. past _ _ current (λ _. past _ _ method (λ _. past _ _ lacking (λ is_version.
+      let has = has_version is_version in
+      past _ _ (repeats on has.0 has.1)
+      (λ _. past _ _ time
       (λ in_time. past _ _ full
-      (λ _. past _ _ (let has = has_version is_version in done part has.0 has.1 (has_time in_time))
-      (λ _. no_row)))))))))
+      (λ _. past _ _ (done on has.0 has.1 (has_time in_time)) (λ _. no_row))))))))))
 
   pub ask_decision-fits : (part : ObjectId × Ask) → DecisionFits (decide_ask state asked (part ∷ []) (object ∷ []))
   unfolding decide_ask

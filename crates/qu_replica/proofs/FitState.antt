@@ -1,7 +1,7 @@
 -- All that a replica holds fits its format, at the beginning and once it accepted a candidate that fits.
 use Rattle.std.proofs.Common.{◌≡◌, ◌-◌, ℕ, zero, suc, ◌+◌, ◌<◌, ◌≤◌, Bool, true, cond, List, [], ◌∷◌, ◌++◌, length, length-append, Option, None, Some, inl, inr, refl, sym, ap, subst, ◌∙◌, arith}
 use Rattle.std.specs.Prelude.{IsTrue, slice_get}
-use Rattle.std.proofs.lemmas.Bool.{cases_Bool, and_parts, false≢true}
+use Rattle.std.proofs.lemmas.Bool.{cases_Bool, false≢true}
 use Rattle.std.proofs.lemmas.Option.{none-some, same_Some}
 use Rattle.qu_base.specs.declared.limits.TheConstants.{OBJECT_IDS, REPLICA_IDS}
 use Rattle.qu_base.specs.declared.party.ObjectId.{ObjectId}
@@ -11,19 +11,17 @@ use Rattle.qu_base.specs.Format.{FitsFrom}
 use Rattle.qu_seal.specs.Keys.{Ring}
 use Rattle.qu_stamp.specs.declared.stamp.Stamp.{Stamp}
 use Rattle.qu_stamp.specs.declared.candidate.Candidate.{Candidate}
-use Rattle.qu_stamp.specs.Stamp.{opening_stamp, is_below, same_stamp}
+use Rattle.qu_stamp.specs.Stamp.{is_below, same_stamp}
 use Rattle.qu_stamp.specs.Candidate.{opening}
 use Rattle.qu_stamp.specs.Formats.{stamp_form, prior_form}
-use Rattle.qu_stamp.proofs.Order.{same_stamp-self, equal_by_same_stamp}
 use Rattle.qu_history.specs.declared.limits.TheConstants.{HISTORY_LIMIT}
 use Rattle.qu_history.specs.History.{ObjectHistory, is_history, latest, last_from}
 use Rattle.qu_history.specs.Formats.{next_candidate, candidates_form}
 use Rattle.qu_history.proofs.Rising.{latest_is_last}
 use Rattle.qu_objects.specs.declared.kind.KindName.{KindName}
 use Rattle.qu_objects.specs.declared.kind.KindName.TheVariants as kind
-use Rattle.qu_objects.specs.declared.version.Version.{Version}
+use Rattle.qu_objects.specs.declared.state.ObjState.{ObjState}
 use Rattle.qu_objects.specs.Kind.{fresh_value}
-use Rattle.qu_objects.specs.Formats.{answer_form}
 use Rattle.qu_replica.specs.declared.decision.Accepted.{Accepted}
 use Rattle.qu_replica.specs.declared.versions.Stored.{Stored}
 use Rattle.qu_replica.specs.State.{ReplicaState, candidates_in, with_candidate, accept, accept_all, opening_histories, opening_versions, opening_state}
@@ -90,8 +88,7 @@ push_fits candidates candidate fits rises later room stamp prior =
 pub record AcceptFits (accepted : Accepted) : Type 0 where
   pub stamp : stamp_form.Fits accepted.candidate.stamp
   pub prior : (prior_form accepted.candidate.stamp).Fits accepted.candidate.prior
-  pub value : ValueFits accepted.state.value
-  pub answer : answer_form.Fits accepted.state.answer
+  pub version : VersionFits accepted.state
 
 histories_with : (number : ℕ) (candidate : Candidate) (histories : List ObjectHistory)
     → ((place : ℕ) (history : ObjectHistory) → slice_get histories place ≡ Some history
@@ -111,7 +108,7 @@ histories_with (suc number) candidate (here ∷ later) before grown (suc place) 
     histories_with number candidate later (λ at it. before (suc at) it) grown place history found
 
 versions_with : (versions : List Stored) (stored : Stored) → VersionsFit versions
-    → VersionFits stored.stamp stored.state → VersionsFit (versions ++ stored ∷ [])
+    → VersionFits stored.state → VersionsFit (versions ++ stored ∷ [])
 versions_with [] stored fits here = (here, tt)
 versions_with (first ∷ later) stored fits here = (fits.0, versions_with later stored fits.1 here)
 
@@ -133,8 +130,7 @@ accept-fits state accepted fits may made = record {
       subst (λ (it : Option ObjectHistory). length (candidates_in it) < HISTORY_LIMIT) found may.room in
       push_fits history.candidates accepted.candidate (fits.histories (accepted.object).0 history found)
       (own_history state (accepted.object).0 history fits.own found).rises later room made.stamp made.prior);
-  versions = versions_with state.versions _ fits.versions
-      (record { value = made.value; answer = λ other. made.answer });
+  versions = versions_with state.versions _ fits.versions made.version;
 }
 
 abbrev pub AcceptAllFit : List Accepted → Type 0
@@ -176,11 +172,7 @@ opening_versions_fit : (first : ℕ) (kinds : List KindName) → VersionsFit (op
 unfolding opening_versions
 opening_versions_fit first [] = tt
 opening_versions_fit first (kind ∷ kinds) = (
-  record {
-    value = fresh_fits kind;
-    answer = λ other. absurd
-        (false≢true (sym other ∙ same_stamp-self opening_stamp));
-  },
+  record { value = fresh_fits kind; kept = tt },
   opening_versions_fit (first + 1) kinds,
 )
 
@@ -200,8 +192,8 @@ opening-fits me keys kinds within sized few = record {
 
 -- ---- a version that is found
 
-pub version_fits : (object : ObjectId) (stamp : Stamp) (versions : List Stored) (version : Version)
-    → VersionsFit versions → version_at object stamp versions ≡ Some version → VersionFits stamp version
+pub version_fits : (object : ObjectId) (stamp : Stamp) (versions : List Stored) (version : ObjState)
+    → VersionsFit versions → version_at object stamp versions ≡ Some version → VersionFits version
 unfolding version_at
 version_fits object stamp [] version fits found = absurd (none-some version found)
 version_fits object stamp (first ∷ later) version fits found =
@@ -210,8 +202,7 @@ version_fits object stamp (first ∷ later) version fits found =
           let here : first.state ≡ version =
           same_Some first.state version
           (sym (ap (λ (test : Bool). cond test (Some first.state) (version_at object stamp later)) is) ∙ found) in
-          let under : first.stamp ≡ stamp = equal_by_same_stamp first.stamp stamp (and_parts _ _ is).1 in
-          subst (λ (it : Stamp). VersionFits it version) under (subst (VersionFits first.stamp) here fits.0)
+          subst VersionFits here fits.0
       | inr not ↦
           version_fits object stamp later version fits.1
           (sym (ap (λ (test : Bool). cond test (Some first.state) (version_at object stamp later)) not) ∙ found)

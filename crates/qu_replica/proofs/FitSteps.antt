@@ -175,6 +175,7 @@ decision-fits state client number round sets asks fits request =
     record {
       low = request.low;
       high = request.high;
+      number = request.word;
       sets = culled-fits state.keys state.me sets request.shown;
       act = acted_sized client number asks;
       set = sets_sized (culled state.keys state.me sets);
@@ -185,7 +186,7 @@ decision-fits state client number round sets asks fits request =
         → DecisionFits (decision_on state asked asks)
     decided (body.Act []) asked asked_fits within = absurd (omega (arith, ((within.1).0).0))
     decided (body.Act (part ∷ [])) asked asked_fits within =
-        act_decision-fits state asked fits asked_fits part.0 (((((((within.1).1).1).0).0).0).0).1 part
+        act_decision-fits state asked fits asked_fits part.0 (((((((within.1).1).1).0).0).0).0).1 part.1
     decided (body.Act (first ∷ second ∷ later)) asked asked_fits within = absurd (omega (arith, ((within.1).0).1))
     decided (body.Ask []) asked asked_fits within = absurd (omega (arith, ((within.1).0).0))
     decided (body.Ask (part ∷ [])) asked asked_fits within =

@@ -22,8 +22,8 @@ use Rattle.qu_objects.specs.Performing.{performed_answer, performed_values, told
 use Rattle.qu_objects.specs.Formats.{item_form, answer_form}
 use Rattle.qu_frames.specs.declared.verdict.ClassCode.TheVariants.{Barrier}
 use Rattle.qu_frames.specs.declared.verdict.Refusal.{Refusal}
-use Rattle.qu_frames.specs.declared.verdict.Refusal.TheVariants.{HistoryFull, Thin, NotCurrent, NotMethod, TimeSpent, UnknownObject}
-use Rattle.qu_frames.specs.declared.verdict.Verdict.TheVariants.{Done, Told, Refused}
+use Rattle.qu_frames.specs.declared.verdict.Refusal.TheVariants.{HistoryFull, Thin, NotCurrent, NotMethod, Spent, TimeSpent, UnknownObject}
+use Rattle.qu_frames.specs.declared.verdict.Verdict.TheVariants.{Done, Told, Already, Refused}
 use Rattle.qu_frames.specs.Formats.{refusal_form, stamps_form, verdict_form}
 use Rattle.qu_replica.specs.Fits.{ValueFits}
 
@@ -58,6 +58,11 @@ module _ (object : ObjectId) (within : object.0 ≤ OBJECT_IDS - 1) where
   unfolding refusal_form
   current_fits latest fits = refused_fits _ (((omega arith, omega arith), refl), ((omega arith, within), fits))
 
+  pub spent_fits : (number : ℕ) → number ≤ 2 ^ 64 - 1 → verdict_form.Fits (Refused (Spent object number))
+  unfolding refusal_form
+  spent_fits number fits =
+      refused_fits _ (((omega arith, omega arith), refl), ((omega arith, within), (omega arith, fits)))
+
   -- one stamp that is told
   one_stamp : (stamp : Stamp) → stamp_form.Fits stamp → stamps_form.Fits ((object, stamp) ∷ [])
   unfolding stamps_form
@@ -73,6 +78,10 @@ module _ (object : ObjectId) (within : object.0 ≤ OBJECT_IDS - 1) where
       → verdict_form.Fits (Told ((object, stamp) ∷ []) answer)
   unfolding verdict_form
   told_fits stamp answer fits answered = (((omega arith, omega arith), refl), (one_stamp stamp fits, answered))
+
+pub already_fits : (answer : Answer) → answer_form.Fits answer → verdict_form.Fits (Already answer)
+unfolding verdict_form
+already_fits answer fits = (((omega arith, omega arith), refl), fits)
 
 -- ---- answers
 

@@ -12,7 +12,7 @@ use Rattle.qu_stamp.specs.Stamp.{same_stamp}
 use Rattle.qu_seal.specs.Keys.{Ring}
 use Rattle.qu_history.specs.declared.sets.SetOf.{SetOf}
 use Rattle.qu_history.specs.History.{ObjectHistory}
-use Rattle.qu_objects.specs.declared.version.Version.{Version}
+use Rattle.qu_objects.specs.declared.state.ObjState.{ObjState}
 use Rattle.qu_frames.specs.declared.frame.Frame.{Frame}
 use Rattle.qu_frames.specs.Signing.{brought}
 use Rattle.qu_frames.specs.declared.frame.Frame.TheVariants as frame
@@ -120,7 +120,7 @@ pub step-grows : (state : ReplicaState) (text : List ℕ) → Grows state (repli
 step-grows state text = on_received-grows state (brought state.keys (party.Replica state.me) text)
 
 -- a version stays
-pub version_at-append : (object : ObjectId) (stamp : Stamp) (versions more : List Stored) (state : Version)
+pub version_at-append : (object : ObjectId) (stamp : Stamp) (versions more : List Stored) (state : ObjState)
     → version_at object stamp versions ≡ Some state → version_at object stamp (versions ++ more) ≡ Some state
 unfolding version_at
 version_at-append object stamp [] more state found = absurd (none-some state found)
@@ -133,7 +133,7 @@ version_at-append object stamp (held ∷ later) more state found =
     ] found
 
 pub version_at-grows : (old new : ReplicaState) → Grows old new → (object : ObjectId) (stamp : Stamp)
-    (version : Version) → version_at object stamp old.versions ≡ Some version
+    (version : ObjState) → version_at object stamp old.versions ≡ Some version
     → version_at object stamp new.versions ≡ Some version
 version_at-grows old new grows object stamp version found =
     ap (λ (held : List Stored). version_at object stamp held) (grows.versions).1

@@ -5,10 +5,8 @@ use Rattle.qu_stamp.specs.Stamp.{opening_stamp}
 use Rattle.qu_stamp.specs.Candidate.{opening}
 use Rattle.qu_history.specs.History.{ObjectHistory}
 use Rattle.qu_objects.specs.declared.kind.KindName.{KindName}
-use Rattle.qu_objects.specs.declared.answer.Answer.TheVariants as answer
-use Rattle.qu_objects.specs.Kind.{fresh_value}
 use Rattle.qu_replica.specs.declared.versions.Stored.{Stored}
-use Rattle.qu_replica.specs.State.{opening_histories, opening_versions}
+use Rattle.qu_replica.specs.State.{opening_histories, opening_version, opening_versions}
 
 histories_from : (me : ReplicaId) (first place : ℕ) (kinds : List KindName) → place < length kinds
     → opening_histories me first (take (suc place) kinds) ≡ opening_histories me first
@@ -35,7 +33,7 @@ versions_from : (first place : ℕ) (kinds : List KindName) (default : KindName)
     (take place kinds) ++ record {
       object = record { 0 = first + place };
       stamp = opening_stamp;
-      state = record { value = fresh_value (get_or kinds place default); answer = answer.Ok [] };
+      state = opening_version (get_or kinds place default);
     } ∷ []
 unfolding opening_versions
 versions_from first place [] default within = absurd (omega arith)
@@ -46,7 +44,7 @@ versions_from first (suc place) (kind ∷ kinds) default within =
     rw count (ap (λ (later : List Stored). record {
       object = record { 0 = first };
       stamp = opening_stamp;
-      state = record { value = fresh_value kind; answer = answer.Ok [] };
+      state = opening_version kind;
     } ∷ later)
     (versions_from (first + 1) place kinds default inner))
 
@@ -55,7 +53,7 @@ pub versions_step : (place : ℕ) (kinds : List KindName) (default : KindName) �
     (take place kinds) ++ record {
       object = record { 0 = place };
       stamp = opening_stamp;
-      state = record { value = fresh_value (get_or kinds place default); answer = answer.Ok [] };
+      state = opening_version (get_or kinds place default);
     } ∷ []
 versions_step place kinds default within = rw add-one (rw zero-add at (versions_from 0 place kinds default within))
 

@@ -1,15 +1,14 @@
 -- What a replica holds, and what it sends, fits the formats of bytes.
-use Rattle.std.specs.Prelude.{◌≡◌, ℕ, false, ◌-◌, ◌^◌, ◌≤◌, List, length, slice_get, Some, IsTrue}
+use Rattle.std.specs.Prelude.{◌≡◌, ℕ, ◌-◌, ◌^◌, ◌≤◌, List, length, slice_get, Some, IsTrue}
 use Rattle.std.specs.List.{AllByRecursion}
 use Rattle.qu_base.specs.declared.limits.TheConstants.{OBJECT_IDS, REPLICA_IDS}
 use Rattle.qu_base.specs.Bounds.{replicas, is_replica_count}
-use Rattle.qu_stamp.specs.declared.stamp.Stamp.{Stamp}
-use Rattle.qu_stamp.specs.Stamp.{opening_stamp, same_stamp}
 use Rattle.qu_history.specs.History.{ObjectHistory}
 use Rattle.qu_history.specs.Formats.{candidates_form}
 use Rattle.qu_objects.specs.declared.kind.Value.{Value}
 use Rattle.qu_objects.specs.declared.kind.Value.TheVariants.{Counter}
-use Rattle.qu_objects.specs.declared.version.Version.{Version}
+use Rattle.qu_objects.specs.declared.state.KeptRow.{KeptRow}
+use Rattle.qu_objects.specs.declared.state.ObjState.{ObjState}
 use Rattle.qu_objects.specs.Formats.{answer_form}
 use Rattle.qu_frames.specs.declared.frame.Frame.{Frame}
 use Rattle.qu_frames.specs.declared.frame.Letter.{Letter}
@@ -22,13 +21,17 @@ use Rattle.qu_replica.specs.Growth.{AreHistories}
 abbrev pub ValueFits : Value → Type 0
 ValueFits (Counter number) = number ≤ 2 ^ 64 - 1
 
--- the version of a candidate with this stamp; the opening ones have no answer to tell
-pub record VersionFits (stamp : Stamp) (version : Version) : Type 0 where
+-- what is kept of an update can be told
+pub record RowFits (row : KeptRow) : Type 0 where
+  pub number : row.number ≤ 2 ^ 64 - 1
+  pub answer : answer_form.Fits row.answer
+
+pub record VersionFits (version : ObjState) : Type 0 where
   pub value : ValueFits version.value
-  pub answer : same_stamp opening_stamp stamp ≡ false → answer_form.Fits version.answer
+  pub kept : AllByRecursion RowFits version.kept
 
 abbrev pub VersionsFit : List Stored → Type 0
-VersionsFit versions = AllByRecursion (λ stored. VersionFits stored.stamp stored.state) versions
+VersionsFit versions = AllByRecursion (λ stored. VersionFits stored.state) versions
 
 -- a replica that has a number, of as many as some number of faults wants, with no more objects than have numbers
 pub record StateFits (state : ReplicaState) : Type 0 where

@@ -17,11 +17,13 @@ use Rattle.qu_history.specs.Text.{sets_digest}
 use Rattle.qu_history.specs.Culling.{culled}
 use Rattle.qu_objects.specs.declared.act.Method.{Method}
 use Rattle.qu_objects.specs.declared.query.Ask.{Ask}
-use Rattle.qu_objects.specs.declared.answer.Answer.{Answer}
-use Rattle.qu_objects.specs.declared.kind.Value.{Value}
-use Rattle.qu_objects.specs.declared.version.Version.{Version}
-use Rattle.qu_objects.specs.Performing.{performed_answer, performed_values, told_answer}
+use Rattle.qu_objects.specs.declared.state.ObjState.{ObjState}
+use Rattle.qu_objects.specs.Performing.{performed_answer, told_answer}
 use Rattle.qu_objects.specs.Digesting.{act_digest}
+use Rattle.qu_kept.specs.declared.repeats.Standing.{Standing}
+use Rattle.qu_kept.specs.declared.repeats.Standing.TheVariants.{Fresh, Already, Spent}
+use Rattle.qu_kept.specs.Performing.{values_of, performed_states}
+use Rattle.qu_kept.specs.Standing.{standing_of}
 use Rattle.qu_frames.specs.declared.frame.Body.{Body}
 use Rattle.qu_frames.specs.declared.frame.Body.TheVariants as body
 use Rattle.qu_frames.specs.declared.verdict.ClassCode.TheVariants.{Barrier}
@@ -71,7 +73,7 @@ abbrev pub base_of : ReplicaState → Asked → ObjectId → Option Candidate
 base_of state asked object = method_at state.keys.bounds (shown_of asked object)
 
 -- the version upon which it rests
-abbrev pub base_version : ReplicaState → Asked → ObjectId → Option Version
+abbrev pub base_version : ReplicaState → Asked → ObjectId → Option ObjState
 base_version state asked object =
     option_and_then (λ base. version_at object base.stamp state.versions) (base_of state asked object)
 
@@ -103,9 +105,18 @@ abbrev pub base_stamps : ReplicaState → Asked → List ObjectId → List (Obje
 base_stamps state asked objects =
     stamps_by (λ object. option_map (λ base. base.stamp) (base_of state asked object)) objects
 
-abbrev pub base_values : ReplicaState → Asked → List ObjectId → List Value
-base_values state asked objects =
-    filter_map (λ object. option_map (λ version. version.value) (base_version state asked object)) objects
+abbrev pub base_versions : ReplicaState → Asked → List ObjectId → List ObjState
+base_versions state asked objects = filter_map (λ object. base_version state asked object) objects
+
+-- the versions of the candidates that the act makes
+abbrev pub fresh_versions : ReplicaState → Asked → List ObjectId → List ObjState
+fresh_versions state asked objects =
+    filter_map (λ object. version_at object (fresh_stamp asked object) state.versions) objects
+
+-- how an act stands to what these versions keep of its client
+abbrev pub standing_in : Asked → List (ObjectId × Method) → List ObjState → Standing
+standing_in asked parts versions =
+    elim (asked.act) [ None ↦ Fresh | Some act ↦ standing_of asked.client asked.number act parts versions ]
 
 -- the first object of which the fact holds is refused
 abbrev pub refuse_first : (ObjectId → Bool) → (ObjectId → Refusal) → List ObjectId → Option Decision
@@ -134,18 +145,17 @@ unfoldable pub is_held : ReplicaState → Asked → ObjectId → Bool
 is_held state asked object =
     elim (fresh_on state asked object) [ None ↦ false | Some fresh ↦ holds fresh (own_candidates state object) ]
 
--- what the act answered when its candidates were accepted
-unfoldable pub kept_answer : ReplicaState → Asked → List ObjectId → Option Answer
-kept_answer state asked [] = None
-kept_answer state asked (object ∷ objects) =
-    option_map (λ version. version.answer) (version_at object (fresh_stamp asked object) state.versions)
+-- an act that was performed before is done, with the answer that it had
+abbrev pub done_again : List (ObjectId × Stamp) → Standing → Option Decision
+done_again stamps (Already answer) = Some (Answers (verdict.Done stamps answer) [])
+done_again stamps Fresh = None
+done_again stamps (Spent object number) = None
 
--- a retry whose candidates are all held is told the kept answer
-unfoldable pub row_retry : ReplicaState → Asked → List ObjectId → Option Decision
-row_retry state asked objects =
+-- a retry whose candidates are all held is told the answer that their versions keep
+unfoldable pub row_retry : ReplicaState → Asked → List (ObjectId × Method) → List ObjectId → Option Decision
+row_retry state asked parts objects =
     if list_all (is_held state asked) objects
-    then option_map (λ kept. Answers (verdict.Done (fresh_stamps state asked objects) kept) [])
-    (kept_answer state asked objects)
+    then done_again (fresh_stamps state asked objects) (standing_in asked parts (fresh_versions state asked objects))
     else None
 
 -- the replica has a later candidate than the sets show
@@ -164,6 +174,16 @@ unfoldable pub row_version : ReplicaState → Asked → List ObjectId → Option
 row_version state asked objects =
     if list_any (λ object. is_none (base_version state asked object)) objects then Some Waits else None
 
+abbrev pub repeated : Standing → Option Decision
+repeated Fresh = None
+repeated (Already answer) = Some (Answers (verdict.Already answer) [])
+repeated (Spent object number) = Some (refuse (refusal.Spent object number))
+
+-- the versions upon which the act rests keep that it was performed before, or a number of its client that is at
+-- least its own
+unfoldable pub row_kept : ReplicaState → Asked → List (ObjectId × Method) → List ObjectId → Option Decision
+row_kept state asked parts objects = repeated (standing_in asked parts (base_versions state asked objects))
+
 -- the time of the object is spent
 unfoldable pub row_time : ReplicaState → Asked → List ObjectId → Option Decision
 row_time state asked objects =
@@ -176,29 +196,30 @@ row_full state asked objects =
     refuse_first (λ object. nat_le HISTORY_LIMIT (length (own_candidates state object)))
     (λ object. refusal.HistoryFull object) objects
 
--- each object's fresh candidate, with the value after the act and its answer as version
-unfoldable pub accepted_by : ReplicaState → Asked → Answer → List ObjectId → List Value → List Accepted
-accepted_by state asked answer [] values = []
-accepted_by state asked answer (object ∷ objects) [] = []
-accepted_by state asked answer (object ∷ objects) (value ∷ values) = elim (fresh_on state asked object) [
-  | None ↦ accepted_by state asked answer objects values
-  | Some fresh ↦ record { object = object; candidate = fresh; state = record { value = value; answer = answer } }
-      ∷ accepted_by state asked answer objects values
+-- each object's fresh candidate, with its version after the act
+unfoldable pub accepted_by : ReplicaState → Asked → List ObjectId → List ObjState → List Accepted
+accepted_by state asked [] versions = []
+accepted_by state asked (object ∷ objects) [] = []
+accepted_by state asked (object ∷ objects) (version ∷ versions) = elim (fresh_on state asked object) [
+  | None ↦ accepted_by state asked objects versions
+  | Some fresh ↦ record { object = object; candidate = fresh; state = version }
+      ∷ accepted_by state asked objects versions
 ]
 
 -- the act is performed upon the versions, and all its candidates are accepted
 unfoldable pub row_done : ReplicaState → Asked → List (ObjectId × Method) → List ObjectId → Option Decision
 row_done state asked parts objects =
-    let values = base_values state asked objects in
-    let answer = performed_answer parts values in
-    Some (Answers (verdict.Done (fresh_stamps state asked objects) answer)
-    (accepted_by state asked answer objects (performed_values parts values)))
+    let before = base_versions state asked objects in
+    let stamps = map (fresh_stamp asked) objects in
+    Some (Answers (verdict.Done (fresh_stamps state asked objects) (performed_answer parts (values_of before)))
+    (accepted_by state asked objects (performed_states asked.client asked.number parts stamps before)))
 
 -- the query is answered from the versions
 unfoldable pub row_told : ReplicaState → Asked → List (ObjectId × Ask) → List ObjectId → Option Decision
 row_told state asked parts objects =
     Some (Answers
-    (verdict.Told (base_stamps state asked objects) (told_answer parts (base_values state asked objects))) [])
+    (verdict.Told (base_stamps state asked objects)
+    (told_answer parts (values_of (base_versions state asked objects)))) [])
 
 -- the first row that fits
 unfoldable pub first_given : List (Option Decision) → Decision
@@ -213,10 +234,11 @@ unfoldable pub decide_act : ReplicaState → Asked → List (ObjectId × Method)
 decide_act state asked parts objects = first_given (
     row_unknown state asked
     ∷ row_thin state asked
-    ∷ row_retry state asked objects
+    ∷ row_retry state asked parts objects
     ∷ row_current state asked objects
     ∷ row_method state asked objects
     ∷ row_version state asked objects
+    ∷ row_kept state asked parts objects
     ∷ row_time state asked objects
     ∷ row_full state asked objects
     ∷ row_done state asked parts objects

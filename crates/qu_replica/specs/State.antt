@@ -9,7 +9,7 @@ use Rattle.qu_stamp.specs.Stamp.{opening_stamp}
 use Rattle.qu_stamp.specs.Candidate.{opening}
 use Rattle.qu_history.specs.History.{ObjectHistory, latest}
 use Rattle.qu_objects.specs.declared.kind.KindName.{KindName}
-use Rattle.qu_objects.specs.declared.answer.Answer.TheVariants as answer
+use Rattle.qu_objects.specs.declared.state.ObjState.{ObjState}
 use Rattle.qu_objects.specs.Kind.{fresh_value}
 use Rattle.qu_replica.specs.declared.versions.Stored.{Stored}
 use Rattle.qu_replica.specs.declared.decision.Accepted.{Accepted}
@@ -71,13 +71,17 @@ opening_histories me number (kind ∷ kinds) =
     record { object = record { 0 = number }; replica = me; candidates = opening ∷ [] } ∷ opening_histories me
     (number + 1) kinds
 
+-- the version with which an object of this kind begins
+abbrev pub opening_version : KindName → ObjState
+opening_version kind = record { value = fresh_value kind; kept = []; links = [] }
+
 unfoldable pub opening_versions : ℕ → List KindName → List Stored
 opening_versions number [] = []
 opening_versions number (kind ∷ kinds) =
     record {
       object = record { 0 = number };
       stamp = opening_stamp;
-      state = record { value = fresh_value kind; answer = answer.Ok [] };
+      state = opening_version kind;
     } ∷ opening_versions (number + 1) kinds
 
 -- a replica that has accepted nothing but the opening candidates

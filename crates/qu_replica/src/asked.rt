@@ -1,23 +1,15 @@
 ghost use Rattle.std.specs.Prelude.{◌≡◌, IfOk};
 ghost use Rattle.qu_history.specs.Sets.{latest_of};
+ghost use Rattle.qu_history.specs.Text.{sets_digest};
 ghost use Rattle.qu_replica.specs.Rows.{shown_of, act_asked, asked_of};
 
 use qu_base::{ClientId, Digest, NoMemory, ObjectId};
-use qu_frames::Body;
+use qu_frames::{Body, Reading};
 use qu_history::Sets;
 use qu_objects::act_digest;
 use qu_stamp::Stamp;
 use std::alloc::Global;
 use std::marker::Model;
-
-/// To what a reply answers: the client, number and round of a request, and the sets as they came.
-#[derive(Drop)]
-pub(crate) struct Heading<'a> {
-    pub(crate) client: ClientId,
-    pub(crate) number: u64,
-    pub(crate) round: u8,
-    pub(crate) sets: &'a Sets,
-}
 
 /// A request with its culled sets, and with the digests that a stamp carries.
 #[derive(Drop)]
@@ -46,22 +38,25 @@ impl<'a> Model for Asked<'a> {
 }
 
 impl<'a> Asked<'a> {
-    /// The request with these culled sets and its digests, for whose texts it takes memory.
+    /// The request that was read, with these culled sets and their digest. For the text of its act it takes memory.
     pub(crate) fn new(
         alloc: Global,
-        client: ClientId,
-        number: u64,
+        reading: &Reading,
         sets: &'a Sets,
-        body: &Body,
+        set: Digest,
     ) -> Result<Asked<'a>, NoMemory>
-        ensures { IfOk result (λ asked. asked ≡ asked_of client number sets.now body.now) }
+        requires { set ≡ sets_digest sets.now }
+        ensures { IfOk result (λ asked. asked
+            ≡ asked_of reading.now.client reading.now.number sets.now reading.now.body) }
     {
+        let client = reading.client();
+        let number = reading.number();
         Ok(Asked {
             client,
             number,
             sets,
-            act: act_asked(alloc, client, number, body)?,
-            set: sets.digest_of(alloc)?,
+            act: act_asked(alloc, client, number, reading.body())?,
+            set,
         })
     }
 

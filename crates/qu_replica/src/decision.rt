@@ -3,7 +3,7 @@ ghost use Rattle.qu_replica.specs.Rows.{refuse};
 
 use qu_base::{List, NoMemory, ObjectId};
 use qu_frames::{Refusal, Verdict};
-use qu_objects::Version;
+use qu_objects::ObjState;
 use qu_stamp::Candidate;
 use std::alloc::Global;
 
@@ -12,7 +12,7 @@ use std::alloc::Global;
 pub struct Accepted {
     pub object: ObjectId,
     pub candidate: Candidate,
-    pub state: Version,
+    pub state: ObjState,
 }
 
 impl Accepted {

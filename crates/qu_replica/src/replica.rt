@@ -1,12 +1,15 @@
-ghost use Rattle.std.specs.Prelude.{◌≡◌, ◌<◌, ◌≤◌, length, slice_get, IfOk, IfSome, OnOk, OnErr};
+ghost use Rattle.std.specs.Prelude.{◌≡◌, ◌<◌, ◌≤◌, length, slice_get, None, IfOk, IfSome, OnOk, OnErr};
 ghost use Rattle.std.specs.Option.{option_copied};
 ghost use Rattle.std.specs.List.{AllByRecursion};
 ghost use Rattle.qu_base.specs.Format.{AreBytes};
 ghost use Rattle.qu_base.specs.declared.limits.TheConstants.{OBJECT_IDS, REPLICA_IDS};
 ghost use Rattle.qu_replica.specs.State.{opening_state, state_after};
 ghost use Rattle.qu_replica.specs.Versions.{version_at};
-ghost use Rattle.qu_replica.specs.Rows.{asked_at, decision_on};
-ghost use Rattle.qu_replica.specs.Step.{named, on_frame, replica_step};
+ghost use Rattle.qu_history.specs.Culling.{culled};
+ghost use Rattle.qu_history.specs.Text.{sets_digest};
+ghost use Rattle.qu_frames.specs.Signing.{before_mac};
+ghost use Rattle.qu_replica.specs.Rows.{asked_at, unknown_in, unknown_refused, decision_on};
+ghost use Rattle.qu_replica.specs.Step.{named, replica_step};
 ghost use Rattle.qu_replica.specs.Growth.{AreHistories, Grows, MayDecide, MayGain};
 ghost use Rattle.qu_replica.specs.Fits.{StateFits, LetterFits};
 
@@ -14,14 +17,16 @@ mod opening;
 mod reply;
 mod rows;
 
-use crate::asked::{Asked, Heading};
+use crate::asked::Asked;
 use crate::decision::Decision;
 use crate::planned::{Gain, Planned};
 use crate::versions::{self, Stored};
-use qu_base::{Bounds, List, NoMemory, ObjectId, Party, ReplicaId};
-use qu_frames::{Body, Frame, Letter, receive};
-use qu_history::{Culled, History};
-use qu_objects::{KindName, Version};
+use qu_base::{Bounds, Digest, List, NoMemory, ObjectId, Party, ReplicaId};
+#[cfg(test)]
+use qu_frames::Frame;
+use qu_frames::{Letter, Reading};
+use qu_history::{Culled, History, Sets};
+use qu_objects::{KindName, ObjState};
 use qu_seal::KeyRing;
 use qu_stamp::Stamp;
 use std::alloc::Global;
@@ -103,7 +108,7 @@ impl Replica {
     }
 
     /// The version of an object under a stamp, None exactly where it did not accept such a candidate.
-    pub fn version(&self, object: ObjectId, stamp: &Stamp) -> Option<&Version>
+    pub fn version(&self, object: ObjectId, stamp: &Stamp) -> Option<&ObjState>
         ensures { option_copied result ≡ version_at object stamp.now self.now.versions }
     {
         versions::version_at(&self.versions, object, stamp)
@@ -112,6 +117,7 @@ impl Replica {
     /// Handles a text, and gives the letters that answer it: one to a request that it decides, none
     /// to one whose version it lacks, to a reply, to a text that is no frame, and to a frame whose HMAC
     /// is wrong for it. Without memory it stays as it is.
+    #[tactic(auto, using(crate::proofs::Stepped::step_laws))]
     pub fn step(&mut self, text: &[u8]) -> Result<List<Letter>, NoMemory>
         ensures state { OnOk result (self.new ≡ (replica_step self.old text.now).0) }
         ensures letters { IfOk result (λ letters. letters ≡ (replica_step self.old text.now).1) }
@@ -121,8 +127,25 @@ impl Replica {
         ensures holds_what_fits { StateFits self.old → StateFits self.new }
         ensures sends_what_fits { StateFits self.old → IfOk result (AllByRecursion LetterFits) }
     {
+        match Reading::of(self.alloc, text)? {
+            Some(reading) => self.step_read(text, &reading),
+            None => Ok(List::new(self.alloc)),
+        }
+    }
+
+    /// Handles a text as `step` does, where this is a reading of the request that it says.
+    pub fn step_read(&mut self, text: &[u8], reading: &Reading) -> Result<List<Letter>, NoMemory>
+        requires { before_mac text.now ≡ reading.now.front }
+        ensures state { OnOk result (self.new ≡ (replica_step self.old text.now).0) }
+        ensures letters { IfOk result (λ letters. letters ≡ (replica_step self.old text.now).1) }
+        ensures err { OnErr result (self.new ≡ self.old) }
+        ensures histories { AreHistories self.new }
+        ensures grows { Grows self.old self.new }
+        ensures holds_what_fits { StateFits self.old → StateFits self.new }
+        ensures sends_what_fits { StateFits self.old → IfOk result (AllByRecursion LetterFits) }
+    {
         are_bytes(text);
-        let planned = self.plan(text)?;
+        let planned = self.plan_read(text, reading)?;
         Ok(self.carry_out(planned))
     }
 
@@ -135,41 +158,27 @@ impl Replica {
         ensures may { IfOk result (λ planned. IfSome planned.gain (MayGain self.now)) }
         ensures histories { AreHistories self.now }
     {
-        match receive(self.alloc, &self.keys, Party::Replica(self.me), text)? {
-            Some(frame) => self.plan_frame(&frame),
+        match Reading::of(self.alloc, text)? {
+            Some(reading) => self.plan_read(text, &reading),
             None => Ok(Planned::nothing(self.alloc)),
         }
     }
 
-    /// What a frame will make. One that is no request is ignored.
-    fn plan_frame(&self, frame: &Frame) -> Result<Planned, NoMemory>
+    /// The same, where this is a reading of the request that the text says.
+    #[tactic(auto, using(crate::proofs::Stepped::step_laws))]
+    pub fn plan_read(&self, text: &[u8], reading: &Reading) -> Result<Planned, NoMemory>
+        requires { before_mac text.now ≡ reading.now.front }
         ensures state { IfOk result (λ planned. state_after self.now planned.gain
-            ≡ (on_frame self.now frame.now).0) }
-        ensures letters { IfOk result (λ planned. planned.letters ≡ (on_frame self.now frame.now).1) }
+            ≡ (replica_step self.now text.now).0) }
+        ensures letters { IfOk result (λ planned. planned.letters ≡ (replica_step self.now text.now).1) }
         ensures may { IfOk result (λ planned. IfSome planned.gain (MayGain self.now)) }
+        ensures histories { AreHistories self.now }
     {
-        match frame {
-            Frame::Request {
-                client,
-                number,
-                round,
-                sets,
-                body,
-                ..
-            } => {
-                let heading = Heading {
-                    client: *client,
-                    number: *number,
-                    round: *round,
-                    sets,
-                };
-                let handled = self.handle(&heading, body)?;
-                self.plan_decision(&heading, handled.named, handled.decision)
-            }
-            Frame::Reply { .. } | Frame::Fetch { .. } | Frame::Fetched { .. } => {
-                Ok(Planned::nothing(self.alloc))
-            }
+        if !reading.is_brought(&self.keys, Party::Replica(self.me), text) {
+            return Ok(Planned::nothing(self.alloc));
         }
+        let handled = self.handle(reading)?;
+        self.plan_decision(reading, handled.named, handled.decision)
     }
 
     /// Makes what was planned of the state that the replica has, which takes no memory.
@@ -202,27 +211,51 @@ impl Replica {
     }
 
     /// What the replica makes of a request. Objects that it does not have are asked for before the sets are
-    /// culled.
+    /// culled, and sets whose entries are all right are decided upon as they came.
     #[tactic(auto, using(crate::proofs::CulledRequests::handling))]
-    fn handle(&self, heading: &Heading, body: &Body) -> Result<Handled, NoMemory>
-        ensures named { IfOk result (λ handled. handled.named ≡ named self.now heading.now.sets.now) }
+    fn handle(&self, reading: &Reading) -> Result<Handled, NoMemory>
+        ensures named { IfOk result (λ handled. handled.named ≡ named self.now reading.now.sets) }
         ensures decision { IfOk result (λ handled. handled.decision ≡ decision_on self.now
-            (asked_at self.now heading.now.client heading.now.number heading.now.sets.now body.now) body.now) }
+            (asked_at self.now reading.now.client reading.now.number reading.now.sets reading.now.body)
+            reading.now.body) }
         ensures may { IfOk result (λ handled. MayDecide self.now handled.decision) }
         ensures histories { AreHistories self.now }
     {
-        if let Some(refusal) = self.row_unknown(heading.sets) {
+        let digested = reading.sets();
+        let whole = digested.sets();
+        if let Some(refusal) = self.row_unknown(whole) {
             return Ok(Handled {
                 named: List::new(self.alloc),
                 decision: refusal,
             });
         }
-        let Culled { sets, left } = heading.sets.cull(self.alloc, self.me, &self.keys)?;
-        let asked = Asked::new(self.alloc, heading.client, heading.number, &sets, body)?;
+        if digested.are_right(self.me, &self.keys) {
+            return Ok(Handled {
+                named: List::new(self.alloc),
+                decision: self.decide_upon(reading, whole, digested.digest_of())?,
+            });
+        }
+        let Culled { sets, left } = digested.cull(self.alloc, self.me, &self.keys)?;
+        let set = sets.digest_of(self.alloc)?;
         Ok(Handled {
             named: left,
-            decision: self.decide(&asked, body)?,
+            decision: self.decide_upon(reading, &sets, set)?,
         })
+    }
+
+    /// What it makes of a request of objects that it has upon the culled sets, which have this digest.
+    #[tactic(auto, using(crate::proofs::CulledRequests::handling))]
+    fn decide_upon(&self, reading: &Reading, sets: &Sets, set: Digest) -> Result<Decision, NoMemory>
+        requires known { None ≡ unknown_refused (unknown_in self.now reading.now.sets) }
+        requires culled { sets.now ≡ culled self.now.keys self.now.me reading.now.sets }
+        requires digest { set ≡ sets_digest sets.now }
+        ensures value { IfOk result (λ decision. decision ≡ decision_on self.now
+            (asked_at self.now reading.now.client reading.now.number reading.now.sets reading.now.body)
+            reading.now.body) }
+        ensures may { IfOk result (λ decision. MayDecide self.now decision) }
+    {
+        let asked = Asked::new(self.alloc, reading, sets, set)?;
+        self.decide(&asked, reading.body())
     }
 }
 

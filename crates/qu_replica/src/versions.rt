@@ -3,7 +3,7 @@ ghost use Rattle.std.specs.Option.{option_copied};
 ghost use Rattle.qu_replica.specs.Versions.{is_stored, version_at};
 
 use qu_base::{NoMemory, ObjectId};
-use qu_objects::Version;
+use qu_objects::ObjState;
 use qu_stamp::Stamp;
 use std::alloc::Global;
 use std::collections::LinkedList;
@@ -16,7 +16,7 @@ pub(crate) const MOST_VERSIONS: usize = 0x7fff_ffff_ffff_fffe;
 pub struct Stored {
     pub object: ObjectId,
     pub stamp: Stamp,
-    pub state: Version,
+    pub state: ObjState,
 }
 
 impl Stored {
@@ -49,7 +49,7 @@ pub(crate) fn version_at<'a>(
     versions: &'a LinkedList<Stored>,
     object: ObjectId,
     stamp: &Stamp,
-) -> Option<&'a Version>
+) -> Option<&'a ObjState>
     ensures { option_copied result ≡ version_at object stamp.now versions.now }
 {
     match first_stored(versions, object, stamp) {

@@ -1,5 +1,6 @@
-ghost use Rattle.std.specs.Prelude.{◌≡◌, ◌<◌, ◌+◌, ◌⊎◌, [], MatchOption, IfOk, OnErr, None};
+ghost use Rattle.std.specs.Prelude.{◌≡◌, ◌<◌, ◌+◌, ◌⊎◌, [], MatchOption, IfOk, IfSome, OnOk, OnErr, None};
 ghost use Rattle.std.specs.Option.{option_copied};
+ghost use Rattle.qu_frames.specs.Signing.{before_mac};
 ghost use Rattle.qu_client.specs.Steps.{client_invoke, client_step, client_tick};
 ghost use Rattle.qu_world.specs.State.{numbered};
 ghost use Rattle.qu_world.specs.Step.{ended_as};
@@ -7,7 +8,7 @@ ghost use Rattle.qu_world.specs.Parties.{ReplicaMoves, ClientMoves, IsIdle};
 
 use qu_base::{ClientId, List, NoMemory, ReplicaId};
 use qu_client::{Client, InvokeFail};
-use qu_frames::Letter;
+use qu_frames::{Letter, Reading};
 use qu_objects::{Op, Outcome};
 use qu_replica::Replica;
 use std::alloc::Global;
@@ -48,10 +49,12 @@ pub fn client_at(clients: &[Client], me: ClientId) -> Option<&Client>
     clients.get(index)
 }
 
-/// A replica takes a text. Where there is no such replica nothing happens.
+/// A replica takes a text. Where there is no such replica nothing happens. The reading of the last request serves
+/// for each text that says the same.
 pub fn step_replica(
     alloc: Global,
     replicas: &mut Vec<Replica>,
+    last: &mut Option<Reading>,
     me: ReplicaId,
     text: &[u8],
 ) -> Result<Made, NoMemory>
@@ -62,12 +65,29 @@ pub fn step_replica(
     if index >= replicas.len() {
         return Ok(Made::nothing(alloc));
     }
+    read(alloc, last, text)?;
     let replica = &mut replicas[index];
-    let letters = replica.step(text)?;
+    let letters = match last {
+        Some(reading) => replica.step_read(text, reading)?,
+        None => replica.step(text)?,
+    };
     Ok(Made {
         letters,
         ended: None,
     })
+}
+
+/// Reads the request of a text, if it says one, unless the last request that was read is the same.
+fn read(alloc: Global, last: &mut Option<Reading>, text: &[u8]) -> Result<(), NoMemory>
+    ensures { OnOk result (IfSome last.new (λ reading. before_mac text.now ≡ reading.front)) }
+{
+    if let Some(reading) = last {
+        if reading.is_of(text) {
+            return Ok(());
+        }
+    }
+    *last = Reading::of(alloc, text)?;
+    Ok(())
 }
 
 /// A client takes a text. Where there is no such client nothing happens.

@@ -7,6 +7,7 @@ use super::letters::{bytes_in, letter_at};
 use super::parties::{Made, invoke_client, step_client, step_replica, tick_client};
 use qu_base::{List, NoMemory, Party};
 use qu_client::Client;
+use qu_frames::Reading;
 use qu_replica::Replica;
 use qu_trace::{Entry, Event, Setup, Trace};
 use std::alloc::Global;
@@ -16,6 +17,7 @@ use std::mem;
 fn take_text(
     alloc: Global,
     replicas: &mut Vec<Replica>,
+    last: &mut Option<Reading>,
     clients: &mut Vec<Client>,
     to: Party,
     text: &[u8],
@@ -26,7 +28,7 @@ fn take_text(
     ensures clients_stay { OnErr result (clients.new.items ≡ clients.old.items) }
 {
     match to {
-        Party::Replica(me) => step_replica(alloc, replicas, me, text),
+        Party::Replica(me) => step_replica(alloc, replicas, last, me, text),
         Party::Client(me) => step_client(alloc, clients, me, text),
     }
 }
@@ -35,6 +37,7 @@ fn take_text(
 fn step(
     alloc: Global,
     replicas: &mut Vec<Replica>,
+    last: &mut Option<Reading>,
     clients: &mut Vec<Client>,
     entries: &[Entry],
     event: &Event,
@@ -52,10 +55,17 @@ fn step(
         }
         Event::Deliver(number) => match letter_at(entries, *number) {
             None => Ok(Made::nothing(alloc)),
-            Some(letter) => take_text(alloc, replicas, clients, letter.to, letter.text.as_slice()),
+            Some(letter) => take_text(
+                alloc,
+                replicas,
+                last,
+                clients,
+                letter.to,
+                letter.text.as_slice(),
+            ),
         },
         Event::Tick(me) => tick_client(alloc, clients, *me),
-        Event::Inject(to, text) => take_text(alloc, replicas, clients, *to, text.as_slice()),
+        Event::Inject(to, text) => take_text(alloc, replicas, last, clients, *to, text.as_slice()),
     }
 }
 
@@ -78,6 +88,7 @@ fn make(
     alloc: Global,
     setup: &Setup,
     replicas: &mut Vec<Replica>,
+    last: &mut Option<Reading>,
     clients: &mut Vec<Client>,
     entries: &[Entry],
     event: &Event,
@@ -91,7 +102,7 @@ fn make(
     if is_at_faulty(setup, entries, event) {
         return Ok(Made::nothing(alloc));
     }
-    step(alloc, replicas, clients, entries, event)
+    step(alloc, replicas, last, clients, entries, event)
 }
 
 /// Records an event with what it makes of the parties, and tells how many bytes were sent. Room for
@@ -101,6 +112,7 @@ fn push_event(
     alloc: Global,
     setup: &Setup,
     replicas: &mut Vec<Replica>,
+    last: &mut Option<Reading>,
     clients: &mut Vec<Client>,
     entries: &mut Vec<Entry>,
     event: Event,
@@ -115,7 +127,15 @@ fn push_event(
     ensures entries_stay { OnErr result (entries.new.items ≡ entries.old.items) }
 {
     entries.reserve(1)?;
-    let made = make(alloc, setup, replicas, clients, entries.as_slice(), &event)?;
+    let made = make(
+        alloc,
+        setup,
+        replicas,
+        last,
+        clients,
+        entries.as_slice(),
+        &event,
+    )?;
     let bytes = bytes_in(made.letters.as_slice());
     entries.push_reserved(Entry {
         event,
@@ -129,6 +149,7 @@ fn push_event(
 pub fn record_event(
     alloc: Global,
     replicas: &mut Vec<Replica>,
+    last: &mut Option<Reading>,
     clients: &mut Vec<Client>,
     trace: &mut Trace,
     event: Event,
@@ -144,7 +165,15 @@ pub fn record_event(
     ensures trace_stays { OnErr result (trace.new ≡ trace.old) }
 {
     let mut entries = mem::replace(&mut trace.entries, List::new(alloc)).into_vec();
-    let recorded = push_event(alloc, &trace.setup, replicas, clients, &mut entries, event);
+    let recorded = push_event(
+        alloc,
+        &trace.setup,
+        replicas,
+        last,
+        clients,
+        &mut entries,
+        event,
+    );
     trace.entries = List::from(entries);
     recorded
 }

@@ -19,6 +19,7 @@ use super::refusals::{
 };
 use qu_base::{ClientId, List, NoMemory, ObjectId, Party, ReplicaId};
 use qu_client::Client;
+use qu_frames::Reading;
 use qu_history::History;
 use qu_replica::Replica;
 use qu_seal::KeyRing;
@@ -32,6 +33,8 @@ pub struct World {
     alloc: Global,
     trace: Trace,
     replicas: Vec<Replica>,
+    /// The last request that a replica was handed: its client sends it to the others as well.
+    last: Option<Reading>,
     clients: Vec<Client>,
     /// How many bytes the letters that were sent have together, at most 2^128 - 1.
     sent: u128,
@@ -65,6 +68,7 @@ impl World {
             alloc,
             trace: Trace { setup, entries },
             replicas,
+            last: None,
             clients,
             sent: 0,
         })
@@ -118,6 +122,7 @@ impl World {
         let bytes = record_event(
             self.alloc,
             &mut self.replicas,
+            &mut self.last,
             &mut self.clients,
             &mut self.trace,
             event,

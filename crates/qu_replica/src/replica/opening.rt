@@ -5,7 +5,7 @@ ghost use Rattle.qu_replica.specs.State.{opening_histories, opening_versions};
 use super::Stored;
 use qu_base::{List, NoMemory, ObjectId, ReplicaId};
 use qu_history::History;
-use qu_objects::{Answer, KindName, Value, Version};
+use qu_objects::{KindName, ObjState, Value};
 use qu_stamp::Stamp;
 use std::alloc::Global;
 use std::collections::LinkedList;
@@ -35,9 +35,10 @@ pub(super) fn versions(alloc: Global, kinds: &[KindName]) -> Result<LinkedList<S
 {
     let mut versions = LinkedList::new(alloc);
     for (number, kind) in kinds.iter().enumerate() {
-        let state = Version {
+        let state = ObjState {
             value: Value::fresh(*kind),
-            answer: Answer::Ok(List::new(alloc)),
+            kept: List::new(alloc),
+            links: List::new(alloc),
         };
         versions.push_back(Stored {
             object: ObjectId(number as u16),

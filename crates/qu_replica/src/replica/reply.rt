@@ -6,35 +6,34 @@ ghost use Rattle.qu_replica.specs.Growth.{MayAccept, MayAcceptAll, MayDecide, Ma
 
 use super::Replica;
 use crate::Stored;
-use crate::asked::Heading;
 use crate::decision::{Accepted, Decision};
 use crate::planned::{Gain, Planned};
 use crate::versions::{self, MOST_VERSIONS};
 use qu_base::{List, NoMemory, ObjectId, Party, ReplicaId};
-use qu_frames::{Frame, Letter, Verdict, blank_mac};
+use qu_frames::{Frame, Letter, Reading, Verdict, blank_mac};
 use qu_history::{AddFail, History, Sealed, Sets};
 
 impl Replica {
     /// What it will make to carry a decision out.
     pub(super) fn plan_decision(
         &self,
-        heading: &Heading,
+        reading: &Reading,
         culled: List<(ObjectId, ReplicaId)>,
         decision: Decision,
     ) -> Result<Planned, NoMemory>
         requires may { MayDecide self.now decision }
-        requires named { culled ≡ named self.now heading.now.sets.now }
+        requires named { culled ≡ named self.now reading.now.sets }
         ensures state { IfOk result (λ planned. state_after self.now planned.gain
-            ≡ (carried_out self.now heading.now.client heading.now.number heading.now.round
-            heading.now.sets.now decision).0) }
+            ≡ (carried_out self.now reading.now.client reading.now.number reading.now.round
+            reading.now.sets decision).0) }
         ensures letters { IfOk result (λ planned. planned.letters
-            ≡ (carried_out self.now heading.now.client heading.now.number heading.now.round
-            heading.now.sets.now decision).1) }
+            ≡ (carried_out self.now reading.now.client reading.now.number reading.now.round
+            reading.now.sets decision).1) }
         ensures may { IfOk result (λ planned. IfSome planned.gain (MayGain self.now)) }
     {
         match decision {
             Decision::Answers { verdict, accepted } => Ok(Planned {
-                letters: self.reply(heading, culled, verdict, accepted.as_slice())?,
+                letters: self.reply(reading, culled, verdict, accepted.as_slice())?,
                 gain: self.gain_of(accepted.as_slice())?,
             }),
             Decision::Waits => Ok(Planned::nothing(self.alloc)),
@@ -59,27 +58,27 @@ impl Replica {
     #[tactic(auto, using(crate::proofs::Accepting::answers))]
     fn reply(
         &self,
-        heading: &Heading,
+        reading: &Reading,
         culled: List<(ObjectId, ReplicaId)>,
         verdict: Verdict,
         accepted: &[Accepted],
     ) -> Result<List<Letter>, NoMemory>
         requires may { MayAcceptAll self.now accepted.now }
-        requires named { culled ≡ named self.now heading.now.sets.now }
-        ensures { IfOk result (λ letters. letters ≡ reply (accept_all self.now accepted.now) heading.now.client
-            heading.now.number heading.now.round heading.now.sets.now verdict ∷ []) }
+        requires named { culled ≡ named self.now reading.now.sets }
+        ensures { IfOk result (λ letters. letters ≡ reply (accept_all self.now accepted.now) reading.now.client
+            reading.now.number reading.now.round reading.now.sets verdict ∷ []) }
     {
         let frame = Frame::Reply {
             replica: self.me,
-            client: heading.client,
-            number: heading.number,
-            round: heading.round,
+            client: reading.client(),
+            number: reading.number(),
+            round: reading.round(),
             verdict,
             culled,
-            shown: self.shown(heading.sets, accepted)?,
+            shown: self.shown(reading.sets().sets(), accepted)?,
             mac: blank_mac(),
         };
-        let to = Party::Client(heading.client);
+        let to = Party::Client(reading.client());
         List::one(
             self.alloc,
             Letter {

@@ -3,9 +3,11 @@ ghost use Rattle.std.specs.Option.{option_copied, option_or};
 ghost use Rattle.qu_stamp.specs.declared.limits.TheConstants.{LAST_TIME};
 ghost use Rattle.qu_history.specs.Sets.{latest_of};
 ghost use Rattle.qu_objects.specs.Parts.{are_parts};
+ghost use Rattle.qu_objects.specs.Performing.{performed_answer};
+ghost use Rattle.qu_kept.specs.Performing.{performed_states};
 ghost use Rattle.qu_replica.specs.State.{own_latest};
 ghost use Rattle.qu_replica.specs.Growth.{MayDecide};
-ghost use Rattle.qu_replica.specs.Rows.{shown_of, base_of, base_version, fresh_on, is_held, unknown_in, unknown_refused, row_unknown, row_thin, row_retry, row_current, row_method, row_version, row_time, row_full, row_done, row_told, decide_act, decide_ask, decision_on, objects_of};
+ghost use Rattle.qu_replica.specs.Rows.{shown_of, base_of, base_version, fresh_on, is_held, unknown_in, unknown_refused, row_unknown, row_thin, standing_in, done_again, repeated, row_retry, row_current, row_method, row_version, row_kept, row_time, row_full, row_done, row_told, decide_act, decide_ask, decision_on, objects_of};
 
 use super::Replica;
 use crate::asked::Asked;
@@ -13,9 +15,11 @@ use crate::decision::{Accepted, Decision, refuse};
 use qu_base::{List, NoMemory, ObjectId};
 use qu_frames::{Body, ClassCode, Refusal, Verdict};
 use qu_history::{HISTORY_LIMIT, Sets};
-use qu_objects::{Act, Performed, Query, Version, perform, tell_all};
+use qu_kept::{Performed, Standing, perform, standing_of};
+use qu_objects::{Act, Answer, ObjState, Query, tell_all};
 use qu_stamp::{Candidate, LAST_TIME, Stamp};
 use std::alloc::Global;
+use std::slice::from_ref;
 
 // The replica's table: its rows in the order in which they are tried, and above them the two orders, that of an
 // act and that of a query. The first row that fits gives the decision.
@@ -60,11 +64,14 @@ impl Replica {
         if let Some(refusal) = self.row_thin(asked) {
             return Ok(refusal);
         }
-        if let Some(kept) = self.row_retry(asked, object)? {
+        if let Some(kept) = self.row_retry(asked, act, object)? {
             return Ok(kept);
         }
         if let Some(decision) = self.rows_of_base(asked, object) {
             return Ok(decision);
+        }
+        if let Some(kept) = self.row_kept(asked, act, object)? {
+            return Ok(kept);
         }
         if let Some(refusal) = self.row_time(asked, object) {
             return Ok(refusal);
@@ -148,9 +155,15 @@ impl Replica {
     }
 
     /// Tells the kept answer where the replica holds the act's candidate already.
-    #[tactic(auto, unfolding(crate::specs::Rows::row_retry, crate::specs::Rows::kept_answer))]
-    fn row_retry(&self, asked: &Asked, object: ObjectId) -> Result<Option<Decision>, NoMemory>
-        ensures { IfOk result (λ row. row ≡ row_retry self.now asked.now (object ∷ [])) }
+    #[tactic(auto, unfolding(crate::specs::Rows::row_retry))]
+    fn row_retry(
+        &self,
+        asked: &Asked,
+        act: &Act,
+        object: ObjectId,
+    ) -> Result<Option<Decision>, NoMemory>
+        requires { length act.now ≡ 1 }
+        ensures { IfOk result (λ row. row ≡ row_retry self.now asked.now act.now (object ∷ [])) }
     {
         let Some(fresh) = self.held_fresh(asked, object) else {
             return Ok(None);
@@ -158,14 +171,28 @@ impl Replica {
         let Some(version) = self.version(object, &fresh.stamp) else {
             return Ok(None);
         };
-        let verdict = Verdict::Done {
-            stamps: List::one(self.alloc, (object, fresh.stamp))?,
-            answer: version.answer.copy(self.alloc)?,
-        };
-        Ok(Some(Decision::Answers {
-            verdict,
-            accepted: List::new(self.alloc),
-        }))
+        let stamps = List::one(self.alloc, (object, fresh.stamp))?;
+        Ok(done_again(
+            self.alloc,
+            stamps,
+            standing_on(self.alloc, asked, act, version)?,
+        ))
+    }
+
+    /// Tells the answer of an act that was performed before, and refuses one whose number is spent.
+    #[tactic(auto, unfolding(crate::specs::Rows::row_kept))]
+    fn row_kept(
+        &self,
+        asked: &Asked,
+        act: &Act,
+        object: ObjectId,
+    ) -> Result<Option<Decision>, NoMemory>
+        requires one_part { length act.now ≡ 1 }
+        requires version { IsSome (base_version self.now asked.now object) }
+        ensures { IfOk result (λ row. row ≡ row_kept self.now asked.now act.now (object ∷ [])) }
+    {
+        let version = self.base_version(asked, object).unwrap();
+        Ok(repeated(self.alloc, standing_on(self.alloc, asked, act, version)?))
     }
 
     /// Refuses sets that do not show the replica's own latest candidate of the object.
@@ -234,7 +261,7 @@ impl Replica {
     }
 
     /// Performs the act upon the version on which it rests.
-    #[tactic(auto, using(crate::proofs::Carried::done_one, crate::proofs::Carried::performed_one))]
+    #[tactic(auto, using(crate::proofs::Carried::done_one))]
     fn row_done(&self, asked: &Asked, act: &Act, object: ObjectId) -> Result<Decision, NoMemory>
         requires one_part { length act.now ≡ 1 }
         requires version { IsSome (base_version self.now asked.now object) }
@@ -243,14 +270,13 @@ impl Replica {
     {
         let candidate = self.fresh(asked, object).unwrap();
         let version = self.base_version(asked, object).unwrap();
-        let Performed { values, answer } = perform(self.alloc, &[version.value], act)?;
-        let value = only(values.as_slice());
+        let (state, answer) = performed_on(self.alloc, asked, act, candidate.stamp, version)?;
         let accepted = Accepted {
             object,
             candidate,
-            state: Version { value, answer },
+            state,
         };
-        done(self.alloc, accepted)
+        done(self.alloc, accepted, answer)
     }
 
     /// Answers the query from the version on which it rests.
@@ -280,7 +306,7 @@ impl Replica {
     }
 
     /// The version of that candidate, where the replica has it.
-    fn base_version(&self, asked: &Asked, object: ObjectId) -> Option<&Version>
+    fn base_version(&self, asked: &Asked, object: ObjectId) -> Option<&ObjState>
         ensures { option_copied result ≡ base_version self.now asked.now object }
     {
         match self.base(asked, object) {
@@ -340,15 +366,15 @@ impl Replica {
     }
 }
 
-/// The decision to accept one candidate.
-fn done(alloc: Global, accepted: Accepted) -> Result<Decision, NoMemory>
+/// The decision to accept one candidate, with this answer.
+fn done(alloc: Global, accepted: Accepted, answer: Answer) -> Result<Decision, NoMemory>
     ensures { IfOk result
         (λ decision. decision ≡ Decision.Answers
-        (Verdict.Done ((accepted.object, accepted.candidate.stamp) ∷ []) accepted.state.answer) (accepted ∷ [])) }
+        (Verdict.Done ((accepted.object, accepted.candidate.stamp) ∷ []) answer) (accepted ∷ [])) }
 {
     let verdict = Verdict::Done {
         stamps: List::one(alloc, (accepted.object, accepted.candidate.stamp))?,
-        answer: accepted.state.answer.copy(alloc)?,
+        answer,
     };
     Ok(Decision::Answers {
         verdict,
@@ -356,10 +382,91 @@ fn done(alloc: Global, accepted: Accepted) -> Result<Decision, NoMemory>
     })
 }
 
-/// The one item of a list.
-fn only<T: Copy>(items: &[T]) -> T
-    requires { length items.now ≡ 1 }
-    ensures { items.now ≡ result ∷ [] }
+/// How the act stands to what this version of its object keeps of its client.
+fn standing_on(
+    alloc: Global,
+    asked: &Asked,
+    act: &Act,
+    version: &ObjState,
+) -> Result<Standing, NoMemory>
+    requires { length act.now ≡ 1 }
+    ensures { IfOk result (λ standing. standing ≡ standing_in asked.now act.now (version.now ∷ [])) }
 {
-    items[0]
+    match &asked.act {
+        Some(digest) => standing_of(
+            alloc,
+            from_ref(version),
+            act,
+            asked.client,
+            asked.number,
+            digest,
+        ),
+        None => Ok(Standing::Fresh),
+    }
+}
+
+/// The version of its object that the act makes of this one, under a stamp, and what it answers.
+#[tactic(auto, using(qu_kept::proofs::OneObject::performed_length))]
+fn performed_on(
+    alloc: Global,
+    asked: &Asked,
+    act: &Act,
+    stamp: Stamp,
+    version: &ObjState,
+) -> Result<(ObjState, Answer), NoMemory>
+    requires { length act.now ≡ 1 }
+    ensures state { IfOk result (λ made. performed_states asked.now.client asked.now.number act.now (stamp ∷ [])
+        (version.now ∷ []) ≡ made.0 ∷ []) }
+    ensures answer { IfOk result (λ made. performed_answer act.now (version.now.value ∷ []) ≡ made.1) }
+{
+    let Performed { states, answer } = perform(
+        alloc,
+        from_ref(version),
+        act,
+        asked.client,
+        asked.number,
+        &[stamp],
+    )?;
+    Ok((only(states.as_slice()).copy(alloc)?, answer))
+}
+
+/// The one state of a list.
+fn only(states: &[ObjState]) -> &ObjState
+    requires { length states.now ≡ 1 }
+    ensures { states.now ≡ result.now ∷ [] }
+{
+    &states[0]
+}
+
+/// The decision upon a retry that stands so.
+fn done_again(
+    alloc: Global,
+    stamps: List<(ObjectId, Stamp)>,
+    standing: Standing,
+) -> Option<Decision>
+    ensures { result ≡ done_again stamps standing }
+{
+    match standing {
+        Standing::Already(answer) => Some(Decision::Answers {
+            verdict: Verdict::Done { stamps, answer },
+            accepted: List::new(alloc),
+        }),
+        Standing::Fresh | Standing::Spent { .. } => None,
+    }
+}
+
+/// The decision upon an act that stands so.
+fn repeated(alloc: Global, standing: Standing) -> Option<Decision>
+    ensures { result ≡ repeated standing }
+{
+    match standing {
+        Standing::Fresh => None,
+        Standing::Already(answer) => Some(Decision::Answers {
+            verdict: Verdict::Already(answer),
+            accepted: List::new(alloc),
+        }),
+        Standing::Spent { object, number } => {
+            Some(refuse(alloc, Refusal::Spent(object, number)))
+        }
+    }
 }

@@ -4,7 +4,7 @@ use super::*;
 use qu_base::{ClientId, Digest};
 use qu_frames::{Body, Refusal, Verdict, blank_mac, decode};
 use qu_history::{SetOf, Sets};
-use qu_objects::{Act, Answer, Method, Value};
+use qu_objects::{Act, Answer, Item, Method, ObjState, Value};
 use qu_stamp::{Candidate, LAST_TIME};
 use std::test::Fail;
 
@@ -38,22 +38,28 @@ fn sets(alloc: Global, keys: &KeyRing, latest: Stamp) -> Result<Sets, Fail> {
     Ok(Sets::new(List::one(alloc, set)?).ok_or("no sets")?)
 }
 
-/// The verdict on an act of client 1 upon this stamp.
-fn verdict(alloc: Global, replica: &mut Replica, latest: Stamp) -> Result<Verdict, Fail> {
+/// The verdict on an act of client 1 with this number upon this stamp.
+fn verdict(
+    alloc: Global,
+    replica: &mut Replica,
+    number: u64,
+    latest: Stamp,
+) -> Result<Verdict, Fail> {
     let sets = sets(alloc, &replica.keys, latest)?;
-    Ok(answer(alloc, replica, sets)?.0)
+    Ok(answer(alloc, replica, number, sets)?.0)
 }
 
-/// The verdict on an act of client 1 with these sets, and the entries that the reply names.
+/// The verdict on an act of client 1 with this number and these sets, and the entries that the reply names.
 fn answer(
     alloc: Global,
     replica: &mut Replica,
+    number: u64,
     sets: Sets,
 ) -> Result<(Verdict, List<(ObjectId, ReplicaId)>), Fail> {
     let parts = List::one(alloc, (COUNTER, Method::Add(1)))?;
     let frame = Frame::Request {
         client: ClientId(1),
-        number: 7,
+        number,
         round: 1,
         sets,
         body: Body::Act(Act::new(parts)?),
@@ -84,16 +90,17 @@ fn time_can_be_spent(rt: HostRuntime) -> Result<(), Fail> {
         act: None,
         set: Digest([2; 32]),
     };
-    let state = Version {
+    let state = ObjState {
         value: Value::Counter(5),
-        answer: Answer::Refused { at: 0, why: 4 },
+        kept: List::new(rt.alloc()),
+        links: List::new(rt.alloc()),
     };
     replica.versions.push_back(Stored {
         object: COUNTER,
         stamp,
         state,
     })?;
-    let found = verdict(rt.alloc(), &mut replica, stamp)?;
+    let found = verdict(rt.alloc(), &mut replica, 1, stamp)?;
     assert_eq!(rt; found, Verdict::Refused(Refusal::TimeSpent(COUNTER)));
     Ok(())
 }
@@ -102,13 +109,26 @@ fn time_can_be_spent(rt: HostRuntime) -> Result<(), Fail> {
 fn a_history_can_be_full(rt: HostRuntime) -> Result<(), Fail> {
     let mut replica = started(rt.alloc())?;
     let mut latest = Stamp::opening();
-    for _ in 1..1024 {
-        verdict(rt.alloc(), &mut replica, latest)?;
+    for number in 1..1024 {
+        verdict(rt.alloc(), &mut replica, number, latest)?;
         latest = replica.history(COUNTER).ok_or("no history")?.latest();
     }
     assert_eq!(rt; latest.time, 1023);
-    let found = verdict(rt.alloc(), &mut replica, latest)?;
+    let found = verdict(rt.alloc(), &mut replica, 1024, latest)?;
     assert_eq!(rt; found, Verdict::Refused(Refusal::HistoryFull(COUNTER)));
+    Ok(())
+}
+
+#[test]
+fn a_repeated_act_is_told_its_answer(rt: HostRuntime) -> Result<(), Fail> {
+    let mut replica = started(rt.alloc())?;
+    verdict(rt.alloc(), &mut replica, 2, Stamp::opening())?;
+    let latest = replica.history(COUNTER).ok_or("no history")?.latest();
+    let again = verdict(rt.alloc(), &mut replica, 2, latest)?;
+    let items = List::one(rt.alloc(), Item::Number(1))?;
+    assert_eq!(rt; again, Verdict::Already(Answer::Ok(items)));
+    let lower = verdict(rt.alloc(), &mut replica, 1, latest)?;
+    assert_eq!(rt; lower, Verdict::Refused(Refusal::Spent(COUNTER, 2)));
     Ok(())
 }
 
@@ -117,7 +137,7 @@ fn entries_under_other_keys_are_named_and_do_not_count(rt: HostRuntime) -> Resul
     let mut replica = started(rt.alloc())?;
     let others = KeyRing::derive(8, &replica.bounds(), 1);
     let sets = sets(rt.alloc(), &others, Stamp::opening())?;
-    let (verdict, named) = answer(rt.alloc(), &mut replica, sets)?;
+    let (verdict, named) = answer(rt.alloc(), &mut replica, 1, sets)?;
     assert_eq!(rt; verdict, Verdict::Refused(Refusal::Thin(COUNTER)));
     let all = [0, 1, 2, 3, 4].map(|replica| (COUNTER, ReplicaId(replica)));
     assert_eq!(rt; named.as_slice(), &all[..]);

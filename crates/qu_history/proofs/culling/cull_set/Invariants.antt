@@ -4,8 +4,8 @@ use Rattle.qu_history.specs.Culling.{is_right}
 use Rattle.qu_history.proofs.culling.cull_set.Given as goal
 
 -- the entries so far that stay, and those that do not
-abbrev pub invariant-loop-entry : goal.invariant-loop-entry
-invariant-loop-entry l =
-    (l.entries ≡ filter (is_right l.keys l.me) (take l.entry-index l.entry-items))
+abbrev pub invariant-loop-place : goal.invariant-loop-place
+invariant-loop-place l =
+    (l.entries ≡ filter (is_right l.keys l.me) (take l.place l.all))
     × (l.left ≡ l.fn.left ++ map (λ (sealed : Sealed). (l.set.object, (sealed.history).replica))
-    (filter (λ sealed. not (is_right l.keys l.me sealed)) (take l.entry-index l.entry-items)))
+    (filter (λ sealed. not (is_right l.keys l.me sealed)) (take l.place l.all)))

@@ -2,7 +2,7 @@ use Rattle.std.proofs.Common.{◌∙◌, ap}
 use Rattle.qu_history.specs.Sets.{are_sets}
 use Rattle.qu_history.specs.Culling.{culled}
 use Rattle.qu_history.proofs.CulledSets.{culled_are_sets}
-use Rattle.qu_history.proofs.sets.Sets.cull.Goals as goal
+use Rattle.qu_history.proofs.sets.Sets.cull_by.Goals as goal
 
 pub invariant_of-result : goal.invariant_of-result
 invariant_of-result c =

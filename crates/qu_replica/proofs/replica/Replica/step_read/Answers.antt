@@ -6,15 +6,16 @@ use Rattle.qu_replica.specs.Fits.{StateFits, LetterFits}
 use Rattle.qu_replica.proofs.Accepting.{after-histories}
 use Rattle.qu_replica.proofs.Growth.{step-grows}
 use Rattle.qu_replica.proofs.FitSteps.{step-fits}
-use Rattle.qu_replica.proofs.replica.Replica.step.Goals as goal
+use Rattle.qu_replica.proofs.replica.Replica.step_read.Goals as goal
 
 pub returns-in_err-planned-clause-histories : goal.returns-in_err-planned-clause-histories
-returns-in_err-planned-clause-histories c = c.plan.ensures.histories
+returns-in_err-planned-clause-histories c = c.plan_read.ensures.histories
 
 pub returns-clause-histories : goal.returns-clause-histories
 returns-clause-histories c =
     subst AreHistories (sym c.carry_out.ensures.state)
-    (after-histories c.args.self.now c.in_ok-planned.planned.gain c.plan.ensures.histories c.in_ok-planned.ensures.may)
+    (after-histories c.args.self.now c.in_ok-planned.planned.gain c.plan_read.ensures.histories
+    c.in_ok-planned.ensures.may)
 
 pub returns-clause-grows : goal.returns-clause-grows
 returns-clause-grows c =
