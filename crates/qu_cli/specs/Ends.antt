@@ -27,7 +27,7 @@ use Rattle.qu_cli.specs.Transfer.{TakesScript, Writes, WritesShort, WritesOrFail
 
 -- the text is the report of the run, with the answer of its audit, which is Hold exactly where the premises hold, and
 -- its printed order, whose points it tells where they hold. Then the order is a serial order of the run's operations,
--- whatever up to b faulty replicas sent, and what is established in the run is a chain
+-- whatever up to b faulty replicas and all faulty clients sent, and what is established in the run is a chain
 pub record Reports (trace : Trace) (text : List ℕ) : Type 0 where
   pub premises : Premises
   pub order : List Point
@@ -40,7 +40,7 @@ pub record Reports (trace : Trace) (text : List ℕ) : Type 0 where
 -- the headline: where no HMAC of a correct party is forged, and no two different texts that the run digests have one
 -- digest, one machine that runs whole operations in the printed order gives each completed operation of the run its
 -- answer, between its call and its reply, and each update once, whatever the network does and up to b faulty replicas
--- send; and on each object the established candidates are a chain
+-- and all faulty clients send; and on each object the established candidates are a chain
 pub record HasOneHistory (trace : Trace) : Type 0 where
   pub order : List Point
   pub is_run : IsRun trace

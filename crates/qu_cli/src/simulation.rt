@@ -1,5 +1,4 @@
 ghost use Rattle.std.specs.Prelude.{IfOk};
-ghost use Rattle.qu_runs.specs.Premises.{OnlyReplicasAreFaulty};
 ghost use Rattle.qu_world.specs.Run.{IsRun};
 ghost use Rattle.qu_script.specs.Script.{Gives};
 ghost use Rattle.qu_script.specs.Events.{sim_of};
@@ -34,8 +33,7 @@ pub fn simulate(alloc: Global, command: Command, script: &[u8]) -> Result<Output
 
 /// What a command tells of the run of a script.
 fn told_text(alloc: Global, command: Command, trace: &Trace) -> Result<List<u8>, NoMemory>
-    requires run { IsRun trace.now }
-    requires replicas { OnlyReplicasAreFaulty trace.now.setup }
+    requires { IsRun trace.now }
     ensures { IfOk result (Tells command trace.now) }
 {
     match command {
@@ -61,7 +59,6 @@ fn told_text(alloc: Global, command: Command, trace: &Trace) -> Result<List<u8>,
 fn run_text(alloc: Global, text: &[u8]) -> Result<Trace, ScriptFail>
     ensures value { Gives (λ trace. trace) result (sim_of text.now) }
     ensures run { IfOk result IsRun }
-    ensures replicas { IfOk result (λ trace. OnlyReplicasAreFaulty trace.setup) }
 {
     let script = read_script(alloc, text)?;
     run_script(alloc, &script)

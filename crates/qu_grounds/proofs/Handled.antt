@@ -42,7 +42,7 @@ use Rattle.qu_grounds.specs.Parts.{Names}
 use Rattle.qu_runs.specs.Times.{world_after}
 use Rattle.qu_grounds.proofs.Accepting.{some_entry, Acceptance}
 use Rattle.qu_runs.proofs.OpeningReplicas.{all_replicas, keys_are, me_is}
-use Rattle.qu_grounds.proofs.FullSets.{IsUpon, are_had, culled_had, delivered_upon}
+use Rattle.qu_grounds.proofs.KnownObjects.{are_had, delivered_had}
 use Rattle.qu_runs.proofs.Objects.{run_has, found_within}
 use Rattle.qu_runs.proofs.Recording.{letter_stays}
 use Rattle.qu_runs.proofs.WorldGrowth.{world_after-next}
@@ -173,10 +173,8 @@ pub upon_handled : (trace : Trace) → IsRun trace → (time : ℕ) → time < l
     → handled_by trace event ≡ Some (request_upon old new delivered.carried delivered.accepts)
 upon_handled trace is_run time within event place old new is_old is_new object delivered =
     let one : Accepts old new delivered.carried = delivered.accepts in
-    let upon : IsUpon old one.sets = delivered_upon (world_after trace time) event place old new object delivered
-    is_old is_new in
     let had : are_had old one.sent ≡ true =
-    sym (culled_had old old.keys old.me one.sent) ∙ ap (are_had old) one.culls ∙ upon.had in
+    delivered_had (world_after trace time) event place old new object delivered is_old is_new in
     request_handled trace is_run time within event place old is_old delivered.text delivered.is_handed
     (request_upon old new delivered.carried one) one.round one.sent one.mac
     (delivered.brings ∙ ap (λ (it : Frame). Some it) one.is_request) had one.culls

@@ -13,12 +13,10 @@ use Rattle.qu_stamp.specs.Candidate.{opening, same}
 use Rattle.qu_stamp.proofs.Order.{is_below-self, same-self, equal_by_same_stamp}
 use Rattle.qu_history.specs.History.{holds}
 use Rattle.qu_history.proofs.Rising.{holds_pushed, holds_still}
-use Rattle.qu_objects.specs.declared.answer.Answer.TheVariants as answer
 use Rattle.qu_objects.specs.declared.kind.KindName.{KindName}
-use Rattle.qu_objects.specs.declared.version.Version.{Version}
-use Rattle.qu_objects.specs.Kind.{fresh_value}
+use Rattle.qu_objects.specs.declared.state.ObjState.{ObjState}
 use Rattle.qu_frames.specs.declared.frame.Frame.{Frame}
-use Rattle.qu_replica.specs.State.{ReplicaState, candidates_in, own_candidates, opening_histories, opening_versions, opening_state}
+use Rattle.qu_replica.specs.State.{ReplicaState, candidates_in, own_candidates, opening_histories, opening_version, opening_versions, opening_state}
 use Rattle.qu_replica.specs.Versions.{version_at}
 use Rattle.qu_trace.specs.declared.event.Event.{Event}
 use Rattle.qu_world.specs.State.{WorldState}
@@ -39,7 +37,7 @@ pub record HoldsUnder (state : ReplicaState) (object : ObjectId) (stamp : Stamp)
   pub under : held.stamp ≡ stamp
 
 pub record AreOfHeld (state : ReplicaState) : Type 0 where
-  pub of_held : (object : ObjectId) (stamp : Stamp) (version : Version)
+  pub of_held : (object : ObjectId) (stamp : Stamp) (version : ObjState)
       → version_at object stamp state.versions ≡ Some version → HoldsUnder state object stamp
 
 -- ---- at the beginning
@@ -51,7 +49,7 @@ record IsOpening (me : ReplicaId) (first : ℕ) (kinds : List KindName) (object 
   under : same_stamp opening_stamp stamp ≡ true
 
 opening_from : (me : ReplicaId) (first : ℕ) (kinds : List KindName) (object : ObjectId) (stamp : Stamp)
-    (version : Version) → version_at object stamp (opening_versions first kinds) ≡ Some version
+    (version : ObjState) → version_at object stamp (opening_versions first kinds) ≡ Some version
     → IsOpening me first kinds object stamp
 unfolding version_at opening_versions opening_histories
 opening_from me first [] object stamp version found = absurd (none-some version found)
@@ -64,7 +62,7 @@ opening_from me first (kind ∷ kinds) object stamp version found =
       | inr there ↦
           let inner : IsOpening me (first + 1) kinds object stamp =
           opening_from me (first + 1) kinds object stamp version
-          (ap (λ (test : Bool). cond test (Some (record { value = fresh_value kind; answer = answer.Ok [] }))
+          (ap (λ (test : Bool). cond test (Some (opening_version kind))
           (version_at object stamp (opening_versions (first + 1) kinds))) (sym there) ∙ found) in
           let after : object.0 ≡ (first + 1) + inner.place = inner.at in
           record { place = suc inner.place; at = omega arith; alone = inner.alone; under = inner.under }
@@ -136,7 +134,7 @@ event_of_held world event place old new is_old is_new parts are =
 -- a candidate with grounds is above all that are held, so no version is stored under its stamp
 module _ {state : ReplicaState} {asked : Asked} {object : ObjectId} {candidate base : Candidate}
     (are : AreOfHeld state) (grounds : IsGround state asked object candidate base) where
-  none_of : (found : Option Version) → version_at object candidate.stamp state.versions ≡ found → found ≡ None
+  none_of : (found : Option ObjState) → version_at object candidate.stamp state.versions ≡ found → found ≡ None
   none_of None is_found = refl
   none_of (Some version) is_found =
       let under : HoldsUnder state object candidate.stamp = are.of_held object candidate.stamp version is_found in

@@ -58,7 +58,7 @@ use Rattle.qu_runs.proofs.Carrying.{brings_decoded}
 use Rattle.qu_grounds.specs.Views.{WasHeld, HeldIfCorrect}
 use Rattle.qu_grounds.proofs.Acceptors.{still_accepts, order_of-none}
 use Rattle.qu_grounds.proofs.Grounds.{is_base}
-use Rattle.qu_grounds.proofs.FullSets.{are_had}
+use Rattle.qu_grounds.proofs.KnownObjects.{are_had}
 use Rattle.qu_grounds.proofs.Handled.{handler_at, known_sent}
 use Rattle.qu_grounds.proofs.AskedLetters.{true_to, brought_so}
 use Rattle.qu_grounds.proofs.TrueLetters.{IsTrueLetter, ShowsHeld, shows_held}

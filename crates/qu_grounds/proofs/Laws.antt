@@ -46,7 +46,7 @@ use Rattle.std.proofs.lemmas.Option.{same_Some, slice_get_cases, slice_get_withi
 use Rattle.qu_grounds.proofs.Views.{one_decoded}
 use Rattle.qu_grounds.proofs.Happenings.{hands_parts}
 use Rattle.qu_grounds.proofs.KeptEntries.{base_accepted}
-use Rattle.qu_grounds.proofs.FullSets.{IsUpon, are_had, culled_had, delivered_upon}
+use Rattle.qu_grounds.proofs.KnownObjects.{are_had, delivered_had}
 use Rattle.qu_grounds.specs.Parts.{Names}
 use Rattle.qu_grounds.proofs.Parts.{same_named}
 use Rattle.qu_replica.specs.Growth.{HasParts}
@@ -110,13 +110,10 @@ module _ (trace : Trace) (is_run : IsRun trace) (have : ArePlain trace) where
       let delivered : IsDelivered (world_after trace time) accepted.event place accepted.old accepted.new object =
       accepted.delivered in
       let one : Accepts accepted.old accepted.new delivered.carried = delivered.accepts in
-      let upon : IsUpon accepted.old one.sets =
-      delivered_upon (world_after trace time) accepted.event place accepted.old accepted.new object delivered
+      let had : are_had accepted.old one.sent ≡ true =
+      delivered_had (world_after trace time) accepted.event place accepted.old accepted.new object delivered
       accepted.is_old (ap (λ (it : WorldState). slice_get it.replicas place) (step_is time within accepted)
       ∙ accepted.is_new) in
-      let had : are_had accepted.old one.sent ≡ true =
-      sym (culled_had accepted.old (accepted.old).keys (accepted.old).me one.sent) ∙ ap (are_had accepted.old) one.culls
-      ∙ upon.had in
       base_accepted trace is_run have time within some_entry place accepted.old accepted.is_old delivered.text
       (ap (handed (world_after trace time)) (sym accepted.event_is) ∙ delivered.is_handed) one.client one.number
       one.round one.sent (body.Act one.parts) one.mac

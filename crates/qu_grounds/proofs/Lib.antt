@@ -11,7 +11,7 @@ pub mod Acceptors
 pub mod Accepting
 pub mod HeldInRuns
 pub mod Origins
-pub mod FullSets
+pub mod KnownObjects
 pub mod Handled
 pub mod AskedLetters
 pub mod KeptEntries

@@ -8,7 +8,7 @@ use Rattle.qu_stamp.specs.declared.candidate.Candidate.{Candidate}
 use Rattle.qu_stamp.specs.Stamp.{same_stamp}
 use Rattle.qu_stamp.proofs.Order.{same_stamp-self, equal_by_same_stamp}
 use Rattle.qu_objects.specs.declared.act.Method.{Method}
-use Rattle.qu_objects.specs.declared.version.Version.{Version}
+use Rattle.qu_objects.specs.declared.state.ObjState.{ObjState}
 use Rattle.qu_frames.specs.declared.frame.Frame.{Frame}
 use Rattle.qu_replica.specs.declared.versions.Stored.{Stored}
 use Rattle.qu_replica.specs.State.{ReplicaState}
@@ -17,7 +17,7 @@ use Rattle.qu_grounds.specs.Parts.{Names}
 use Rattle.qu_grounds.specs.Grounds.{Accepts, stored_of}
 
 -- what is found with more versions was found before, or is among these
-pub stored_cases : (object : ObjectId) (stamp : Stamp) (versions more : List Stored) (version : Version)
+pub stored_cases : (object : ObjectId) (stamp : Stamp) (versions more : List Stored) (version : ObjState)
     → version_at object stamp (versions ++ more) ≡ Some version
     → (version_at object stamp versions ≡ Some version) ⊎ (version_at object stamp more ≡ Some version)
 unfolding version_at
@@ -46,7 +46,7 @@ version_at-later object stamp (held ∷ later) more none =
     ] none
 
 -- and so a version that is stored alone
-pub version_at-push : (object : ObjectId) (stamp : Stamp) (versions : List Stored) (version : Version)
+pub version_at-push : (object : ObjectId) (stamp : Stamp) (versions : List Stored) (version : ObjState)
     → version_at object stamp versions ≡ None
     → version_at object stamp (versions ++ (record { object = object; stamp = stamp; state = version }) ∷ [])
     ≡ Some version
@@ -56,7 +56,7 @@ version_at-push object stamp versions version none =
     ∙ ap (λ (test : Bool). cond test (Some version) None)
     (and_from _ _ (eq-eqb object.0 object.0 refl) (same_stamp-self stamp))
 
-module _ (candidates : ObjectId → Candidate) (versions : ObjectId → Version) where
+module _ (candidates : ObjectId → Candidate) (versions : ObjectId → ObjState) where
   abbrev stored : List (ObjectId × Method) → List Stored
   stored parts = stored_of candidates versions parts
 
@@ -77,7 +77,7 @@ module _ (candidates : ObjectId → Candidate) (versions : ObjectId → Version)
       (ap numbered (eqb-true _ _ tests.0), equal_by_same_stamp (candidates part.0).stamp stamp tests.1)
 
   -- a version that is found among those of the parts is that of one of their candidates
-  pub among_stored : (parts : List (ObjectId × Method)) (object : ObjectId) (stamp : Stamp) (version : Version)
+  pub among_stored : (parts : List (ObjectId × Method)) (object : ObjectId) (stamp : Stamp) (version : ObjState)
       → version_at object stamp (stored parts) ≡ Some version → IsAmong parts object stamp
   unfolding version_at
   among_stored [] object stamp version found = absurd (none-some version found)

@@ -9,8 +9,11 @@ use Rattle.qu_history.specs.declared.sets.SetOf.{SetOf}
 use Rattle.qu_history.specs.Culling.{culled}
 use Rattle.qu_history.specs.Sets.{entries_of, latest_of, method_at}
 use Rattle.qu_objects.specs.declared.act.Method.{Method}
-use Rattle.qu_objects.specs.declared.version.Version.{Version}
-use Rattle.qu_objects.specs.Performing.{performed_answer, performed_values}
+use Rattle.qu_objects.specs.declared.state.ObjState.{ObjState}
+use Rattle.qu_objects.specs.Performing.{performed_values}
+use Rattle.qu_kept.specs.Performing.{row_by, links_to_others, state_after}
+use Rattle.qu_kept.specs.Rows.{row_of}
+use Rattle.qu_kept.specs.Standing.{IsLower}
 use Rattle.qu_frames.specs.declared.frame.Body.TheVariants as body
 use Rattle.qu_frames.specs.declared.frame.Frame.{Frame}
 use Rattle.qu_frames.specs.declared.frame.Frame.TheVariants as frame
@@ -32,19 +35,22 @@ pub record IsGround (state : ReplicaState) (asked : Asked) (object : ObjectId) (
   pub stamp : candidate.stamp ≡ fresh_stamp asked object
   pub current : is_below (latest_of (entries_of object asked.sets)) (own_latest state object) ≡ false
 
--- the versions have the values and the answer of the parts, performed upon the versions of the bases
-pub record ArePerformed (state : ReplicaState) (parts : List (ObjectId × Method)) (bases : ObjectId → Candidate)
-    (versions : ObjectId → Version) : Type 0 where
-  pub befores : ObjectId → Version
+-- the versions have the values of the parts, performed upon the versions of the bases, and keep the act with its
+-- answer; of this client those of the bases keep lower numbers alone
+pub record ArePerformed (state : ReplicaState) (client : ClientId) (number : ℕ) (parts : List (ObjectId × Method))
+    (bases candidates : ObjectId → Candidate) (versions : ObjectId → ObjState) : Type 0 where
+  pub befores : ObjectId → ObjState
   pub of_bases : (object : ObjectId) → Names parts object
       → version_at object (bases object).stamp state.versions ≡ Some (befores object)
   pub values : performed_values parts (values_of (λ (object : ObjectId). (befores object).value) parts)
       ≡ values_of (λ (object : ObjectId). (versions object).value) parts
-  pub answer : (object : ObjectId) → Names parts object
-      → performed_answer parts (values_of (λ (it : ObjectId). (befores it).value) parts) ≡ (versions object).answer
+  pub lower : (object : ObjectId) → Names parts object → IsLower number (row_of client (befores object).kept)
+  pub afters : (object : ObjectId) → Names parts object → versions object ≡ state_after
+      (row_by client number parts (values_of (λ (it : ObjectId). (befores it).value) parts)) (versions object).value
+      (links_to_others object (candidates object).stamp parts) (befores object)
 
 -- the versions that are stored with the candidates of the parts
-abbrev pub stored_of : (ObjectId → Candidate) → (ObjectId → Version) → List (ObjectId × Method) → List Stored
+abbrev pub stored_of : (ObjectId → Candidate) → (ObjectId → ObjState) → List (ObjectId × Method) → List Stored
 stored_of candidates versions parts = map (λ (part : ObjectId × Method). record {
   object = part.0;
   stamp = (candidates part.0).stamp;
@@ -71,8 +77,8 @@ pub record Accepts (old new : ReplicaState) (received : Frame) : Type 0 where
   pub bases : ObjectId → Candidate
   pub grounds : (object : ObjectId) → Names parts object
       → IsGround old (asked_of client number sets (body.Act parts)) object (candidates object) (bases object)
-  pub versions : ObjectId → Version
-  pub performed : ArePerformed old parts bases versions
+  pub versions : ObjectId → ObjState
+  pub performed : ArePerformed old client number parts bases candidates versions
   pub stored : new.versions ≡ old.versions ++ stored_of candidates versions parts
 
 -- the event hands a text to the replica at this place, which accepts candidates

@@ -1,11 +1,10 @@
+pub mod Asking
 pub mod Requesting
 pub mod Invocations
 pub mod Replies
 pub mod Counted
 pub mod Endings
 pub mod Completions
-pub mod OnceSent
-pub mod OneRequest
 pub mod RoundSent
 pub mod OneRound
 pub mod Members

@@ -1,8 +1,8 @@
 -- What a client asks for, step by step: its requests are those of the operation under way.
-use Rattle.std.proofs.Common.{◌≡◌, ℕ, zero, suc, ◌+◌, ◌≤◌, eqb, true, List, [], map, Option, None, Some, sym, ap, subst, ◌∙◌, arith, refl}
+use Rattle.std.proofs.Common.{◌≡◌, ℕ, ◌+◌, ◌≤◌, eqb, true, List, [], Option, None, Some, sym, ap, subst, ◌∙◌, arith, refl}
 use Rattle.std.specs.List.{All}
 use Rattle.std.proofs.lemmas.Bool.{cond_both, and_parts}
-use Rattle.std.proofs.lemmas.List.Elements.{All-nil, All-cons}
+use Rattle.std.proofs.lemmas.List.Elements.{All-nil, All-weaker}
 use Rattle.qu_base.specs.declared.party.ClientId.{ClientId}
 use Rattle.qu_base.specs.declared.party.ObjectId.{ObjectId}
 use Rattle.qu_base.specs.declared.party.Party.TheVariants as party
@@ -16,13 +16,8 @@ use Rattle.qu_frames.specs.declared.frame.Frame.TheVariants as frame
 use Rattle.qu_frames.specs.declared.frame.Letter.{Letter}
 use Rattle.qu_frames.specs.declared.verdict.Verdict.{Verdict}
 use Rattle.qu_frames.specs.Body.{body_of}
-use Rattle.qu_history.specs.Sealing.{sealed_by}
-use Rattle.qu_replica.specs.declared.decision.Decision.{Decision}
-use Rattle.qu_replica.specs.declared.decision.Decision.TheVariants.{Answers, Waits}
-use Rattle.qu_replica.specs.State.{ReplicaState, accept_all}
-use Rattle.qu_replica.specs.Rows.{asked_at, decision_on}
-use Rattle.qu_replica.specs.Step.{shown, named, reply, carried_out, replica_step, answer_frame}
-use Rattle.qu_replica.specs.Step as replica
+use Rattle.qu_replica.specs.State.{ReplicaState}
+use Rattle.qu_replica.specs.Step.{replica_step}
 use Rattle.qu_client.specs.declared.state.Stepped.{Stepped}
 use Rattle.qu_client.specs.declared.work.Work.{Work}
 use Rattle.qu_client.specs.declared.state.ClientState.{ClientState}
@@ -34,14 +29,12 @@ use Rattle.qu_client.proofs.Cases.{counted_cases, invoke_cases}
 use Rattle.qu_client.proofs.Laws.{client_step-me, client_invoke-me, IsSound-step, IsSound-invoke, sound_work}
 use Rattle.qu_trace.specs.declared.trace.Trace.{Trace}
 use Rattle.qu_rounds.specs.Invocations.{IsRequestOf}
+use Rattle.qu_rounds.proofs.Asking.{AsksNothing, CarriesOnly, replica_asks, requests_carry}
 use Rattle.qu_runs.specs.Carried.{Carries}
 use Rattle.qu_frames.specs.Formats.{frame_form}
-use Rattle.qu_history.specs.declared.sealed.Sealed.{Sealed}
-use Rattle.qu_runs.proofs.Carrying.{AsksFit, no_request, signed_spelled, signed_carries}
-use Rattle.qu_frames.specs.Signing.{brought, signed, signature}
+use Rattle.qu_runs.proofs.Carrying.{AsksFit}
+use Rattle.qu_frames.specs.Signing.{brought}
 use Rattle.qu_seal.specs.Keys.{Ring}
-use Rattle.qu_replica.proofs.FitSteps.{blank_sized}
-use Rattle.qu_base.specs.declared.party.Party.{Party}
 
 -- ---- letters
 
@@ -79,63 +72,24 @@ asked_later trace count more letter order is =
 requests_asked : (trace : Trace) (count : ℕ) (keys : Ring) (replica many : ℕ) (me : ClientId) (work : Work)
     (sets : List SetOf) → frame_form.Fits (request_of me work sets) → IsRequestOf trace count me work.number
     (body_of work.op) → All (IsAsked trace count) (requests_from keys replica many me work sets)
-unfolding requests_from
-requests_asked trace count keys replica zero me work sets fits is = All-nil (IsAsked trace count)
-requests_asked trace count keys replica (suc many) me work sets fits is =
-    All-cons (IsAsked trace count) _ _
-    (let to : Party = party.Replica (record { 0 = replica }) in
-    let sent : Frame = request_of me work sets in
-    record {
-      asked = λ carried carries. subst (IsOfOperation trace count)
-          (sym (signed_carries (record { from = party.Client me; to = to; text = signed keys to sent }) keys to
-          sent carried fits refl carries)) is;
-    })
-    (requests_asked trace count keys (replica + 1) many me work sets fits is)
+requests_asked trace count keys replica many me work sets fits is =
+    All-weaker (CarriesOnly keys (request_of me work sets)) (IsAsked trace count)
+    (λ letter only.
+    record { asked = λ carried carries. subst (IsOfOperation trace count) (sym (only carried carries)) is })
+    (requests_from keys replica many me work sets) (requests_carry keys replica many me work sets fits)
 
--- a reply is no request
-reply_asked : (trace : Trace) (count : ℕ) (letter : Letter) (replica : ReplicaId) (to : ClientId)
-    (number round : ℕ) (verdict : Verdict) (culled : List (ObjectId × ReplicaId)) (shown : List Sealed) (mac : List ℕ)
-    → letter.text ≡ frame_form.spell (frame.Reply replica to number round verdict culled shown mac)
-    → (carried : Frame) → Carries letter carried → IsOfOperation trace count carried
-reply_asked trace count letter replica to number round verdict culled shown mac spelled
-    (frame.Request client asked turn sets body other) carries =
-    absurd (no_request letter replica to number round verdict culled shown mac spelled client asked turn sets body
-    (record { mac = other; carries = carries }))
-reply_asked trace count letter replica to number round verdict culled shown mac spelled _ carries = tt
-
-carried_asked : (trace : Trace) (count : ℕ) (state : ReplicaState) (client : ClientId) (number round : ℕ)
-    (sets : List SetOf) (decision : Decision) → All (IsAsked trace count)
-    (carried_out state client number round sets decision).1
-carried_asked trace count state client number round sets (Answers verdict accepted) =
-    let new : ReplicaState = accept_all state accepted in
-    All-cons (IsAsked trace count) (reply new client number round sets verdict) []
-    (let frame : Frame = answer_frame new client number round sets verdict in
-    let to : Party = party.Client client in
-    record {
-      asked = reply_asked trace count (reply new client number round sets verdict) new.me client number round
-          verdict (named new sets) (map (sealed_by new.keys) (shown new sets)) (signature new.keys to frame)
-          (signed_spelled new.keys to frame blank_sized);
-    })
-    (All-nil (IsAsked trace count))
-carried_asked trace count state client number round sets Waits = All-nil (IsAsked trace count)
-
--- a replica sends no request
-frame_asked : (trace : Trace) (count : ℕ) (state : ReplicaState) (sent : Frame) → All (IsAsked trace count)
-    (replica.on_frame state sent).1
-frame_asked trace count state (frame.Request client number round sets body mac) =
-    carried_asked trace count state client number round sets
-    (decision_on state (asked_at state client number sets body) body)
-frame_asked trace count state _ = All-nil (IsAsked trace count)
-
-brought_asked : (trace : Trace) (count : ℕ) (state : ReplicaState) (found : Option Frame)
-    → All (IsAsked trace count) (replica.on_received state found).1
-brought_asked trace count state (Some sent) = frame_asked trace count state sent
-brought_asked trace count state None = All-nil (IsAsked trace count)
+nothing_asked : (trace : Trace) (count : ℕ) (letter : Letter) → AsksNothing letter → (carried : Frame)
+    → Carries letter carried → IsOfOperation trace count carried
+nothing_asked trace count letter none (frame.Request client number round sets body mac) carries =
+    absurd (none client number round sets body (record { mac = mac; carries = carries }))
+nothing_asked trace count letter none _ carries = tt
 
 pub replica_asked : (trace : Trace) (count : ℕ) (state : ReplicaState) (text : List ℕ) → All (IsAsked trace count)
     (replica_step state text).1
 replica_asked trace count state text =
-    brought_asked trace count state (brought state.keys (party.Replica state.me) text)
+    All-weaker AsksNothing (IsAsked trace count)
+    (λ letter none. record { asked = nothing_asked trace count letter none }) (replica_step state text).1
+    (replica_asks state text)
 
 -- ---- clients
 

@@ -1,5 +1,5 @@
--- Identical verdicts are equal, where they tell an answer; only Done fits an act.
-use Rattle.std.proofs.Common.{◌≡◌, true, List, Some, ap, ◌&&◌, ◌==◌, refl, sym, ◌∙◌}
+-- Identical verdicts are equal, where they tell an answer; only Done and Already fit an act.
+use Rattle.std.proofs.Common.{◌≡◌, ◌⊎◌, true, List, Some, ap, ◌&&◌, ◌==◌, refl, sym, ◌∙◌, inl, inr}
 use Rattle.std.proofs.lemmas.Bool.{false≢true, and_parts, and_from}
 use Rattle.std.proofs.lemmas.Option.{none-some, same_Some}
 use Rattle.std.specs.Bool.{Decides}
@@ -64,6 +64,14 @@ equal_done (Done others given) stamps answer same =
     let answer_is : given ≡ answer = (decides_answer given answer).0 parts.1 in
     λ i. Done (stamps_are i) (answer_is i)
 
+pub equal_already : (verdict : Verdict) (answer : Answer)
+    → same_verdict verdict (Already answer) ≡ true → verdict ≡ Already answer
+equal_already (Done others given) answer same = absurd (false≢true same)
+equal_already (Told others given) answer same = absurd (false≢true same)
+equal_already (Mended object stamp) answer same = absurd (false≢true same)
+equal_already (Refused refusal) answer same = absurd (false≢true same)
+equal_already (Already given) answer same = ap Already ((decides_answer given answer).0 same)
+
 -- ---- what fits an act
 
 -- the verdict is Done with this answer
@@ -71,14 +79,14 @@ pub record IsDone (given : Verdict) (answer : Answer) : Type 0 where
   pub stamps : List (ObjectId × Stamp)
   pub is : given ≡ verdict.Done stamps answer
 
--- only Done fits an act
+-- only Done and Already fit an act
 pub fits_act : (act : List (ObjectId × Method)) (given : Verdict) (answer : Answer)
-    → fitting (op.Act act) given ≡ Some answer → IsDone given answer
-fits_act act (verdict.Done stamps told) answer fits = record {
+    → fitting (op.Act act) given ≡ Some answer → IsDone given answer ⊎ (given ≡ verdict.Already answer)
+fits_act act (verdict.Done stamps told) answer fits = inl (record {
   stamps = stamps;
   is = ap (λ (it : Answer). verdict.Done stamps it) (same_Some told answer fits);
-}
+})
+fits_act act (verdict.Already told) answer fits = inr (ap verdict.Already (same_Some told answer fits))
 fits_act act (verdict.Told stamps told) answer fits = absurd (none-some answer fits)
-fits_act act (verdict.Already told) answer fits = absurd (none-some answer fits)
 fits_act act (verdict.Mended object stamp) answer fits = absurd (none-some answer fits)
 fits_act act (verdict.Refused why) answer fits = absurd (none-some answer fits)

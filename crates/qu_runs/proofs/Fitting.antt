@@ -233,7 +233,7 @@ carried_in_run trace is_run plain count within number letter is carried carries 
     fit.letters is) carried carries
 
 -- the answer to a frame that fits, fits
-answers_fit : (state : ReplicaState) (received : Frame) → StateFits state → frame_form.Fits received
+pub answers_fit : (state : ReplicaState) (received : Frame) → StateFits state → frame_form.Fits received
     → AnswersFit state received
 answers_fit state (frame.Request client number round sets body mac) fits within =
     λ verdict accepted given.

@@ -2,7 +2,6 @@
 use Rattle.qu_world.proofs.Steps.{step_cases}
 use Rattle.std.proofs.Common.{Bool, subst, false, ◌≡◌, ℕ, zero, suc, ◌≤◌, true, List, [], ◌∷◌, length, get_or, Option, None, Some, inl, inr, refl, sym, ap, ◌∙◌, arith, ◌<◌, ◌^◌}
 use Rattle.std.specs.Prelude.{slice_get, slice_set, IfSome, nat_lt, not, ◌&&◌, if◌then◌else◌}
-use Rattle.std.specs.List.{list_all, list_any}
 use Rattle.std.proofs.lemmas.Bool.{false≢true, cases_Bool}
 use Rattle.std.proofs.lemmas.Option.{none-some, same_Some}
 use Rattle.qu_base.specs.declared.party.ClientId.{ClientId}
@@ -31,7 +30,7 @@ use Rattle.qu_world.specs.Step.{recorded, unchanged, ended_by, at_replica, at_cl
 use Rattle.qu_world.proofs.Each.{each_at}
 use Rattle.qu_runs.specs.Times.{world_after}
 use Rattle.qu_trace.specs.declared.trace.Setup.{Setup}
-use Rattle.qu_trace.specs.Faulty.{is_same, is_replica, is_faulty}
+use Rattle.qu_trace.specs.Faulty.{is_faulty}
 use Rattle.qu_runs.specs.Carried.{handed}
 use Rattle.qu_runs.specs.Premises.{HasSent, AreUnforged, IsUnforgedAt, IsUnforged}
 use Rattle.qu_runs.proofs.Handing.{offered_handed}
@@ -110,13 +109,6 @@ client_ignores world event me text (Some state) is nothing =
     (with_self world.clients me.0 state is)
 
 -- ---- clients
-
--- where only replicas are faulty no client is
-pub no_client : (liars : List Party) → list_all is_replica liars ≡ true → (client : ClientId)
-    → list_any (λ (liar : Party). is_same liar (party.Client client)) liars ≡ false
-no_client [] only client = refl
-no_client (party.Replica me ∷ later) only client = no_client later only client
-no_client (party.Client me ∷ later) only client = absurd (false≢true only)
 
 -- ---- the events of a run
 

@@ -1,7 +1,6 @@
 -- What is assumed of a run: nobody makes an HMAC of a correct party but that party, and digests do not collide
 -- (Query/Update: authenticators cannot be forged, and hashes are free of collisions).
-use Rattle.std.specs.Prelude.{◌≡◌, ℕ, true, false, ◌<◌, List, length, slice_get, get_or, Some, IfSome, IsTrue, Contains}
-use Rattle.std.specs.List.{list_all}
+use Rattle.std.specs.Prelude.{◌≡◌, ℕ, true, false, ◌<◌, List, length, slice_get, get_or, Some, IfSome, Contains}
 use Rattle.qu_base.specs.declared.party.Party.{Party}
 use Rattle.qu_base.specs.declared.party.Party.TheVariants as party
 use Rattle.qu_base.specs.declared.party.ReplicaId.{ReplicaId}
@@ -12,9 +11,8 @@ use Rattle.qu_frames.specs.declared.frame.Letter.{Letter}
 use Rattle.qu_frames.specs.Signing.{sender, brought}
 use Rattle.qu_trace.specs.declared.event.Event.{Event}
 use Rattle.qu_trace.specs.declared.trace.Entry.{Entry}
-use Rattle.qu_trace.specs.declared.trace.Setup.{Setup}
 use Rattle.qu_trace.specs.declared.trace.Trace.{Trace}
-use Rattle.qu_trace.specs.Faulty.{is_replica, is_faulty}
+use Rattle.qu_trace.specs.Faulty.{is_faulty}
 use Rattle.qu_world.specs.State.{WorldState, ring_of, letter_of}
 use Rattle.qu_runs.specs.Carried.{handed}
 use Rattle.qu_runs.specs.Digested.{entries_to, shown_by, NoCollision}
@@ -60,7 +58,3 @@ IsUnforged trace = (at : ℕ) (default : Entry) → at < length trace.entries �
 pub record MeetsPremises (trace : Trace) : Type 0 where
   pub unforged : IsUnforged trace
   pub no_collision : NoCollision trace
-
--- the faulty parties of a setup are replicas alone
-abbrev pub OnlyReplicasAreFaulty : Setup → Type 0
-OnlyReplicasAreFaulty setup = IsTrue (list_all is_replica setup.liars)

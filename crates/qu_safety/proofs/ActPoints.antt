@@ -42,6 +42,7 @@ use Rattle.qu_values.proofs.MachineValues.{IsValues, object_known, known_object,
 use Rattle.qu_values.proofs.OneAct.{ActsAreOne, one_made_for}
 use Rattle.qu_values.proofs.Updates.{last_is, acts, one_of, opening_no_act}
 use Rattle.qu_values.proofs.UpdateFacts.{MadeFor, UpdateFacts, NoneIsRepeated}
+use Rattle.qu_values.proofs.ClientFacts.{ClientFacts}
 use Rattle.qu_values.proofs.SentRequests.{made_for_operation, asked_by_handled}
 use Rattle.qu_values.proofs.OneAct.{act_by}
 
@@ -261,10 +262,10 @@ module _ (trace : Trace) (laws : Laws (setting trace)) (joint : Joint (setting t
     is_act : point.op ≡ op.Act update.parts
 
   -- an update has a point at a step that decides it: of an operation, or of a faulty client
-  update_point : IsRun trace → ArePlain trace → (update : Update) (time : ℕ) (object : ObjectId)
+  update_point : IsRun trace → ArePlain trace → ClientFacts trace → (update : Update) (time : ℕ) (object : ObjectId)
       (candidate : Candidate) → IsOf trace update object candidate → IsDecidedBy (setting trace) time object candidate
       → PointOf time update
-  update_point is_run have update time object candidate is_of turn =
+  update_point is_run have clients update time object candidate is_of turn =
       elim (cases_Bool (is_faulty trace.setup (party.Client update.client))) [
         | inl faulty ↦ record {
           point = record {
@@ -287,7 +288,8 @@ module _ (trace : Trace) (laws : Laws (setting trace)) (joint : Joint (setting t
         | inr correct ↦
             let request : IsRequestOf trace (length trace.entries) update.client update.number
             (body.Act update.parts) =
-            asked_by_handled trace is_run have update.client update.number update.parts (is_of.made).handled correct in
+            asked_by_handled trace is_run have clients update.client update.number update.parts (is_of.made).handled
+            correct in
             let asks : (request.operation).op ≡ op.Act update.parts =
             act_by update.parts (request.operation).op request.asks in
             record {
@@ -343,17 +345,19 @@ module _ (trace : Trace) (laws : Laws (setting trace)) (joint : Joint (setting t
   Values time values = IsValues trace laws joint one_act facts once time values
 
   -- an event without a point of an update leaves the values
-  pub quiet_values : IsRun trace → ArePlain trace → (order : List Point) → IsPrintedOrder trace order
+  pub quiet_values : IsRun trace → ArePlain trace → ClientFacts trace → (order : List Point)
+      → IsPrintedOrder trace order
       → (time : ℕ) (values : List Value) → time < length trace.entries → Values time values
       → ((point : Point) → Contains order point → point.event ≡ suc time → IsQuestion point.op)
       → Values (suc time) values
-  quiet_values is_run have order printed time values within are quiet =
+  quiet_values is_run have clients order printed time values within are quiet =
       stay trace laws joint one_act facts once time (omega (arith, last_is trace, within)) values are
       (λ object act is_act turn.
       let made : MadeFor trace object act =
       facts.made object act (accepted_by (suc time) (omega (arith, last_is trace, within)) object act turn.after) is_act
       in
-      let it : PointOf time made.update = update_point is_run have made.update time object act made.is_of turn in
+      let it : PointOf time made.update = update_point is_run have clients made.update time object act made.is_of turn
+      in
       no_question (it.point).op (made.update).parts it.is_act
       (quiet it.point (printed.complete it.point it.is_point) it.event))
 

@@ -29,13 +29,13 @@ use Rattle.qu_safety.specs.Quorums.{ActOfQuorum, ToldFrom, QueryOfQuorum, IsOfQu
 use Rattle.qu_runs.specs.Plain.{ArePlain}
 use Rattle.qu_safety.proofs.CompletedActs.{CompletedAct, completed_act}
 use Rattle.qu_safety.proofs.CompletedQueries.{IsTold, told_by_fit, ToldBefore, tells_by_reply, query_asked}
-use Rattle.qu_safety.proofs.KnownRuns.{completion}
+use Rattle.qu_values.proofs.ClientFacts.{ClientFacts}
 use Rattle.qu_safety.proofs.Along.{objects_in, all_beside}
 use Rattle.qu_values.proofs.UpdateFacts.{UpdateFacts}
 use Rattle.qu_runs.proofs.Small.{some_member, quorum_outnumbers}
 
-module _ (trace : Trace) (is_run : IsRun trace) (have : ArePlain trace) (laws : Laws (setting trace))
-    (joint : Joint (setting trace)) (facts : UpdateFacts trace) where
+module _ (trace : Trace) (is_run : IsRun trace) (have : ArePlain trace) (clients : ClientFacts trace)
+    (laws : Laws (setting trace)) (joint : Joint (setting trace)) (facts : UpdateFacts trace) where
   told_from : (operation : OpRecord) (reply round : ℕ) (answer : Answer) (stamps : List (ObjectId × Stamp))
       → (replica : ℕ)
       → ToldBefore trace operation.client operation.number round (reply - 1) stamps answer replica
@@ -75,7 +75,7 @@ module _ (trace : Trace) (is_run : IsRun trace) (have : ArePlain trace) (laws : 
       let one : (member : ℕ) × P member = some_member P done.members (omega (arith, some, enough)) all in
       let first : P one.0 = one.1 in
       let these : first.query ≡ query =
-      query_asked trace is_run have laws joint facts operation.client operation.number done.round (reply - 1)
+      query_asked trace is_run have clients laws joint facts operation.client operation.number done.round (reply - 1)
       told.stamps answer 0 operation among refl refl query is one.0 first in
       record {
         round = done.round;
@@ -104,13 +104,13 @@ module _ (trace : Trace) (is_run : IsRun trace) (have : ArePlain trace) (laws : 
       → (what : Op) → operation.op ≡ what → IsOfQuorum trace operation reply answer what
   of_quorum operation reply answer among completes (op.Act act) is =
       act_of_quorum operation reply answer
-      (completed_act trace is_run have laws joint facts operation among reply answer completes act is) act is
+      (completed_act trace is_run have clients laws joint facts operation among reply answer completes act is) act is
   of_quorum operation reply answer among completes (op.Query query) is =
       query_of_quorum operation among reply answer
-      (completion trace is_run have operation among reply answer completes) query is
+      (clients.completes operation among reply answer completes) query is
 
   pub completes_by_quorums : CompletesByQuorums trace
   completes_by_quorums operation reply answer among completes = (
-    completion trace is_run have operation among reply answer completes,
+    clients.completes operation among reply answer completes,
     of_quorum operation reply answer among completes operation.op refl,
   )

@@ -6,6 +6,7 @@ use Rattle.std.proofs.lemmas.Bool.{false≢true, or_cases, eqb-true}
 use Rattle.std.proofs.lemmas.List.Elements.{All-nil, All-cons, All-head, All-tail, All-weaker, All-contains}
 use Rattle.std.proofs.lemmas.Option.{slice_get_within}
 use Rattle.qu_base.specs.declared.party.ClientId.{ClientId}
+use Rattle.qu_base.specs.declared.party.Digest.{Digest}
 use Rattle.qu_base.specs.declared.party.ObjectId.{ObjectId}
 use Rattle.qu_base.specs.Bounds.{replicas, quorum}
 use Rattle.qu_stamp.specs.declared.stamp.Stamp.{Stamp}
@@ -15,14 +16,14 @@ use Rattle.qu_chain.specs.Setting.{acceptors}
 use Rattle.qu_chain.specs.Laws.{Laws}
 use Rattle.qu_chain.specs.Decided.{IsDecided}
 use Rattle.qu_chain.specs.Joint.{Joint}
-use Rattle.qu_chain.proofs.Ancestry.{accepted-later}
+use Rattle.qu_chain.proofs.Ancestry.{accepted-later, decided-later, established-later}
 use Rattle.qu_chain.proofs.Counting.{count-more, test_at-here}
 use Rattle.qu_objects.specs.declared.act.Method.{Method}
 use Rattle.qu_objects.specs.declared.answer.Answer.{Answer}
 use Rattle.qu_objects.specs.declared.op.Op.{Op}
 use Rattle.qu_objects.specs.declared.op.Op.TheVariants as op
 use Rattle.qu_objects.specs.declared.op.Outcome.TheVariants as outcome
-use Rattle.qu_objects.specs.declared.version.Version.{Version}
+use Rattle.qu_objects.specs.declared.state.ObjState.{ObjState}
 use Rattle.qu_frames.specs.declared.verdict.Verdict.{Verdict}
 use Rattle.qu_frames.specs.declared.verdict.Verdict.TheVariants as verdict
 use Rattle.qu_frames.specs.Body.{body_of}
@@ -42,25 +43,25 @@ use Rattle.qu_runs.specs.Setting.{setting}
 use Rattle.qu_rounds.specs.Invocations.{IsRequestOf}
 use Rattle.qu_runs.specs.Times.{world_after}
 use Rattle.qu_runs.proofs.Settings.{acceptors_are, acceptors_counted}
-use Rattle.qu_values.specs.Replies.{HasDone, TellsDone, IsReplyTo}
+use Rattle.qu_values.specs.Replies.{Keeps, HasDone, TellsDone, HasKept, TellsAlready, IsOfUpdate, IsReplyTo, culled_in}
 use Rattle.qu_safety.specs.Quorums.{PartOfQuorum, ActOfQuorum}
 use Rattle.qu_values.specs.Updates.{IsOf}
 use Rattle.qu_values.specs.Values.{HasVersion}
 use Rattle.qu_runs.specs.Plain.{ArePlain}
 use Rattle.qu_rounds.proofs.Endings.{EndsAt, operation_ends}
-use Rattle.qu_rounds.proofs.Invocations.{request_of}
+use Rattle.qu_values.proofs.ClientFacts.{ClientFacts}
 use Rattle.qu_values.proofs.Updates.{same_accepted}
 use Rattle.qu_values.proofs.EverAccepted.{place_ever}
-use Rattle.qu_safety.proofs.KnownRuns.{completion}
 use Rattle.qu_rounds.proofs.Members.{is_among, members_count}
 use Rattle.qu_points.proofs.Recorded.{recorded_op}
-use Rattle.qu_values.proofs.RepliesInRuns.{IsActOn, act_of_done, done_in_run, done_handled}
+use Rattle.qu_values.proofs.RepliesInRuns.{IsActOn, act_of_update, update_handled, done_in_run, already_in_run}
+use Rattle.qu_safety.proofs.KeptParts.{KeptPart, kept_part}
 use Rattle.qu_grounds.proofs.AskedLetters.{AskedBy}
 use Rattle.qu_safety.proofs.OwnClients.{own_client}
 use Rattle.qu_values.proofs.Replying.{reply_sent, reply_letter}
 use Rattle.qu_values.proofs.StoredValues.{version_is}
 use Rattle.qu_values.proofs.UpdateFacts.{UpdateFacts}
-use Rattle.qu_rounds.proofs.Verdicts.{IsDone, fits_act, equal_done}
+use Rattle.qu_rounds.proofs.Verdicts.{fits_act, equal_done, equal_already}
 use Rattle.qu_runs.proofs.Small.{some_member, quorum_outnumbers}
 use Rattle.qu_runs.proofs.Carrying.{tells_as}
 
@@ -72,9 +73,10 @@ pub record CompletedAct (trace : Trace) (operation : OpRecord) (reply : ℕ) (an
   pub candidate : Candidate
   pub is_of : IsOf trace (record { client = operation.client; number = operation.number; parts = parts }) object
       candidate
-  pub version : Version
+  pub version : ObjState
   pub has : HasVersion trace object candidate version
-  pub answer_is : answer ≡ version.answer
+  pub keeps : Keeps operation.client operation.number (act_digest operation.client operation.number parts) answer
+      version
   pub decided : IsDecided (setting trace) (reply - 1) object candidate
   pub of_quorum : ActOfQuorum trace operation parts reply
   pub within : reply ≤ length trace.entries
@@ -93,16 +95,17 @@ among_all P (member ∷ members) all index among =
 
 -- ---- members
 
--- on an object of the operation, the replica has a candidate of it after so many events, and its version has the answer
+-- on an object of the operation, the replica has a candidate of it after so many events, and its version keeps the
+-- answer
 record HasPart (trace : Trace) (operation : OpRecord) (parts : List (ObjectId × Method)) (answer : Answer)
     (time replica : ℕ) (told : ObjectId × Stamp) : Type 0 where
   candidate : Candidate
   is_told : candidate.stamp ≡ told.1
   made : IsMadeFor trace candidate operation.client operation.number parts
   accepted : (setting trace).accepted time told.0 replica candidate ≡ true
-  version : Version
+  version : ObjState
   has : HasVersion trace told.0 candidate version
-  answer_is : answer ≡ version.answer
+  keeps : Keeps operation.client operation.number (act_digest operation.client operation.number parts) answer version
 
 -- on each of them
 record HasAll (trace : Trace) (operation : OpRecord) (parts : List (ObjectId × Method)) (answer : Answer)
@@ -114,8 +117,60 @@ record HasAll (trace : Trace) (operation : OpRecord) (parts : List (ObjectId × 
 same_acts : (first second : List (ObjectId × Method)) → op.Act first ≡ op.Act second → first ≡ second
 same_acts first second same = cc
 
-module _ (trace : Trace) (is_run : IsRun trace) (have : ArePlain trace) (laws : Laws (setting trace))
-    (joint : Joint (setting trace)) (facts : UpdateFacts trace) (operation : OpRecord)
+module _ (trace : Trace) (is_run : IsRun trace) (have : ArePlain trace) (clients : ClientFacts trace)
+    (operation : OpRecord) (among : Contains (operations_of trace.entries) operation)
+    (parts : List (ObjectId × Method)) (is_act : operation.op ≡ op.Act parts) where
+  -- what is told of an update to this client and number is told of its parts
+  told_parts : (at : ℕ) (below : at < length trace.entries) (replica round : ℕ) (given : Verdict)
+      (of_update : IsOfUpdate given)
+      (reply : IsReplyTo trace at replica operation.client operation.number round given)
+      → (act_of_update trace is_run have at below replica operation.client operation.number round given of_update
+      reply).parts ≡ parts
+  told_parts at below replica round given of_update reply =
+      let client : ClientId = operation.client in
+      let number : ℕ = operation.number in
+      let asks : IsActOn reply.body =
+      act_of_update trace is_run have at below replica client number round given of_update reply in
+      let letter : AskedBy trace at client number round reply.sets reply.body =
+      reply_letter trace is_run have at below replica client number round given reply
+      (own_client trace is_run operation among) in
+      let request : IsRequestOf trace at client number reply.body =
+      clients.asks at letter.asked letter.letter client number round reply.sets reply.body (record {
+        within = omega arith;
+        is_letter = letter.is_letter;
+        is_request = letter.is_request;
+      }) in
+      let same : request.operation ≡ operation =
+      recorded_op trace request.operation operation request.of_trace among
+      (ap (λ (it : ClientId). it.0) request.of_client) request.of_number in
+      same_acts asks.parts parts (sym (act_by asks.parts operation.op
+      (sym asks.is_act ∙ request.asks ∙ ap (λ (it : OpRecord). body_of it.op) same)) ∙ is_act)
+
+  -- and so the replica handled it
+  told_handled : (at : ℕ) (below : at < length trace.entries) (replica round : ℕ) (given : Verdict)
+      (of_update : IsOfUpdate given)
+      → IsReplyTo trace at replica operation.client operation.number round given
+      → IsHandled trace operation.client operation.number parts
+  told_handled at below replica round given of_update reply =
+      subst (IsHandled trace operation.client operation.number)
+      (told_parts at below replica round given of_update reply)
+      (update_handled trace is_run have at below replica operation.client operation.number round given of_update reply)
+
+  -- a reply that was sent with this verdict
+  reply_of : (before round : ℕ) (given : Verdict) (replica : ℕ)
+      (replied : Replied trace before operation.client operation.number round given replica)
+      → (replied.replied).told ≡ given
+      → IsReplyTo trace replied.at replica operation.client operation.number round given
+  reply_of before round given replica replied told =
+      let sent : RepliedAt trace replied.at operation.client operation.number round given replica = replied.replied in
+      reply_sent trace is_run have replied.at (slice_get_within trace.entries replied.at sent.entry sent.is_entry)
+      sent.entry sent.is_entry sent.letter sent.sent (record { 0 = replica })
+      operation.client operation.number round given sent.shown
+      (tells_as sent.letter (record { 0 = replica }) operation.client operation.client operation.number
+      operation.number round round sent.told given sent.shown refl refl refl told sent.is_reply)
+
+module _ (trace : Trace) (is_run : IsRun trace) (have : ArePlain trace) (clients : ClientFacts trace)
+    (laws : Laws (setting trace)) (joint : Joint (setting trace)) (facts : UpdateFacts trace) (operation : OpRecord)
     (among : Contains (operations_of trace.entries) operation) (parts : List (ObjectId × Method))
     (is_act : operation.op ≡ op.Act parts) (answer : Answer) (stamps : List (ObjectId × Stamp))
   where
@@ -135,31 +190,22 @@ module _ (trace : Trace) (is_run : IsRun trace) (have : ArePlain trace) (laws : 
     has_by_reply at below replica round reply =
         let client : ClientId = operation.client in
         let number : ℕ = operation.number in
+        let act : Digest = act_digest client number parts in
+        let given : Verdict = verdict.Done stamps answer in
         let asks : IsActOn reply.body =
-        act_of_done trace is_run have at below replica client number round stamps answer reply in
-        let letter : AskedBy trace at client number round reply.sets reply.body =
-        reply_letter trace is_run have at below replica client number round (verdict.Done stamps answer) reply
-        (own_client trace is_run operation among) in
-        let request : IsRequestOf trace at client number reply.body =
-        request_of trace is_run have at (omega arith) letter.asked letter.letter letter.is_letter client number round
-        reply.sets reply.body letter.is_request in
-        let same : request.operation ≡ operation =
-        recorded_op trace request.operation operation request.of_trace among
-        (ap (λ (it : ClientId). it.0) request.of_client) request.of_number in
+        act_of_update trace is_run have at below replica client number round given tt reply in
         let these : asks.parts ≡ parts =
-        same_acts asks.parts parts (sym (act_by asks.parts operation.op
-        (sym asks.is_act ∙ request.asks ∙ ap (λ (it : OpRecord). body_of it.op) same)) ∙ is_act) in
-        let done : TellsDone reply.new client (act_digest client number parts) parts stamps answer =
+        told_parts trace is_run have clients operation among parts is_act at below replica round given tt reply in
+        let done : TellsDone reply.new client number act parts stamps answer =
         subst (λ (it : List (ObjectId × Method)).
-        TellsDone reply.new client (act_digest client number it) it stamps answer) these
+        TellsDone reply.new client number (act_digest client number it) it stamps answer) these
         (done_in_run trace is_run have at below replica client number round stamps answer reply) in
         let handled : IsHandled trace client number parts =
-        subst (IsHandled trace client number) these
-        (done_handled trace is_run have at below replica client number round stamps answer reply) in
+        told_handled trace is_run have clients operation among parts is_act at below replica round given tt reply in
         record {
           some = subst (λ (it : List (ObjectId × Method)). 1 ≤ length it) these asks.some;
           of_parts = done.of_parts;
-          each = All-weaker (HasDone reply.new client (act_digest client number parts) answer) (Part (at + 1) replica)
+          each = All-weaker (HasDone reply.new client number act answer) (Part (at + 1) replica)
               (λ told it. record {
                 candidate = it.candidate;
                 is_told = it.is_told;
@@ -169,7 +215,7 @@ module _ (trace : Trace) (is_run : IsRun trace) (have : ArePlain trace) (laws : 
                 version = it.version;
                 has = version_is trace laws joint is_run have (at + 1) (omega arith) replica reply.new
                     reply.is_new told.0 it.candidate it.held it.version it.of_candidate;
-                answer_is = it.answer_is;
+                keeps = it.keeps;
               }) stamps done.each;
         }
 
@@ -185,7 +231,7 @@ module _ (trace : Trace) (is_run : IsRun trace) (have : ArePlain trace) (laws : 
             accepted = accepted-later (setting trace) laws early late order told.0 replica it.candidate it.accepted;
             version = it.version;
             has = it.has;
-            answer_is = it.answer_is;
+            keeps = it.keeps;
           }) stamps held.each;
     }
 
@@ -198,13 +244,12 @@ module _ (trace : Trace) (is_run : IsRun trace) (have : ArePlain trace) (laws : 
         let below : at < length trace.entries = slice_get_within trace.entries at sent.entry sent.is_entry in
         let told : sent.told ≡ verdict.Done stamps answer =
         equal_done sent.told stamps answer (ap (same_verdict sent.told) (sym is_done) ∙ sent.same) in
-        let reply : IsReplyTo trace at replica operation.client operation.number round (verdict.Done stamps answer) =
-        reply_sent trace is_run have at below sent.entry sent.is_entry sent.letter sent.sent (record { 0 = replica })
-        operation.client operation.number round (verdict.Done stamps answer) sent.shown
-        (tells_as sent.letter (record { 0 = replica }) operation.client operation.client operation.number
-        operation.number round round sent.told (verdict.Done stamps answer) sent.shown refl refl refl told
-        sent.is_reply) in
-        has_later (at + 1) before (omega arith) replica (has_by_reply at below replica round reply)
+        let reply : IsReplyTo trace at replica operation.client operation.number round given =
+        reply_of trace is_run have clients operation among parts is_act before round given replica replied
+        (told ∙ sym is_done) in
+        has_later (at + 1) before (omega arith) replica
+        (has_by_reply at below replica round
+        (subst (IsReplyTo trace at replica operation.client operation.number round) is_done reply))
 
     -- ---- they all have the same
 
@@ -302,7 +347,7 @@ module _ (trace : Trace) (is_run : IsRun trace) (have : ArePlain trace) (laws : 
           is_of = record { made = part.made; names = named.names };
           version = part.version;
           has = part.has;
-          answer_is = part.answer_is;
+          keeps = part.keeps;
           decided = decided_of_quorum (reply - 1) (omega arith) members different within enough all one.0 below
               named.told named.among part;
           of_quorum = record {
@@ -325,24 +370,138 @@ module _ (trace : Trace) (is_run : IsRun trace) (have : ArePlain trace) (laws : 
             (both later (All-tail (Has (reply - 1)) member later all)
             (All-tail (λ (it : ℕ). it < replicas trace.setup.bounds) member later within))
 
+-- an act that was told Already was done before, as each of the replicas says that told it
+module _ (trace : Trace) (is_run : IsRun trace) (have : ArePlain trace) (clients : ClientFacts trace)
+    (laws : Laws (setting trace)) (joint : Joint (setting trace)) (facts : UpdateFacts trace) (operation : OpRecord)
+    (among : Contains (operations_of trace.entries) operation) (parts : List (ObjectId × Method))
+    (is_act : operation.op ≡ op.Act parts) (answer : Answer) where
+  abbrev Kept : ℕ → ObjectId → Type 0
+  Kept time object = KeptPart trace operation.client operation.number parts answer time object
+
+  kept_later : (early late : ℕ) → early ≤ late → (object : ObjectId) → Kept early object → Kept late object
+  kept_later early late order object it = record {
+    candidate = it.candidate;
+    made = it.made;
+    version = it.version;
+    has = it.has;
+    keeps = it.keeps;
+    decided = decided-later (setting trace) laws early late order object it.candidate it.decided;
+    established = established-later (setting trace) laws early late order object it.candidate it.established;
+  }
+
+  -- on each of its objects by the event of a reply that tells it
+  kept_by_reply : (at : ℕ) → at < length trace.entries → (replica round : ℕ)
+      → IsReplyTo trace at replica operation.client operation.number round (verdict.Already answer)
+      → (1 ≤ length parts) × All (λ (part : ObjectId × Method). Kept at part.0) parts
+  kept_by_reply at below replica round reply =
+      let client : ClientId = operation.client in
+      let number : ℕ = operation.number in
+      let act : Digest = act_digest client number parts in
+      let given : Verdict = verdict.Already answer in
+      let asks : IsActOn reply.body =
+      act_of_update trace is_run have at below replica client number round given tt reply in
+      let these : asks.parts ≡ parts =
+      told_parts trace is_run have clients operation among parts is_act at below replica round given tt reply in
+      let tells : TellsAlready reply.old client number act (culled_in reply.old reply.sets) parts answer =
+      subst (λ (it : List (ObjectId × Method)).
+      TellsAlready reply.old client number (act_digest client number it) (culled_in reply.old reply.sets) it answer)
+      these (already_in_run trace is_run have at below replica client number round answer reply) in
+      let handled : IsHandled trace client number parts =
+      told_handled trace is_run have clients operation among parts is_act at below replica round given tt reply in (
+        subst (λ (it : List (ObjectId × Method)). 1 ≤ length it) these asks.some,
+        All-weaker
+            (λ (part : ObjectId × Method).
+            HasKept reply.old client number act (culled_in reply.old reply.sets) answer part.0)
+            (λ (part : ObjectId × Method). Kept at part.0)
+            (λ part it. kept_part trace is_run have laws joint facts at below replica client number round answer reply
+            parts handled part.0 it) parts tells,
+      )
+
+  quorum_of_kept : (reply : ℕ) → (object : ObjectId) → Kept (reply - 1) object
+      → PartOfQuorum trace operation parts reply object
+  unfolding setting
+  quorum_of_kept reply object it =
+      let counted : quorum trace.setup.bounds
+      ≤ acceptors (setting trace) (reply - 1) object it.candidate + trace.setup.bounds = it.established in
+      record {
+        candidate = it.candidate;
+        of_client = (it.made).of_client;
+        of_act = (it.made).of_act;
+        accepted = let same = acceptors_are trace (reply - 1) object it.candidate in omega (arith, counted, same);
+      }
+
+  -- one correct replica that told it is enough
+  by_already : (reply : ℕ) → reply ≤ length trace.entries → 1 ≤ reply → (round : ℕ) (given : Verdict)
+      → given ≡ verdict.Already answer → (replica : ℕ)
+      → Replied trace (reply - 1) operation.client operation.number round given replica
+      → CompletedAct trace operation reply answer
+  by_already reply ends begins round given is_already replica replied =
+      let at : ℕ = replied.at in
+      let earlier : at < reply - 1 = replied.earlier in
+      let sent : RepliedAt trace at operation.client operation.number round given replica = replied.replied in
+      let below : at < length trace.entries = slice_get_within trace.entries at sent.entry sent.is_entry in
+      let told : sent.told ≡ verdict.Already answer =
+      equal_already sent.told answer (ap (same_verdict sent.told) (sym is_already) ∙ sent.same) in
+      let all = kept_by_reply at below replica round
+      (subst (IsReplyTo trace at replica operation.client operation.number round) is_already
+      (reply_of trace is_run have clients operation among parts is_act (reply - 1) round given replica replied
+      (told ∙ sym is_already))) in
+      let each : All (λ (part : ObjectId × Method). Kept (reply - 1) part.0) parts =
+      All-weaker (λ (part : ObjectId × Method). Kept at part.0)
+      (λ (part : ObjectId × Method). Kept (reply - 1) part.0)
+      (λ part it. kept_later at (reply - 1) (omega arith) part.0 it) parts all.1 in
+      let named : Named parts parts = first_named parts parts refl all.0 in
+      let it : Kept (reply - 1) (named.told).0 =
+      All-contains (λ (part : ObjectId × Method). Kept (reply - 1) part.0) parts named.told each named.among in
+      record {
+        parts = parts;
+        is_act = is_act;
+        object = (named.told).0;
+        candidate = it.candidate;
+        is_of = record { made = it.made; names = named.names };
+        version = it.version;
+        has = it.has;
+        keeps = it.keeps;
+        decided = it.decided;
+        of_quorum = record {
+          some = all.0;
+          each = All-weaker (λ (part : ObjectId × Method). Kept (reply - 1) part.0)
+              (λ (part : ObjectId × Method). PartOfQuorum trace operation parts reply part.0)
+              (λ part kept. quorum_of_kept reply part.0 kept) parts each;
+        };
+        within = ends;
+        begins = begins;
+      }
+
 -- of every completed act
-pub completed_act : (trace : Trace) → IsRun trace → ArePlain trace → Laws (setting trace) → Joint (setting trace)
-    → UpdateFacts trace → (operation : OpRecord) → Contains (operations_of trace.entries) operation
+pub completed_act : (trace : Trace) → IsRun trace → ArePlain trace → ClientFacts trace → Laws (setting trace)
+    → Joint (setting trace) → UpdateFacts trace → (operation : OpRecord)
+    → Contains (operations_of trace.entries) operation
     → (reply : ℕ) (answer : Answer) → operation.reply ≡ Some (reply, outcome.Done answer)
     → (act : List (ObjectId × Method)) → operation.op ≡ op.Act act → CompletedAct trace operation reply answer
-completed_act trace is_run have laws joint facts operation among reply answer replied act is_act =
+completed_act trace is_run have clients laws joint facts operation among reply answer replied act is_act =
     let done : IsCompleted trace operation reply answer =
-    completion trace is_run have operation among reply answer replied in
-    let given : IsDone done.verdict answer =
-    fits_act act done.verdict answer (ap (λ (it : Op). fitting it done.verdict) (sym is_act) ∙ done.fits) in
+    clients.completes operation among reply answer replied in
     let ends : EndsAt trace.entries 1 operation.client operation.number reply (outcome.Done answer) =
     operation_ends trace.entries operation among reply (outcome.Done answer) replied in
     let at : reply ≡ 1 + ends.index = ends.is_at in
     let below : ends.index < length trace.entries =
     slice_get_within trace.entries ends.index ends.entry ends.is_entry in
-    by_members trace is_run have laws joint facts operation among act is_act answer given.stamps reply (omega arith)
-    (omega arith) done.members done.different done.within done.enough
-    (All-weaker (Replied trace (reply - 1) operation.client operation.number done.round done.verdict)
-    (HasAll trace operation act answer given.stamps (reply - 1))
-    (has_by_verdict trace is_run have laws joint facts operation among act is_act answer given.stamps (reply - 1)
-    done.round done.verdict given.is) done.members done.replied)
+    elim (fits_act act done.verdict answer (ap (λ (it : Op). fitting it done.verdict) (sym is_act) ∙ done.fits)) [
+      | inl given ↦
+          by_members trace is_run have clients laws joint facts operation among act is_act answer given.stamps reply
+          (omega arith) (omega arith) done.members done.different done.within done.enough
+          (All-weaker (Replied trace (reply - 1) operation.client operation.number done.round done.verdict)
+          (HasAll trace operation act answer given.stamps (reply - 1))
+          (has_by_verdict trace is_run have clients laws joint facts operation among act is_act answer given.stamps
+          (reply - 1) done.round done.verdict given.is) done.members done.replied)
+      | inr already ↦
+          let some : trace.setup.bounds < quorum trace.setup.bounds =
+          quorum_outnumbers trace.setup.bounds (is_run.setup).some_faults in
+          let enough : quorum trace.setup.bounds ≤ length done.members + trace.setup.bounds = done.enough in
+          let P : ℕ → Type 0 =
+          Replied trace (reply - 1) operation.client operation.number done.round done.verdict in
+          let one : (member : ℕ) × P member = some_member P done.members (omega (arith, some, enough)) done.replied in
+          by_already trace is_run have clients laws joint facts operation among act is_act answer reply (omega arith)
+          (omega arith) done.round done.verdict already one.0 one.1
+    ]

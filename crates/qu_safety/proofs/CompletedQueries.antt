@@ -48,7 +48,6 @@ use Rattle.qu_machine.specs.Serial.{Stands}
 use Rattle.qu_trace.specs.declared.trace.Entry.{Entry}
 use Rattle.qu_trace.specs.declared.trace.Trace.{Trace}
 use Rattle.qu_trace.specs.Operation.{operations_of}
-use Rattle.qu_world.specs.State.{letter_of}
 use Rattle.qu_world.specs.Run.{IsRun}
 use Rattle.qu_points.proofs.Recorded.{recorded_op}
 use Rattle.qu_rounds.specs.Completions.{Replied, RepliedAt, IsCompleted}
@@ -80,32 +79,14 @@ use Rattle.qu_rounds.proofs.Verdicts.{equal_told}
 use Rattle.qu_safety.proofs.Along.{objects_in, zip_along, zip_weaker, zip_at}
 use Rattle.qu_values.proofs.StoredValues.{version_is}
 use Rattle.qu_values.proofs.UpdateFacts.{HasValue, UpdateFacts}
-use Rattle.qu_rounds.proofs.Invocations.{request_of}
+use Rattle.qu_values.proofs.ClientFacts.{IsAskedBy, ClientFacts}
 use Rattle.qu_values.proofs.Updates.{same_accepted}
 use Rattle.qu_values.proofs.EverAccepted.{held_ever}
-use Rattle.qu_grounds.proofs.Views.{view_of_request}
 use Rattle.qu_runs.proofs.Small.{some_member, quorum_outnumbers}
 use Rattle.qu_runs.proofs.OpeningReplicas.{bounds_are}
 use Rattle.qu_safety.proofs.PointEvents.{IsReplyIn, reply_in}
-use Rattle.qu_runs.specs.Carried.{Asks, Tells}
+use Rattle.qu_runs.specs.Carried.{Tells}
 use Rattle.qu_history.specs.declared.sealed.Sealed.{Sealed}
-
--- ---- what the theorem is given of the run
-
--- a quorum answered what completed
-abbrev pub CompletesByQuorum : Trace → Type 0
-CompletesByQuorum trace =
-    (operation : OpRecord) → Contains (operations_of trace.entries) operation → (event : ℕ) (answer : Answer) →
-    operation.reply ≡ Some (event, outcome.Done answer) → IsCompleted trace operation event answer
-
--- a client asks all replicas the same in a round
-abbrev pub AsksAlike : Trace → Type 0
-AsksAlike trace =
-    (count : ℕ) → count ≤ length trace.entries → (first second : ℕ) (a b : Letter)
-    → letter_of (world_after trace count) first ≡ Some a → letter_of (world_after trace count) second ≡ Some b
-    → (client : ClientId) (number round : ℕ) (sets others : List SetOf) (asked other : Body)
-    → Asks a client number round sets asked → Asks b client number round others other
-    → (sets ≡ others) × (asked ≡ other)
 
 -- ---- the first number that passes a test
 
@@ -310,8 +291,8 @@ point_of_query trace operation among own reply answer replied at =
       record { correct = own; client = refl; number = refl; op = refl },
     )
 
-module _ (trace : Trace) (is_run : IsRun trace) (have : ArePlain trace) (laws : Laws (setting trace))
-    (joint : Joint (setting trace)) (facts : UpdateFacts trace) where
+module _ (trace : Trace) (is_run : IsRun trace) (have : ArePlain trace) (clients : ClientFacts trace)
+    (laws : Laws (setting trace)) (joint : Joint (setting trace)) (facts : UpdateFacts trace) where
   -- what was accepted by an event is held at each later one
   held_later : (time at : ℕ) → time ≤ at → (place : ℕ) (state : ReplicaState)
       → slice_get (world_after trace at).replicas place ≡ Some state → (object : ObjectId) (candidate : Candidate)
@@ -381,13 +362,13 @@ module _ (trace : Trace) (is_run : IsRun trace) (have : ArePlain trace) (laws : 
         ap (λ (it : Stamp). is_below it other.stamp) (sym has.is_told) ∙ has.nothing_above other held
 
     -- the base was shown in the request that was answered first
-    base_shown : AsksAlike trace → is_faulty trace.setup (party.Client client) ≡ false → (member : ℕ)
+    base_shown : is_faulty trace.setup (party.Client client) ≡ false → (member : ℕ)
         (tells : Member member) → time ≤ tells.at
         → (answered : IsAnsweredAt trace client number round time)
         → (told : ObjectId × Stamp) (value : Value) (has : TellsOf member tells told value)
         → (entries : List ObjectHistory) × (method_at trace.setup.bounds entries ≡ Some has.base)
         × (quorum trace.setup.bounds ≤ acceptors (setting trace) time told.0 has.base + (setting trace).faults)
-    base_shown alike correct member tells order answered told value has =
+    base_shown correct member tells order answered told value has =
         let at : ℕ = tells.at in
         let object : ObjectId = told.0 in
         let base : Candidate = has.base in
@@ -400,13 +381,25 @@ module _ (trace : Trace) (is_run : IsRun trace) (have : ArePlain trace) (laws : 
         correct in
         let again : AskedBy trace at client number round mine.sets mine.body =
         reply_letter trace is_run have at below member client number round (verdict.Told stamps answer) mine correct in
+        let one : IsAskedBy trace at asked.asked asked.letter client number round first.sets first.body = record {
+          within = omega arith;
+          is_letter = letter_later trace time at asked.asked asked.letter order (omega arith) asked.is_letter;
+          is_request = asked.is_request;
+        } in
+        let other : IsAskedBy trace at again.asked again.letter client number round mine.sets mine.body = record {
+          within = omega arith;
+          is_letter = again.is_letter;
+          is_request = again.is_request;
+        } in
         let same : (first.sets ≡ mine.sets) × (first.body ≡ mine.body) =
-        alike at (omega arith) asked.asked again.asked asked.letter again.letter
-        (letter_later trace time at asked.asked asked.letter order (omega arith) asked.is_letter) again.is_letter
-        client number round first.sets mine.sets first.body mine.body asked.is_request again.is_request in
+        clients.alike at asked.asked again.asked asked.letter again.letter client number round first.sets mine.sets
+        first.body mine.body one other in
         let view : IsOfKept trace time first.sets first.body =
-        view_of_request trace is_run have time within asked.asked asked.letter asked.is_letter client number round
-        first.sets first.body asked.is_request in
+        clients.held time asked.asked asked.letter client number round first.sets first.body (record {
+          within = within;
+          is_letter = asked.is_letter;
+          is_request = asked.is_request;
+        }) in
         let culled_first : List SetOf = culled_in mine.old first.sets in
         let method : method_at trace.setup.bounds (entries_of object culled_first) ≡ Some base =
         ap (λ (it : List SetOf). method_at trace.setup.bounds (entries_of object (culled_in mine.old it))) same.0 ∙
@@ -461,8 +454,11 @@ module _ (trace : Trace) (is_run : IsRun trace) (have : ArePlain trace) (laws : 
         reply_letter trace is_run have tells.at below member client number round (verdict.Told stamps answer) mine
         correct in
         let request : IsRequestOf trace tells.at client number mine.body =
-        request_of trace is_run have tells.at (omega arith) letter.asked letter.letter letter.is_letter client number
-        round mine.sets mine.body letter.is_request in
+        clients.asks tells.at letter.asked letter.letter client number round mine.sets mine.body (record {
+          within = omega arith;
+          is_letter = letter.is_letter;
+          is_request = letter.is_request;
+        }) in
         let same : request.operation ≡ operation =
         recorded_op trace request.operation operation request.of_trace among
         (ap (λ (it : ClientId). it.0) (request.of_client ∙ sym of_client)) (request.of_number ∙ sym of_number) in
@@ -489,7 +485,7 @@ module _ (trace : Trace) (is_run : IsRun trace) (have : ArePlain trace) (laws : 
 
   -- what the members told of an object is the value of its top when the round was first answered
   module _ (client : ClientId) (number round before : ℕ) (stamps : List (ObjectId × Stamp)) (answer : Answer)
-      (time : ℕ) (within : time ≤ length trace.entries) (alike : AsksAlike trace)
+      (time : ℕ) (within : time ≤ length trace.entries)
       (correct : is_faulty trace.setup (party.Client client) ≡ false)
       (answered : IsAnsweredAt trace client number round time)
       (not_earlier : (at : ℕ) → answers_at trace client number round (suc at) ≡ true → time ≤ at)
@@ -508,7 +504,7 @@ module _ (trace : Trace) (is_run : IsRun trace) (have : ArePlain trace) (laws : 
         let order : time ≤ tells.at = not_earlier tells.at tells.answered in
         let shown : (entries : List ObjectHistory) × (method_at trace.setup.bounds entries ≡ Some base)
         × (quorum trace.setup.bounds ≤ acceptors (setting trace) time object base + (setting trace).faults) =
-        base_shown client number round before stamps answer time alike correct member tells order answered told value
+        base_shown client number round before stamps answer time correct member tells order answered told value
         has in
         let established : IsEstablished (setting trace) time object base =
         established_by client number round before stamps answer time object base shown.2 in
@@ -538,7 +534,7 @@ module _ (trace : Trace) (is_run : IsRun trace) (have : ArePlain trace) (laws : 
           };
         }
 
-  module _ (completion : CompletesByQuorum trace) (alike : AsksAlike trace) (operation : OpRecord)
+  module _ (operation : OpRecord)
       (among : Contains (operations_of trace.entries) operation) (reply : ℕ) (answer : Answer)
       (replied : operation.reply ≡ Some (reply, outcome.Done answer)) (query : List (ObjectId × Ask))
       (is_query : operation.op ≡ op.Query query) where
@@ -547,7 +543,7 @@ module _ (trace : Trace) (is_run : IsRun trace) (have : ArePlain trace) (laws : 
     completed_query =
         let client : ClientId = operation.client in
         let number : ℕ = operation.number in
-        let done : IsCompleted trace operation reply answer = completion operation among reply answer replied in
+        let done : IsCompleted trace operation reply answer = clients.completes operation among reply answer replied in
         let round : ℕ = done.round in
         let told : IsTold done.verdict answer =
         told_by_fit query done.verdict answer (ap (λ (it : Op). fitting it done.verdict) (sym is_query) ∙ done.fits) in
@@ -599,7 +595,7 @@ module _ (trace : Trace) (is_run : IsRun trace) (have : ArePlain trace) (laws : 
               (zip_weaker (HasTold (tells.reply).old (culled_in (tells.reply).old (tells.reply).sets))
               (λ (told : ObjectId × Stamp) (value : Value). HasTopValue trace time told.0 value) stamps
               (tells.tells).values
-              (from_top client number round (reply - 1) stamps answer time within alike
+              (from_top client number round (reply - 1) stamps answer time within
               (own_client trace is_run operation among) answered
               (not_earlier client number round first.first time is_after first.not_before) done.members done.different
               done.enough done.within all member tells) (tells.tells).each);

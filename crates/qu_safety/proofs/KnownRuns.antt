@@ -1,4 +1,4 @@
--- A quorum answered each operation of a run that completed.
+-- The facts of the clients of a run.
 use Rattle.std.proofs.Common.{◌≡◌, ℕ, Some, ap}
 use Rattle.std.specs.Prelude.{Contains}
 use Rattle.qu_base.specs.declared.party.ClientId.{ClientId}
@@ -13,7 +13,10 @@ use Rattle.qu_rounds.specs.Completions.{IsCompleted}
 use Rattle.qu_rounds.specs.Invocations.{IsRequestOf}
 use Rattle.qu_runs.specs.Plain.{ArePlain}
 use Rattle.qu_rounds.proofs.Completions.{WorkIsRecorded, IsOneRecord, completed}
-use Rattle.qu_rounds.proofs.Invocations.{work_of, op_of}
+use Rattle.qu_rounds.proofs.Invocations.{request_of, work_of, op_of}
+use Rattle.qu_rounds.proofs.OneRound.{one_round_request}
+use Rattle.qu_grounds.proofs.Views.{view_of_request}
+use Rattle.qu_values.proofs.ClientFacts.{ClientFacts}
 use Rattle.qu_points.proofs.Recorded.{recorded_op}
 
 -- what a client has under way is an operation of the trace
@@ -35,9 +38,22 @@ one_record trace first second one two clients numbers =
     recorded_op trace first second one two (ap (λ (it : ClientId). it.0) clients) numbers
 
 -- an operation that completed was answered by a quorum
-pub completion : (trace : Trace) → IsRun trace → ArePlain trace → (operation : OpRecord) → Contains
+completion : (trace : Trace) → IsRun trace → ArePlain trace → (operation : OpRecord) → Contains
     (operations_of trace.entries) operation → (event : ℕ) (answer : Answer) → operation.reply ≡ Some
     (event, outcome.Done answer) → IsCompleted trace operation event answer
 completion trace is_run have operation among event answer replied =
     completed trace is_run have (work_recorded trace is_run have) (one_record trace) operation among event answer
     replied
+
+pub client_facts : (trace : Trace) → IsRun trace → ArePlain trace → ClientFacts trace
+client_facts trace is_run have = record {
+  asks = λ count at letter client number round sets body it.
+      request_of trace is_run have count it.within at letter it.is_letter client number round sets body it.is_request;
+  alike = λ count first second a b client number round sets others body other one two.
+      one_round_request trace is_run have count one.within first second a b one.is_letter two.is_letter client number
+      round sets others body other one.is_request two.is_request;
+  held = λ count at letter client number round sets body it.
+      view_of_request trace is_run have count it.within at letter it.is_letter client number round sets body
+      it.is_request;
+  completes = completion trace is_run have;
+}

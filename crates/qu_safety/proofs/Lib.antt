@@ -4,6 +4,7 @@ pub mod PointEvents
 pub mod SerialFields
 pub mod CompletedQueries
 pub mod KnownRuns
+pub mod KeptParts
 pub mod CompletedActs
 pub mod ActPoints
 pub mod DecidedOnce

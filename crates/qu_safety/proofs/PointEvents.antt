@@ -52,7 +52,7 @@ use Rattle.qu_values.specs.Replies.{IsReplyTo}
 use Rattle.qu_runs.specs.Plain.{ArePlain}
 use Rattle.qu_grounds.proofs.Accepting.{some_entry, Acceptance}
 use Rattle.qu_grounds.proofs.Laws.{acceptance_of}
-use Rattle.qu_rounds.proofs.Invocations.{request_of}
+use Rattle.qu_values.proofs.ClientFacts.{ClientFacts}
 use Rattle.qu_points.proofs.Recorded.{recorded_op}
 use Rattle.qu_values.proofs.Replying.{reply_sent}
 use Rattle.qu_grounds.proofs.AskedLetters.{AskedBy, asked_letter}
@@ -176,17 +176,17 @@ record AsksFor (operation : OpRecord) (time : ℕ) (asks : Body) : Type 0 where
   same : asks ≡ body_of operation.op
   begun : operation.invoked ≤ time
 
-asks_for : (trace : Trace) → IsRun trace → ArePlain trace → (time : ℕ) (operation : OpRecord) → Contains
-    (operations_of trace.entries) operation → (asked : IsAskedAt trace time operation.client operation.number) → AsksFor
-    operation time asked.asks
-asks_for trace is_run have time operation of_trace asked =
+asks_for : (trace : Trace) → IsRun trace → ArePlain trace → ClientFacts trace → (time : ℕ) (operation : OpRecord)
+    → Contains (operations_of trace.entries) operation
+    → (asked : IsAskedAt trace time operation.client operation.number) → AsksFor operation time asked.asks
+asks_for trace is_run have clients time operation of_trace asked =
     let within : time < length trace.entries = asked.within in
     let letter : AskedBy trace time operation.client operation.number asked.round asked.sets asked.asks =
     asked_by_letter trace have time operation.client operation.number asked
     (own_client trace is_run operation of_trace) in
     let request : IsRequestOf trace time operation.client operation.number asked.asks =
-    request_of trace is_run have time (omega arith) letter.asked letter.letter letter.is_letter operation.client
-    operation.number asked.round asked.sets asked.asks letter.is_request in
+    clients.asks time letter.asked letter.letter operation.client operation.number asked.round asked.sets asked.asks
+    (record { within = omega arith; is_letter = letter.is_letter; is_request = letter.is_request }) in
     let same : request.operation ≡ operation =
     recorded_op trace request.operation operation request.of_trace of_trace
     (ap (λ (it : ClientId). it.0) request.of_client) request.of_number in
@@ -195,7 +195,7 @@ asks_for trace is_run have time operation of_trace asked =
       begun = subst (λ (it : OpRecord). it.invoked ≤ time) same request.begun;
     }
 
-module _ (trace : Trace) (is_run : IsRun trace) (have : ArePlain trace) where
+module _ (trace : Trace) (is_run : IsRun trace) (have : ArePlain trace) (clients : ClientFacts trace) where
   -- ---- queries
 
   -- a reply is sent where its request is delivered
@@ -322,9 +322,12 @@ module _ (trace : Trace) (is_run : IsRun trace) (have : ArePlain trace) where
               (ap (λ (who : ClientId). is_faulty trace.setup (party.Client who)) same.0
               ∙ own_client trace is_run operation among) in
               let request : IsRequestOf trace first.time upon.client upon.number asked.asks =
-              request_of trace is_run have first.time (omega (arith, last_is trace, within, earlier)) letter.asked
-              letter.letter letter.is_letter upon.client upon.number asked.round asked.sets asked.asks
-              letter.is_request in
+              clients.asks first.time letter.asked letter.letter upon.client upon.number asked.round asked.sets
+              asked.asks (record {
+                within = omega (arith, last_is trace, within, earlier);
+                is_letter = letter.is_letter;
+                is_request = letter.is_request;
+              }) in
               let begun : (request.operation).invoked ≤ first.time = request.begun in
               let records : request.operation ≡ operation =
               recorded_op trace request.operation operation request.of_trace among
@@ -381,7 +384,7 @@ module _ (trace : Trace) (is_run : IsRun trace) (have : ArePlain trace) where
         → Takes time operation → operation.invoked ≤ time
     begun time operation among (Takes.decided parts turn) = turn_begun time operation among parts turn
     begun time operation among (Takes.answered query is asked) =
-        (asks_for trace is_run have time operation among asked).begun
+        (asks_for trace is_run have clients time operation among asked).begun
 
     -- the operation of a point began before
     pub begun_before : (point : Point) → (is : IsOperationPoint trace point) → is.operation.invoked < point.event
@@ -402,7 +405,7 @@ module _ (trace : Trace) (is_run : IsRun trace) (have : ArePlain trace) where
         different upon.parts query
         (sym upon.is_act
         ∙ (one_asked trace time upon.client operation.client upon.number operation.number upon.asked asked).2
-        ∙ (asks_for trace is_run have time operation among asked).same ∙ ap body_of is)
+        ∙ (asks_for trace is_run have clients time operation among asked).same ∙ ap body_of is)
       where
         different : (parts : List (ObjectId × Method)) (query : List (ObjectId × Ask))
             → body.Act parts ≡ body.Ask query → ⊥

@@ -16,6 +16,7 @@ use Rattle.qu_chain.specs.Laws.{Laws}
 use Rattle.qu_chain.specs.Joint.{Joint}
 use Rattle.qu_runs.specs.Setting.{setting}
 use Rattle.qu_values.proofs.UpdateFacts.{UpdateFacts, NoneIsRepeated}
+use Rattle.qu_values.proofs.ClientFacts.{ClientFacts}
 use Rattle.qu_values.proofs.OneAct.{ActsAreOne}
 use Rattle.qu_points.specs.Order.{is_earlier, are_in_order, IsOperationPoint, IsFaultyPoint, IsPoint, IsPrintedOrder, DecidesAt}
 use Rattle.qu_points.specs.Points.{as_operation}
@@ -152,7 +153,8 @@ module _ (trace : Trace) (order : List Point) (is_order : IsPrintedOrder trace o
       (sym (here.stands).client ∙ (there.stands).client) (sym (here.stands).number ∙ (there.stands).number) in
       one_place order at other second is_order.in_order (here.there ∙ ap Some same) there.there
 
-  module _ (is_run : IsRun trace) (have : ArePlain trace) (one_act : ActsAreOne trace) (laws : Laws (setting trace))
+  module _ (is_run : IsRun trace) (have : ArePlain trace) (clients : ClientFacts trace) (one_act : ActsAreOne trace)
+      (laws : Laws (setting trace))
       (joint : Joint (setting trace)) (facts : UpdateFacts trace) (once : NoneIsRepeated trace) where
     -- each operation stands at one place at most, after its invocation
     pub stand_at_most_once : (operation : OpRecord) → Contains (operations_of trace.entries) operation
@@ -162,5 +164,5 @@ module _ (trace : Trace) (order : List Point) (is_order : IsPrintedOrder trace o
       after = λ at point here.
           let is : IsOperationPoint trace point = point_at_place operation at point here in
           subst (λ (it : OpRecord). it.invoked < point.event) (stands_of operation of_trace point here.stands is)
-          (begun_before trace is_run have one_act laws joint facts once point is);
+          (begun_before trace is_run have clients one_act laws joint facts once point is);
     }

@@ -3,6 +3,7 @@ use Rattle.std.proofs.Common.{◌≡◌, ℕ, zero, suc, ◌-◌, ◌<◌, ◌�
 use Rattle.std.specs.Prelude.{slice_get, slice_index_or, Contains}
 use Rattle.std.specs.List.{AllZip}
 use Rattle.std.proofs.lemmas.List.Elements.{All-contains}
+use Rattle.std.proofs.lemmas.Option.{same_Some}
 use Rattle.qu_base.specs.declared.party.ObjectId.{ObjectId}
 use Rattle.qu_stamp.specs.declared.candidate.Candidate.{Candidate}
 use Rattle.qu_chain.specs.Laws.{Laws}
@@ -18,7 +19,11 @@ use Rattle.qu_objects.specs.declared.kind.Value.{Value}
 use Rattle.qu_objects.specs.declared.op.Op.{Op}
 use Rattle.qu_objects.specs.declared.op.Op.TheVariants as op
 use Rattle.qu_objects.specs.declared.op.Outcome.TheVariants as outcome
-use Rattle.qu_objects.specs.declared.version.Version.{Version}
+use Rattle.qu_objects.specs.declared.state.KeptRow.{KeptRow}
+use Rattle.qu_objects.specs.declared.state.ObjState.{ObjState}
+use Rattle.qu_objects.specs.Digesting.{act_digest}
+use Rattle.qu_kept.specs.Performing.{row_by}
+use Rattle.qu_kept.specs.Rows.{row_of}
 use Rattle.qu_objects.specs.Performing.{performed_answer, told_answer}
 use Rattle.qu_machine.specs.declared.record.OpRecord.{OpRecord}
 use Rattle.qu_machine.specs.declared.record.Point.{Point}
@@ -33,20 +38,20 @@ use Rattle.qu_points.specs.Order.{DecidesAt, effect_of, IsOperationPoint, IsPrin
 use Rattle.qu_points.specs.Points.{IsOfCorrect, point_at}
 use Rattle.qu_points.proofs.Correct.{operations_correct}
 use Rattle.qu_points.proofs.Rising.{rising_from_order}
-use Rattle.qu_rounds.proofs.OneRound.{one_round_request}
+use Rattle.qu_values.specs.Replies.{Keeps}
 use Rattle.qu_values.specs.Updates.{Update, IsOf}
 use Rattle.qu_values.specs.Values.{HasVersion}
 use Rattle.qu_safety.proofs.ActPoints.{StandsBefore, IsTurnOf, turn_of, act_has_point, quiet_values, loud_values}
 use Rattle.qu_safety.proofs.CompletedActs.{CompletedAct, completed_act}
 use Rattle.qu_safety.proofs.CompletedQueries.{CompletedQuery, HasTopValue, completed_query, point_of_query, query_has_point}
 use Rattle.qu_points.proofs.Folding.{fold_along}
-use Rattle.qu_safety.proofs.KnownRuns.{completion}
+use Rattle.qu_values.proofs.ClientFacts.{ClientFacts}
 use Rattle.qu_values.proofs.MachineValues.{IsValues, step_of, first_values, value_of_top, done, Steps, befores_are}
 use Rattle.qu_values.proofs.OneAct.{ActsAreOne}
 use Rattle.qu_safety.proofs.PointEvents.{point_bounds, one_point, points_apart}
 use Rattle.qu_safety.proofs.SerialFields.{is_point_at, point_at_place, points_known, points_faulty, stand_at_most_once, stands_of}
 use Rattle.qu_values.proofs.Updates.{last_is, acts, one_of, one_companion}
-use Rattle.qu_values.proofs.UpdateFacts.{IsPerformed, UpdateFacts, NoneIsRepeated}
+use Rattle.qu_values.proofs.UpdateFacts.{befores, IsPerformed, UpdateFacts, NoneIsRepeated}
 
 -- a member of a list stands at a place
 record PlaceOf (order : List Point) (point : Point) : Type 0 where
@@ -62,7 +67,8 @@ index_in (first ∷ later) (suc at) point below is = index_in later at point (om
 place_of : (order : List Point) (point : Point) → Contains order point → PlaceOf order point
 place_of order point held = record { at = held.0; there = index_in order held.0 point held.1 held.2 }
 
-module _ (trace : Trace) (is_run : IsRun trace) (have : ArePlain trace) (one_act : ActsAreOne trace)
+module _ (trace : Trace) (is_run : IsRun trace) (have : ArePlain trace) (clients : ClientFacts trace)
+    (one_act : ActsAreOne trace)
     (laws : Laws (setting trace)) (joint : Joint (setting trace)) (facts : UpdateFacts trace)
     (once : NoneIsRepeated trace) (order : List Point)
     (printed : IsPrintedOrder trace order) where
@@ -75,7 +81,7 @@ module _ (trace : Trace) (is_run : IsRun trace) (have : ArePlain trace) (one_act
   rising : IsRising order
   rising = rising_from_order order printed.in_order
       (λ first second one two same.
-      points_apart trace is_run have one_act laws joint facts once first second (printed.sound first one)
+      points_apart trace is_run have clients one_act laws joint facts once first second (printed.sound first one)
       (printed.sound second two) same)
 
   -- ---- the values of the machine at a point
@@ -87,9 +93,9 @@ module _ (trace : Trace) (is_run : IsRun trace) (have : ArePlain trace) (one_act
       → Values time (values_after trace.setup.kinds (take at order))
   values_along at point there time same =
       fold_along trace.setup.kinds order (length trace.entries) (IsValues trace laws joint one_act facts once) rising
-      (λ it held. point_bounds trace is_run have one_act laws joint facts once it (printed.sound it held))
+      (λ it held. point_bounds trace is_run have clients one_act laws joint facts once it (printed.sound it held))
       (first_values trace laws joint one_act facts once)
-      (quiet_values trace laws joint one_act facts once is_run have order printed)
+      (quiet_values trace laws joint one_act facts once is_run have clients order printed)
       (loud_values trace laws joint one_act facts once order printed)
       at point there time same
 
@@ -115,14 +121,13 @@ module _ (trace : Trace) (is_run : IsRun trace) (have : ArePlain trace) (one_act
       → (what : Op) → operation.op ≡ what → StandsBefore trace operation reply
   stands_before operation among reply answer replied (op.Act act) is =
       let it : CompletedAct trace operation reply answer =
-      completed_act trace is_run have laws joint facts operation among reply answer replied act is in
+      completed_act trace is_run have clients laws joint facts operation among reply answer replied act is in
       act_has_point trace laws joint one_act facts once operation among (own operation among) it.parts it.is_act reply
       it.begins it.within
       it.object it.candidate it.is_of it.decided
   stands_before operation among reply answer replied (op.Query query) is =
       let found =
-      query_has_point trace is_run have laws joint facts (completion trace is_run have)
-      (one_round_request trace is_run have) operation among reply answer replied query is in
+      query_has_point trace is_run have clients laws joint facts operation among reply answer replied query is in
       record { point = found.0; is_point = found.1; stands = found.2; before = found.3 }
 
   completed : (operation : OpRecord) (reply : ℕ) (answer : Answer) → Contains (operations_of trace.entries) operation
@@ -132,7 +137,7 @@ module _ (trace : Trace) (is_run : IsRun trace) (have : ArePlain trace) (one_act
       stands_before operation among reply answer completes operation.op refl in
       let place : PlaceOf order it.point = place_of order it.point (printed.complete it.point (inl it.is_point)) in
       let at_most : StandsAtMostOnce operation order =
-      stand_at_most_once trace order printed is_run have one_act laws joint facts once operation among in
+      stand_at_most_once trace order printed is_run have clients one_act laws joint facts once operation among in
       let here : StandsAt operation order place.at it.point = record { there = place.there; stands = it.stands } in
       record {
         at = place.at;
@@ -145,14 +150,16 @@ module _ (trace : Trace) (is_run : IsRun trace) (have : ArePlain trace) (one_act
 
   -- ---- answers
 
-  -- the machine's answer to an update at the step that decides it is that stored with each of its candidates
+  -- the machine's answer to an update at the step that decides it is that kept with each of its candidates
   act_answers_at : (update : Update) (time : ℕ) (values : List Value) → Values time values
       → IsTurnOf trace laws joint one_act facts once time update
       → (object : ObjectId) (candidate : Candidate) → IsOf trace update object candidate
       → IsDecided (setting trace) (setting trace).last object candidate
-      → (version : Version) → HasVersion trace object candidate version
-      → act_answer values update.parts ≡ version.answer
-  act_answers_at update time values are here object candidate is_of decided version has =
+      → (version : ObjState) → HasVersion trace object candidate version
+      → (answer : Answer)
+      → Keeps update.client update.number (act_digest update.client update.number update.parts) answer version
+      → act_answer values update.parts ≡ answer
+  act_answers_at update time values are here object candidate is_of decided version has answer keeps =
       let within : time < (setting trace).last = (here.turn).within in
       let performed : IsPerformed trace update here.object here.candidate =
       done trace laws joint one_act facts once time within values are update here.object here.candidate here.is_of
@@ -178,8 +185,14 @@ module _ (trace : Trace) (is_run : IsRun trace) (have : ArePlain trace) (one_act
       (befores_are trace laws joint one_act facts once time within values are update here.object here.candidate
       here.is_of
       here.turn)
-      ∙ sym (found.1).answer_is
-      ∙ ap (λ (it : Version). it.answer) versions
+      ∙ ap (λ (it : KeptRow). it.answer)
+      (same_Some (row_by update.client update.number update.parts (befores performed.steps)) (record {
+        client = update.client;
+        number = update.number;
+        act = act_digest update.client update.number update.parts;
+        answer = answer;
+      })
+      (sym (found.1).row_is ∙ ap (λ (it : ObjState). row_of update.client it.kept) versions ∙ keeps))
 
   act_answers : (operation : OpRecord) (reply : ℕ) (answer : Answer)
       → Contains (operations_of trace.entries) operation → Completes operation reply answer
@@ -189,7 +202,7 @@ module _ (trace : Trace) (is_run : IsRun trace) (have : ArePlain trace) (one_act
   act_answers operation reply answer among completes act is_act at point here time same =
       let it : IsOperationPoint trace point = point_at_place trace order printed operation at point here in
       let done : CompletedAct trace operation reply answer =
-      completed_act trace is_run have laws joint facts operation among reply answer completes act is_act in
+      completed_act trace is_run have clients laws joint facts operation among reply answer completes act is_act in
       let operations : it.operation ≡ operation = stands_of trace order printed operation among point here.stands it in
       let effect : effect_of trace operation point.event operation.op =
       subst (λ (one : OpRecord). effect_of trace one point.event one.op) operations it.effect in
@@ -207,8 +220,7 @@ module _ (trace : Trace) (is_run : IsRun trace) (have : ArePlain trace) (one_act
       done.is_of
       (decided-later (setting trace) laws (reply - 1) (setting trace).last (omega (arith, last_is trace, ends))
       done.object
-      done.candidate done.decided) done.version done.has
-      ∙ sym done.answer_is
+      done.candidate done.decided) done.version done.has answer done.keeps
 
   query_answers : (operation : OpRecord) (reply : ℕ) (answer : Answer)
       → Contains (operations_of trace.entries) operation → Completes operation reply answer
@@ -216,8 +228,8 @@ module _ (trace : Trace) (is_run : IsRun trace) (have : ArePlain trace) (one_act
       → StandsAt operation order at point → answer_at trace.setup.kinds order at point ≡ answer
   query_answers operation reply answer among completes query is_query at point here =
       let done : CompletedQuery trace operation reply answer =
-      completed_query trace is_run have laws joint facts (completion trace is_run have)
-      (one_round_request trace is_run have) operation among reply answer completes query is_query in
+      completed_query trace is_run have clients laws joint facts operation among reply answer completes query is_query
+      in
       let there : IsOperationPoint trace (point_at trace.setup operation done.event)
       × Stands operation (point_at trace.setup operation done.event) =
       point_of_query trace operation among (own operation among) reply answer completes done in
@@ -227,7 +239,7 @@ module _ (trace : Trace) (is_run : IsRun trace) (have : ArePlain trace) (one_act
       there.0 (sym (here.stands).client) (sym (here.stands).number) in
       let event : point.event ≡ suc done.time = ap (λ (it : Point). it.event) same ∙ done.is_after in
       let bounds : (1 ≤ point.event) × (point.event ≤ length trace.entries) =
-      point_bounds trace is_run have one_act laws joint facts once point
+      point_bounds trace is_run have clients one_act laws joint facts once point
       (is_point_at trace order printed at point here.there) in
       let most : point.event ≤ length trace.entries = bounds.1 in
       let are : Values done.time (values_after trace.setup.kinds (take at order)) =
@@ -243,7 +255,7 @@ module _ (trace : Trace) (is_run : IsRun trace) (have : ArePlain trace) (one_act
       → answer_at trace.setup.kinds order at point ≡ answer
   answers_of operation reply answer among completes (op.Act act) is at point here =
       let bounds : (1 ≤ point.event) × (point.event ≤ length trace.entries) =
-      point_bounds trace is_run have one_act laws joint facts once point
+      point_bounds trace is_run have clients one_act laws joint facts once point
       (is_point_at trace order printed at point here.there) in
       let some : 1 ≤ point.event = bounds.0 in
       act_answers operation reply answer among completes act is at point here (point.event - 1) (omega arith)
@@ -254,7 +266,7 @@ module _ (trace : Trace) (is_run : IsRun trace) (have : ArePlain trace) (one_act
   serial = record {
     rising = rising;
     completed = completed;
-    once = stand_at_most_once trace order printed is_run have one_act laws joint facts once;
+    once = stand_at_most_once trace order printed is_run have clients one_act laws joint facts once;
     known = points_known trace order printed;
     faulty = points_faulty trace order printed;
     answers = λ operation reply answer among completes at point here.

@@ -7,7 +7,7 @@ ghost use Rattle.qu_runs.specs.Premises.{MeetsPremises};
 ghost use Rattle.qu_grounds.specs.Named.{StampsNameHistories};
 ghost use Rattle.qu_points.specs.Order.{IsPrintedOrder};
 ghost use Rattle.qu_safety.specs.Quorums.{CompletesByQuorums};
-ghost use Rattle.qu_values.specs.Updates.{DecidesOnce, FaultyRepeatNone};
+ghost use Rattle.qu_values.specs.Updates.{DecidesOnce, NumbersRise};
 ghost use Rattle.qu_grounds.specs.Turns.{DecidesInTurn, DecidesJointly};
 
 use super::parts::have_parts;
@@ -19,20 +19,21 @@ use std::alloc::Global;
 
 /// The points of a run: where each update and each completed query took effect.
 ///
-/// They stand by event. Where no HMAC of a correct party is forged, no two different texts that were digested have one
-/// digest, and no update of a faulty client is accepted upon itself again, they are a serial order of the operations,
-/// whatever up to b faulty replicas and all faulty clients send: one machine that runs whole operations in this order
-/// gives each completed one its answer, between its call and its reply. Updates of faulty clients have a mark in it.
+/// They stand by event. Where no HMAC of a correct party is forged and no two different texts that were digested have
+/// one digest, they are a serial order of the operations, whatever up to b faulty replicas and all faulty clients send:
+/// one machine that runs whole operations in this order gives each completed one its answer, between its call and its
+/// reply, and runs each update once. Updates of faulty clients have a mark in it.
 pub fn order_of(alloc: Global, trace: &Trace) -> Result<List<Point>, NoMemory>
     requires { IsRun trace.now }
     ensures printed { IfOk result (λ order. IsPrintedOrder trace.now order) }
-    ensures serial { IfOk result (λ order. MeetsPremises trace.now → FaultyRepeatNone trace.now
+    ensures serial { IfOk result (λ order. MeetsPremises trace.now
         → IsSerial trace.now.setup.kinds (operations_of trace.now.entries) order) }
     ensures chained { OnOk result (MeetsPremises trace.now → IsChained trace.now) }
     ensures named { OnOk result (MeetsPremises trace.now → StampsNameHistories trace.now) }
     ensures jointly { OnOk result (MeetsPremises trace.now → DecidesJointly trace.now) }
     ensures in_turn { OnOk result (MeetsPremises trace.now → DecidesInTurn trace.now) }
-    ensures once { OnOk result (MeetsPremises trace.now → FaultyRepeatNone trace.now → DecidesOnce trace.now) }
+    ensures numbers { OnOk result (MeetsPremises trace.now → NumbersRise trace.now) }
+    ensures once { OnOk result (MeetsPremises trace.now → DecidesOnce trace.now) }
     ensures by_quorums { OnOk result (MeetsPremises trace.now → CompletesByQuorums trace.now) }
 {
     have_parts(trace.entries.as_slice());

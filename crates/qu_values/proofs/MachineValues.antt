@@ -19,13 +19,13 @@ use Rattle.qu_chain.proofs.Turns.{upon_top, one_turn, accepted_at_last}
 use Rattle.qu_chain.proofs.Updates.{one_update}
 use Rattle.qu_chain.proofs.Values.{Moved, top_moves}
 use Rattle.qu_objects.specs.declared.act.Method.{Method}
-use Rattle.qu_objects.specs.declared.answer.Answer.TheVariants as answer
 use Rattle.qu_objects.specs.declared.kind.KindName.{KindName}
 use Rattle.qu_objects.specs.declared.kind.KindName.TheVariants as kind
 use Rattle.qu_objects.specs.declared.kind.Value.{Value}
-use Rattle.qu_objects.specs.declared.version.Version.{Version}
+use Rattle.qu_objects.specs.declared.state.ObjState.{ObjState}
 use Rattle.qu_objects.specs.Kind.{fresh_value}
-use Rattle.qu_objects.specs.Performing.{performed_answer, performed_values}
+use Rattle.qu_objects.specs.Performing.{performed_values}
+use Rattle.qu_kept.specs.Performing.{row_by}
 use Rattle.qu_machine.specs.Machine.{act_values, with_values, values_at}
 use Rattle.qu_machine.proofs.Equalities.{object_is}
 use Rattle.qu_trace.specs.declared.trace.Trace.{Trace}
@@ -125,7 +125,7 @@ module _ (trace : Trace) (laws : Laws (setting trace)) (joint : Joint (setting t
       → HasValue trace object candidate first → HasValue trace object candidate second → first ≡ second
   one_value object candidate first second one two =
       sym one.value_is
-      ∙ ap (λ (it : Version). it.value) (facts.one_version object candidate one.version two.version one.has two.has)
+      ∙ ap (λ (it : ObjState). it.value) (facts.one_version object candidate one.version two.version one.has two.has)
       ∙ two.value_is
 
   -- ---- the values at a time
@@ -190,7 +190,7 @@ module _ (trace : Trace) (laws : Laws (setting trace)) (joint : Joint (setting t
           top = it.1;
           value = fresh_value first;
           has = subst (λ (one : Candidate). HasValue trace object one (fresh_value first)) (sym is_opening) (record {
-            version = record { value = fresh_value first; answer = answer.Ok [] };
+            version = record { value = fresh_value first; kept = []; links = [] };
             has = HasVersion.of_opening object first found;
             value_is = refl;
           });
@@ -247,7 +247,9 @@ module _ (trace : Trace) (laws : Laws (setting trace)) (joint : Joint (setting t
       done = performed trace laws joint one_act facts update object candidate is_of accepted
 
       abbrev pub Steps : ObjectId → ValueStep → Type 0
-      Steps other step = IsStep trace object candidate (performed_answer update.parts (befores done.steps)) other step
+      Steps other step =
+          IsStep trace object candidate (row_by update.client update.number update.parts (befores done.steps)) other
+          step
 
       -- the companions are decided at the step
       companion_turn : (other : ObjectId) (companion : Candidate)

@@ -1,16 +1,18 @@
 -- The candidates of an update are stored with what the update makes of the values of their bases, on whatever number
 -- of objects.
-use Rattle.std.proofs.Common.{◌≡◌, true, List, [], ◌∷◌, map, refl, sym, ap, subst, ◌∙◌, inl, inr}
+use Rattle.std.proofs.Common.{◌≡◌, true, List, [], ◌∷◌, map, Some, refl, sym, ap, subst, ◌∙◌, inl, inr}
 use Rattle.std.specs.List.{AllZip}
 use Rattle.qu_base.specs.declared.party.ObjectId.{ObjectId}
 use Rattle.qu_stamp.specs.declared.candidate.Candidate.{Candidate}
 use Rattle.qu_chain.specs.Laws.{Laws}
 use Rattle.qu_chain.specs.Joint.{Joint, IsOneAct}
 use Rattle.qu_objects.specs.declared.act.Method.{Method}
-use Rattle.qu_objects.specs.declared.answer.Answer.{Answer}
 use Rattle.qu_objects.specs.declared.kind.Value.{Value}
-use Rattle.qu_objects.specs.declared.version.Version.{Version}
-use Rattle.qu_objects.specs.Performing.{performed_answer, performed_values}
+use Rattle.qu_objects.specs.declared.state.KeptRow.{KeptRow}
+use Rattle.qu_objects.specs.declared.state.ObjState.{ObjState}
+use Rattle.qu_objects.specs.Performing.{performed_values}
+use Rattle.qu_kept.specs.Performing.{row_by}
+use Rattle.qu_kept.specs.Rows.{row_of}
 use Rattle.qu_trace.specs.declared.trace.Trace.{Trace}
 use Rattle.qu_runs.specs.Setting.{setting}
 use Rattle.qu_values.specs.Updates.{Update, IsOf, IsEverAccepted}
@@ -19,7 +21,7 @@ use Rattle.qu_grounds.specs.Parts.{Names, values_of}
 use Rattle.qu_values.proofs.OneAct.{ActsAreOne}
 use Rattle.qu_values.proofs.UpdateFacts.{ValueStep, befores, afters, IsStep, IsPerformed, UpdateFacts}
 use Rattle.qu_values.proofs.Updates.{acts, opening_no_act, one_of, same_accepted, one_companion, one_act_of}
-use Rattle.qu_values.proofs.Values.{same_values, values_same, IsUpdated, version_cases}
+use Rattle.qu_values.proofs.Values.{same_values, values_same, row_upon, IsUpdated, version_cases, value_after, own_row}
 
 -- ---- steps of a list of parts
 
@@ -53,15 +55,15 @@ module _ (trace : Trace) (laws : Laws (setting trace)) (joint : Joint (setting t
   -- ---- a candidate and what is made of its update on the other objects
 
   module _ (object : ObjectId) (candidate : Candidate) (accepted : IsEverAccepted trace object candidate)
-      (version : Version) (made : IsUpdated trace object candidate version) where
+      (version : ObjState) (made : IsUpdated trace object candidate version) where
     abbrev parts : List (ObjectId × Method)
     parts = (made.update).parts
 
     abbrev before : ObjectId → Value
     before other = (made.befores other).value
 
-    abbrev answer : Answer
-    answer = performed_answer parts (values_of before parts)
+    abbrev row : KeptRow
+    row = row_upon made.update made.befores
 
     of_companion : (other : ObjectId) (companion : Candidate)
         → IsOneAct (setting trace) object other candidate companion → IsEverAccepted trace other companion
@@ -75,13 +77,15 @@ module _ (trace : Trace) (laws : Laws (setting trace)) (joint : Joint (setting t
     -- the companion's version is made of the same
     module _ (other : ObjectId) (companion : Candidate)
         (one : IsOneAct (setting trace) object other candidate companion) (also : IsEverAccepted trace other companion)
-        (its : Version) (mine : IsUpdated trace other companion its) where
+        (its : ObjState) (mine : IsUpdated trace other companion its) where
       is_of : IsOf trace made.update other companion
       is_of = of_companion other companion one also
 
+      same_update : mine.update ≡ made.update
+      same_update = one_of trace one_act mine.update made.update other companion mine.is_of is_of
+
       same_parts : (mine.update).parts ≡ parts
-      same_parts =
-          ap (λ (it : Update). it.parts) (one_of trace one_act mine.update made.update other companion mine.is_of is_of)
+      same_parts = ap (λ (it : Update). it.parts) same_update
 
       names_too : (third : ObjectId) → Names parts third → Names (mine.update).parts third
       names_too third names = subst (λ (all : List (ObjectId × Method)). Names all third) (sym same_parts) names
@@ -107,7 +111,7 @@ module _ (trace : Trace) (laws : Laws (setting trace)) (joint : Joint (setting t
       same_before : (third : ObjectId) → Names parts third → besides third ≡ before third
       unfolding besides
       same_before third names =
-          ap (λ (it : Version). it.value)
+          ap (λ (it : ObjState). it.value)
           (facts.one_version third (made.bases third) (mine.befores third) (made.befores third)
           (subst (λ (it : Candidate). HasVersion trace third it (mine.befores third)) (same_base third names)
           (mine.has third (names_too third names))) (made.has third names))
@@ -121,27 +125,27 @@ module _ (trace : Trace) (laws : Laws (setting trace)) (joint : Joint (setting t
           let values : performed_values parts (values_of besides parts) ≡ values_of mine.afters parts =
           subst (λ (all : List (ObjectId × Method)).
           performed_values all (values_of besides all) ≡ values_of mine.afters all) same_parts mine.values in
-          sym mine.value_is
+          value_after trace other companion its mine
           ∙ values_same mine.afters made.afters parts
           (sym values ∙ ap (performed_values parts) same_befores ∙ made.values) other is_of.names
 
-      answer_is : its.answer ≡ answer
+      row_is : row_of row.client its.kept ≡ Some row
       unfolding besides
-      answer_is =
-          let answers : performed_answer parts (values_of besides parts) ≡ its.answer =
-          subst (λ (all : List (ObjectId × Method)). performed_answer all (values_of besides all) ≡ its.answer)
-          same_parts mine.answers in
-          sym answers ∙ ap (performed_answer parts) same_befores
+      row_is =
+          let same : row_upon mine.update mine.befores ≡ row =
+          ap (λ (it : Update). row_upon it mine.befores) same_update
+          ∙ ap (row_by (made.update).client (made.update).number parts) same_befores in
+          subst (λ (it : KeptRow). row_of it.client its.kept ≡ Some it) same (own_row trace other companion its mine)
 
     step_of : (other : ObjectId) → Names parts other
-        → IsStep trace object candidate answer other (step_on before made.afters other)
+        → IsStep trace object candidate row other (step_on before made.afters other)
     step_of other names =
         let rest : RestsOn trace object candidate other (made.bases other) = made.rests other names in
         let companion : Candidate = rest.companion in
         let is_of : IsOf trace made.update other companion =
         of_companion other companion rest.is_companion rest.accepted in
         let is_act : (setting trace).is_act companion ≡ true = acts trace made.update other companion is_of in
-        let stored : (it : Version) × HasVersion trace other companion it =
+        let stored : (it : ObjState) × HasVersion trace other companion it =
         facts.stored other companion rest.accepted is_act in
         let mine : IsUpdated trace other companion stored.0 =
         elim (version_cases trace other companion stored.0 stored.1) [
@@ -159,7 +163,7 @@ module _ (trace : Trace) (laws : Laws (setting trace)) (joint : Joint (setting t
           version = stored.0;
           has = stored.1;
           after_is = value_is other companion rest.is_companion rest.accepted stored.0 mine;
-          answer_is = answer_is other companion rest.is_companion rest.accepted stored.0 mine;
+          row_is = row_is other companion rest.is_companion rest.accepted stored.0 mine;
         }
 
     by_made : IsPerformed trace made.update object candidate
@@ -169,8 +173,9 @@ module _ (trace : Trace) (laws : Laws (setting trace)) (joint : Joint (setting t
         record {
           steps = steps;
           each = subst (λ (all : List Value). AllZip (λ (part : ObjectId × Method) (step : ValueStep).
-              IsStep trace object candidate (performed_answer parts all) part.0 step) parts steps) (sym same)
-              (each_step (IsStep trace object candidate answer) before made.afters parts step_of);
+              IsStep trace object candidate (row_by (made.update).client (made.update).number parts all) part.0 step)
+              parts steps) (sym same)
+              (each_step (IsStep trace object candidate row) before made.afters parts step_of);
           values = ap (performed_values parts) same ∙ made.values ∙ sym (afters_are before made.afters parts);
         }
 
@@ -178,7 +183,7 @@ module _ (trace : Trace) (laws : Laws (setting trace)) (joint : Joint (setting t
       → IsEverAccepted trace object candidate → IsPerformed trace update object candidate
   performed update object candidate is_of accepted =
       let is_act : (setting trace).is_act candidate ≡ true = acts trace update object candidate is_of in
-      let stored : (it : Version) × HasVersion trace object candidate it =
+      let stored : (it : ObjState) × HasVersion trace object candidate it =
       facts.stored object candidate accepted is_act in
       elim (version_cases trace object candidate stored.0 stored.1) [
         | inl fresh ↦ absurd (opening_no_act trace candidate fresh.is_opening is_act)

@@ -30,7 +30,7 @@ use Rattle.qu_world.specs.Run.{IsRun}
 use Rattle.qu_runs.specs.Digested.{Request, is_known, request_in, request_to, request_by, handled_by, IsHandled, IsMadeFor, request_brought}
 use Rattle.qu_rounds.specs.Invocations.{IsRequestOf}
 use Rattle.qu_runs.specs.Times.{world_after}
-use Rattle.qu_rounds.proofs.Invocations.{request_of}
+use Rattle.qu_values.proofs.ClientFacts.{ClientFacts}
 use Rattle.qu_runs.proofs.Recording.{entries_after, letter_stays}
 use Rattle.qu_runs.specs.Carried.{Asks}
 use Rattle.qu_runs.specs.Plain.{IsPlain, ArePlain}
@@ -162,23 +162,25 @@ plain_among trace entry plain among =
     subst (λ (it : Entry). IsPlain (world_after trace among.0) it.event) among.2 (plain.plain_at among.0 entry among.1)
 
 -- so it is one of an operation
-pub asked_by : (trace : Trace) → IsRun trace → ArePlain trace → (request : Request) → IsSent trace request
+pub asked_by : (trace : Trace) → IsRun trace → ClientFacts trace → (request : Request) → IsSent trace request
     → IsRequestOf trace (length trace.entries) request.client request.number request.body
-asked_by trace is_run have request it =
+asked_by trace is_run clients request it =
     let last : ℕ = length trace.entries in
     let all : (world_after trace last).entries ≡ trace.entries = entries_after trace is_run last (omega arith)
     ∙ take_all last trace.entries (omega arith) in
-    request_of trace is_run have last (omega arith) it.number it.letter
-    (ap (λ (entries : List Entry). numbered (letters_of entries) it.number) all ∙ it.is_letter)
-    request.client request.number it.round it.sets request.body it.is_request
+    clients.asks last it.number it.letter request.client request.number it.round it.sets request.body (record {
+      within = omega arith;
+      is_letter = ap (λ (entries : List Entry). numbered (letters_of entries) it.number) all ∙ it.is_letter;
+      is_request = it.is_request;
+    })
 
-pub asked_by_handled : (trace : Trace) → IsRun trace → ArePlain trace → (client : ClientId) (number : ℕ)
-    (parts : List (ObjectId × Method)) → IsHandled trace client number parts
+pub asked_by_handled : (trace : Trace) → IsRun trace → ArePlain trace → ClientFacts trace → (client : ClientId)
+    (number : ℕ) (parts : List (ObjectId × Method)) → IsHandled trace client number parts
     → is_faulty trace.setup (party.Client client) ≡ false
     → IsRequestOf trace (length trace.entries) client number (body.Act parts)
-asked_by_handled trace is_run have client number parts it correct =
+asked_by_handled trace is_run have clients client number parts it correct =
     let request : Request = record { client = client; number = number; sets = it.sets; body = body.Act parts } in
-    asked_by trace is_run have request
+    asked_by trace is_run clients request
     (sent trace is_run (it.of_trace).0
     (let below : (it.of_trace).0 < length trace.entries = (it.of_trace).1 in omega arith) (it.entry).event
     (plain_among trace it.entry have it.of_trace) request correct it.handled)

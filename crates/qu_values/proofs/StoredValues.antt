@@ -13,12 +13,10 @@ use Rattle.qu_stamp.proofs.Order.{same_stamp-self, equal_by_same}
 use Rattle.qu_history.specs.History.{holds}
 use Rattle.qu_history.specs.Sets.{entries_of, method_at}
 use Rattle.qu_history.proofs.Rising.{holds_push, holds_pushed}
-use Rattle.qu_objects.specs.declared.answer.Answer.TheVariants as answer
 use Rattle.qu_objects.specs.declared.kind.KindName.{KindName}
-use Rattle.qu_objects.specs.declared.version.Version.{Version}
-use Rattle.qu_objects.specs.Kind.{fresh_value}
+use Rattle.qu_objects.specs.declared.state.ObjState.{ObjState}
 use Rattle.qu_frames.specs.declared.frame.Body.TheVariants as body
-use Rattle.qu_replica.specs.State.{ReplicaState, candidates_in, own_candidates, opening_histories, opening_versions, opening_state}
+use Rattle.qu_replica.specs.State.{ReplicaState, candidates_in, own_candidates, opening_histories, opening_version, opening_versions, opening_state}
 use Rattle.qu_replica.specs.Growth.{Grows}
 use Rattle.qu_replica.specs.Versions.{version_at}
 use Rattle.qu_replica.proofs.Growth.{version_at-grows}
@@ -50,7 +48,7 @@ use Rattle.qu_runs.specs.Plain.{ArePlain}
 use Rattle.qu_grounds.proofs.Parts.{named_or_not}
 use Rattle.qu_grounds.proofs.Laws.{new_accepted}
 use Rattle.qu_grounds.proofs.KeptEntries.{base_accepted as accepted_of_base}
-use Rattle.qu_grounds.proofs.FullSets.{are_had, culled_had, delivered_upon}
+use Rattle.qu_grounds.proofs.KnownObjects.{are_had, delivered_had}
 use Rattle.qu_grounds.proofs.Grounds.{above_base}
 use Rattle.qu_runs.proofs.Befores.{WasBefore, was_before}
 use Rattle.qu_grounds.proofs.Happenings.{HandsParts, hands_parts, event_moves}
@@ -67,7 +65,7 @@ use Rattle.qu_frames.specs.declared.frame.Frame.{Frame}
 -- the replica stores the version of the candidate
 abbrev pub Stores : Trace → ObjectId → ReplicaState → Candidate → Type 0
 Stores trace object state candidate =
-    (version : Version) × (version_at object candidate.stamp state.versions ≡ Some version) × HasVersion trace object
+    (version : ObjState) × (version_at object candidate.stamp state.versions ≡ Some version) × HasVersion trace object
     candidate version
 
 -- a replica that stores the versions of all candidates that it holds, and no others
@@ -79,16 +77,13 @@ record IsVersioned (trace : Trace) (state : ReplicaState) : Type 0 where
 
 -- ---- at the beginning
 
-abbrev fresh_version : KindName → Version
-fresh_version kind = record { value = fresh_value kind; answer = answer.Ok [] }
-
 -- an object begins with the opening candidate and its version
 record IsBegun (first : ℕ) (kinds : List KindName) (object : ObjectId) (place : ℕ)
     (candidate : Candidate) : Type 0 where
   kind : KindName
   is_kind : slice_get kinds place ≡ Some kind
   alone : opening ≡ candidate
-  fresh : version_at object opening_stamp (opening_versions first kinds) ≡ Some (fresh_version kind)
+  fresh : version_at object opening_stamp (opening_versions first kinds) ≡ Some (opening_version kind)
 
 later_begun : (first : ℕ) (kind : KindName) (kinds : List KindName) (object : ObjectId) (place : ℕ)
     (candidate : Candidate) → object.0 ≡ first + suc place → IsBegun (first + 1) kinds object place candidate → IsBegun
@@ -106,7 +101,7 @@ later_begun first kind kinds object place candidate at later =
         kind = later.kind;
         is_kind = later.is_kind;
         alone = later.alone;
-        fresh = ap (λ (b : Bool). cond b (Some (fresh_version kind))
+        fresh = ap (λ (b : Bool). cond b (Some (opening_version kind))
             (version_at object opening_stamp (opening_versions (first + 1) kinds))) there ∙ later.fresh;
       }
     ]
@@ -130,7 +125,7 @@ begun_from me first (kind ∷ kinds) object zero candidate at held =
       kind = kind;
       is_kind = refl;
       alone = only_opening candidate held;
-      fresh = ap (λ (b : Bool). cond b (Some (fresh_version kind))
+      fresh = ap (λ (b : Bool). cond b (Some (opening_version kind))
           (version_at object opening_stamp (opening_versions (first + 1) kinds)))
           (and_from _ _ (eq-eqb first object.0 equal) (same_stamp-self opening_stamp));
     }
@@ -155,7 +150,7 @@ begun_stores : (trace : Trace) (me : ReplicaId) (object : ObjectId) (candidate :
 begun_stores trace me object candidate begun =
     subst (Stores trace object (opening_state me (ring_of trace.setup) (kinds_at trace.setup me.0)))
     begun.alone (
-      fresh_version begun.kind,
+      opening_version begun.kind,
       begun.fresh,
       HasVersion.of_opening object begun.kind (kept_kinds trace.setup me.0 object.0 begun.kind begun.is_kind),
     )
@@ -194,7 +189,7 @@ module _ (trace : Trace) (laws : Laws (setting trace)) (joint : Joint (setting t
         → HasVersion trace object (one.bases object) ((one.performed).befores object)
     base_version object names =
         let base : Candidate = one.bases object in
-        let version : Version = (one.performed).befores object in
+        let version : ObjState = (one.performed).befores object in
         let found : version_at object base.stamp old.versions ≡ Some version =
         (one.performed).of_bases object names in
         let under : HoldsUnder old object base.stamp = before.of_held.of_held object base.stamp version found in
@@ -233,7 +228,7 @@ module _ (trace : Trace) (laws : Laws (setting trace)) (joint : Joint (setting t
                 prior = (one.grounds other besides).prior;
                 base_accepted = base_accepted other besides;
               })
-              base_version (one.performed).values refl ((one.performed).answer object names),
+              base_version (one.performed).values ((one.performed).afters object names) (one.performed).lower,
         )
 
 -- ---- an event
@@ -272,8 +267,7 @@ module _ (trace : Trace) (laws : Laws (setting trace)) (joint : Joint (setting t
     -- its sets are of objects that the replica has
     had_by : (object : ObjectId) → Names one.parts object → are_had old one.sent ≡ true
     had_by object names =
-        sym (culled_had old old.keys old.me one.sent) ∙ ap (are_had old) one.culls
-        ∙ (delivered_upon (world_after trace count) event place old new object
+        delivered_had (world_after trace count) event place old new object
         (record {
           text = moved.text;
           is_handed = moved.is_handed;
@@ -281,7 +275,7 @@ module _ (trace : Trace) (laws : Laws (setting trace)) (joint : Joint (setting t
           brings = moved.brings;
           accepts = one;
           names = names;
-        }) is_old is_new).had
+        }) is_old is_new
 
     now_new : (object : ObjectId) → Names one.parts object
         → IsNew (setting trace) count object place (one.candidates object)
@@ -390,7 +384,7 @@ pub version_held : (trace : Trace) → Laws (setting trace) → Joint (setting t
     (count : ℕ) → count ≤ length trace.entries
     → (place : ℕ) (state : ReplicaState) → slice_get (world_after trace count).replicas place ≡ Some state
     → (object : ObjectId) (candidate : Candidate) → holds candidate (own_candidates state object) ≡ true
-    → (version : Version) × (version_at object candidate.stamp state.versions ≡ Some version) × HasVersion trace object
+    → (version : ObjState) × (version_at object candidate.stamp state.versions ≡ Some version) × HasVersion trace object
     candidate version
 version_held trace laws joint is_run have count within place state is_state object candidate held =
     (versioned trace laws joint is_run have count within place state is_state).stores object candidate held
@@ -400,7 +394,7 @@ pub version_is : (trace : Trace) → Laws (setting trace) → Joint (setting tra
     (count : ℕ) → count ≤ length trace.entries
     → (place : ℕ) (state : ReplicaState) → slice_get (world_after trace count).replicas place ≡ Some state
     → (object : ObjectId) (candidate : Candidate) → holds candidate (own_candidates state object) ≡ true
-    → (version : Version) → version_at object candidate.stamp state.versions ≡ Some version → HasVersion trace object
+    → (version : ObjState) → version_at object candidate.stamp state.versions ≡ Some version → HasVersion trace object
     candidate version
 version_is trace laws joint is_run have count within place state is_state object candidate held version found =
     let stored : Stores trace object state candidate =

@@ -1,12 +1,10 @@
--- The updates of a run are as the values along the order ask: no copies, no groups, and none of a correct client is
--- done upon itself.
+-- The updates of a run are as the values along the order ask: no copies, no groups, and none is done upon itself.
 use Rattle.std.proofs.Common.{◌≡◌, ◌⊎◌, true, false, not, length, None, Some, refl, sym, ap, subst, ◌∙◌, arith, inl, inr}
 use Rattle.std.specs.Prelude.{slice_get, is_some, Option}
-use Rattle.std.proofs.lemmas.Bool.{false≢true, cases_Bool}
+use Rattle.std.proofs.lemmas.Bool.{false≢true}
 use Rattle.std.proofs.lemmas.Option.{none-some}
 use Rattle.qu_base.specs.declared.party.Digest.{Digest}
 use Rattle.qu_base.specs.declared.party.ObjectId.{ObjectId}
-use Rattle.qu_base.specs.declared.party.Party.TheVariants as party
 use Rattle.qu_stamp.specs.declared.candidate.Candidate.{Candidate}
 use Rattle.qu_stamp.specs.declared.stamp.Stamp.{Stamp}
 use Rattle.qu_stamp.specs.Stamp.{is_below}
@@ -16,10 +14,9 @@ use Rattle.qu_chain.specs.Laws.{Laws}
 use Rattle.qu_chain.specs.Joint.{Joint}
 use Rattle.qu_chain.proofs.Counting.{Found, found_at}
 use Rattle.qu_objects.specs.declared.kind.Value.{Value}
-use Rattle.qu_objects.specs.declared.version.Version.{Version}
+use Rattle.qu_objects.specs.declared.state.ObjState.{ObjState}
 use Rattle.qu_frames.specs.declared.frame.Body.TheVariants as body
 use Rattle.qu_trace.specs.declared.trace.Trace.{Trace}
-use Rattle.qu_trace.specs.Faulty.{is_faulty}
 use Rattle.qu_world.specs.State.{WorldState}
 use Rattle.qu_world.specs.Run.{IsRun}
 use Rattle.qu_runs.specs.Accepted.{accepts, is_accepted}
@@ -32,20 +29,18 @@ use Rattle.qu_replica.specs.Rows.{asked_of}
 use Rattle.qu_grounds.specs.Origins.{Origin}
 use Rattle.qu_runs.proofs.Settings.{AcceptedAt, accepted_somewhere, is_accepted_by}
 use Rattle.qu_grounds.proofs.Grounds.{above_base}
-use Rattle.qu_values.specs.Updates.{Update, IsOf, IsEverAccepted, FaultyRepeatNone}
+use Rattle.qu_values.specs.Updates.{Update, IsOf, IsEverAccepted, NumbersRise}
 use Rattle.qu_values.specs.Values.{HasVersion}
 use Rattle.qu_grounds.proofs.Handled.{handled, made_for}
 use Rattle.qu_values.proofs.OneAct.{ActsAreOne}
 use Rattle.qu_values.proofs.FitActs.{fit}
 use Rattle.qu_grounds.proofs.Origins.{accepted_from}
-use Rattle.qu_values.proofs.OnceAccepted.{once_accepted}
+use Rattle.qu_values.proofs.RisingNumbers.{numbers_rise as rising, none_repeated, rows_are_true}
 use Rattle.qu_values.proofs.StoredValues.{version_held}
 use Rattle.qu_values.proofs.Updates.{opening_no_act, same_accepted}
 use Rattle.qu_values.proofs.UpdateFacts.{HasValue, MadeFor, UpdateFacts, NoneIsRepeated}
 use Rattle.qu_values.proofs.Values.{one_version}
 use Rattle.qu_grounds.proofs.Parts.{same_named}
-use Rattle.qu_runs.specs.Premises.{OnlyReplicasAreFaulty}
-use Rattle.qu_runs.proofs.Plain.{no_client}
 
 module _ (trace : Trace) where
   in_world : (object : ObjectId) (candidate : Candidate) → IsEverAccepted trace object candidate
@@ -108,7 +103,19 @@ module _ (trace : Trace) (is_run : IsRun trace) (have : ArePlain trace) where
         subst (λ (it : Candidate). is_below it.prior it.stamp ≡ true) came.is_candidate
         (ap (λ (it : Stamp). is_below it (one.candidates object).stamp) why.prior ∙ above_base why)
 
-  all_plain : (object : ObjectId) (candidate : Candidate) → IsEverAccepted trace object candidate
+  -- an accepted candidate is the opening one or an operation's
+  pub opening_or_act : (object : ObjectId) (candidate : Candidate) → IsEverAccepted trace object candidate
+      → (candidate ≡ opening) ⊎ ((setting trace).is_act candidate ≡ true)
+  unfolding setting
+  opening_or_act object candidate accepted =
+      elim (came_from object candidate accepted) [
+        | inl begins ↦ inl begins
+        | inr came ↦
+            inr (ap (λ (act : Option Digest). is_some act)
+            (((made_by object candidate came).is_of).made).of_act)
+      ]
+
+  pub all_plain : (object : ObjectId) (candidate : Candidate) → IsEverAccepted trace object candidate
       → (setting trace).plain candidate ≡ true
   unfolding setting
   all_plain object candidate accepted =
@@ -149,7 +156,7 @@ module _ (trace : Trace) (is_run : IsRun trace) (have : ArePlain trace) where
 
     -- every accepted candidate has a version
     stored : (object : ObjectId) (candidate : Candidate) → IsEverAccepted trace object candidate
-        → (version : Version) × HasVersion trace object candidate version
+        → (version : ObjState) × HasVersion trace object candidate version
     stored object candidate accepted =
         let found : AcceptedAt object candidate (last_world trace).replicas =
         accepted_somewhere object candidate (last_world trace).replicas (in_world trace object candidate accepted) in
@@ -177,22 +184,15 @@ module _ (trace : Trace) (is_run : IsRun trace) (have : ArePlain trace) where
       spread = λ update object other candidate companion one accepted two besides.
           inl (one_object update object other candidate companion one two);
       one_version = one_version trace laws joint one_act;
+      written = rows_are_true trace laws joint one_act all_plain;
       copied = λ object candidate base value accepted plain not_act prior plain_base base_accepted has.
           copied object candidate base value accepted not_act prior base_accepted has;
       stored = λ object candidate accepted is_act. stored object candidate accepted;
     }
 
-    -- no update of a correct client is repeated, so none is where those of faulty ones are not
-    pub none_is_repeated : FaultyRepeatNone trace → NoneIsRepeated trace
-    none_is_repeated faulty update object first second one accepted two besides ancestor =
-        elim (cases_Bool (is_faulty trace.setup (party.Client update.client))) [
-          | inl is_faulty ↦ faulty update is_faulty object first second one accepted two besides ancestor
-          | inr correct ↦
-              once_accepted trace is_run have one_act laws joint update correct object first second one accepted two
-              besides (all_plain object) ancestor
-        ]
+    pub numbers_rise : NumbersRise trace
+    numbers_rise = rising trace laws joint one_act stored
 
--- where replicas alone are faulty, no client has an update that it could repeat
-pub faulty_repeat_none : (trace : Trace) → OnlyReplicasAreFaulty trace.setup → FaultyRepeatNone trace
-faulty_repeat_none trace only update faulty =
-    absurd (false≢true (sym (no_client (trace.setup).liars only update.client) ∙ faulty))
+    -- so no update is repeated
+    pub none_is_repeated : NoneIsRepeated trace
+    none_is_repeated = none_repeated trace numbers_rise

@@ -1,8 +1,9 @@
--- A candidate has at most one version.
+-- How a candidate has its version, which rows that keeps, and that there is one at most.
 use Rattle.std.proofs.Common.{◌≡◌, ◌⊎◌, true, List, [], ◌∷◌, Some, inl, inr, refl, sym, ap, subst, ◌∙◌}
 use Rattle.std.specs.Prelude.{slice_get}
 use Rattle.std.proofs.lemmas.Bool.{false≢true}
 use Rattle.std.proofs.lemmas.Option.{same_Some}
+use Rattle.qu_base.specs.declared.party.ClientId.{ClientId}
 use Rattle.qu_base.specs.declared.party.ObjectId.{ObjectId}
 use Rattle.qu_stamp.specs.declared.candidate.Candidate.{Candidate}
 use Rattle.qu_stamp.specs.Stamp.{is_below}
@@ -11,13 +12,16 @@ use Rattle.qu_stamp.proofs.Order.{is_below-opening}
 use Rattle.qu_chain.specs.Laws.{Laws}
 use Rattle.qu_chain.specs.Joint.{Joint}
 use Rattle.qu_objects.specs.declared.act.Method.{Method}
-use Rattle.qu_objects.specs.declared.answer.Answer.{Answer}
-use Rattle.qu_objects.specs.declared.answer.Answer.TheVariants as answer
 use Rattle.qu_objects.specs.declared.kind.KindName.{KindName}
 use Rattle.qu_objects.specs.declared.kind.Value.{Value}
-use Rattle.qu_objects.specs.declared.version.Version.{Version}
+use Rattle.qu_objects.specs.declared.state.KeptRow.{KeptRow}
+use Rattle.qu_objects.specs.declared.state.ObjState.{ObjState}
 use Rattle.qu_objects.specs.Kind.{fresh_value}
-use Rattle.qu_objects.specs.Performing.{performed_answer, performed_values}
+use Rattle.qu_objects.specs.Performing.{performed_values}
+use Rattle.qu_kept.specs.Performing.{row_by, links_to_others, state_after}
+use Rattle.qu_kept.specs.Rows.{client_of, row_of}
+use Rattle.qu_kept.specs.Standing.{IsLower}
+use Rattle.qu_kept.proofs.KeyedLaws.{own_item, other_item}
 use Rattle.qu_trace.specs.declared.trace.Trace.{Trace}
 use Rattle.qu_runs.specs.Setting.{setting}
 use Rattle.qu_values.specs.Updates.{Update, IsOf}
@@ -27,12 +31,6 @@ use Rattle.qu_values.proofs.OneAct.{ActsAreOne}
 use Rattle.qu_values.proofs.Updates.{one_of, same_accepted, one_companion}
 
 -- ---- parts of equal wholes
-
-same_version : (first second : Version) → first.value ≡ second.value → first.answer ≡ second.answer → first ≡ second
-same_version first second values answers =
-    let by_value : Value → Version = λ it. record { value = it; answer = first.answer } in
-    let by_answer : Answer → Version = λ it. record { value = second.value; answer = it } in
-    ap by_value values ∙ ap by_answer answers
 
 -- values of objects that agree where the parts name them
 pub same_values : (first second : ObjectId → Value) (parts : List (ObjectId × Method))
@@ -64,17 +62,22 @@ values_same first second (part ∷ parts) same object (inr later) =
 
 -- ---- the two ways to have a version
 
-pub record IsFresh (trace : Trace) (object : ObjectId) (candidate : Candidate) (version : Version) : Type 0 where
+pub record IsFresh (trace : Trace) (object : ObjectId) (candidate : Candidate) (version : ObjState) : Type 0 where
   pub kind : KindName
   pub is_kind : slice_get trace.setup.kinds object.0 ≡ Some kind
   pub is_opening : candidate ≡ opening
-  pub fresh : version ≡ record { value = fresh_value kind; answer = answer.Ok [] }
+  pub fresh : version ≡ record { value = fresh_value kind; kept = []; links = [] }
+
+-- what is kept of an update, where its objects had these versions
+abbrev pub row_upon : Update → (ObjectId → ObjState) → KeptRow
+row_upon update states =
+    row_by update.client update.number update.parts (values_of (λ (it : ObjectId). (states it).value) update.parts)
 
 -- how a candidate other than the opening one has its version
-pub record IsUpdated (trace : Trace) (object : ObjectId) (candidate : Candidate) (version : Version) : Type 0 where
+pub record IsUpdated (trace : Trace) (object : ObjectId) (candidate : Candidate) (version : ObjState) : Type 0 where
   pub update : Update
   pub bases : ObjectId → Candidate
-  pub befores : ObjectId → Version
+  pub befores : ObjectId → ObjState
   pub afters : ObjectId → Value
   pub below : is_below candidate.prior candidate.stamp ≡ true
   pub is_of : IsOf trace update object candidate
@@ -82,18 +85,26 @@ pub record IsUpdated (trace : Trace) (object : ObjectId) (candidate : Candidate)
   pub has : (other : ObjectId) → Names update.parts other → HasVersion trace other (bases other) (befores other)
   pub values : performed_values update.parts (values_of (λ (other : ObjectId). (befores other).value) update.parts)
       ≡ values_of afters update.parts
-  pub value_is : afters object ≡ version.value
-  pub answers : performed_answer update.parts (values_of (λ (other : ObjectId). (befores other).value) update.parts)
-      ≡ version.answer
+  pub after : version ≡ state_after (row_upon update befores) (afters object)
+      (links_to_others object candidate.stamp update.parts) (befores object)
+  pub lower : (other : ObjectId) → Names update.parts other
+      → IsLower update.number (row_of update.client (befores other).kept)
 
-pub version_cases : (trace : Trace) (object : ObjectId) (candidate : Candidate) (version : Version)
-    → HasVersion trace object candidate version
-    → IsFresh trace object candidate version ⊎ IsUpdated trace object candidate version
-version_cases trace object candidate version (HasVersion.of_opening _ kind is_kind) =
-    inl (record { kind = kind; is_kind = is_kind; is_opening = refl; fresh = refl })
-version_cases trace object candidate version
-    (HasVersion.of_update _ it update bases befores afters made below is_of rests has values value answers) =
-    inr (record {
+-- by what a version is made of
+pub version_induction : (trace : Trace) (P : ObjectId → Candidate → ObjState → Type 0)
+    → ((object : ObjectId) (candidate : Candidate) (version : ObjState) → IsFresh trace object candidate version
+    → P object candidate version)
+    → ((object : ObjectId) (candidate : Candidate) (version : ObjState)
+    → (made : IsUpdated trace object candidate version)
+    → ((other : ObjectId) → Names (made.update).parts other → P other (made.bases other) (made.befores other))
+    → P object candidate version)
+    → (object : ObjectId) (candidate : Candidate) (version : ObjState) → HasVersion trace object candidate version
+    → P object candidate version
+version_induction trace P begins goes object candidate version (HasVersion.of_opening _ kind is_kind) =
+    begins object candidate version (record { kind = kind; is_kind = is_kind; is_opening = refl; fresh = refl })
+version_induction trace P begins goes object candidate version
+    (HasVersion.of_update _ it update bases befores afters made below is_of rests has values after lower) =
+    goes object candidate version (record {
       update = update;
       bases = bases;
       befores = befores;
@@ -103,18 +114,64 @@ version_cases trace object candidate version
       rests = rests;
       has = has;
       values = values;
-      value_is = value;
-      answers = answers;
-    })
+      after = after;
+      lower = lower;
+    }) (λ other names. version_induction trace P begins goes other (bases other) (befores other) (has other names))
+
+pub version_cases : (trace : Trace) (object : ObjectId) (candidate : Candidate) (version : ObjState)
+    → HasVersion trace object candidate version
+    → IsFresh trace object candidate version ⊎ IsUpdated trace object candidate version
+version_cases trace object candidate version has =
+    version_induction trace (λ (on : ObjectId) (it : Candidate) (state : ObjState).
+    IsFresh trace on it state ⊎ IsUpdated trace on it state)
+    (λ on it state fresh. inl fresh) (λ on it state made so_far. inr made) object candidate version has
 
 -- nothing is below the opening candidate
-made_not_opening : (trace : Trace) (object : ObjectId) (candidate : Candidate) (version : Version)
+made_not_opening : (trace : Trace) (object : ObjectId) (candidate : Candidate) (version : ObjState)
     → IsUpdated trace object candidate version → candidate ≡ opening → ⊥
 made_not_opening trace object candidate version made is_opening =
     false≢true (sym (is_below-opening candidate.prior)
     ∙ ap (λ (it : Candidate). is_below candidate.prior it.stamp) (sym is_opening) ∙ made.below)
 
+-- ---- what the version of an updated candidate has
+
+module _ (trace : Trace) (object : ObjectId) (candidate : Candidate) (version : ObjState)
+    (made : IsUpdated trace object candidate version) where
+  pub value_after : version.value ≡ made.afters object
+  value_after = ap (λ (it : ObjState). it.value) made.after
+
+  -- the row of its client is that of the update
+  pub own_row : row_of (made.update).client version.kept ≡ Some (row_upon made.update made.befores)
+  own_row =
+      ap (λ (it : ObjState). row_of (made.update).client it.kept) made.after
+      ∙ own_item client_of (row_upon made.update made.befores) (made.befores object).kept
+
+  -- those of other clients are as before
+  pub other_row : (client : ClientId) → (client.0 ≡ ((made.update).client).0 → ⊥)
+      → row_of client version.kept ≡ row_of client (made.befores object).kept
+  other_row client apart =
+      ap (λ (it : ObjState). row_of client it.kept) made.after
+      ∙ other_item client_of client.0 (row_upon made.update made.befores) (made.befores object).kept apart
+
+  -- the object's own base is that of the candidate
+  pub own_rest : RestsOn trace object candidate object (made.bases object)
+  own_rest = made.rests object (made.is_of).names
+
+  pub own_prior : candidate.prior ≡ (made.bases object).stamp
+  own_prior =
+      elim own_rest.is_companion [
+        | inl same ↦ ap (λ (it : Candidate). it.prior) same.1 ∙ own_rest.prior
+        | inr group ↦ absurd (group.apart refl)
+      ]
+
 -- ---- one version
+
+-- an object's version after an update, by the values of all objects of it before, the object's value after, and its
+-- version before
+abbrev version_after : ObjectId → Candidate → Update → List Value → Value → ObjState → ObjState
+version_after object candidate update values value before =
+    state_after (row_by update.client update.number update.parts values) value
+    (links_to_others object candidate.stamp update.parts) before
 
 module _ (trace : Trace) (laws : Laws (setting trace)) (joint : Joint (setting trace)) (one_act : ActsAreOne trace)
   where
@@ -128,47 +185,73 @@ module _ (trace : Trace) (laws : Laws (setting trace)) (joint : Joint (setting t
         same_accepted trace laws joint other first second one.base_accepted two.base_accepted
         (sym one.prior ∙ ap (λ (it : Candidate). it.prior) companions ∙ two.prior)
 
-    fresh_same : (object : ObjectId) (candidate : Candidate) (first second : Version)
+    fresh_same : (object : ObjectId) (candidate : Candidate) (first second : ObjState)
         → IsFresh trace object candidate first → IsFresh trace object candidate second → first ≡ second
     fresh_same object candidate first second one other =
         let kinds : one.kind ≡ other.kind = same_Some one.kind other.kind (sym one.is_kind ∙ other.is_kind) in
-        let version : KindName → Version = λ kind. record { value = fresh_value kind; answer = answer.Ok [] } in
+        let version : KindName → ObjState = λ kind. record { value = fresh_value kind; kept = []; links = [] } in
         one.fresh ∙ ap version kinds ∙ sym other.fresh
 
-    made_same : (object : ObjectId) (candidate : Candidate) (first second : Version)
+    -- two ways to have it, where the bases of the first have one version each
+    module _ (object : ObjectId) (candidate : Candidate) (first second : ObjState)
         (one : IsUpdated trace object candidate first) (two : IsUpdated trace object candidate second)
-        → ((other : ObjectId) → Names (one.update).parts other → (it : Version)
-        → HasVersion trace other (one.bases other) it → one.befores other ≡ it) → first ≡ second
-    made_same object candidate first second one two only =
-        let parts : List (ObjectId × Method) = (one.update).parts in
-        let updates : one.update ≡ two.update =
-        one_of trace one_act one.update two.update object candidate one.is_of two.is_of in
-        let same_parts : (two.update).parts ≡ parts = ap (λ (it : Update). it.parts) (sym updates) in
-        let before : ObjectId → Value = λ other. (one.befores other).value in
-        let besides : ObjectId → Value = λ other. (two.befores other).value in
-        let befores : values_of before parts ≡ values_of besides parts =
-        same_values before besides parts (λ other names.
-        ap (λ (it : Version). it.value) (only other names (two.befores other)
-        (subst (λ (it : Candidate). HasVersion trace other it (two.befores other))
-        (one_base object other candidate (two.bases other) (one.bases other)
-        (two.rests other (subst (λ (all : List (ObjectId × Method)). Names all other) (sym same_parts) names))
-        (one.rests other names))
-        (two.has other (subst (λ (all : List (ObjectId × Method)). Names all other) (sym same_parts) names))))) in
-        let values : performed_values parts (values_of besides parts) ≡ values_of two.afters parts =
-        subst (λ (all : List (ObjectId × Method)). performed_values all (values_of besides all) ≡ values_of two.afters
-        all)
-        same_parts two.values in
-        let answers : performed_answer parts (values_of besides parts) ≡ second.answer =
-        subst (λ (all : List (ObjectId × Method)). performed_answer all (values_of besides all) ≡ second.answer)
-        same_parts two.answers in
-        same_version first second
-        (sym one.value_is
-        ∙ values_same one.afters two.afters parts
-        (sym one.values ∙ ap (performed_values parts) befores ∙ values) object (one.is_of).names
-        ∙ two.value_is)
-        (sym one.answers ∙ ap (performed_answer parts) befores ∙ answers)
+        (only : (other : ObjectId) → Names (one.update).parts other → (it : ObjState)
+        → HasVersion trace other (one.bases other) it → one.befores other ≡ it) where
+      abbrev update : Update
+      update = one.update
 
-    fresh_only : (object : ObjectId) (candidate : Candidate) (first second : Version)
+      abbrev parts : List (ObjectId × Method)
+      parts = update.parts
+
+      same_update : update ≡ two.update
+      same_update = one_of trace one_act update two.update object candidate one.is_of two.is_of
+
+      same_parts : (two.update).parts ≡ parts
+      same_parts = ap (λ (it : Update). it.parts) (sym same_update)
+
+      same_before : (other : ObjectId) → Names parts other → one.befores other ≡ two.befores other
+      same_before other names =
+          let also : Names (two.update).parts other =
+          subst (λ (all : List (ObjectId × Method)). Names all other) (sym same_parts) names in
+          only other names (two.befores other)
+          (subst (λ (it : Candidate). HasVersion trace other it (two.befores other))
+          (one_base object other candidate (two.bases other) (one.bases other) (two.rests other also)
+          (one.rests other names)) (two.has other also))
+
+      abbrev before : ObjectId → Value
+      before other = (one.befores other).value
+
+      abbrev besides : ObjectId → Value
+      besides other = (two.befores other).value
+
+      same_befores : values_of before parts ≡ values_of besides parts
+      same_befores =
+          same_values before besides parts (λ other names.
+          ap (λ (it : ObjState). it.value) (same_before other names))
+
+      same_after : one.afters object ≡ two.afters object
+      same_after =
+          let values : performed_values parts (values_of besides parts) ≡ values_of two.afters parts =
+          subst (λ (all : List (ObjectId × Method)).
+          performed_values all (values_of besides all) ≡ values_of two.afters all)
+          same_parts two.values in
+          values_same one.afters two.afters parts
+          (sym one.values ∙ ap (performed_values parts) same_befores ∙ values) object (one.is_of).names
+
+      made_same : first ≡ second
+      made_same =
+          let version : List Value → Value → ObjState → ObjState = version_after object candidate update in
+          let second_is : second ≡ version (values_of besides parts) (two.afters object) (two.befores object) =
+          subst (λ (it : Update). second
+          ≡ version_after object candidate it (values_of besides it.parts) (two.afters object) (two.befores object))
+          (sym same_update) two.after in
+          one.after
+          ∙ ap (λ (it : List Value). version it (one.afters object) (one.befores object)) same_befores
+          ∙ ap (λ (it : Value). version (values_of besides parts) it (one.befores object)) same_after
+          ∙ ap (version (values_of besides parts) (two.afters object)) (same_before object (one.is_of).names)
+          ∙ sym second_is
+
+    fresh_only : (object : ObjectId) (candidate : Candidate) (first second : ObjState)
         → IsFresh trace object candidate first → HasVersion trace object candidate second → first ≡ second
     fresh_only object candidate first second one held =
         elim (version_cases trace object candidate second held) [
@@ -176,9 +259,9 @@ module _ (trace : Trace) (laws : Laws (setting trace)) (joint : Joint (setting t
           | inr other ↦ absurd (made_not_opening trace object candidate second other one.is_opening)
         ]
 
-    made_only : (object : ObjectId) (candidate : Candidate) (first second : Version)
+    made_only : (object : ObjectId) (candidate : Candidate) (first second : ObjState)
         (one : IsUpdated trace object candidate first)
-        → ((other : ObjectId) → Names (one.update).parts other → (it : Version)
+        → ((other : ObjectId) → Names (one.update).parts other → (it : ObjState)
         → HasVersion trace other (one.bases other) it → one.befores other ≡ it)
         → HasVersion trace object candidate second → first ≡ second
     made_only object candidate first second one only held =
@@ -187,25 +270,11 @@ module _ (trace : Trace) (laws : Laws (setting trace)) (joint : Joint (setting t
           | inr other ↦ made_same object candidate first second one other only
         ]
 
-    -- by what a version is made of
-    pub one_version : (object : ObjectId) (candidate : Candidate) (first second : Version)
+    pub one_version : (object : ObjectId) (candidate : Candidate) (first second : ObjState)
         → HasVersion trace object candidate first → HasVersion trace object candidate second → first ≡ second
-    one_version object candidate first second (HasVersion.of_opening _ kind is_kind) held =
-        fresh_only object candidate first second
-        (record { kind = kind; is_kind = is_kind; is_opening = refl; fresh = refl }) held
-    one_version object candidate first second
-        (HasVersion.of_update _ it update bases befores afters made below is_of rests has values value answers) held =
-        made_only object candidate first second (record {
-          update = update;
-          bases = bases;
-          befores = befores;
-          afters = afters;
-          below = below;
-          is_of = is_of;
-          rests = rests;
-          has = has;
-          values = values;
-          value_is = value;
-          answers = answers;
-        }) (λ other names version of_same.
-        one_version other (bases other) (befores other) version (has other names) of_same) held
+    one_version object candidate first second has held =
+        version_induction trace (λ (on : ObjectId) (it : Candidate) (version : ObjState).
+        (other : ObjState) → HasVersion trace on it other → version ≡ other)
+        (λ on it version fresh other. fresh_only on it version other fresh)
+        (λ on it version made so_far other. made_only on it version other made so_far)
+        object candidate first has second held

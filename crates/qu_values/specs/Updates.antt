@@ -1,16 +1,14 @@
 -- The updates of a run, and the candidates that are made for them.
 -- Definitions whose comment names no source are this project's own; Query/Update is the paper of SOSP 2005.
-use Rattle.std.specs.Prelude.{◌≡◌, ℕ, true, List}
+use Rattle.std.specs.Prelude.{◌≡◌, ℕ, ◌<◌, List}
 use Rattle.qu_base.specs.declared.party.ClientId.{ClientId}
 use Rattle.qu_base.specs.declared.party.ObjectId.{ObjectId}
-use Rattle.qu_base.specs.declared.party.Party.TheVariants as party
 use Rattle.qu_stamp.specs.declared.candidate.Candidate.{Candidate}
 use Rattle.qu_chain.specs.Setting.{IsAccepted, IsAncestor}
 use Rattle.qu_chain.specs.Decided.{IsDecided, IsDecidedBy}
 use Rattle.qu_chain.specs.Joint.{IsOneAct}
 use Rattle.qu_objects.specs.declared.act.Method.{Method}
 use Rattle.qu_trace.specs.declared.trace.Trace.{Trace}
-use Rattle.qu_trace.specs.Faulty.{is_faulty}
 use Rattle.qu_runs.specs.Digested.{IsMadeFor}
 use Rattle.qu_runs.specs.Setting.{setting}
 use Rattle.qu_grounds.specs.Parts.{Names}
@@ -30,17 +28,13 @@ pub record IsOf (trace : Trace) (update : Update) (object : ObjectId) (candidate
 abbrev pub IsEverAccepted : Trace → ObjectId → Candidate → Type 0
 IsEverAccepted trace object candidate = IsAccepted (setting trace) (setting trace).last object candidate
 
--- no accepted candidate of the update is an ancestor of another, so that it is not done upon itself
-abbrev pub IsNotRepeated : Trace → Update → Type 0
-IsNotRepeated trace update = (object : ObjectId) (first second : Candidate)
+-- along the priors of an object the numbers of each client's updates rise
+abbrev pub NumbersRise : Trace → Type 0
+NumbersRise trace = (object : ObjectId) (first second : Candidate) (update later : Update)
     → IsOf trace update object first → IsEverAccepted trace object first
-    → IsOf trace update object second → IsEverAccepted trace object second
-    → IsAncestor (setting trace) (setting trace).last object first second → ⊥
-
--- no update of a faulty client is repeated; those of correct clients never are
-abbrev pub FaultyRepeatNone : Trace → Type 0
-FaultyRepeatNone trace =
-    (update : Update) → is_faulty trace.setup (party.Client update.client) ≡ true → IsNotRepeated trace update
+    → IsOf trace later object second → IsEverAccepted trace object second
+    → IsAncestor (setting trace) (setting trace).last object first second
+    → update.client ≡ later.client → update.number < later.number
 
 -- each update is decided once
 pub record DecidesOnce (trace : Trace) : Type 0 where

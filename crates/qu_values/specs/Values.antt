@@ -1,16 +1,18 @@
--- The version of a candidate: the one that its update makes of the versions of its bases.
+-- The version of a candidate: the state that its update makes of the versions of its bases.
 use Rattle.std.specs.Prelude.{◌≡◌, true, [], slice_get, Some}
 use Rattle.qu_chain.specs.Joint.{IsOneAct}
 use Rattle.qu_base.specs.declared.party.ObjectId.{ObjectId}
 use Rattle.qu_stamp.specs.declared.candidate.Candidate.{Candidate}
 use Rattle.qu_stamp.specs.Stamp.{is_below}
 use Rattle.qu_stamp.specs.Candidate.{opening}
-use Rattle.qu_objects.specs.declared.answer.Answer.TheVariants as answer
 use Rattle.qu_objects.specs.declared.kind.KindName.{KindName}
 use Rattle.qu_objects.specs.declared.kind.Value.{Value}
-use Rattle.qu_objects.specs.declared.version.Version.{Version}
+use Rattle.qu_objects.specs.declared.state.ObjState.{ObjState}
 use Rattle.qu_objects.specs.Kind.{fresh_value}
-use Rattle.qu_objects.specs.Performing.{performed_answer, performed_values}
+use Rattle.qu_objects.specs.Performing.{performed_values}
+use Rattle.qu_kept.specs.Performing.{row_by, links_to_others, state_after}
+use Rattle.qu_kept.specs.Rows.{row_of}
+use Rattle.qu_kept.specs.Standing.{IsLower}
 use Rattle.qu_trace.specs.declared.trace.Trace.{Trace}
 use Rattle.qu_runs.specs.Setting.{setting}
 use Rattle.qu_values.specs.Updates.{Update, IsOf, IsEverAccepted}
@@ -26,19 +28,23 @@ pub record RestsOn (trace : Trace) (object : ObjectId) (candidate : Candidate) (
   pub base_accepted : IsEverAccepted trace other base
 
 -- the version of a candidate of an object: the opening one's is fresh; another's is what its update makes of the
--- versions of its bases, one on each of its objects
-pub data HasVersion (trace : Trace) : ObjectId → Candidate → Version → Type 0 where
+-- versions of its bases, one on each of its objects, none of which keeps a number of the client that is at least the
+-- update's
+pub data HasVersion (trace : Trace) : ObjectId → Candidate → ObjState → Type 0 where
   of_opening : (object : ObjectId) (kind : KindName) → slice_get trace.setup.kinds object.0 ≡ Some kind
-      → HasVersion trace object opening (record { value = fresh_value kind; answer = answer.Ok [] })
+      → HasVersion trace object opening (record { value = fresh_value kind; kept = []; links = [] })
   of_update : (object : ObjectId) (candidate : Candidate) (update : Update) (bases : ObjectId → Candidate)
-      (befores : ObjectId → Version) (afters : ObjectId → Value) (version : Version)
+      (befores : ObjectId → ObjState) (afters : ObjectId → Value) (state : ObjState)
       → is_below candidate.prior candidate.stamp ≡ true
       → IsOf trace update object candidate
       → ((other : ObjectId) → Names update.parts other → RestsOn trace object candidate other (bases other))
       → ((other : ObjectId) → Names update.parts other → HasVersion trace other (bases other) (befores other))
       → performed_values update.parts (values_of (λ (other : ObjectId). (befores other).value) update.parts)
       ≡ values_of afters update.parts
-      → afters object ≡ version.value
-      → performed_answer update.parts (values_of (λ (other : ObjectId). (befores other).value) update.parts)
-      ≡ version.answer
-      → HasVersion trace object candidate version
+      → state ≡ state_after
+      (row_by update.client update.number update.parts
+      (values_of (λ (other : ObjectId). (befores other).value) update.parts))
+      (afters object) (links_to_others object candidate.stamp update.parts) (befores object)
+      → ((other : ObjectId) → Names update.parts other
+      → IsLower update.number (row_of update.client (befores other).kept))
+      → HasVersion trace object candidate state

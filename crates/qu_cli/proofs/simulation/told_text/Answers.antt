@@ -1,7 +1,6 @@
 -- The report has an order that is serial where the premises hold.
 use Rattle.std.proofs.Common.{ap, ◌∙◌}
 use Rattle.qu_print.specs.Report.{report_of}
-use Rattle.qu_values.proofs.UpdatesOfRuns.{faulty_repeat_none}
 use Rattle.qu_cli.proofs.EndFacts.{tells_report}
 use Rattle.qu_cli.proofs.simulation.told_text.Goals as goal
 
@@ -15,7 +14,7 @@ returns-in_ok-text-in-Sim c =
       order = order.order;
       audited = premises.ensures.answer;
       ordered = order.ensures.printed;
-      serial = λ holds. order.ensures.serial holds (faulty_repeat_none trace c.requires.replicas);
+      serial = order.ensures.serial;
       chained = order.ensures.chained;
       tells = c.in_ok-text-in-Sim.ensures ∙ ap (report_of trace premises.premises) c.as_slice.ensures;
     })

@@ -21,10 +21,12 @@ use Rattle.qu_safety.proofs.DecidedOnce.{decides_once}
 use Rattle.qu_safety.proofs.ByQuorums.{completes_by_quorums}
 use Rattle.qu_grounds.proofs.Named.{stamps_name}
 use Rattle.qu_values.proofs.OneAct.{ActsAreOne, acts_are_one}
-use Rattle.qu_values.specs.Updates.{FaultyRepeatNone}
+use Rattle.qu_values.specs.Updates.{NumbersRise}
 use Rattle.qu_values.proofs.UpdateFacts.{UpdateFacts, NoneIsRepeated}
-use Rattle.qu_values.proofs.UpdatesOfRuns.{update_facts, none_is_repeated}
+use Rattle.qu_values.proofs.UpdatesOfRuns.{update_facts, numbers_rise, none_is_repeated}
+use Rattle.qu_safety.proofs.KnownRuns.{client_facts}
 use Rattle.qu_safety.proofs.SerialOrder.{serial}
+use Rattle.qu_values.proofs.ClientFacts.{ClientFacts}
 use Rattle.qu_safety.proofs.order.order_of.Goals as goal
 
 -- what holds whatever was returned
@@ -40,11 +42,13 @@ plain_run c unforged =
 -- what the serial order rests on
 record Grounded (trace : Trace) : Type 0 where
   plain : ArePlain trace
+  clients : ClientFacts trace
   one_act : ActsAreOne trace
   laws : Laws (setting trace)
   joint : Joint (setting trace)
   facts : UpdateFacts trace
-  once : FaultyRepeatNone trace → NoneIsRepeated trace
+  numbers : NumbersRise trace
+  once : NoneIsRepeated trace
 
 grounded : (c : goal.After-printed_order) → MeetsPremises c.args.trace.now → Grounded c.args.trace.now
 grounded c premises =
@@ -55,21 +59,23 @@ grounded c premises =
     let joint : Joint (setting trace) = joint_laws trace c.requires plain premises.no_collision in
     record {
       plain = plain;
+      clients = client_facts trace c.requires plain;
       one_act = one_act;
       laws = law;
       joint = joint;
       facts = update_facts trace c.requires plain one_act law joint;
+      numbers = numbers_rise trace c.requires plain one_act law joint;
       once = none_is_repeated trace c.requires plain one_act law joint;
     }
 
 pub returns-clause-serial : goal.returns-clause-serial
 returns-clause-serial c =
     IfOk-weaker c.printed_order.result (IsPrintedOrder c.args.trace.now)
-    (λ (order : List Point). MeetsPremises c.args.trace.now → FaultyRepeatNone c.args.trace.now
+    (λ (order : List Point). MeetsPremises c.args.trace.now
     → IsSerial c.args.trace.now.setup.kinds (operations_of c.args.trace.now.entries) order)
-    (λ order printed premises none_repeated.
+    (λ order printed premises.
     let it : Grounded c.args.trace.now = grounded c premises in
-    serial c.args.trace.now c.requires it.plain it.one_act it.laws it.joint it.facts (it.once none_repeated) order
+    serial c.args.trace.now c.requires it.plain it.clients it.one_act it.laws it.joint it.facts it.once order
     printed)
     c.printed_order.ensures
 
@@ -95,12 +101,18 @@ returns-clause-in_turn c =
 
 pub returns-clause-once : goal.returns-clause-once
 returns-clause-once c =
-    always c.printed_order.result (λ premises none_repeated.
+    always c.printed_order.result (λ premises.
     let it : Grounded c.args.trace.now = grounded c premises in
-    decides_once c.args.trace.now it.laws it.joint it.one_act it.facts (it.once none_repeated))
+    decides_once c.args.trace.now it.laws it.joint it.one_act it.facts it.once)
+
+pub returns-clause-numbers : goal.returns-clause-numbers
+returns-clause-numbers c =
+    always c.printed_order.result (λ premises.
+    let it : Grounded c.args.trace.now = grounded c premises in
+    it.numbers)
 
 pub returns-clause-by_quorums : goal.returns-clause-by_quorums
 returns-clause-by_quorums c =
     always c.printed_order.result (λ premises.
     let it : Grounded c.args.trace.now = grounded c premises in
-    completes_by_quorums c.args.trace.now c.requires it.plain it.laws it.joint it.facts)
+    completes_by_quorums c.args.trace.now c.requires it.plain it.clients it.laws it.joint it.facts)

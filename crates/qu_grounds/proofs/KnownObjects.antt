@@ -1,14 +1,12 @@
--- A replica accepts only upon full sets of objects that it has: it refuses a request with an object that it does not
--- have, or with fewer entries of an object than a quorum.
-use Rattle.std.proofs.Common.{◌≡◌, ◌⊎◌, ℕ, ◌+◌, Bool, true, false, not, ◌&&◌, cond, List, [], ◌∷◌, ◌++◌, length, Option, None, Some, refl, sym, ap, ◌∙◌, arith, inl, inr, subst, length-append}
-use Rattle.std.specs.Prelude.{slice_get, nat_le, nat_lt, find, option_map}
+-- A replica accepts only upon sets of objects that it has: it refuses a request with an object that it does not have.
+use Rattle.std.proofs.Common.{◌≡◌, ◌⊎◌, ℕ, ◌+◌, Bool, true, false, not, ◌&&◌, cond, List, [], ◌∷◌, ◌++◌, length, Option, None, Some, refl, sym, ap, ◌∙◌, arith, inl, inr, length-append}
+use Rattle.std.specs.Prelude.{slice_get, nat_le, find, option_map}
 use Rattle.std.specs.List.{list_all}
 use Rattle.std.proofs.lemmas.Option.{none-some, same_Some}
 use Rattle.qu_base.specs.declared.party.ClientId.{ClientId}
 use Rattle.qu_base.specs.declared.party.ObjectId.{ObjectId}
 use Rattle.qu_base.specs.declared.party.Party.TheVariants as party
 use Rattle.qu_base.specs.declared.party.ReplicaId.{ReplicaId}
-use Rattle.qu_base.specs.Bounds.{quorum}
 use Rattle.qu_seal.specs.Keys.{Ring}
 use Rattle.qu_stamp.specs.declared.candidate.Candidate.{Candidate}
 use Rattle.qu_history.specs.declared.sets.SetOf.{SetOf}
@@ -21,27 +19,24 @@ use Rattle.qu_frames.specs.declared.verdict.Refusal.{Refusal}
 use Rattle.qu_frames.specs.declared.verdict.Refusal.TheVariants as refusal
 use Rattle.qu_replica.specs.declared.decision.Decision.{Decision}
 use Rattle.qu_replica.specs.State.{ReplicaState, own_candidates}
-use Rattle.qu_replica.specs.Rows.{Asked, asked_at, refuse, row_unknown, row_thin, first_given, objects_of, decide_act}
+use Rattle.qu_replica.specs.Rows.{Asked, asked_at, refuse, row_unknown, first_given, objects_of, decide_act}
 use Rattle.qu_replica.specs.Step.{carried_out, on_frame, on_received, replica_step}
-use Rattle.qu_client.specs.Rounds.{are_full}
 use Rattle.qu_trace.specs.declared.event.Event.{Event}
 use Rattle.qu_world.specs.State.{WorldState}
 use Rattle.qu_world.specs.Step.{world_step, at_replica}
 use Rattle.qu_grounds.specs.Grounds.{Accepts, IsDelivered}
 use Rattle.qu_grounds.specs.Parts.{Names}
-use Rattle.qu_grounds.proofs.Acceptance.{accepted_in, AcceptsNothing, unknown, thin, carried, stays}
+use Rattle.qu_grounds.proofs.Acceptance.{accepted_in, AcceptsNothing, unknown, carried, stays}
 use Rattle.qu_world.proofs.Each.{set_here}
 use Rattle.qu_runs.proofs.Handing.{handed_step}
 
 -- ---- the rows
 
-two_rows : (First : Type 0) (one two : Option Decision) (later : List (Option Decision)) → AcceptsNothing one
-    → AcceptsNothing two → (one ≡ None → two ≡ None → First)
-    → (accepted_in (first_given (one ∷ two ∷ later)) ≡ []) ⊎ First
+first_row : (Passed : Type 0) (row : Option Decision) (later : List (Option Decision)) → AcceptsNothing row
+    → (row ≡ None → Passed) → (accepted_in (first_given (row ∷ later)) ≡ []) ⊎ Passed
 unfolding first_given
-two_rows First (Some decision) two later none nothing past = inl (none decision refl)
-two_rows First None (Some decision) later none nothing past = inl (nothing decision refl)
-two_rows First None None later none nothing past = inr (past refl refl)
+first_row Passed (Some decision) later nothing past = inl (nothing decision refl)
+first_row Passed None later nothing past = inr (past refl)
 
 pass_first : {X : Type 0} (why : X → Refusal) (bad : Bool) (item : X) (found : Option X) (rest : Bool)
     → option_map (λ (it : X). refuse (why it)) (cond bad (Some item) found) ≡ None
@@ -55,13 +50,6 @@ all_pass : {X : Type 0} (why : X → Refusal) (bad : X → Bool) (items : List X
 all_pass why bad [] none = refl
 all_pass why bad (item ∷ later) none =
     pass_first why (bad item) item (find bad later) (list_all (λ it. not (bad it)) later) none (all_pass why bad later)
-
-not_thin : (state : ReplicaState) (asked : Asked) → row_thin state asked ≡ None
-    → are_full state.keys.bounds asked.sets ≡ true
-unfolding row_thin
-not_thin state asked none =
-    all_pass (λ (set : SetOf). refusal.Thin set.object)
-    (λ (set : SetOf). nat_lt (length set.entries) (quorum state.keys.bounds)) asked.sets none
 
 -- the objects of the sets are the replica's
 abbrev pub are_had : ReplicaState → List SetOf → Bool
@@ -83,19 +71,13 @@ culled_had state keys me (set ∷ later) =
     ap (λ (rest : Bool). not (nat_le (length state.histories) (set.object).0) && rest)
     (culled_had state keys me later)
 
--- what the sets are of a request upon which something is accepted
-pub record IsUpon (state : ReplicaState) (sets : List SetOf) : Type 0 where
-  pub had : are_had state sets ≡ true
-  pub full : are_full state.keys.bounds sets ≡ true
-
 -- an act accepts nothing, or has such sets
-act_upon : (state : ReplicaState) (asked : Asked) (parts : List (ObjectId × Method)) (objects : List ObjectId)
-    → (accepted_in (decide_act state asked parts objects) ≡ []) ⊎ IsUpon state asked.sets
+act_had : (state : ReplicaState) (asked : Asked) (parts : List (ObjectId × Method)) (objects : List ObjectId)
+    → (accepted_in (decide_act state asked parts objects) ≡ []) ⊎ (are_had state asked.sets ≡ true)
 unfolding decide_act
-act_upon state asked parts objects =
-    two_rows (IsUpon state asked.sets) (row_unknown state asked) (row_thin state asked) _ (unknown state asked)
-    (thin state asked)
-    (λ is_known not_thin_is. record { had = not_unknown state asked is_known; full = not_thin state asked not_thin_is })
+act_had state asked parts objects =
+    first_row (are_had state asked.sets ≡ true) (row_unknown state asked) _ (unknown state asked)
+    (not_unknown state asked)
 
 -- ---- the step
 
@@ -106,30 +88,29 @@ not_added candidates candidate same =
     let equal : length candidates ≡ length (candidates ++ candidate ∷ []) = ap length same in
     omega arith
 
-act_step_upon : (state : ReplicaState) (client : ClientId) (number round : ℕ) (sets : List SetOf)
+act_step_had : (state : ReplicaState) (client : ClientId) (number round : ℕ) (sets : List SetOf)
     (parts : List (ObjectId × Method)) (mac : List ℕ) (object : ObjectId) (candidate : Candidate)
     → own_candidates (on_frame state (frame.Request client number round sets (body.Act parts) mac)).0
-    object ≡ own_candidates state object ++ candidate ∷ [] → IsUpon state (culled state.keys state.me sets)
-act_step_upon state client number round sets parts mac object candidate added =
+    object ≡ own_candidates state object ++ candidate ∷ [] → are_had state sets ≡ true
+act_step_had state client number round sets parts mac object candidate added =
     let asked : Asked = asked_at state client number sets (body.Act parts) in
     let decision : Decision = decide_act state asked parts (objects_of parts) in
-    elim (act_upon state asked parts (objects_of parts)) [
+    elim (act_had state asked parts (objects_of parts)) [
       | inl none ↦
           let same : (carried_out state client number round sets decision).0 ≡ state =
           stays state _ (accepted_in decision) (carried state client number round sets decision) none in
           absurd (not_added (own_candidates state object) candidate
           (sym (ap (λ (it : ReplicaState). own_candidates it object) same) ∙ added))
-      | inr upon ↦ upon
+      | inr had ↦ sym (culled_had state state.keys state.me sets) ∙ had
     ]
 
-upon_by : (old new : ReplicaState) (taken : Frame) (object : ObjectId) (accepts : Accepts old new taken)
-    → Names accepts.parts object → (on_frame old taken).0 ≡ new → IsUpon old accepts.sets
-upon_by old new taken object accepts names is =
-    subst (IsUpon old) accepts.culls
-    (act_step_upon old accepts.client accepts.number accepts.round accepts.sent accepts.parts
+had_by : (old new : ReplicaState) (taken : Frame) (object : ObjectId) (accepts : Accepts old new taken)
+    → Names accepts.parts object → (on_frame old taken).0 ≡ new → are_had old accepts.sent ≡ true
+had_by old new taken object accepts names is =
+    act_step_had old accepts.client accepts.number accepts.round accepts.sent accepts.parts
     accepts.mac object (accepts.candidates object)
     (ap (λ (it : Frame). own_candidates (on_frame old it).0 object) (sym accepts.is_request)
-    ∙ ap (λ (it : ReplicaState). own_candidates it object) is ∙ accepts.added object names))
+    ∙ ap (λ (it : ReplicaState). own_candidates it object) is ∙ accepts.added object names)
 
 -- ---- the same in a run
 
@@ -148,9 +129,10 @@ delivered_to world event place old new object happened is_old is_new =
     ∙ ap (λ (it : WorldState). slice_get it.replicas place) (sym is) ∙ is_new)
 
 -- a text that made a replica accept a candidate shows such sets
-pub delivered_upon : (world : WorldState) (event : Event) (place : ℕ) (old new : ReplicaState) (object : ObjectId)
+pub delivered_had : (world : WorldState) (event : Event) (place : ℕ) (old new : ReplicaState) (object : ObjectId)
     (happened : IsDelivered world event place old new object) → slice_get world.replicas place ≡ Some old
-    → slice_get (world_step world event).replicas place ≡ Some new → IsUpon old (happened.accepts).sets
-delivered_upon world event place old new object happened is_old is_new =
-    upon_by old new happened.carried object happened.accepts happened.names
+    → slice_get (world_step world event).replicas place ≡ Some new
+    → are_had old (happened.accepts).sent ≡ true
+delivered_had world event place old new object happened is_old is_new =
+    had_by old new happened.carried object happened.accepts happened.names
     (delivered_to world event place old new object happened is_old is_new)

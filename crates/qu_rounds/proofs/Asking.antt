@@ -1,0 +1,109 @@
+-- What letters ask: those of a replica nothing, those of a client's round one request.
+use Rattle.std.proofs.Common.{◌≡◌, ℕ, zero, suc, ◌+◌, List, [], map, Option, None, Some, refl}
+use Rattle.std.specs.List.{All}
+use Rattle.std.proofs.lemmas.List.Elements.{All-nil, All-cons}
+use Rattle.qu_base.specs.declared.party.ClientId.{ClientId}
+use Rattle.qu_base.specs.declared.party.Party.{Party}
+use Rattle.qu_base.specs.declared.party.Party.TheVariants as party
+use Rattle.qu_seal.specs.Keys.{Ring}
+use Rattle.qu_history.specs.declared.sets.SetOf.{SetOf}
+use Rattle.qu_history.specs.Sealing.{sealed_by}
+use Rattle.qu_frames.specs.declared.frame.Body.{Body}
+use Rattle.qu_frames.specs.declared.frame.Frame.{Frame}
+use Rattle.qu_frames.specs.declared.frame.Frame.TheVariants as frame
+use Rattle.qu_frames.specs.declared.frame.Letter.{Letter}
+use Rattle.qu_frames.specs.Body.{body_of}
+use Rattle.qu_frames.specs.Formats.{frame_form}
+use Rattle.qu_frames.specs.Signing.{brought, signed, signature, with_mac}
+use Rattle.qu_replica.specs.declared.decision.Decision.{Decision}
+use Rattle.qu_replica.specs.declared.decision.Decision.TheVariants.{Answers, Waits}
+use Rattle.qu_replica.specs.State.{ReplicaState, accept_all}
+use Rattle.qu_replica.specs.Rows.{asked_at, decision_on}
+use Rattle.qu_replica.specs.Step.{shown, named, reply, carried_out, replica_step, answer_frame}
+use Rattle.qu_replica.specs.Step as replica
+use Rattle.qu_replica.proofs.FitSteps.{blank_sized}
+use Rattle.qu_client.specs.declared.work.Work.{Work}
+use Rattle.qu_client.specs.Rounds.{request_of, requests_from}
+use Rattle.qu_runs.specs.Carried.{Carries, Asks}
+use Rattle.qu_runs.proofs.Carrying.{no_request, signed_spelled, signed_carries}
+
+-- ---- replicas
+
+-- the letter asks for nothing
+abbrev pub AsksNothing : Letter → Type 0
+AsksNothing letter =
+    (client : ClientId) (number round : ℕ) (sets : List SetOf) (asked : Body)
+    → Asks letter client number round sets asked → ⊥
+
+answered : (state : ReplicaState) (client : ClientId) (number round : ℕ) (sets : List SetOf) (decision : Decision)
+    → All AsksNothing (carried_out state client number round sets decision).1
+answered state client number round sets Waits = All-nil AsksNothing
+answered state client number round sets (Answers verdict accepted) =
+    let new : ReplicaState = accept_all state accepted in
+    let answer : Frame = answer_frame new client number round sets verdict in
+    let to : Party = party.Client client in
+    All-cons AsksNothing (reply new client number round sets verdict) []
+    (no_request (reply new client number round sets verdict) new.me client number round verdict (named new sets)
+    (map (sealed_by new.keys) (shown new sets)) (signature new.keys to answer)
+    (signed_spelled new.keys to answer blank_sized))
+    (All-nil AsksNothing)
+
+frame_asks : (state : ReplicaState) (sent : Frame) → All AsksNothing (replica.on_frame state sent).1
+frame_asks state (frame.Request client number round sets asked mac) =
+    answered state client number round sets (decision_on state (asked_at state client number sets asked) asked)
+frame_asks state _ = All-nil AsksNothing
+
+brought_asks : (state : ReplicaState) (found : Option Frame) → All AsksNothing (replica.on_received state found).1
+brought_asks state (Some sent) = frame_asks state sent
+brought_asks state None = All-nil AsksNothing
+
+-- a replica sends no request
+pub replica_asks : (state : ReplicaState) (text : List ℕ) → All AsksNothing (replica_step state text).1
+replica_asks state text = brought_asks state (brought state.keys (party.Replica state.me) text)
+
+-- ---- clients
+
+-- the letter carries this frame alone, signed for its receiver
+abbrev pub CarriesOnly : Ring → Frame → Letter → Type 0
+CarriesOnly keys sent letter =
+    (carried : Frame) → Carries letter carried → carried ≡ with_mac sent (signature keys letter.to sent)
+
+-- all letters of a round carry one request
+pub requests_carry : (keys : Ring) (replica many : ℕ) (me : ClientId) (work : Work) (sets : List SetOf)
+    → frame_form.Fits (request_of me work sets)
+    → All (CarriesOnly keys (request_of me work sets)) (requests_from keys replica many me work sets)
+unfolding requests_from
+requests_carry keys replica zero me work sets fits = All-nil (CarriesOnly keys (request_of me work sets))
+requests_carry keys replica (suc many) me work sets fits =
+    let to : Party = party.Replica (record { 0 = replica }) in
+    let sent : Frame = request_of me work sets in
+    let first : Letter = record { from = party.Client me; to = to; text = signed keys to sent } in
+    All-cons (CarriesOnly keys sent) first _ (λ carried. signed_carries first keys to sent carried fits refl)
+    (requests_carry keys (replica + 1) many me work sets fits)
+
+-- two requests that are one
+pub record IsSameRequest (client other : ClientId) (number second round turn : ℕ) (sets others : List SetOf)
+    (asked besides : Body) : Type 0 where
+  pub client_is : client ≡ other
+  pub number_is : number ≡ second
+  pub round_is : round ≡ turn
+  pub sets_are : sets ≡ others
+  pub body_is : asked ≡ besides
+
+same_request : (client other : ClientId) (number second round turn : ℕ) (sets others : List SetOf)
+    (asked besides : Body) (mac seal : List ℕ)
+    → frame.Request client number round sets asked mac ≡ frame.Request other second turn others besides seal
+    → IsSameRequest client other number second round turn sets others asked besides
+same_request client other number second round turn sets others asked besides mac seal same =
+    record { client_is = cc; number_is = cc; round_is = cc; sets_are = cc; body_is = cc }
+
+-- what a letter of a round asks is the request of this round
+pub asks_only : (keys : Ring) (me : ClientId) (work : Work) (sets : List SetOf) (letter : Letter)
+    → CarriesOnly keys (request_of me work sets) letter
+    → (client : ClientId) (number round : ℕ) (others : List SetOf) (asked : Body)
+    → Asks letter client number round others asked
+    → IsSameRequest client me number work.number round work.round others sets asked (body_of work.op)
+asks_only keys me work sets letter only client number round others asked is =
+    same_request client me number work.number round work.round others sets asked (body_of work.op) is.mac
+    (signature keys letter.to (request_of me work sets))
+    (only (frame.Request client number round others asked is.mac) is.carries)
