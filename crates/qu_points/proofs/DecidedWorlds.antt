@@ -14,9 +14,8 @@ use Rattle.qu_chain.specs.Setting.{IsAccepted, IsEstablished, acceptors}
 use Rattle.qu_chain.specs.Decided.{IsDecided}
 use Rattle.qu_world.specs.Run.{IsRun}
 use Rattle.qu_trace.specs.declared.trace.Trace.{Trace}
-use Rattle.qu_runs.proofs.Settings.{accepted_of, acceptors_are}
-use Rattle.qu_base.proofs.ThresholdFacts.{are_thresholds}
 use Rattle.qu_runs.proofs.Settings.{accepted_of, acceptors_are, is_accepted_by}
+use Rattle.qu_base.proofs.ThresholdFacts.{are_thresholds}
 use Rattle.qu_runs.specs.Setting.{setting}
 use Rattle.qu_runs.proofs.Plain.{setup_after}
 use Rattle.qu_runs.specs.Times.{world_after}

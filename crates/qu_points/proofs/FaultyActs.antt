@@ -149,7 +149,8 @@ adds_more setup acts index act old operations new correct fit below is adds adde
     subst (λ (these : List NamedAct). AddsFaultyActs setup these old new)
     (sym (take_more acts index act below ∙ ap (λ (it : NamedAct). take index acts ++ it ∷ []) (sym is)))
     (adds_next setup (take index acts) act old operations adds correct (All-take ActFits index acts fit)
-    (subst ActFits (sym is) (All-contains ActFits acts (get_or acts index act) fit (Contains-get_or acts index act below)))
+    (subst ActFits (sym is) (All-contains ActFits acts (get_or acts index act) fit
+    (Contains-get_or acts index act below)))
     new added)
 
 pub adds_all : (setup : Setup) (acts : List NamedAct) (index : ℕ) (old operations : List OpRecord)

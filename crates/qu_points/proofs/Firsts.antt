@@ -7,7 +7,7 @@ use Rattle.qu_base.specs.declared.party.ClientId.{ClientId}
 use Rattle.qu_base.specs.declared.party.Digest.{Digest}
 use Rattle.qu_base.specs.declared.party.ObjectId.{ObjectId}
 use Rattle.qu_objects.specs.declared.act.Method.{Method}
-use Rattle.qu_points.specs.declared.tracked.Tracked.{Tracked}
+use Rattle.qu_known.specs.declared.tracked.Tracked.{Tracked}
 use Rattle.qu_points.specs.Points.{is_of_update, mark_of, earlier_of, first_mark}
 
 earlier_assoc : (a b c : Option ℕ) → earlier_of (earlier_of a b) c ≡ earlier_of a (earlier_of b c)
@@ -23,17 +23,21 @@ earlier_none None = refl
 earlier_none (Some a) = refl
 
 -- one candidate more
-pub first_mark_more : (client : ClientId) (parts : List (ObjectId × Method)) (act : Digest) (all : List Tracked) (index : ℕ) (default : Tracked)
+pub first_mark_more : (client : ClientId) (parts : List (ObjectId × Method)) (act : Digest) (all : List Tracked)
+    (index : ℕ) (default : Tracked)
     (so_far : Option ℕ) → index < length all
     → earlier_of (earlier_of so_far (mark_of client parts act (get_or all index default)))
-    (first_mark client parts act (drop (index + 1) all)) ≡ earlier_of so_far (first_mark client parts act (drop index all))
+    (first_mark client parts act (drop (index + 1) all))
+    ≡ earlier_of so_far (first_mark client parts act (drop index all))
 unfolding first_mark
 first_mark_more client parts act all index default so_far below =
     earlier_assoc so_far (mark_of client parts act (get_or all index default))
     (first_mark client parts act (drop (index + 1) all)) ∙
-    ap (λ (it : List Tracked). earlier_of so_far (first_mark client parts act it)) (sym (drop_more all index default below))
+    ap (λ (it : List Tracked). earlier_of so_far (first_mark client parts act it))
+    (sym (drop_more all index default below))
 
-pub first_mark_end : (client : ClientId) (parts : List (ObjectId × Method)) (act : Digest) (all : List Tracked) (index : ℕ) (so_far : Option ℕ)
+pub first_mark_end : (client : ClientId) (parts : List (ObjectId × Method)) (act : Digest) (all : List Tracked)
+    (index : ℕ) (so_far : Option ℕ)
     → length all ≤ index → earlier_of so_far (first_mark client parts act (drop index all)) ≡ so_far
 unfolding first_mark
 first_mark_end client parts act all index so_far past =
@@ -43,7 +47,8 @@ first_mark_end client parts act all index so_far past =
 -- ---- what the first mark is
 
 -- a candidate of the update with this mark
-pub record HasMark (client : ClientId) (parts : List (ObjectId × Method)) (act : Digest) (all : List Tracked) (event : ℕ) : Type 0 where
+pub record HasMark (client : ClientId) (parts : List (ObjectId × Method)) (act : Digest) (all : List Tracked)
+    (event : ℕ) : Type 0 where
   pub place : ℕ
   pub below : place < length all
   pub found : Tracked
@@ -74,7 +79,8 @@ earlier_cases (Some a) (Some b) event is =
           inl (ap (λ (it : ℕ). Some it) (sym least) ∙ is)
     ]
 
-has_mark-later : (client : ClientId) (parts : List (ObjectId × Method)) (act : Digest) (first : Tracked) (later : List Tracked) (event : ℕ)
+has_mark-later : (client : ClientId) (parts : List (ObjectId × Method)) (act : Digest) (first : Tracked)
+    (later : List Tracked) (event : ℕ)
     → HasMark client parts act later event → HasMark client parts act (first ∷ later) event
 has_mark-later client parts act first later event has = record {
   place = suc has.place;
@@ -85,7 +91,8 @@ has_mark-later client parts act first later event has = record {
   mark = has.mark;
 }
 
-pub first_mark_found : (client : ClientId) (parts : List (ObjectId × Method)) (act : Digest) (all : List Tracked) (event : ℕ)
+pub first_mark_found : (client : ClientId) (parts : List (ObjectId × Method)) (act : Digest) (all : List Tracked)
+    (event : ℕ)
     → first_mark client parts act all ≡ Some event → HasMark client parts act all event
 unfolding first_mark
 first_mark_found client parts act [] event is = absurd (none-some event is)
@@ -95,7 +102,8 @@ first_mark_found client parts act (tracked ∷ later) event is =
           let both : (is_of_update client parts act tracked ≡ true) × (tracked.decided ≡ Some event) =
           mark_of_some client parts act tracked event here in
           record { place = 0; below = omega arith; found = tracked; at = refl; of_update = both.0; mark = both.1 }
-      | inr there ↦ has_mark-later client parts act tracked later event (first_mark_found client parts act later event there)
+      | inr there ↦ has_mark-later client parts act tracked later event (first_mark_found client parts act later event
+          there)
     ]
 
 -- there is a first mark, and it is not after this one
@@ -118,14 +126,16 @@ earlier_right (Some a) (Some b) event up_to =
     let order : up_to.0 ≤ event = up_to.2 in
     (min a b, refl, omega arith)
 
-pub first_mark_least : (client : ClientId) (parts : List (ObjectId × Method)) (act : Digest) (all : List Tracked) (place : ℕ) (found : Tracked)
+pub first_mark_least : (client : ClientId) (parts : List (ObjectId × Method)) (act : Digest) (all : List Tracked)
+    (place : ℕ) (found : Tracked)
     (event : ℕ) → place < length all → get_or all place found ≡ found → is_of_update client parts act found ≡ true
     → found.decided ≡ Some event → IsUpTo (first_mark client parts act all) event
 unfolding first_mark
 first_mark_least client parts act [] place found event below at of_it mark = absurd (omega arith)
 first_mark_least client parts act (tracked ∷ later) zero found event below at of_it mark =
     let here : mark_of client parts act tracked ≡ Some event =
-    ap (λ (it : Tracked). mark_of client parts act it) at ∙ ap (λ (test : Bool). cond test found.decided None) of_it ∙ mark in
+    ap (λ (it : Tracked). mark_of client parts act it) at ∙ ap (λ (test : Bool). cond test found.decided None) of_it
+    ∙ mark in
     earlier_left (mark_of client parts act tracked) (first_mark client parts act later) event (event, here, omega arith)
 first_mark_least client parts act (tracked ∷ later) (suc place) found event below at of_it mark =
     earlier_right (mark_of client parts act tracked) (first_mark client parts act later) event

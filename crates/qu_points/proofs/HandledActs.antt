@@ -152,7 +152,8 @@ among_handled trace client number parts some =
 
 act_is : (act other : NamedAct) → is_act act.0 act.1 act.2 other ≡ true → other ≡ act
 act_is act other same =
-    let one : (((other.0).0 == (act.0).0) ≡ true) × ((other.1 == act.1 && same_op (op.Act other.2) (op.Act act.2)) ≡ true) =
+    let one : (((other.0).0 == (act.0).0) ≡ true)
+    × ((other.1 == act.1 && same_op (op.Act other.2) (op.Act act.2)) ≡ true) =
     and_parts _ _ same in
     let two : ((other.1 == act.1) ≡ true) × (same_op (op.Act other.2) (op.Act act.2) ≡ true) = and_parts _ _ one.1 in
     let client : other.0 ≡ act.0 = client_is other.0 act.0 (eqb-true _ _ one.0) in

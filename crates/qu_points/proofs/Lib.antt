@@ -1,8 +1,8 @@
 pub mod DecidedWorlds
-pub mod Steps
 pub mod Places
 pub mod Settling
 pub mod Beyond
+pub mod Known
 pub mod Marking
 pub mod Firsts
 pub mod AnsweredRounds
@@ -13,7 +13,6 @@ pub mod Printed
 pub mod Recorded
 pub mod Rising
 pub mod HandledActs
-pub mod Filtered
 pub mod Folding
 pub mod Correct
 pub mod Bodies

@@ -1,32 +1,29 @@
 -- From one event of a run to the next the marks stay those of the first decisions.
-use Rattle.std.proofs.Common.{◌≡◌, ℕ, zero, suc, ◌+◌, ◌<◌, ◌≤◌, Bool, true, false, List, [], ◌∷◌, length, get_or, take, Option, None, Some, sym, ap, subst, ◌∙◌, arith, inl, inr}
+use Rattle.std.proofs.Common.{◌≡◌, ℕ, ◌+◌, ◌<◌, ◌≤◌, Bool, ◌||◌, true, false, List, [], ◌∷◌, length, Option, None, Some, sym, ap, subst, ◌∙◌, arith, inl, inr}
 use Rattle.std.specs.List.{AllZip, All}
 use Rattle.std.specs.Option.{OnSome}
 use Rattle.std.proofs.lemmas.Bool.{false≢true, cases_lt}
-use Rattle.std.proofs.lemmas.List.{length-map, take-map, get_or-map}
 use Rattle.std.proofs.lemmas.List.Elements.{All-head, All-tail, All-nil, All-cons, All-weaker}
 use Rattle.std.proofs.lemmas.Option.{none-some, same_Some}
 use Rattle.qu_base.specs.declared.party.ObjectId.{ObjectId}
 use Rattle.qu_stamp.specs.declared.candidate.Candidate.{Candidate}
-use Rattle.qu_trace.specs.declared.event.Event.{Event}
-use Rattle.qu_trace.specs.declared.trace.Entry.{Entry}
 use Rattle.qu_trace.specs.declared.trace.Setup.{Setup}
 use Rattle.qu_trace.specs.declared.trace.Trace.{Trace}
-use Rattle.qu_world.specs.State.{WorldState, opening_world}
-use Rattle.qu_world.specs.Step.{world_step}
-use Rattle.qu_world.specs.Refusals.{cause_of}
-use Rattle.qu_world.specs.Run.{run_from, MayHappen, IsRun, events_of}
-use Rattle.qu_points.specs.declared.tracked.Tracked.{Tracked}
+use Rattle.qu_world.specs.State.{WorldState}
+use Rattle.qu_world.specs.Run.{IsRun}
 use Rattle.qu_runs.specs.Accepted.{is_accepted}
-use Rattle.qu_points.specs.Tracker.{is_tracked, undecided, sizes_of, news_from, with_all, SettlesTo, IsSettled, IsSound, TellsFirst, TellsOf, AreAccepted, Tracks, IsDecidedIn}
 use Rattle.qu_runs.specs.Times.{world_after}
-use Rattle.qu_runs.proofs.WorldGrowth.{HasMore, has_more, world_after-grows, world_after-none, world_after-next, is_accepted-more}
-use Rattle.qu_points.proofs.DecidedWorlds.{decided_in_more, decided_is_accepted, in_setting, in_world}
-use Rattle.qu_points.proofs.Settling.{MarksTo, IsMarked, is_tracked-zip}
+use Rattle.qu_runs.proofs.WorldGrowth.{HasMore, has_more, world_after-grows, world_after-none, is_accepted-more}
 use Rattle.qu_runs.proofs.Objects.{EachHas, run_has}
-use Rattle.qu_points.proofs.Beyond.{all_with_all, accepted_with_all, accepted_opening, has_more_back}
 use Rattle.qu_runs.specs.Setting.{setting}
 use Rattle.qu_chain.specs.Decided.{IsDecided}
+use Rattle.qu_known.specs.declared.tracked.Tracked.{Tracked}
+use Rattle.qu_known.specs.Tracked.{is_tracked, undecided}
+use Rattle.qu_known.specs.Known.{Row, Seen, rows_tracked, AreKnown, Learned}
+use Rattle.qu_points.specs.Tracker.{with_all, SettlesTo, IsSettled, IsSound, TellsFirst, TellsOf, AreAccepted, Tracks, IsDecidedIn}
+use Rattle.qu_points.proofs.DecidedWorlds.{decided_in_more, decided_is_accepted, in_setting, in_world}
+use Rattle.qu_points.proofs.Settling.{MarksTo, IsMarked, is_tracked-zip}
+use Rattle.qu_points.proofs.Beyond.{all_with_all, accepted_opening, is_tracked-with_all}
 
 -- ---- a settled list
 
@@ -163,56 +160,33 @@ all_tells_still trace is_run count tracked back tells =
 
 -- ---- the loop
 
-abbrev pub news_after : Trace → ℕ → List Tracked
-news_after trace count =
-    news_from (length trace.setup.kinds) (sizes_of (length trace.setup.kinds) (world_after trace count).replicas)
-    0 (world_after trace (count + 1)).replicas
+-- what is tracked with what was learned was accepted
+pub accepted_learned : (trace : Trace) (count : ℕ) (tracked : List Tracked) (seen : Seen)
+    → Tracks trace count tracked
+    → Learned (world_after trace count).replicas (world_after trace (count + 1)).replicas seen
+    → AreAccepted (world_after trace (count + 1)) (with_all seen.1 tracked)
+accepted_learned trace count tracked seen tracks learned object candidate =
+    is_tracked-with_all object candidate seen.1 tracked ∙
+    ap (λ (test : Bool). test || is_tracked object candidate seen.1) (tracks.accepted object candidate) ∙
+    sym (learned.either object candidate)
 
-pub accepted_next : (trace : Trace) (count : ℕ) (tracked : List Tracked) → Tracks trace count tracked
-    → AreAccepted (world_after trace (count + 1)) (with_all (news_after trace count) tracked)
-accepted_next trace count tracked tracks =
-    accepted_with_all (length trace.setup.kinds) (world_after trace count) (world_after trace (count + 1)) tracked
-    (world_after-grows trace count (count + 1) (omega arith)) (run_has trace (count + 1)) tracks.accepted
-
-pub tracks_still : (trace : Trace) (count : ℕ) (tracked : List Tracked) → Tracks trace count tracked
-    → news_after trace count ≡ [] → Tracks trace (count + 1) tracked
+-- where nothing was new, all stays as it was
+pub tracks_still : (trace : Trace) (count : ℕ) (tracked : List Tracked) (seen : Seen) → Tracks trace count tracked
+    → Learned (world_after trace count).replicas (world_after trace (count + 1)).replicas seen → seen.1 ≡ []
+    → Tracks trace (count + 1) tracked
 unfolding with_all
-tracks_still trace count tracked tracks none =
-    let back : HasMore (world_after trace (count + 1)) (world_after trace count) =
-    has_more_back (length trace.setup.kinds) (world_after trace count) (world_after trace (count + 1))
-    (world_after-grows trace count (count + 1) (omega arith)) (run_has trace (count + 1)) none in
+tracks_still trace count tracked seen tracks learned none =
+    let back : HasMore (world_after trace (count + 1)) (world_after trace count) = record {
+      setup = sym (world_after-grows trace count (count + 1) (omega arith)).setup;
+      replicas = learned.still none;
+    } in
     record {
       run = tracks.run;
       accepted = λ object candidate. ap
           (λ (news : List Tracked). is_tracked object candidate (with_all news tracked)) (sym none)
-          ∙ accepted_next trace count tracked tracks object candidate;
+          ∙ accepted_learned trace count tracked seen tracks learned object candidate;
       marks = all_tells_still trace tracks.run count tracked back tracks.marks;
     }
-
--- no event of a run is refused where it comes
-happens_at : (world : WorldState) (events : List Event) (count : ℕ) (default : Event) → MayHappen world events
-    → count < length events → cause_of (run_from world (take count events)) (get_or events count default) ≡ None
-unfolding MayHappen run_from
-happens_at world [] count default happened below = absurd (omega arith)
-happens_at world (event ∷ later) zero default happened below = happened.0
-happens_at world (event ∷ later) (suc count) default happened below =
-    happens_at (world_step world event) later count default happened.1 (omega arith)
-
-pub not_refused : (trace : Trace) (count : ℕ) (default : Entry) → IsRun trace → count < length trace.entries
-    → cause_of (world_after trace count) (get_or trace.entries count default).event ≡ None
-not_refused trace count default is_run below =
-    let entry_event : Entry → Event = λ (entry : Entry). entry.event in
-    let size : length (events_of trace.entries) ≡ length trace.entries = length-map trace.entries entry_event in
-    let known : cause_of (run_from (opening_world trace.setup) (take count (events_of trace.entries)))
-    (get_or (events_of trace.entries) count default.event) ≡ None =
-    happens_at (opening_world trace.setup) (events_of trace.entries) count default.event is_run.happened
-    (omega arith) in
-    let events : take count (events_of trace.entries) ≡ events_of (take count trace.entries) =
-    take-map entry_event count trace.entries in
-    let event : get_or (events_of trace.entries) count
-    default.event ≡ (get_or trace.entries count default).event =
-    get_or-map entry_event trace.entries count default default.event below in
-    rw (events, event) at known
 
 -- ---- as the code goes
 
@@ -223,74 +197,10 @@ bounds_after trace count world is =
     ap (λ (setup : Setup). setup.bounds) ((world_after-grows trace 0 count (omega arith)).setup
     ∙ ap (λ (it : WorldState). it.setup) (world_after-none trace))
 
-pub sound_after : (trace : Trace) → IsRun trace → (event : ℕ) (world : WorldState) (tracked : List Tracked)
-    → world ≡ world_after trace event → All (TellsOf trace event) tracked → All (IsSound world) tracked
-sound_after trace is_run event world tracked is tells =
-    subst (λ (it : WorldState). All (IsSound it) tracked) (sym is) (all_sound_by_tells trace is_run event tracked tells)
-
-pub tracks_after : (trace : Trace) → IsRun trace → (event : ℕ) (world : WorldState) (old new : List Tracked)
-    → world ≡ world_after trace event → AreAccepted world old → All (TellsOf trace event) old
-    → AllZip (IsSettled world event) old new → Tracks trace event new
-tracks_after trace is_run event world old new is accepted tells settled =
-    tracks_settled trace is_run event old new
-    (subst (λ (it : WorldState). AreAccepted it old) is accepted) tells
-    (subst (λ (it : WorldState). AllZip (IsSettled it event) old new) is settled)
-
-pub step_after : (trace : Trace) (count : ℕ) (world : WorldState) (entry : Entry) → count < length trace.entries
-    → world ≡ world_after trace count → entry ≡ get_or trace.entries count entry
-    → world_step world entry.event ≡ world_after trace (count + 1)
-step_after trace count world entry below is found =
-    ap (λ (it : WorldState). world_step it entry.event) is ∙
-    ap (λ (it : Entry). world_step (world_after trace count) it.event) found ∙
-    sym (world_after-next trace count entry below)
-
-pub refused_after : (trace : Trace) (count : ℕ) (world : WorldState) (entry : Entry) → IsRun trace
-    → count < length trace.entries → world ≡ world_after trace count → entry ≡ get_or trace.entries count entry
-    → cause_of world entry.event ≡ None
-refused_after trace count world entry is_run below is found =
-    ap (λ (it : WorldState). cause_of it entry.event) is ∙
-    ap (λ (it : Entry). cause_of (world_after trace count) it.event) found ∙
-    not_refused trace count entry is_run below
-
--- what the code finds new
-pub record FindsNews (trace : Trace) (count : ℕ) (world next : WorldState) (objects : ℕ)
-    (news : List Tracked) : Type 0 where
-  pub world_is : world ≡ world_after trace count
-  pub next_is : next ≡ world_after trace (count + 1)
-  pub objects_are : objects ≡ length trace.setup.kinds
-  pub news_are : news ≡ news_from objects (sizes_of objects world.replicas) 0 next.replicas
-
-news_are_after : (trace : Trace) (count : ℕ) (world next : WorldState) (objects : ℕ) (news : List Tracked)
-    → FindsNews trace count world next objects news → news ≡ news_after trace count
-news_are_after trace count world next objects news finds =
-    finds.news_are ∙
-    ap (λ (it : ℕ). news_from it (sizes_of it world.replicas) 0 next.replicas) finds.objects_are ∙
-    ap (λ (it : WorldState). news_from (length trace.setup.kinds)
-    (sizes_of (length trace.setup.kinds) it.replicas) 0 next.replicas) finds.world_is ∙
-    ap (λ (it : WorldState). news_from (length trace.setup.kinds)
-    (sizes_of (length trace.setup.kinds) (world_after trace count).replicas) 0 it.replicas) finds.next_is
-
-pub accepted_found : (trace : Trace) (count : ℕ) (world next : WorldState) (objects : ℕ)
-    (news tracked : List Tracked) → FindsNews trace count world next objects news → Tracks trace count tracked
-    → AreAccepted next (with_all news tracked)
-accepted_found trace count world next objects news tracked finds tracks =
-    subst (λ (it : WorldState). AreAccepted it (with_all news tracked)) (sym finds.next_is)
-    (subst (λ (it : List Tracked). AreAccepted (world_after trace (count + 1)) (with_all it tracked))
-    (sym (news_are_after trace count world next objects news finds)) (accepted_next trace count tracked tracks))
-
-pub still_found : (trace : Trace) (count : ℕ) (world next : WorldState) (objects : ℕ)
-    (news tracked : List Tracked) → FindsNews trace count world next objects news → Tracks trace count tracked
-    → news ≡ [] → Tracks trace (count + 1) tracked
-still_found trace count world next objects news tracked finds tracks none =
-    tracks_still trace count tracked tracks (sym (news_are_after trace count world next objects news finds) ∙ none)
-
 -- before the first event
-pub accepted_begun : (trace : Trace) (world : WorldState) (objects : ℕ) (news : List Tracked)
-    → world ≡ world_after trace 0 → objects ≡ length trace.setup.kinds
-    → news ≡ news_from objects [] 0 world.replicas → AreAccepted world (with_all news [])
-accepted_begun trace world objects news is objects_are news_are =
-    let has : EachHas objects world.replicas =
-    subst (λ (it : ℕ). EachHas it world.replicas) (sym objects_are)
-    (subst (λ (it : WorldState). EachHas (length trace.setup.kinds) it.replicas) (sym is) (run_has trace 0)) in
-    subst (λ (it : List Tracked). AreAccepted world (with_all it [])) (sym news_are)
-    (accepted_opening objects world has)
+pub accepted_begun : (trace : Trace) (objects : ℕ) (rows : List Row) → objects ≡ length trace.setup.kinds
+    → AreKnown (world_after trace 0).replicas rows
+    → AreAccepted (world_after trace 0) (with_all (rows_tracked objects rows) [])
+accepted_begun trace objects rows objects_are known =
+    accepted_opening objects (world_after trace 0) rows
+    (subst (λ (it : ℕ). EachHas it (world_after trace 0).replicas) (sym objects_are) (run_has trace 0)) known

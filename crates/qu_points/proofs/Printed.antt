@@ -155,7 +155,8 @@ points_all trace operations index points past are =
     subst (λ (it : List OpRecord). ArePointsOf trace it points) (take_all index operations past) are
 
 pub adds_some : (trace : Trace) (operation : OpRecord) (event : ℕ) (point : Point) (old new : List Point)
-    → effect_of trace operation event operation.op → point ≡ point_at trace.setup operation event → new ≡ with_point point old
+    → effect_of trace operation event operation.op → point ≡ point_at trace.setup operation event
+    → new ≡ with_point point old
     → AddsPoint trace operation old new
 adds_some trace operation event point old new effect is added =
     inl (event, effect, added ∙ ap (λ (it : Point). with_point it old) is)

@@ -16,12 +16,13 @@ use Rattle.qu_stamp.specs.Candidate.{same}
 use Rattle.qu_stamp.specs.Stamp.{same_stamp}
 use Rattle.qu_stamp.proofs.Order.{same-self, same_stamp-self, equal_by_same, equal_by_same_stamp}
 use Rattle.qu_world.specs.State.{WorldState}
-use Rattle.qu_points.specs.declared.tracked.Tracked.{Tracked}
 use Rattle.qu_runs.specs.Accepted.{is_accepted}
-use Rattle.qu_points.specs.Tracker.{is_established, IsDecidedIn, is_of, is_tracked, is_child, is_next, SettlesTo, IsSettled, IsSound, AreAccepted}
+use Rattle.qu_runs.proofs.Small.{same_object}
+use Rattle.qu_known.specs.declared.tracked.Tracked.{Tracked}
+use Rattle.qu_known.specs.Tracked.{is_of, is_tracked}
+use Rattle.qu_points.specs.Tracker.{is_established, IsDecidedIn, is_child, is_next, SettlesTo, IsSettled, IsSound, AreAccepted}
 use Rattle.qu_points.proofs.DecidedWorlds.{accepted_by_decided}
 use Rattle.qu_points.proofs.Places.{position_none}
-use Rattle.qu_runs.proofs.Small.{same_object}
 
 -- ---- pairs
 

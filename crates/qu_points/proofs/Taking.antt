@@ -24,23 +24,23 @@ use Rattle.qu_objects.specs.Digesting.{act_digest}
 use Rattle.qu_stamp.specs.Stamp.{same_digest}
 use Rattle.qu_stamp.proofs.Order.{same_act-self, equal_by_same_act}
 use Rattle.std.specs.List.{list_any}
-use Rattle.qu_points.proofs.HandledActs.{handled_among, among_handled}
 use Rattle.qu_runs.specs.Digested.{IsHandled}
-use Rattle.qu_points.specs.declared.tracked.Tracked.{Tracked}
 use Rattle.qu_runs.specs.Accepted.{is_accepted}
-use Rattle.qu_points.specs.Tracker.{TellsFirst, TellsOf, Tracks}
 use Rattle.qu_runs.specs.Decided.{is_on, TookEffect}
 use Rattle.qu_runs.specs.Times.{world_after}
-use Rattle.qu_points.specs.Order.{DecidesAt, AnswersFirst, completed_effect, query_effect, effect_of}
 use Rattle.qu_runs.specs.Answers.{delivered_round, sends_answer, answers_at}
-use Rattle.qu_points.specs.Points.{NamedAct, act_mark, handled_acts, is_act, is_of_update, first_mark, answers_in}
 use Rattle.qu_runs.proofs.WorldGrowth.{has_more, world_after-grows, is_accepted-more}
+use Rattle.qu_runs.specs.Setting.{setting}
+use Rattle.qu_chain.specs.Decided.{IsDecided}
+use Rattle.qu_known.specs.declared.tracked.Tracked.{Tracked}
+use Rattle.qu_points.proofs.HandledActs.{handled_among, among_handled}
+use Rattle.qu_points.specs.Tracker.{TellsFirst, TellsOf, Tracks}
+use Rattle.qu_points.specs.Order.{DecidesAt, AnswersFirst, completed_effect, query_effect, effect_of}
+use Rattle.qu_points.specs.Points.{NamedAct, act_mark, handled_acts, is_act, is_of_update, first_mark, answers_in}
 use Rattle.qu_points.proofs.DecidedWorlds.{decided_is_accepted}
 use Rattle.qu_points.proofs.Settling.{IsTrackedAt, stands_in}
 use Rattle.qu_points.proofs.Places.{position_none}
 use Rattle.qu_points.proofs.Firsts.{HasMark, IsUpTo, first_mark_found, first_mark_least}
-use Rattle.qu_runs.specs.Setting.{setting}
-use Rattle.qu_chain.specs.Decided.{IsDecided}
 
 -- ---- updates
 
@@ -142,7 +142,8 @@ module _ (trace : Trace) (tracked : List Tracked) (tracks : Tracks trace (length
   pub decides_nowhere : first_mark client parts digest tracked ≡ None → (event : ℕ)
       → ¬ (DecidesAt trace client number parts event)
   decides_nowhere none event decides =
-      let up_to : IsUpTo (first_mark client parts digest tracked) event = took_marks event decides.happened decides.by_then in
+      let up_to : IsUpTo (first_mark client parts digest tracked) event = took_marks event decides.happened
+      decides.by_then in
       none-some up_to.0 (sym none ∙ up_to.1)
 
 -- ---- queries

@@ -1,8 +1,9 @@
 -- What has to be known of a run to find the points of its operations.
 use Rattle.std.specs.Prelude.{◌≡◌, length, map}
 use Rattle.qu_trace.specs.declared.trace.Trace.{Trace}
+use Rattle.qu_known.specs.Answers.{answered_at}
 use Rattle.qu_points.specs.declared.facts.Facts.{Facts}
-use Rattle.qu_points.specs.Points.{handled_acts, answered_at}
+use Rattle.qu_points.specs.Points.{handled_acts}
 use Rattle.qu_points.specs.Tracker.{Tracks}
 
 pub record AreFacts (trace : Trace) (facts : Facts) : Type 0 where

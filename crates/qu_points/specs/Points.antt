@@ -1,8 +1,7 @@
 -- The points of some operations of a trace, in their order.
-use Rattle.std.specs.Prelude.{◌≡◌, ℕ, Bool, true, false, not, ◌==◌, ◌&&◌, ◌+◌, if◌then◌else◌, List, [], ◌∷◌, min, position, Option, None, Some, option_map, Result, Ok, IsTrue, Contains, ◌⊎◌}
+use Rattle.std.specs.Prelude.{◌≡◌, ℕ, Bool, true, false, not, ◌==◌, ◌&&◌, ◌+◌, if◌then◌else◌, List, [], ◌∷◌, min, position, Option, None, Some, option_map, IsTrue, Contains, ◌⊎◌}
 use Rattle.std.specs.List.{AllPairs, list_any, filter_map}
 use Rattle.std.specs.Option.{option_eq}
-use Rattle.qu_base.specs.declared.bad_text.BadText.{BadText}
 use Rattle.qu_base.specs.declared.party.ClientId.{ClientId}
 use Rattle.qu_base.specs.declared.party.Digest.{Digest}
 use Rattle.qu_base.specs.declared.party.ObjectId.{ObjectId}
@@ -14,10 +13,7 @@ use Rattle.qu_objects.specs.Digesting.{act_digest, PartsFit}
 use Rattle.qu_objects.specs.Parts.{are_parts}
 use Rattle.qu_frames.specs.declared.frame.Body.{Body}
 use Rattle.qu_frames.specs.declared.frame.Body.TheVariants as body
-use Rattle.qu_frames.specs.declared.frame.Frame.{Frame}
 use Rattle.qu_frames.specs.declared.frame.Frame.TheVariants as frame
-use Rattle.qu_frames.specs.declared.frame.Letter.{Letter}
-use Rattle.qu_frames.specs.Decoding.{decoded}
 use Rattle.qu_machine.specs.declared.record.OpRecord.{OpRecord}
 use Rattle.qu_machine.specs.declared.record.Point.{Point}
 use Rattle.qu_machine.specs.PointTests.{same_op}
@@ -25,11 +21,11 @@ use Rattle.qu_trace.specs.declared.trace.Entry.{Entry}
 use Rattle.qu_trace.specs.declared.trace.Setup.{Setup}
 use Rattle.qu_trace.specs.declared.trace.Trace.{Trace}
 use Rattle.qu_trace.specs.Faulty.{is_faulty}
-use Rattle.qu_points.specs.declared.answers.Answered.{Answered}
-use Rattle.qu_points.specs.declared.tracked.Tracked.{Tracked}
 use Rattle.qu_runs.specs.Digested.{Request, handled_by}
 use Rattle.qu_runs.specs.Answers.{answers}
 use Rattle.qu_runs.specs.Decided.{is_on}
+use Rattle.qu_known.specs.declared.answers.Answered.{Answered}
+use Rattle.qu_known.specs.declared.tracked.Tracked.{Tracked}
 use Rattle.qu_points.specs.Order.{effect_of, body_text, is_earlier, are_in_order}
 
 -- ---- updates
@@ -95,20 +91,6 @@ act_mark client number parts acts tracked =
 abbrev pub answers_in : ClientId → ℕ → ℕ → Entry → Bool
 answers_in client number round entry = list_any (answers client number round) entry.letters
 
--- the round that was answered, if what was decoded is an answer
-abbrev pub answered : Result Frame BadText → Option Answered
-answered (Ok (frame.Reply replica client number round verdict culled shown mac)) =
-    Some (record { client = client; number = number; round = round })
-answered _ = None
-
--- the same of a letter
-abbrev pub letter_answered : Letter → Option Answered
-letter_answered letter = answered (decoded letter.text)
-
--- the rounds that the letters of an entry answer
-unfoldable pub answered_at : Entry → List Answered
-answered_at entry = filter_map letter_answered entry.letters
-
 -- it is this round
 abbrev pub is_answered : Answered → Answered → Bool
 is_answered asked round =
@@ -150,7 +132,8 @@ pub record IsFaultyAct (setup : Setup) (acts : List NamedAct) (operation : OpRec
 -- the operations, and besides them the acts of faulty clients among these, each once
 pub record AddsFaultyActs (setup : Setup) (acts : List NamedAct) (old new : List OpRecord) : Type 0 where
   pub distinct : AllPairs AreDistinct new
-  pub sound : (operation : OpRecord) → Contains new operation → Contains old operation ⊎ IsFaultyAct setup acts operation
+  pub sound : (operation : OpRecord) → Contains new operation
+      → Contains old operation ⊎ IsFaultyAct setup acts operation
   pub kept : (operation : OpRecord) → Contains old operation → Contains new operation
   pub complete : (act : NamedAct) → Contains acts act → is_faulty setup (party.Client act.0) ≡ true
       → Contains new (as_operation act)

@@ -1,59 +1,24 @@
 -- What is tracked in a run: each candidate that some replica accepted, with the event after which it
 -- was decided.
-use Rattle.std.specs.Prelude.{◌≡◌, ℕ, zero, suc, Bool, ◌+◌, ◌==◌, ◌&&◌, ◌||◌, if◌then◌else◌, List, [], ◌∷◌, ◌++◌, length, map, drop, slice_index_or, Option, None, Some, is_some, is_none, OnSome, All, ◌<◌, nat_le, count_by, IsTrue, not}
+use Rattle.std.specs.Prelude.{◌≡◌, ℕ, Bool, ◌+◌, ◌==◌, ◌&&◌, ◌||◌, if◌then◌else◌, List, [], ◌∷◌, ◌++◌, Option, None, Some, is_some, is_none, OnSome, All, ◌<◌, nat_le, count_by, IsTrue, not}
 use Rattle.std.specs.List.{list_any}
 use Rattle.qu_base.specs.declared.party.ObjectId.{ObjectId}
 use Rattle.qu_stamp.specs.declared.candidate.Candidate.{Candidate}
 use Rattle.qu_stamp.specs.Stamp.{same_stamp}
 use Rattle.qu_stamp.specs.Candidate.{same}
-use Rattle.qu_replica.specs.State.{ReplicaState, own_candidates}
 use Rattle.qu_trace.specs.declared.trace.Trace.{Trace}
 use Rattle.qu_world.specs.State.{WorldState}
-use Rattle.qu_points.specs.declared.tracked.Tracked.{Tracked}
 use Rattle.qu_runs.specs.Accepted.{accepts, is_accepted}
 use Rattle.qu_runs.specs.Times.{world_after}
 use Rattle.qu_base.specs.Bounds.{quorum}
 use Rattle.qu_chain.specs.Decided.{IsDecided}
 use Rattle.qu_world.specs.Run.{IsRun}
 use Rattle.qu_runs.specs.Setting.{setting}
-
--- whether this candidate of this object is the tracked one
-abbrev pub is_of : ObjectId → Candidate → Tracked → Bool
-is_of object candidate tracked = (tracked.object).0 == object.0 && same tracked.candidate candidate
-
-unfoldable pub is_tracked : ObjectId → Candidate → List Tracked → Bool
-is_tracked object candidate tracked = list_any (is_of object candidate) tracked
+use Rattle.qu_known.specs.declared.tracked.Tracked.{Tracked}
+use Rattle.qu_known.specs.Tracked.{is_tracked, undecided}
+use Rattle.qu_known.specs.Known.{Row, knows}
 
 -- ---- what is new
-
--- a candidate of which nothing is known but that it was accepted
-abbrev pub undecided : ObjectId → Candidate → Tracked
-undecided object candidate = record { object = object; candidate = candidate; decided = None }
-
--- how many candidates a replica has of each of the objects from this number on
-unfoldable pub sizes_from : ReplicaState → ℕ → ℕ → List ℕ
-sizes_from replica object zero = []
-sizes_from replica object (suc count) =
-    length (own_candidates replica (record { 0 = object })) ∷ sizes_from replica (object + 1) count
-
-abbrev pub sizes_of : ℕ → List ReplicaState → List (List ℕ)
-sizes_of objects replicas = map (λ replica. sizes_from replica 0 objects) replicas
-
--- what a replica has of an object beyond so many candidates
-abbrev pub news_on : ℕ → ReplicaState → ObjectId → List Tracked
-news_on seen replica object = map (undecided object) (drop seen (own_candidates replica object))
-
--- what a replica has of the objects from this number on beyond what was seen
-unfoldable pub news_at : List ℕ → ReplicaState → ℕ → ℕ → List Tracked
-news_at seen replica object zero = []
-news_at seen replica object (suc count) =
-    news_on (slice_index_or seen object 0) replica (record { 0 = object }) ++ news_at seen replica (object + 1) count
-
--- what the replicas from this number on have beyond what was seen
-unfoldable pub news_from : ℕ → List (List ℕ) → ℕ → List ReplicaState → List Tracked
-news_from objects seen index [] = []
-news_from objects seen index (replica ∷ later) =
-    news_at (slice_index_or seen index []) replica 0 objects ++ news_from objects seen (index + 1) later
 
 -- with another one, which is tracked once
 unfoldable pub with_tracked : Tracked → List Tracked → List Tracked
@@ -92,6 +57,17 @@ unfoldable pub is_next : WorldState → List Tracked → Tracked → Bool
 is_next world all tracked =
     is_none tracked.decided && (is_established world tracked.object tracked.candidate || list_any
     (is_child tracked) all)
+
+-- the same by what is known of the replicas
+abbrev pub is_known_established : ℕ → List Row → ObjectId → Candidate → Bool
+is_known_established bounds rows object candidate =
+    not candidate.stamp.barrier
+    && nat_le (quorum bounds) (count_by (knows object candidate) rows + bounds)
+
+unfoldable pub is_next_known : ℕ → List Row → List Tracked → Tracked → Bool
+is_next_known bounds rows all tracked =
+    is_none tracked.decided
+    && (is_known_established bounds rows tracked.object tracked.candidate || list_any (is_child tracked) all)
 
 -- the mark of a candidate, after the marks of this event were made
 abbrev pub SettlesTo : WorldState → ℕ → ObjectId → Candidate → Option ℕ → Option ℕ → Type 0

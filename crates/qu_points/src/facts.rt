@@ -3,10 +3,10 @@ ghost use Rattle.qu_world.specs.Run.{IsRun};
 ghost use Rattle.qu_points.specs.Facts.{AreFacts};
 
 use super::acts::handled_acts;
-use super::answers::{Answered, answers};
-use super::replay::replay;
+use super::findings::{Findings, find};
 use super::tracker::Tracker;
 use qu_base::{ClientId, List, NoMemory};
+use qu_known::Answered;
 use qu_objects::Act;
 use qu_trace::Trace;
 use std::alloc::Global;
@@ -28,10 +28,11 @@ impl Facts {
         requires { IsRun trace.now }
         ensures { IfOk result (λ facts. AreFacts trace.now facts) }
     {
+        let Findings { tracker, answers } = find(alloc, trace)?;
         Ok(Facts {
-            tracker: replay(alloc, trace)?,
+            tracker,
             acts: handled_acts(alloc, trace)?,
-            answers: answers(alloc, trace.entries.as_slice())?,
+            answers,
         })
     }
 }

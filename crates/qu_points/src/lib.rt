@@ -7,10 +7,8 @@ mod before;
 mod effects;
 mod facts;
 mod faulty;
-mod news;
+mod findings;
 mod order;
-mod replay;
-mod tracked;
 mod tracker;
 mod verifier;
 

@@ -1,15 +1,14 @@
-ghost use Rattle.std.specs.Prelude.{◌≡◌, ◌+◌, ◌&&◌, ℕ, not, nat_le, [], ◌∷◌, ◌++◌, count_by, position, is_some, All, OnOk};
+ghost use Rattle.std.specs.Prelude.{◌≡◌, ◌&&◌, ℕ, [], ◌∷◌, ◌++◌, position, is_some, All, OnOk};
 ghost use Rattle.std.specs.List.{AllZip, list_any};
-ghost use Rattle.qu_base.specs.Bounds.{quorum};
-ghost use Rattle.qu_runs.specs.Accepted.{accepts};
-ghost use Rattle.qu_points.specs.Tracker.{is_established, is_tracked, with_tracked, with_all, is_child, is_next, IsSettled, IsSound, AreAccepted};
+ghost use Rattle.qu_runs.specs.Times.{world_after};
+ghost use Rattle.qu_known.specs.Known.{AreKnown};
+ghost use Rattle.qu_known.specs.Tracked.{is_tracked};
+ghost use Rattle.qu_points.specs.Tracker.{is_known_established, is_next_known, with_tracked, with_all, is_child, IsSettled, IsSound, AreAccepted};
 
-use super::news::own_candidates;
-use super::tracked::Tracked;
 use qu_base::{Bounds, List, NoMemory, ObjectId};
-use qu_replica::Replica;
+use qu_known::{Known, Tracked};
 use qu_stamp::Candidate;
-use qu_world::World;
+use qu_trace::Trace;
 use std::alloc::Global;
 use std::marker::Model;
 
@@ -21,7 +20,7 @@ pub struct Tracker {
 
 impl Model for Tracker {
     ghost use Rattle.std.specs.Prelude.{List};
-    ghost use Rattle.qu_points.specs.declared.tracked.Tracked.{Tracked};
+    ghost use Rattle.qu_known.specs.declared.tracked.Tracked.{Tracked};
 
     ghost Value = { List Tracked };
 
@@ -68,7 +67,7 @@ impl Tracker {
         Ok(())
     }
 
-    #[tactic(auto, unfolding(crate::specs::Tracker::is_tracked, qu_stamp::specs::Stamp::same_stamp))]
+    #[tactic(auto, unfolding(qu_known::specs::Tracked::is_tracked, qu_stamp::specs::Stamp::same_stamp))]
     fn is_tracked(&self, object: ObjectId, candidate: &Candidate) -> bool
         ensures { result ≡ is_tracked object candidate.now self.now }
     {
@@ -76,37 +75,35 @@ impl Tracker {
             && tracked.candidate == *candidate)
     }
 
-    /// Marks what is decided in this world, and was not before, with this event.
-    pub fn settle(&mut self, world: &World, bounds: &Bounds, event: u64)
-        requires bounds { world.now.setup.bounds ≡ bounds.now }
-        requires accepted { AreAccepted world.now self.old }
-        requires sound { All (IsSound world.now) self.old }
-        ensures { AllZip (IsSettled world.now event) self.old self.new }
+    /// Marks what is decided after this event, and was not before, with the event.
+    pub fn settle(&mut self, trace: &Trace, known: &Known, event: u64)
+        requires known { AreKnown (world_after trace.now event).replicas known.now }
+        requires accepted { AreAccepted (world_after trace.now event) self.old }
+        requires sound { All (IsSound (world_after trace.now event)) self.old }
+        ensures { AllZip (IsSettled (world_after trace.now event) event) self.old self.new }
     {
-        while let Some(index) = self.next(world, bounds) {
+        while let Some(index) = self.next(known, &trace.setup.bounds) {
             self.tracked[index].decided = Some(event);
         }
     }
 
     /// The first undecided candidate that is to be decided by a rule.
-    fn next(&self, world: &World, bounds: &Bounds) -> Option<usize>
-        requires { world.now.setup.bounds ≡ bounds.now }
-        ensures { result ≡ position (is_next world.now self.now) self.now }
+    fn next(&self, known: &Known, bounds: &Bounds) -> Option<usize>
+        ensures { result ≡ position (is_next_known bounds.now known.now self.now) self.now }
     {
         self.tracked
             .iter()
-            .position(|tracked| self.is_next(world, bounds, tracked))
+            .position(|tracked| self.is_next(known, bounds, tracked))
     }
 
-    #[tactic(auto, unfolding(crate::specs::Tracker::is_next))]
-    fn is_next(&self, world: &World, bounds: &Bounds, tracked: &Tracked) -> bool
-        requires { world.now.setup.bounds ≡ bounds.now }
-        ensures { result ≡ is_next world.now self.now tracked.now }
+    #[tactic(auto, unfolding(crate::specs::Tracker::is_next_known))]
+    fn is_next(&self, known: &Known, bounds: &Bounds, tracked: &Tracked) -> bool
+        ensures { result ≡ is_next_known bounds.now known.now self.now tracked.now }
     {
         if tracked.decided.is_some() {
             return false;
         }
-        is_established(world.replicas(), bounds, tracked) || self.has_child(tracked)
+        is_established(known, bounds, tracked) || self.has_child(tracked)
     }
 
     /// Whether a decided candidate rests upon this one.
@@ -129,24 +126,10 @@ fn is_child(tracked: &Tracked, other: &Tracked) -> bool
 
 /// Whether the candidate has no barrier, and so many replicas accepted it that with as many liars as there
 /// may be they make a quorum.
-fn is_established(replicas: &[Replica], bounds: &Bounds, tracked: &Tracked) -> bool
-    ensures { result ≡ (not tracked.now.candidate.stamp.barrier && nat_le (quorum bounds.now)
-        (count_by (accepts tracked.now.object tracked.now.candidate) replicas.now + bounds.now)) }
+fn is_established(known: &Known, bounds: &Bounds, tracked: &Tracked) -> bool
+    ensures { result ≡ is_known_established bounds.now known.now tracked.now.object tracked.now.candidate }
 {
-    let accepting = replicas
-        .iter()
-        .filter(|replica| accepts(replica, tracked))
-        .count();
+    let accepting = known.accepting(tracked);
     !tracked.candidate.stamp.barrier
         && accepting + usize::from(bounds.b()) >= usize::from(bounds.q())
-}
-
-/// Whether a replica accepted the candidate.
-fn accepts(replica: &Replica, tracked: &Tracked) -> bool
-    ensures { result ≡ accepts tracked.now.object tracked.now.candidate replica.now }
-{
-    match replica.history(tracked.object) {
-        Some(history) => history.holds(&tracked.candidate),
-        None => false,
-    }
 }

@@ -1,6 +1,6 @@
 use Rattle.std.proofs.Common.{◌∙◌}
+use Rattle.qu_known.proofs.Filtered.{filtered_more}
 use Rattle.qu_points.specs.Points.{act_at}
-use Rattle.qu_points.proofs.Filtered.{filtered_more}
 use Rattle.qu_points.proofs.acts.handled_acts.Goals as goal
 
 pub loop-entry-preserved : goal.loop-entry-preserved

@@ -1,5 +1,5 @@
 use Rattle.std.proofs.Common.{None, sym, ap, refl, ◌∙◌}
-use Rattle.qu_points.specs.declared.answers.Answered.{Answered}
+use Rattle.qu_known.specs.declared.answers.Answered.{Answered}
 use Rattle.qu_points.specs.Points.{first_answer}
 use Rattle.qu_points.proofs.AnsweredRounds.{first_answered}
 use Rattle.qu_points.proofs.Taking.{answered, unanswered}

@@ -1,0 +1,9 @@
+pub mod Held
+pub mod Filtered
+pub mod Rows
+pub mod Lengths
+pub mod Replies
+pub mod Happened
+pub mod FitReplicas
+pub mod Seeing
+pub mod Learning

@@ -1,0 +1,12 @@
+//! What the replies of a run show of the histories of its replicas, which is all that replicas accepted.
+#![tactic(auto)]
+
+mod answers;
+mod entries;
+mod known;
+mod tracked;
+
+pub use answers::{Answered, round_answered};
+pub use entries::{are_of_bytes, see_entry};
+pub use known::{Known, Told};
+pub use tracked::Tracked;
