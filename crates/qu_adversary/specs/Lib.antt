@@ -1,3 +1,4 @@
 pub mod Sealing
 pub mod Fetched
 pub mod Replying
+pub mod Requesting

@@ -1,7 +1,8 @@
-use super::{fetched_of, reply_of, sealed_for};
+use super::{fetched_of, reply_of, request_of, sealed_for};
 use qu_base::{Bounds, ClientId, List, ObjectId, Party, ReplicaId};
-use qu_frames::{Frame, Refusal, Verdict, receive};
-use qu_history::History;
+use qu_frames::{Body, Frame, Refusal, Verdict, receive};
+use qu_history::{History, SetOf, Sets};
+use qu_objects::{Act, Method};
 use qu_seal::KeyRing;
 use qu_stamp::Stamp;
 use std::test::Fail;
@@ -53,5 +54,34 @@ fn a_replica_takes_what_was_made_as_fetched(rt: HostRuntime) -> Result<(), Fail>
         )
     );
     assert!(rt; receive(alloc, &keys, Party::Replica(ReplicaId(3)), text.as_slice())?.is_none());
+    Ok(())
+}
+
+#[test]
+fn a_replica_takes_a_made_request(rt: HostRuntime) -> Result<(), Fail> {
+    let alloc = rt.alloc();
+    let keys = KeyRing::derive(7, &Bounds::new(1)?, 2);
+    let (me, to) = (ClientId(2), ReplicaId(3));
+    let set = SetOf {
+        object: ObjectId(0),
+        entries: List::new(alloc),
+    };
+    let sets = Sets::new(List::one(alloc, set)?).ok_or("no sets")?;
+    let parts = List::one(alloc, (ObjectId(0), Method::Add(5)))?;
+    let body = Body::Act(Act::new(parts)?);
+    let text = request_of(alloc, &keys, me, to, 4, 3, &sets, &body)?;
+    let taken = receive(alloc, &keys, Party::Replica(to), text.as_slice())?;
+    assert!(rt;
+        matches!(
+            taken,
+            Some(Frame::Request {
+                client: ClientId(2),
+                number: 4,
+                round: 3,
+                ..
+            })
+        )
+    );
+    assert!(rt; receive(alloc, &keys, Party::Replica(ReplicaId(2)), text.as_slice())?.is_none());
     Ok(())
 }

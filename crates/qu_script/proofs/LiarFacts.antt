@@ -1,85 +1,73 @@
--- Facts on the lines that list faulty replicas.
-use Rattle.std.proofs.Common.{◌≡◌, ℕ, suc, IsTrue, ◌+◌, ◌≤◌, List, [], ◌∷◌, ◌++◌, length, Option, None, Some, refl, sym, ap, ◌∙◌, append_assoc, append-nil, arith}
+-- Facts on the lines that list faulty parties.
+use Rattle.std.proofs.Common.{◌≡◌, ℕ, ◌+◌, ◌≤◌, true, cond, nat_lt, IsTrue, List, [], ◌∷◌, ◌++◌, length, None, Some, refl, sym, ap, ◌∙◌, arith}
 use Rattle.std.specs.Prelude.{count_by}
-use Rattle.std.specs.List.{list_all}
-use Rattle.std.specs.Option.{option_map}
-use Rattle.std.proofs.lemmas.Bool.{and_from}
-use Rattle.std.proofs.lemmas.List.Folds.{list_all-append}
-use Rattle.std.proofs.lemmas.List.Sums.{count_by-le-length}
+use Rattle.std.proofs.lemmas.Bool.{and_parts}
+use Rattle.std.proofs.lemmas.Bool.Decides.{nat_tests}
+use Rattle.std.proofs.lemmas.List.{length_push}
+use Rattle.std.proofs.lemmas.List.Sums.{count_by-le-length, sum_by_push}
+use Rattle.qu_base.specs.declared.party.ClientId.{ClientId}
 use Rattle.qu_base.specs.declared.party.Party.{Party}
 use Rattle.qu_base.specs.declared.party.Party.TheVariants as party
-use Rattle.qu_base.specs.declared.party.ReplicaId.{ReplicaId}
 use Rattle.qu_trace.specs.Faulty.{is_replica}
-use Rattle.qu_script.specs.Text.{lines_of, words_of}
-use Rattle.qu_script.specs.Liars.{liar_of, first_liar, or_no_liar, liars_from}
-use Rattle.qu_script.proofs.TextFacts.{lines_of-nil}
+use Rattle.qu_script.specs.Text.{words_of}
+use Rattle.qu_script.specs.Liars.{may_follow, liar_of, or_these, liars_from}
 
--- ---- the first line
+-- ---- lines
 
-pub first_none : (bounds least : ℕ) (text : List ℕ) → length text ≡ 0 → first_liar bounds least (lines_of text) ≡ None
-unfolding first_liar
-first_none bounds least text empty = ap (first_liar bounds least) (lines_of-nil text empty)
-
-pub first_found : (bounds least : ℕ) (text first rest : List ℕ) (found : Option ReplicaId)
-    → lines_of text ≡ first ∷ lines_of rest → found ≡ liar_of bounds least (words_of first)
-    → first_liar bounds least (lines_of text) ≡ option_map (λ me. (me, lines_of rest)) found
-unfolding first_liar
-first_found bounds least text first rest found cut read =
-    ap (first_liar bounds least) cut ∙ ap (option_map (λ me. (me, lines_of rest))) (sym read)
-
--- ---- all lines
-
--- the faulty replicas so far with those of the texts
-abbrev pub liars_with : ℕ → List Party → ℕ → ℕ → List (List ℕ) → List Party × List (List ℕ)
-liars_with bounds liars least count texts =
-    (liars ++ (liars_from bounds least count texts).0, (liars_from bounds least count texts).1)
-
-abbrev onto : List Party → List Party × List (List ℕ) → List Party × List (List ℕ)
-onto liars found = (liars ++ found.0, found.1)
-
-liars_from-suc : (bounds least count : ℕ) (texts : List (List ℕ)) → liars_from bounds least (suc count) texts
-    ≡ or_no_liar (first_liar bounds least texts) texts (λ me later. liars_from bounds (me.0 + 1) count later)
+liars_from-cons : (bounds clients : ℕ) (liars : List Party) (text : List ℕ) (texts : List (List ℕ))
+    → liars_from bounds clients liars (text ∷ texts)
+    ≡ or_these (liars, text ∷ texts) (liar_of bounds clients liars (words_of text))
+    (λ who. liars_from bounds clients (liars ++ who ∷ []) texts)
 unfolding liars_from
-liars_from-suc bounds least count texts = refl
+liars_from-cons bounds clients liars text texts = refl
 
-pub liars_more : (bounds : ℕ) (liars : List Party) (least left count : ℕ) (texts later : List (List ℕ))
-    (me : ReplicaId) → count ≡ suc left → first_liar bounds least texts ≡ Some (me, later)
-    → liars_with bounds (liars ++ party.Replica me ∷ []) (me.0 + 1) left later ≡ liars_with bounds liars least count
-    texts
-liars_more bounds liars least left count texts later me is found =
-    sym (ap (λ (it : ℕ). liars_with bounds liars least it texts) is
-    ∙ ap (onto liars) (liars_from-suc bounds least left texts
-    ∙ ap (λ it. or_no_liar it texts (λ me later. liars_from bounds (me.0 + 1) left later)) found)
-    ∙ ap (λ (all : List Party). (all, (liars_from bounds (me.0 + 1) left later).1))
-    (sym (append_assoc liars (party.Replica me ∷ []) (liars_from bounds (me.0 + 1) left later).0)))
-
-pub liars_stop : (bounds : ℕ) (liars : List Party) (least left count : ℕ) (texts : List (List ℕ))
-    → count ≡ suc left → first_liar bounds least texts ≡ None
-    → liars_with bounds liars least count texts ≡ (liars, texts)
-liars_stop bounds liars least left count texts is none =
-    ap (λ (it : ℕ). liars_with bounds liars least it texts) is
-    ∙ ap (onto liars) (liars_from-suc bounds least left texts
-    ∙ ap (λ it. or_no_liar it texts (λ me later. liars_from bounds (me.0 + 1) left later)) none)
-    ∙ ap (λ (all : List Party). (all, texts)) (append-nil liars)
-
-liars_from-zero : (bounds least : ℕ) (texts : List (List ℕ)) → liars_from bounds least 0 texts ≡ ([], texts)
+liars_from-nil : (bounds clients : ℕ) (liars : List Party) → liars_from bounds clients liars [] ≡ (liars, [])
 unfolding liars_from
-liars_from-zero bounds least texts = refl
+liars_from-nil bounds clients liars = refl
 
-pub liars_end : (bounds : ℕ) (liars : List Party) (least count : ℕ) (texts : List (List ℕ)) → count ≡ 0
-    → liars_with bounds liars least count texts ≡ (liars, texts)
-liars_end bounds liars least count texts is =
-    ap (λ (it : ℕ). liars_with bounds liars least it texts) is
-    ∙ ap (onto liars) (liars_from-zero bounds least texts)
-    ∙ ap (λ (all : List Party). (all, texts)) (append-nil liars)
+pub liars_more : (bounds clients : ℕ) (liars : List Party) (who : Party) (text : List ℕ)
+    (rest after : List (List ℕ)) → rest ≡ text ∷ after
+    → liar_of bounds clients liars (words_of text) ≡ Some who
+    → liars_from bounds clients (liars ++ who ∷ []) after ≡ liars_from bounds clients liars rest
+liars_more bounds clients liars who text rest after cut read =
+    sym (ap (liars_from bounds clients liars) cut ∙ liars_from-cons bounds clients liars text after
+    ∙ ap (λ found. or_these (liars, text ∷ after) found
+    (λ who. liars_from bounds clients (liars ++ who ∷ []) after)) read)
 
--- ---- how many they are
+pub liars_stop : (bounds clients : ℕ) (liars : List Party) (text : List ℕ) (rest after : List (List ℕ))
+    → rest ≡ text ∷ after → liar_of bounds clients liars (words_of text) ≡ None
+    → liars_from bounds clients liars rest ≡ (liars, rest)
+liars_stop bounds clients liars text rest after cut read =
+    ap (liars_from bounds clients liars) cut ∙ liars_from-cons bounds clients liars text after
+    ∙ ap (λ found. or_these (liars, text ∷ after) found
+    (λ who. liars_from bounds clients (liars ++ who ∷ []) after)) read
+    ∙ ap (λ (texts : List (List ℕ)). (liars, texts)) (sym cut)
 
-pub few_replicas : (bounds : ℕ) (liars : List Party) → length liars ≤ bounds → count_by is_replica liars ≤ bounds
-few_replicas bounds liars few = omega (arith, count_by-le-length is_replica liars)
+pub liars_end : (bounds clients : ℕ) (liars : List Party) (rest : List (List ℕ)) → rest ≡ []
+    → liars_from bounds clients liars rest ≡ (liars, rest)
+liars_end bounds clients liars rest none =
+    ap (liars_from bounds clients liars) none ∙ liars_from-nil bounds clients liars
+    ∙ ap (λ (texts : List (List ℕ)). (liars, texts)) (sym none)
 
--- ---- of what kind they are
+-- ---- how many replicas they are
 
-pub replicas_push : (liars : List Party) (me : ReplicaId) → IsTrue (list_all is_replica liars)
-    → IsTrue (list_all is_replica (liars ++ party.Replica me ∷ []))
-replicas_push liars me all = list_all-append is_replica liars (party.Replica me ∷ []) ∙ and_from _ _ all refl
+count-client : (liars : List Party) (me : ClientId) → count_by is_replica (liars ++ party.Client me ∷ [])
+    ≡ count_by is_replica liars
+count-client liars me =
+    let pushed : count_by is_replica (liars ++ party.Client me ∷ []) ≡ count_by is_replica liars + 0 =
+    sum_by_push (λ (it : Party). cond (is_replica it) 1 0) liars (party.Client me) in
+    omega (arith, pushed)
+
+-- one party more that may be listed
+pub few_more : (bounds : ℕ) (liars : List Party) (who : Party) → IsTrue (may_follow bounds liars who)
+    → count_by is_replica liars ≤ bounds → count_by is_replica (liars ++ who ∷ []) ≤ bounds
+few_more bounds liars (party.Replica me) listed few =
+    let room : nat_lt (length liars) bounds ≡ true = (and_parts _ _ listed).0 in
+    grind (
+      arith,
+      nat_tests,
+      count_by-le-length is_replica (liars ++ party.Replica me ∷ []),
+      length_push liars (party.Replica me),
+      room,
+    )
+few_more bounds liars (party.Client me) listed few = omega (arith, count-client liars me, few)

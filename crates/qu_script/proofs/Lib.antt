@@ -6,6 +6,5 @@ pub mod LiarFacts
 pub mod ScriptFacts
 pub mod LetterFacts
 pub mod FarFacts
-pub mod SetupKept
 pub mod WaitingFacts
 pub mod RunFacts

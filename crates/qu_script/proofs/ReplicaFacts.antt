@@ -4,12 +4,12 @@ use Rattle.std.specs.Borrow.{Bor}
 use Rattle.std.specs.Option.{option_map, option_and_then}
 use Rattle.std.proofs.lemmas.List.{at_drop_more, at_drop_all, get_or-map, length-map}
 use Rattle.qu_base.specs.declared.party.ReplicaId.{ReplicaId}
-use Rattle.qu_script.specs.Parties.{replica_from, replicas_of}
+use Rattle.qu_script.specs.Parties.{replica_in, replicas_of}
 use Rattle.qu_script.proofs.NumberFacts.{texts}
 
 replicas_of-cons : (bounds : ℕ) (word : List ℕ) (words : List (List ℕ))
     → replicas_of bounds (word ∷ words) ≡ option_and_then
-    (λ me. option_map (λ more. me ∷ more) (replicas_of bounds words)) (replica_from 0 bounds word)
+    (λ me. option_map (λ more. me ∷ more) (replicas_of bounds words)) (replica_in bounds word)
 unfolding replicas_of
 replicas_of-cons bounds word words = refl
 
@@ -33,16 +33,16 @@ one_more bounds replicas words found = option_map (λ more. replicas ++ more)
 
 step : (bounds : ℕ) (replicas : List ReplicaId) (i : ℕ) (words : List (Bor (List ℕ))) (d : Bor (List ℕ))
     → i < length words → replicas_with bounds replicas (drop i (texts words))
-    ≡ one_more bounds replicas (drop (i + 1) (texts words)) (replica_from 0 bounds (get_or words i d).now)
+    ≡ one_more bounds replicas (drop (i + 1) (texts words)) (replica_in bounds (get_or words i d).now)
 step bounds replicas i words d lt =
     at_drop_more (replicas_with bounds replicas) (texts words) i [] (simp length-map lt)
     ∙ ap (option_map (λ more. replicas ++ more))
     (replicas_of-cons bounds (get_or (texts words) i []) (drop (i + 1) (texts words)))
-    ∙ ap (λ w. one_more bounds replicas (drop (i + 1) (texts words)) (replica_from 0 bounds w))
+    ∙ ap (λ w. one_more bounds replicas (drop (i + 1) (texts words)) (replica_in bounds w))
     (get_or-map (λ w. w.now) words i d [] lt)
 
 pub replicas_more : (bounds : ℕ) (replicas : List ReplicaId) (i : ℕ) (me : ReplicaId) (words : List (Bor (List ℕ)))
-    (d : Bor (List ℕ)) → i < length words → replica_from 0 bounds (get_or words i d).now ≡ Some me
+    (d : Bor (List ℕ)) → i < length words → replica_in bounds (get_or words i d).now ≡ Some me
     → replicas_with bounds (replicas ++ me ∷ []) (drop (i + 1) (texts words)) ≡ replicas_with bounds replicas
     (drop i (texts words))
 replicas_more bounds replicas i me words d lt e =
@@ -51,7 +51,7 @@ replicas_more bounds replicas i me words d lt e =
     ∙ onto_back replicas me (replicas_of bounds (drop (i + 1) (texts words))))
 
 pub replicas_stop : (bounds : ℕ) (replicas : List ReplicaId) (i : ℕ) (words : List (Bor (List ℕ)))
-    (d : Bor (List ℕ)) → i < length words → replica_from 0 bounds (get_or words i d).now ≡ None
+    (d : Bor (List ℕ)) → i < length words → replica_in bounds (get_or words i d).now ≡ None
     → replicas_with bounds replicas (drop i (texts words)) ≡ None
 replicas_stop bounds replicas i words d lt e =
     step bounds replicas i words d lt ∙ ap (one_more bounds replicas (drop (i + 1) (texts words))) e

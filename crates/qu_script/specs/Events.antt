@@ -29,8 +29,8 @@ use Rattle.qu_script.specs.Script.{then_good, script_of, Fails}
 
 -- ---- one event
 
--- what is wrong with a line whose event is refused for this; a script that was read calls no client
--- that is not of its setup, and a refusal is never want of memory
+-- what is wrong with a line whose event is refused for this; a script that was read names no party
+-- that its setup does not have, and calls no faulty client, and a refusal is never want of memory
 abbrev pub kind_of : WorldFail → BadKind
 kind_of (fail.NoSuchLetter number) = kind.NoSuchLetter
 kind_of (fail.NoSuchActor party) = kind.UnknownLine

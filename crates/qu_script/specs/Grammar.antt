@@ -16,7 +16,7 @@ use Rattle.qu_script.specs.declared.line.Line.TheVariants.{Call, Deliver, Flow}
 use Rattle.qu_script.specs.declared.setup.SetupLine.{SetupLine}
 use Rattle.qu_script.specs.declared.setup.SetupLine.TheVariants.{Bounds, Seed, Clients, Object}
 use Rattle.qu_script.specs.Injecting.{inject_of, fake_of}
-use Rattle.qu_script.specs.Parties.{client_in}
+use Rattle.qu_script.specs.Parties.{correct_client}
 use Rattle.qu_script.specs.Text.{number_of, number_in}
 
 -- ---- numbers
@@ -105,10 +105,10 @@ call_by None op = None
 call_by (Some client) None = None
 call_by (Some client) (Some op) = Some (Call client op)
 
--- `C OP`, where there are so many clients
-unfoldable pub call_of : ℕ → List (List ℕ) → Option Line
-call_of clients [] = None
-call_of clients (client ∷ words) = call_by (client_in clients client) (op_of words)
+-- `C OP`, of a correct client
+unfoldable pub call_of : Setup → List (List ℕ) → Option Line
+call_of setup [] = None
+call_of setup (client ∷ words) = call_by (correct_client setup client) (op_of words)
 
 -- `L L ..`, at least one letter
 unfoldable pub deliver_of : List (List ℕ) → Option Line
@@ -124,7 +124,7 @@ flow_of (word ∷ words) = option_map (λ count. Flow (Some count)) (only_number
 unfoldable pub line_of_words : Setup → List (List ℕ) → Option Line
 line_of_words setup [] = None
 line_of_words setup (verb ∷ words) =
-    if bytes_eq verb (codes "call") then call_of setup.clients words
+    if bytes_eq verb (codes "call") then call_of setup words
     else (if bytes_eq verb (codes "deliver") then deliver_of words
     else (if bytes_eq verb (codes "flow") then flow_of words
     else (if bytes_eq verb (codes "inject") then inject_of setup words

@@ -10,7 +10,7 @@ use Rattle.qu_script.specs.declared.line.How.{How}
 use Rattle.qu_script.specs.declared.line.How.TheVariants as how
 use Rattle.qu_script.specs.declared.line.Line.{Line}
 use Rattle.qu_script.specs.declared.line.Line.TheVariants.{Inject, Fake}
-use Rattle.qu_script.specs.Parties.{replica_from, client_in, correct_replica, party_in, replicas_of, bytes_of}
+use Rattle.qu_script.specs.Parties.{replica_in, client_in, correct_replica, party_in, replicas_of, bytes_of}
 
 -- ---- given bytes
 
@@ -24,7 +24,7 @@ unfoldable pub inject_of : Setup → List (List ℕ) → Option Line
 inject_of setup [] = None
 inject_of setup (kind ∷ []) = None
 inject_of setup (kind ∷ word ∷ []) = None
-inject_of setup (kind ∷ word ∷ hex ∷ []) = inject_by (party_in setup kind word) (bytes_of hex)
+inject_of setup (kind ∷ word ∷ hex ∷ []) = inject_by (party_in setup.bounds setup.clients kind word) (bytes_of hex)
 inject_of setup (kind ∷ word ∷ hex ∷ more ∷ later) = None
 
 -- ---- made replies
@@ -64,4 +64,4 @@ fake_of setup (me ∷ []) = None
 fake_of setup (me ∷ client ∷ words) =
     option_and_then (λ me. option_and_then (λ client. option_and_then (λ found.
     fake_by me client found.0 (good_of setup.bounds found.1)) (how_of setup words))
-    (client_in setup.clients client)) (replica_from 0 setup.bounds me)
+    (client_in setup.clients client)) (replica_in setup.bounds me)

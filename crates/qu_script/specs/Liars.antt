@@ -1,40 +1,51 @@
--- The lines of a setup that list its faulty replicas.
-use Rattle.std.specs.Prelude.{ℕ, zero, suc, ◌+◌, ◌&&◌, List, [], ◌∷◌, Option, None, Some, if◌then◌else◌, codes}
-use Rattle.std.specs.Option.{option_map}
+-- The lines of a setup that list its faulty parties: replicas, as many as may lie at most, and then clients.
+use Rattle.std.specs.Prelude.{ℕ, ◌++◌, ◌&&◌, Bool, true, false, nat_lt, List, [], ◌∷◌, length, Option, None, Some, if◌then◌else◌, codes}
+use Rattle.std.specs.List.{list_all}
+use Rattle.std.specs.Option.{option_and_then}
 use Rattle.std.specs.Str.{bytes_eq}
 use Rattle.qu_base.specs.declared.party.Party.{Party}
 use Rattle.qu_base.specs.declared.party.Party.TheVariants as party
-use Rattle.qu_base.specs.declared.party.ReplicaId.{ReplicaId}
-use Rattle.qu_script.specs.Parties.{replica_from}
+use Rattle.qu_script.specs.Parties.{party_in}
 use Rattle.qu_script.specs.Text.{words_of}
 
--- `faulty replica R`, where R is not below this number and so many replicas may lie
-unfoldable pub liar_of : ℕ → ℕ → List (List ℕ) → Option ReplicaId
-liar_of bounds least [] = None
-liar_of bounds least (faulty ∷ []) = None
-liar_of bounds least (faulty ∷ replica ∷ []) = None
-liar_of bounds least (faulty ∷ replica ∷ word ∷ []) =
-    if bytes_eq faulty (codes "faulty") && bytes_eq replica (codes "replica")
-    then replica_from least bounds word else None
-liar_of bounds least (faulty ∷ replica ∷ word ∷ more ∷ later) = None
+-- replicas stand before clients, and both by rising numbers
+abbrev pub is_before : Party → Party → Bool
+is_before (party.Replica one) (party.Replica other) = nat_lt one.0 other.0
+is_before (party.Replica one) (party.Client other) = true
+is_before (party.Client one) (party.Replica other) = false
+is_before (party.Client one) (party.Client other) = nat_lt one.0 other.0
 
--- the faulty replica that the first text lists, and the texts behind it
-unfoldable pub first_liar : ℕ → ℕ → List (List ℕ) → Option (ReplicaId × List (List ℕ))
-first_liar bounds least [] = None
-first_liar bounds least (text ∷ texts) = option_map (λ me. (me, texts)) (liar_of bounds least (words_of text))
+-- behind these there is room for a client, and for a replica while fewer than may lie are listed
+abbrev pub has_room : ℕ → List Party → Party → Bool
+has_room bounds liars (party.Replica me) = nat_lt (length liars) bounds
+has_room bounds liars (party.Client me) = true
 
--- a faulty replica before the others
-abbrev pub with_liar : ReplicaId → List Party × List (List ℕ) → List Party × List (List ℕ)
-with_liar me found = (party.Replica me ∷ found.0, found.1)
+-- a party may be listed behind these
+abbrev pub may_follow : ℕ → List Party → Party → Bool
+may_follow bounds liars who = has_room bounds liars who && list_all (λ (liar : Party). is_before liar who) liars
 
-abbrev pub or_no_liar : Option (ReplicaId × List (List ℕ)) → List (List ℕ)
-    → (ReplicaId → List (List ℕ) → List Party × List (List ℕ)) → List Party × List (List ℕ)
-or_no_liar None texts next = ([], texts)
-or_no_liar (Some found) texts next = with_liar found.0 (next found.0 found.1)
+abbrev pub if_may_follow : ℕ → List Party → Party → Option Party
+if_may_follow bounds liars who = if may_follow bounds liars who then Some who else None
 
--- the faulty replicas that the first texts list, at most so many and rising from this number on, and the texts
--- behind them
-unfoldable pub liars_from : ℕ → ℕ → ℕ → List (List ℕ) → List Party × List (List ℕ)
-liars_from bounds least zero texts = ([], texts)
-liars_from bounds least (suc count) texts =
-    or_no_liar (first_liar bounds least texts) texts (λ me later. liars_from bounds (me.0 + 1) count later)
+-- `faulty replica R` or `faulty client C`, behind the lines that list these, where so many replicas may lie and there
+-- are so many clients
+unfoldable pub liar_of : ℕ → ℕ → List Party → List (List ℕ) → Option Party
+liar_of bounds clients liars [] = None
+liar_of bounds clients liars (faulty ∷ []) = None
+liar_of bounds clients liars (faulty ∷ kind ∷ []) = None
+liar_of bounds clients liars (faulty ∷ kind ∷ word ∷ []) =
+    if bytes_eq faulty (codes "faulty")
+    then option_and_then (if_may_follow bounds liars) (party_in bounds clients kind word) else None
+liar_of bounds clients liars (faulty ∷ kind ∷ word ∷ more ∷ later) = None
+
+abbrev pub or_these : List Party × List (List ℕ) → Option Party → (Party → List Party × List (List ℕ))
+    → List Party × List (List ℕ)
+or_these these None next = these
+or_these these (Some who) next = next who
+
+-- these faulty parties and those that the first texts list, and the texts behind them
+unfoldable pub liars_from : ℕ → ℕ → List Party → List (List ℕ) → List Party × List (List ℕ)
+liars_from bounds clients liars [] = (liars, [])
+liars_from bounds clients liars (text ∷ texts) =
+    or_these (liars, text ∷ texts) (liar_of bounds clients liars (words_of text))
+    (λ who. liars_from bounds clients (liars ++ who ∷ []) texts)

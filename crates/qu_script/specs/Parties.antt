@@ -15,35 +15,38 @@ use Rattle.qu_script.specs.Text.{number_in}
 
 -- ---- parties
 
--- a replica with a number that is not below this one, where so many may lie
-abbrev pub replica_from : ℕ → ℕ → List ℕ → Option ReplicaId
-replica_from least bounds word = option_map (λ number. record { 0 = number })
-    (number_in least (replicas bounds - 1) word)
+-- a replica, where so many may lie
+abbrev pub replica_in : ℕ → List ℕ → Option ReplicaId
+replica_in bounds word = option_map (λ number. record { 0 = number }) (number_in 0 (replicas bounds - 1) word)
 
 -- a client, where there are so many
 abbrev pub client_in : ℕ → List ℕ → Option ClientId
 client_in clients word = option_map (λ number. record { 0 = number }) (number_in 1 clients word)
 
+abbrev pub if_correct : {X : Type 0} → Setup → Party → X → Option X
+if_correct setup who me = if is_faulty setup who then None else Some me
+
 -- a correct replica
-abbrev pub if_correct : Setup → ReplicaId → Option ReplicaId
-if_correct setup me = if is_faulty setup (party.Replica me) then None else Some me
-
 abbrev pub correct_replica : Setup → List ℕ → Option ReplicaId
-correct_replica setup word = option_and_then (if_correct setup) (replica_from 0 setup.bounds word)
+correct_replica setup word =
+    option_and_then (λ me. if_correct setup (party.Replica me) me) (replica_in setup.bounds word)
 
--- `replica R` or `client C`
-unfoldable pub party_in : Setup → List ℕ → List ℕ → Option Party
-party_in setup kind word =
-    if bytes_eq kind (codes "replica")
-    then option_map (λ me. party.Replica me) (replica_from 0 setup.bounds word)
-    else (if bytes_eq kind (codes "client") then option_map (λ me. party.Client me) (client_in setup.clients word)
-    else None)
+-- a correct client
+abbrev pub correct_client : Setup → List ℕ → Option ClientId
+correct_client setup word =
+    option_and_then (λ me. if_correct setup (party.Client me) me) (client_in setup.clients word)
+
+-- `replica R` or `client C`, where so many replicas may lie and there are so many clients
+unfoldable pub party_in : ℕ → ℕ → List ℕ → List ℕ → Option Party
+party_in bounds clients kind word =
+    if bytes_eq kind (codes "replica") then option_map (λ me. party.Replica me) (replica_in bounds word)
+    else (if bytes_eq kind (codes "client") then option_map (λ me. party.Client me) (client_in clients word) else None)
 
 -- replicas, one for each word
 unfoldable pub replicas_of : ℕ → List (List ℕ) → Option (List ReplicaId)
 replicas_of bounds [] = Some []
 replicas_of bounds (word ∷ words) =
-    option_and_then (λ me. option_map (λ more. me ∷ more) (replicas_of bounds words)) (replica_from 0 bounds word)
+    option_and_then (λ me. option_map (λ more. me ∷ more) (replicas_of bounds words)) (replica_in bounds word)
 
 -- ---- bytes
 

@@ -50,14 +50,14 @@ script_with setup texts =
     then_good (lines_from setup (5 + length setup.liars) texts) (λ lines.
     Ok (record { setup = setup; lines = lines }))
 
--- four setup lines in their order, the faulty replicas, and then event lines
+-- four setup lines in their order, the faulty parties, and then event lines
 unfoldable pub script_from : List (List ℕ) → Result Script Bad
 script_from texts =
     then_good (expect Bounds 1 texts) (λ bounds.
     then_good (expect Seed 2 bounds.1) (λ seed.
     then_good (expect Clients 3 seed.1) (λ clients.
     then_good (expect Object 4 clients.1) (λ object.
-    let liars = liars_from bounds.0 0 bounds.0 object.1 in
+    let liars = liars_from bounds.0 clients.0 [] object.1 in
     script_with (setup_of bounds.0 seed.0 clients.0 liars.0) liars.1))))
 
 -- a script of too many bytes is refused at once

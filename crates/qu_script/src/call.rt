@@ -5,7 +5,7 @@ use super::Line;
 use super::cut::next_word;
 use super::injecting::{read_fake, read_inject};
 use super::numbers::{read_number_in, read_numbers, read_only_number};
-use super::parties::read_client;
+use super::parties::read_correct_client;
 use qu_base::{List, NoMemory, ObjectId};
 use qu_objects::{Act, Ask, Method, Op, Query};
 use qu_trace::Setup;
@@ -20,7 +20,7 @@ pub fn read_event(alloc: Global, setup: &Setup, words: &[&[u8]]) -> Result<Optio
         return Ok(None);
     };
     if verb == b"call".as_slice() {
-        read_call(alloc, setup.clients, rest)
+        read_call(alloc, setup, rest)
     } else if verb == b"deliver".as_slice() {
         read_deliver(alloc, rest)
     } else if verb == b"flow".as_slice() {
@@ -34,15 +34,15 @@ pub fn read_event(alloc: Global, setup: &Setup, words: &[&[u8]]) -> Result<Optio
     }
 }
 
-/// `C OP`.
+/// `C OP`, of a correct client.
 #[tactic(auto, unfolding(crate::specs::Grammar::call_of))]
-fn read_call(alloc: Global, clients: u16, words: &[&[u8]]) -> Result<Option<Line>, NoMemory>
-    ensures { IfOk result (λ line. line ≡ call_of clients (map (λ word. word.now) words.now)) }
+fn read_call(alloc: Global, setup: &Setup, words: &[&[u8]]) -> Result<Option<Line>, NoMemory>
+    ensures { IfOk result (λ line. line ≡ call_of setup.now (map (λ word. word.now) words.now)) }
 {
     let Some((client, rest)) = next_word(words) else {
         return Ok(None);
     };
-    let Some(client) = read_client(clients, client) else {
+    let Some(client) = read_correct_client(setup, client) else {
         return Ok(None);
     };
     match read_operation(alloc, rest)? {

@@ -3,7 +3,7 @@ ghost use Rattle.qu_script.specs.Injecting.{inject_of, source_of, how_of, some_r
 
 use super::cut::next_word;
 use super::hexadecimal::read_bytes;
-use super::parties::{read_client, read_correct, read_party, read_replica, read_replicas};
+use super::parties::{read_client, read_correct_replica, read_party, read_replica, read_replicas};
 use super::{How, Line};
 use qu_base::{Bounds, List, NoMemory, ReplicaId};
 use qu_trace::Setup;
@@ -17,7 +17,7 @@ pub fn read_inject(alloc: Global, setup: &Setup, words: &[&[u8]]) -> Result<Opti
     let [kind, word, hex] = words else {
         return Ok(None);
     };
-    let Some(party) = read_party(setup, kind, word) else {
+    let Some(party) = read_party(&setup.bounds, setup.clients, kind, word) else {
         return Ok(None);
     };
     match read_bytes(alloc, hex)? {
@@ -34,7 +34,7 @@ pub fn read_fake(alloc: Global, setup: &Setup, words: &[&[u8]]) -> Result<Option
     let [replica, client, rest @ ..] = words else {
         return Ok(None);
     };
-    let Some(replica) = read_replica(&setup.bounds, 0, replica) else {
+    let Some(replica) = read_replica(&setup.bounds, replica) else {
         return Ok(None);
     };
     let Some(client) = read_client(setup.clients, client) else {
@@ -78,7 +78,7 @@ fn read_source<'a>(setup: &Setup, words: &'a [&'a [u8]]) -> Option<(ReplicaId, &
         ≡ Some (found.0, map (λ word. word.now) found.1.now)) }
 {
     let (word, rest) = next_word(words)?;
-    let source = read_correct(setup, word)?;
+    let source = read_correct_replica(setup, word)?;
     Some((source, rest))
 }
 

@@ -1,75 +1,93 @@
-ghost use Rattle.std.specs.Prelude.{◌≡◌, ◌≤◌, length, map, IfOk, IfSome, IsTrue, MatchOption};
+ghost use Rattle.std.specs.Prelude.{◌≡◌, ◌+◌, ◌≤◌, [], length, map, count_by, IfOk, IfSome, IsTrue};
 ghost use Rattle.std.specs.List.{list_all};
 ghost use Rattle.qu_trace.specs.Faulty.{is_replica};
 ghost use Rattle.qu_script.specs.Text.{lines_of};
-ghost use Rattle.qu_script.specs.Liars.{liar_of, first_liar, liars_from};
+ghost use Rattle.qu_script.specs.Liars.{is_before, has_room, may_follow, liar_of, liars_from};
 
 use super::cut::{cut_line, cut_words};
-use super::parties::read_replica;
-use qu_base::{Bounds, List, NoMemory, Party, ReplicaId};
+use super::parties::read_party;
+use qu_base::{Bounds, List, NoMemory, Party};
 use std::alloc::Global;
 
-/// Reads the lines that list the faulty replicas, and gives the rest of the text: at most as many as may
-/// lie, by rising numbers. A line of another form is left.
+/// Reads the lines that list the faulty parties, and gives the rest of the text: replicas, at most as many as may lie,
+/// and then clients, both by rising numbers. A line of another form is left.
 pub fn read_liars<'a>(
     alloc: Global,
     bounds: &Bounds,
+    clients: u16,
     text: &'a [u8],
 ) -> Result<(List<Party>, &'a [u8]), NoMemory>
     ensures found { IfOk result
-        (λ found. (found.0, lines_of found.1.now) ≡ liars_from bounds.now 0 bounds.now (lines_of text.now)) }
-    ensures few { IfOk result (λ found. length found.0 ≤ bounds.now) }
-    ensures replicas { IfOk result (λ found. IsTrue (list_all is_replica found.0)) }
-    ensures shorter { IfOk result (λ found. length found.1.now ≤ length text.now) }
+        (λ found. (found.0, lines_of found.1.now) ≡ liars_from bounds.now clients [] (lines_of text.now)) }
+    ensures few { IfOk result (λ found. count_by is_replica found.0 ≤ bounds.now) }
+    ensures shorter { IfOk result (λ found. length found.0 + length found.1.now ≤ length text.now) }
 {
     let mut liars = List::new(alloc);
-    let mut least = 0;
     let mut rest = text;
-    for index in 0..bounds.b() {
-        let Some(next) = next_liar(alloc, bounds, least, rest)? else {
+    'lines: while !rest.is_empty() {
+        let (line, after) = cut_line(rest);
+        let words = cut_words(alloc, line)?;
+        let Some(who) = read_liar(bounds, clients, liars.as_slice(), words.as_slice()) else {
             return Ok((liars, rest));
         };
-        let (me, after) = next;
-        liars.push(Party::Replica(me))?;
-        least = u64::from(me.0) + 1;
+        liars.push(who)?;
         rest = after;
     }
     Ok((liars, rest))
 }
 
-/// The faulty replica that the first line lists, and the rest of the text.
-fn next_liar<'a>(
-    alloc: Global,
-    bounds: &Bounds,
-    least: u64,
-    text: &'a [u8],
-) -> Result<Option<(ReplicaId, &'a [u8])>, NoMemory>
-    ensures found { IfOk result (λ next. MatchOption next
-        (first_liar bounds.now least (lines_of text.now) ≡ None)
-        (λ found. first_liar bounds.now least (lines_of text.now) ≡ Some (found.0, lines_of found.1.now))) }
-    ensures shorter { IfOk result (λ next. IfSome next (λ found. length found.1.now ≤ length text.now)) }
+/// `faulty replica R` or `faulty client C`, where the party may be listed behind these.
+#[tactic(auto, unfolding(crate::specs::Liars::liar_of))]
+fn read_liar(bounds: &Bounds, clients: u16, liars: &[Party], words: &[&[u8]]) -> Option<Party>
+    ensures value { result ≡ liar_of bounds.now clients liars.now (map (λ word. word.now) words.now) }
+    ensures listed { IfSome result (λ who. IsTrue (may_follow bounds.now liars.now who)) }
 {
-    if text.is_empty() {
-        return Ok(None);
+    let [faulty, kind, word] = words else {
+        return None;
+    };
+    if *faulty != b"faulty".as_slice() {
+        return None;
     }
-    let (line, rest) = cut_line(text);
-    let words = cut_words(alloc, line)?;
-    match read_liar(bounds, least, words.as_slice()) {
-        Some(me) => Ok(Some((me, rest))),
-        None => Ok(None),
+    let who = read_party(bounds, clients, kind, word)?;
+    if may_follow(bounds, liars, who) {
+        Some(who)
+    } else {
+        None
     }
 }
 
-/// `faulty replica R`.
-#[tactic(auto, unfolding(crate::specs::Liars::liar_of))]
-fn read_liar(bounds: &Bounds, least: u64, words: &[&[u8]]) -> Option<ReplicaId>
-    ensures { result ≡ liar_of bounds.now least (map (λ word. word.now) words.now) }
+/// Whether a party may be listed behind these.
+fn may_follow(bounds: &Bounds, liars: &[Party], who: Party) -> bool
+    ensures { result ≡ may_follow bounds.now liars.now who }
 {
-    match words {
-        [faulty, replica, word]
-            if *faulty == b"faulty".as_slice() && *replica == b"replica".as_slice() => {
-            read_replica(bounds, least, word)
-        }
-        _ => None,
+    has_room(bounds, liars, who) && stand_before(liars, who)
+}
+
+/// Whether all these stand before a party in the lines of a setup.
+fn stand_before(liars: &[Party], who: Party) -> bool
+    ensures { result ≡ list_all (λ liar. is_before liar who) liars.now }
+{
+    liars.iter().all(|liar| is_before(*liar, who))
+}
+
+/// Whether fewer replicas are listed than may lie, where the party is a replica.
+fn has_room(bounds: &Bounds, liars: &[Party], who: Party) -> bool
+    ensures { result ≡ has_room bounds.now liars.now who }
+{
+    match who {
+        Party::Replica(_) => liars.len() < usize::from(bounds.b()),
+        Party::Client(_) => true,
+    }
+}
+
+/// Whether the one stands before the other in the lines of a setup.
+fn is_before(one: Party, other: Party) -> bool
+    ensures { result ≡ is_before one other }
+{
+    match (one, other) {
+        (Party::Replica(one), Party::Replica(other)) => one.0 < other.0,
+        (Party::Replica(_), Party::Client(_)) => true,
+        (Party::Client(_), Party::Replica(_)) => false,
+        (Party::Client(one), Party::Client(other)) => one.0 < other.0,
     }
 }

@@ -1,16 +1,16 @@
 ghost use Rattle.std.specs.Prelude.{◌≡◌, map, IfOk};
-ghost use Rattle.qu_script.specs.Parties.{replica_from, client_in, correct_replica, party_in, replicas_of};
+ghost use Rattle.qu_script.specs.Parties.{replica_in, client_in, correct_replica, correct_client, party_in, replicas_of};
 
 use super::numbers::read_number_in;
 use qu_base::{Bounds, ClientId, List, NoMemory, Party, ReplicaId};
 use qu_trace::Setup;
 use std::alloc::Global;
 
-/// A replica whose number is not below this one.
-pub fn read_replica(bounds: &Bounds, least: u64, word: &[u8]) -> Option<ReplicaId>
-    ensures { result ≡ replica_from least bounds.now word.now }
+/// A replica, where so many may lie.
+pub fn read_replica(bounds: &Bounds, word: &[u8]) -> Option<ReplicaId>
+    ensures { result ≡ replica_in bounds.now word.now }
 {
-    let number = read_number_in(least, u64::from(bounds.n() - 1), word)?;
+    let number = read_number_in(0, u64::from(bounds.n() - 1), word)?;
     Some(ReplicaId(number as u8))
 }
 
@@ -23,11 +23,23 @@ pub fn read_client(clients: u16, word: &[u8]) -> Option<ClientId>
 }
 
 /// A correct replica.
-pub fn read_correct(setup: &Setup, word: &[u8]) -> Option<ReplicaId>
+pub fn read_correct_replica(setup: &Setup, word: &[u8]) -> Option<ReplicaId>
     ensures { result ≡ correct_replica setup.now word.now }
 {
-    let me = read_replica(&setup.bounds, 0, word)?;
+    let me = read_replica(&setup.bounds, word)?;
     if setup.is_faulty(Party::Replica(me)) {
+        None
+    } else {
+        Some(me)
+    }
+}
+
+/// A correct client.
+pub fn read_correct_client(setup: &Setup, word: &[u8]) -> Option<ClientId>
+    ensures { result ≡ correct_client setup.now word.now }
+{
+    let me = read_client(setup.clients, word)?;
+    if setup.is_faulty(Party::Client(me)) {
         None
     } else {
         Some(me)
@@ -36,14 +48,14 @@ pub fn read_correct(setup: &Setup, word: &[u8]) -> Option<ReplicaId>
 
 /// `replica R` or `client C`.
 #[tactic(auto, unfolding(crate::specs::Parties::party_in))]
-pub fn read_party(setup: &Setup, kind: &[u8], word: &[u8]) -> Option<Party>
-    ensures { result ≡ party_in setup.now kind.now word.now }
+pub fn read_party(bounds: &Bounds, clients: u16, kind: &[u8], word: &[u8]) -> Option<Party>
+    ensures { result ≡ party_in bounds.now clients kind.now word.now }
 {
     if kind == b"replica".as_slice() {
-        let me = read_replica(&setup.bounds, 0, word)?;
+        let me = read_replica(bounds, word)?;
         Some(Party::Replica(me))
     } else if kind == b"client".as_slice() {
-        let me = read_client(setup.clients, word)?;
+        let me = read_client(clients, word)?;
         Some(Party::Client(me))
     } else {
         None
@@ -61,7 +73,7 @@ pub fn read_replicas(
 {
     let mut replicas = List::new(alloc);
     for word in words {
-        let Some(me) = read_replica(bounds, 0, word) else {
+        let Some(me) = read_replica(bounds, word) else {
             return Ok(None);
         };
         replicas.push(me)?;

@@ -153,7 +153,7 @@ fn fail_of(line: u64, fail: WorldFail) -> ScriptFail
 {
     let kind = match fail {
         WorldFail::NoSuchLetter(_) => BadKind::NoSuchLetter,
-        // A script that was read calls no client that is not of its setup.
+        // A script that was read names no party that its setup does not have, and calls no faulty client.
         WorldFail::NoSuchActor(_) => BadKind::UnknownLine,
         WorldFail::Busy => BadKind::Busy,
         WorldFail::TooManyEvents => BadKind::TooManyEvents,

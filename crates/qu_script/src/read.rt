@@ -1,5 +1,4 @@
-ghost use Rattle.std.specs.Prelude.{◌≡◌, ◌<◌, ◌≤◌, ◌+◌, ◌^◌, length, IfOk, IsTrue};
-ghost use Rattle.std.specs.List.{list_all};
+ghost use Rattle.std.specs.Prelude.{◌≡◌, ◌<◌, ◌≤◌, ◌+◌, ◌^◌, length, count_by, IfOk};
 ghost use Rattle.qu_base.specs.declared.limits.TheConstants.{LAST_CLIENT, MOST_FAULTS};
 ghost use Rattle.qu_trace.specs.Faulty.{is_replica};
 ghost use Rattle.qu_script.specs.Grammar.{IsInRange};
@@ -76,7 +75,7 @@ fn read_lines(
     Ok(lines)
 }
 
-/// Reads a script: four setup lines, the faulty replicas, and event lines behind them.
+/// Reads a script: four setup lines, the faulty parties, and event lines behind them.
 ///
 /// A text of more than 16 MiB is refused at line 1; else the first line of no known form is, and a
 /// setup line that is missing at the end counts as one.
@@ -84,7 +83,6 @@ fn read_lines(
 pub fn read_script(alloc: Global, text: &[u8]) -> Result<Script, ScriptFail>
     ensures value { Gives (λ script. script) result (script_of text.now) }
     ensures limits { IfOk result (λ script. IsSetup script.setup) }
-    ensures replicas { IfOk result (λ script. IsTrue (list_all is_replica script.setup.liars)) }
 {
     if text.len() > SCRIPT_LIMIT {
         return Err(ScriptFail::Bad(Bad {
@@ -97,9 +95,10 @@ pub fn read_script(alloc: Global, text: &[u8]) -> Result<Script, ScriptFail>
     let (clients, rest) = expect_setup(alloc, SetupLine::Clients, 3, rest)?;
     let (_object, rest) = expect_setup(alloc, SetupLine::Object, 4, rest)?;
     let bounds = bounds_of(faults as u8);
-    let (liars, rest) = read_liars(alloc, &bounds, rest)?;
+    let clients = clients as u16;
+    let (liars, rest) = read_liars(alloc, &bounds, clients, rest)?;
     let first = 5 + liars.len() as u64;
-    let setup = make_setup(alloc, bounds, seed, clients as u16, liars)?;
+    let setup = make_setup(alloc, bounds, seed, clients, liars)?;
     let lines = read_lines(alloc, &setup, first, rest)?;
     Ok(Script { setup, lines })
 }
@@ -115,7 +114,6 @@ fn bounds_of(faults: u8) -> Bounds
 }
 
 /// The setup of one counter.
-#[tactic(auto, using(crate::proofs::LiarFacts::few_replicas))]
 fn make_setup(
     alloc: Global,
     bounds: Bounds,
@@ -125,7 +123,7 @@ fn make_setup(
 ) -> Result<Setup, NoMemory>
     requires faults { (1 ≤ bounds) × (bounds ≤ MOST_FAULTS) }
     requires clients { clients ≤ LAST_CLIENT }
-    requires few { length liars ≤ bounds }
+    requires few { count_by is_replica liars ≤ bounds }
     ensures value { IfOk result (λ setup. setup ≡ setup_of bounds seed clients liars) }
     ensures limits { IfOk result IsSetup }
 {

@@ -11,13 +11,12 @@ use std::alloc::Global;
 /// Runs a script: its lines make events one after another, and the trace records them.
 ///
 /// The first line with an event that the world refuses, or with a reply that cannot be made, ends the
-/// run, and is told with the reason. The trace has the setup of the script.
+/// run, and is told with the reason.
 #[tactic(auto, unfolding(crate::specs::Events::run_of))]
 pub fn run_script(alloc: Global, script: &Script) -> Result<Trace, ScriptFail>
     requires { IsSetup script.now.setup }
     ensures value { Gives (λ trace. trace) result (run_of script.now) }
     ensures run { IfOk result IsRun }
-    ensures setup { IfOk result (λ trace. trace.setup ≡ script.now.setup) }
 {
     let setup = script.setup.copy(alloc)?;
     let mut player = Player::start(alloc, setup)?;

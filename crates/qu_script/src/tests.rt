@@ -1,5 +1,5 @@
 use super::{Bad, BadKind, Line, ScriptFail, read_script, run_script};
-use qu_base::{Party, ReplicaId};
+use qu_base::{ClientId, Party, ReplicaId};
 use qu_world::letter_at;
 use std::test::Fail;
 
@@ -43,6 +43,27 @@ fn a_liar_shows_an_old_history(rt: HostRuntime) -> Result<(), Fail> {
     // The request of the update shows histories of all six replicas.
     let letter = letter_at(trace.entries.as_slice(), 23).ok_or("no letter")?;
     assert_eq!(rt; letter.text.len(), 1784);
+    Ok(())
+}
+
+#[test]
+fn a_faulty_client_is_listed_and_calls_nothing(rt: HostRuntime) -> Result<(), Fail> {
+    let alloc = rt.alloc();
+    let text = format!(in alloc; "{SETUP}faulty replica 5\nfaulty client 2\ninject client 2 00")?;
+    let script = read_script(alloc, text.as_bytes())
+        .ok()
+        .ok_or("the script is refused")?;
+    assert!(rt; script.setup.is_faulty(Party::Client(ClientId(2))));
+    assert!(rt; !script.setup.is_faulty(Party::Client(ClientId(1))));
+    let text = format!(in alloc; "{SETUP}faulty client 2\ncall 2 read 0")?;
+    let fail = read_script(alloc, text.as_bytes()).err().ok_or("a script")?;
+    assert_eq!(rt;
+        fail,
+        ScriptFail::Bad(Bad {
+            line: 6,
+            kind: BadKind::UnknownLine
+        })
+    );
     Ok(())
 }
 
