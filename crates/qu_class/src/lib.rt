@@ -7,6 +7,7 @@ mod repairable;
 
 pub use class::{Class, classify};
 pub use plan::{CopyPlan, evidence, plan_copy};
+pub use repairable::base_of;
 
 #[cfg(test)]
 mod random_tests;

@@ -1,9 +1,10 @@
-ghost use Rattle.std.specs.Prelude.{◌≡◌, All, IsTrue, filter};
+ghost use Rattle.std.specs.Prelude.{◌≡◌, ◌≤◌, All, IsTrue, filter, length, false};
+ghost use Rattle.qu_base.specs.Bounds.{quorum};
 ghost use Rattle.qu_history.specs.History.{is_history};
 ghost use Rattle.qu_history.specs.Sets.{entries_of, greatest};
 ghost use Rattle.qu_history.specs.Trimming.{greater_found};
 ghost use Rattle.qu_class.specs.Repairable.{is_shown_of_kind, greatest_of_kind, base_of};
-ghost use Rattle.qu_class.specs.Rows.{AreWellFormed};
+ghost use Rattle.qu_class.specs.Rows.{AreWellFormed, IsGreatestOfKind};
 
 use qu_base::{Bounds, ObjectId};
 use qu_history::{History, Sets};
@@ -11,8 +12,10 @@ use qu_stamp::Candidate;
 
 /// The object candidate: the greatest candidate without barrier of an order that may be repaired. Each history holds
 /// the opening one.
-pub(super) fn base_of(sets: &Sets, object: ObjectId, bounds: &Bounds) -> Candidate
+pub fn base_of(sets: &Sets, object: ObjectId, bounds: &Bounds) -> Candidate
     ensures value { result ≡ base_of bounds.now (entries_of object sets.now) }
+    ensures greatest { quorum bounds.now ≤ length (entries_of object sets.now)
+        → IsGreatestOfKind bounds.now (entries_of object sets.now) false result }
     ensures formed { AreWellFormed bounds.now (entries_of object sets.now) }
 {
     greatest_of_kind(sets, object, false, bounds.r()).unwrap_or(Candidate::opening())

@@ -1,0 +1,3 @@
+pub mod Remedy
+pub mod Rows
+pub mod Causes

@@ -1,0 +1,275 @@
+use super::*;
+use qu_base::{Bounds, ClientId, Digest, List, ObjectId, ReplicaId};
+use qu_frames::Refusal;
+use qu_history::{HISTORY_LIMIT, History, Sealed, SetOf, Sets};
+use qu_objects::{ObjState, Value};
+use qu_stamp::{Candidate, LAST_TIME, Stamp};
+use std::alloc::Global;
+use std::test::Fail;
+
+const OBJECT: ObjectId = ObjectId(5);
+
+/// What was decided, with the value of the version that is stored.
+#[derive(Clone, Copy, Debug, PartialEq, Eq)]
+enum Seen {
+    Adds(Candidate, Option<Value>),
+    Holds(Stamp),
+    Refuses(Refusal),
+    Waits,
+}
+
+/// Candidates of client 1, each upon the opening one.
+fn at(time: u64) -> Candidate {
+    upon(time, Stamp::opening())
+}
+
+fn upon(time: u64, prior: Stamp) -> Candidate {
+    candidate(time, false, prior)
+}
+
+fn candidate(time: u64, barrier: bool, prior: Stamp) -> Candidate {
+    Candidate {
+        stamp: Stamp {
+            time,
+            barrier,
+            client: ClientId(1),
+            act: None,
+            set: Digest([2; 32]),
+        },
+        prior,
+    }
+}
+
+/// A request of client 1, where the sets show nothing above this time.
+fn mend(remedy: Remedy, latest: u64) -> Mend {
+    Mend {
+        target: OBJECT,
+        client: ClientId(1),
+        set: Digest([2; 32]),
+        latest: if latest == 0 {
+            Stamp::opening()
+        } else {
+            at(latest).stamp
+        },
+        remedy,
+    }
+}
+
+fn barrier() -> Remedy {
+    Remedy::Fresh {
+        barrier: true,
+        prior: at(1).stamp,
+    }
+}
+
+fn copy() -> Remedy {
+    Remedy::Fresh {
+        barrier: false,
+        prior: at(1).stamp,
+    }
+}
+
+/// The history of a replica that has so many candidates, the opening one among them.
+fn own(alloc: Global, count: usize) -> Result<History, Fail> {
+    let mut history = History::opening(alloc, OBJECT, ReplicaId(0))?;
+    for time in 1..count {
+        history.add(at(time as u64))?;
+    }
+    Ok(history)
+}
+
+/// What a replica with this history makes of the request, which has the wanted version or not.
+fn outcome(alloc: Global, mend: &Mend, own: &History, found: bool) -> Result<Seen, Fail> {
+    let version = ObjState {
+        value: Value::Counter(7),
+        kept: List::new(alloc),
+        links: List::new(alloc),
+    };
+    let version = if found { Some(&version) } else { None };
+    Ok(match mend.decide(alloc, own, version)? {
+        Mending::Mends { candidate, version } => Seen::Adds(candidate, value_of(version)),
+        Mending::Holds { stamp } => Seen::Holds(stamp),
+        Mending::Refuses(why) => Seen::Refuses(why),
+        Mending::Waits => Seen::Waits,
+    })
+}
+
+fn value_of(version: Option<ObjState>) -> Option<Value> {
+    match version {
+        Some(version) => Some(version.value),
+        None => None,
+    }
+}
+
+/// Wants this row of a request with this remedy, where the sets show nothing above this time, of a replica with so many
+/// candidates, which has the wanted version or not.
+fn wants(
+    alloc: Global,
+    remedy: Remedy,
+    latest: u64,
+    (count, found): (usize, bool),
+    row: &Seen,
+) -> Result<(), Fail> {
+    let own = own(alloc, count)?;
+    if outcome(alloc, &mend(remedy, latest), &own, found)? == *row {
+        Ok(())
+    } else {
+        Err("another row".into())
+    }
+}
+
+/// The refusal of a replica whose latest candidate is that of time 3.
+fn not_current() -> Seen {
+    Seen::Refuses(Refusal::NotCurrent(OBJECT, at(3).stamp))
+}
+
+#[test]
+fn a_row_comes_alone(rt: HostRuntime) -> Result<(), Fail> {
+    let alloc = rt.alloc();
+    let inline = Remedy::Shown(at(3));
+    let other = Remedy::Shown(upon(3, at(1).stamp));
+    let sound = Seen::Refuses(Refusal::Sound(OBJECT));
+    wants(alloc, inline, 3, (4, false), &Seen::Holds(at(3).stamp))?;
+    wants(alloc, copy(), 2, (4, true), &not_current())?;
+    wants(alloc, other, 3, (4, true), &not_current())?;
+    wants(alloc, Remedy::Nothing, 3, (4, false), &sound)?;
+    wants(alloc, inline, 3, (2, false), &Seen::Waits)?;
+    wants(alloc, copy(), 3, (2, false), &Seen::Waits)?;
+    wants(alloc, inline, 3, (2, true), &Seen::Adds(at(3), None))
+}
+
+#[test]
+fn fresh_candidates_stand_above_all_that_is_shown(rt: HostRuntime) -> Result<(), Fail> {
+    let alloc = rt.alloc();
+    let prior = at(1).stamp;
+    let value = Some(Value::Counter(7));
+    let spent = Seen::Refuses(Refusal::TimeSpent(OBJECT));
+    wants(
+        alloc,
+        barrier(),
+        3,
+        (4, false),
+        &Seen::Adds(candidate(4, true, prior), None),
+    )?;
+    wants(
+        alloc,
+        copy(),
+        3,
+        (4, true),
+        &Seen::Adds(upon(4, prior), value),
+    )?;
+    wants(
+        alloc,
+        copy(),
+        LAST_TIME - 1,
+        (4, true),
+        &Seen::Adds(upon(LAST_TIME, prior), value),
+    )?;
+    wants(alloc, barrier(), LAST_TIME, (4, false), &spent)?;
+    wants(alloc, copy(), LAST_TIME, (4, true), &spent)
+}
+
+#[test]
+fn of_two_rows_the_earlier_one_comes(rt: HostRuntime) -> Result<(), Fail> {
+    let alloc = rt.alloc();
+    let inline = Remedy::Shown(at(2));
+    wants(alloc, inline, 2, (4, false), &Seen::Holds(at(2).stamp))?;
+    wants(alloc, Remedy::Nothing, 2, (4, true), &not_current())?;
+    wants(alloc, copy(), 2, (4, false), &not_current())?;
+    wants(alloc, copy(), LAST_TIME, (4, false), &Seen::Waits)
+}
+
+#[test]
+fn a_full_history_is_told_last(rt: HostRuntime) -> Result<(), Fail> {
+    let alloc = rt.alloc();
+    let full = HISTORY_LIMIT;
+    let later = Remedy::Shown(at(2000));
+    let sound = Seen::Refuses(Refusal::Sound(OBJECT));
+    let spent = Seen::Refuses(Refusal::TimeSpent(OBJECT));
+    let is_full = Seen::Refuses(Refusal::HistoryFull(OBJECT));
+    wants(alloc, Remedy::Nothing, 2000, (full, true), &sound)?;
+    wants(alloc, copy(), 2000, (full, false), &Seen::Waits)?;
+    wants(alloc, barrier(), LAST_TIME, (full, false), &spent)?;
+    wants(alloc, barrier(), 2000, (full, false), &is_full)?;
+    wants(alloc, later, 2000, (full, true), &is_full)?;
+    wants(
+        alloc,
+        later,
+        2000,
+        (full - 1, true),
+        &Seen::Adds(at(2000), None),
+    )
+}
+
+/// The update of client 1 at replicas 0 to 2, that of client 2 at 3 and 4, and then the barrier, if there is one.
+fn torn(alloc: Global, replica: u8, barrier: Option<Candidate>) -> Result<History, Fail> {
+    let mut history = History::opening(alloc, OBJECT, ReplicaId(replica))?;
+    if replica < 5 {
+        let mut update = at(1);
+        update.stamp.client = ClientId(if replica < 3 { 1 } else { 2 });
+        history.add(update)?;
+    }
+    if let Some(barrier) = barrier {
+        history.add(barrier)?;
+    }
+    Ok(history)
+}
+
+/// The request with the histories of replicas 0 to 4.
+fn asked(alloc: Global, barrier: Option<Candidate>) -> Result<Mend, Fail> {
+    let mut entries = List::new(alloc);
+    for replica in 0..5 {
+        let history = torn(alloc, replica, barrier)?;
+        let macs = List::new(alloc);
+        entries.push(Sealed { history, macs })?;
+    }
+    let object = SetOf {
+        object: OBJECT,
+        entries,
+    };
+    let sets = Sets::new(List::one(alloc, object)?).ok_or("sets")?;
+    let bounds = Bounds::new(1).ok().ok_or("bounds")?;
+    if sets.entries(OBJECT) < bounds.q() {
+        return Err("no quorum".into());
+    }
+    Ok(Mend::of(&sets, Digest([2; 32]), OBJECT, ClientId(1), &bounds))
+}
+
+/// Wants that a replica adds the barrier, and then, if it has the version of what is copied, this copy.
+fn mends(
+    alloc: Global,
+    replica: u8,
+    first: &Mend,
+    second: &Mend,
+    (barrier, copy): (Candidate, Candidate),
+) -> Result<(), Fail> {
+    let before = torn(alloc, replica, None)?;
+    if outcome(alloc, first, &before, false)? != Seen::Adds(barrier, None) {
+        return Err("no barrier".into());
+    }
+    let after = torn(alloc, replica, Some(barrier))?;
+    let row = if replica < 3 {
+        Seen::Adds(copy, Some(Value::Counter(7)))
+    } else {
+        Seen::Waits
+    };
+    if outcome(alloc, second, &after, replica < 3)? != row {
+        return Err("no copy".into());
+    }
+    Ok(())
+}
+
+#[test]
+fn a_barrier_and_then_a_copy_mend_a_torn_object(rt: HostRuntime) -> Result<(), Fail> {
+    let alloc = rt.alloc();
+    let base = at(1).stamp;
+    let barrier = candidate(2, true, base);
+    let first = asked(alloc, None)?;
+    let second = asked(alloc, Some(barrier))?;
+    assert!(rt; first.remedy.wanted().is_none());
+    assert_eq!(rt; second.remedy.wanted(), Some(base));
+    for replica in 0..6 {
+        mends(alloc, replica, &first, &second, (barrier, upon(3, base)))?;
+    }
+    Ok(())
+}
