@@ -5,6 +5,7 @@ use qu_history::{History, SetOf, Sets};
 use qu_objects::{Act, Method};
 use qu_seal::KeyRing;
 use qu_stamp::Stamp;
+use std::alloc::Global;
 use std::test::Fail;
 
 #[test]
@@ -57,19 +58,23 @@ fn a_replica_takes_what_was_made_as_fetched(rt: HostRuntime) -> Result<(), Fail>
     Ok(())
 }
 
+/// Sets of object 0 that show no histories.
+fn sets_of_object_0(alloc: Global) -> Result<Sets, Fail> {
+    let set = SetOf {
+        object: ObjectId(0),
+        entries: List::new(alloc),
+    };
+    Ok(Sets::new(List::one(alloc, set)?).ok_or("no sets")?)
+}
+
 #[test]
 fn a_replica_takes_a_made_request(rt: HostRuntime) -> Result<(), Fail> {
     let alloc = rt.alloc();
     let keys = KeyRing::derive(7, &Bounds::new(1)?, 2);
     let (me, to) = (ClientId(2), ReplicaId(3));
-    let set = SetOf {
-        object: ObjectId(0),
-        entries: List::new(alloc),
-    };
-    let sets = Sets::new(List::one(alloc, set)?).ok_or("no sets")?;
     let parts = List::one(alloc, (ObjectId(0), Method::Add(5)))?;
     let body = Body::Act(Act::new(parts)?);
-    let text = request_of(alloc, &keys, me, to, 4, 3, &sets, &body)?;
+    let text = request_of(alloc, &keys, me, to, 4, 3, &sets_of_object_0(alloc)?, &body)?;
     let taken = receive(alloc, &keys, Party::Replica(to), text.as_slice())?;
     assert!(rt;
         matches!(
@@ -83,5 +88,25 @@ fn a_replica_takes_a_made_request(rt: HostRuntime) -> Result<(), Fail> {
         )
     );
     assert!(rt; receive(alloc, &keys, Party::Replica(ReplicaId(2)), text.as_slice())?.is_none());
+    Ok(())
+}
+
+#[test]
+fn a_made_mend_names_its_object(rt: HostRuntime) -> Result<(), Fail> {
+    let alloc = rt.alloc();
+    let keys = KeyRing::derive(7, &Bounds::new(1)?, 2);
+    let (me, to) = (ClientId(2), ReplicaId(3));
+    let body = Body::Mend(ObjectId(0));
+    let text = request_of(alloc, &keys, me, to, 4, 3, &sets_of_object_0(alloc)?, &body)?;
+    let taken = receive(alloc, &keys, Party::Replica(to), text.as_slice())?;
+    assert!(rt;
+        matches!(
+            taken,
+            Some(Frame::Request {
+                body: Body::Mend(ObjectId(0)),
+                ..
+            })
+        )
+    );
     Ok(())
 }

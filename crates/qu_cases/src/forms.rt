@@ -200,6 +200,7 @@ fn put_body(body: &Body, out: &mut String) -> Result<(), AllocError> {
     match body {
         Body::Act(act) => put_act(act, out),
         Body::Ask(query) => put_query(query, out),
+        Body::Mend(target) => write!(out, " mend {}", target.0),
     }
 }
 

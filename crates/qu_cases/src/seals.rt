@@ -8,6 +8,7 @@ use super::names::{Named, bytes_of};
 use super::no_answer::NoAnswer;
 use super::reading::{frame_to, one_act, one_frame, one_history, some_sets};
 use qu_base::{Bounds, ClientId, Cursor, Digest, List, NoMemory, ObjectId, Party, ReplicaId};
+use qu_class::method_at;
 use qu_frames::text_digest;
 use qu_history::{Culled, Sets};
 use qu_objects::act_digest;
@@ -42,7 +43,7 @@ fn put_class(
     bounds: &Bounds,
     out: &mut String,
 ) -> Result<(), AllocError> {
-    put_base(sets, object, sets.method_at(object, bounds), out)?;
+    put_base(sets, object, method_at(sets, object, bounds), out)?;
     let opening = sets.count(object, &Candidate::opening());
     write!(
         out,

@@ -1,6 +1,7 @@
 -- The class of an object is what its row says, and no other class is.
 use Rattle.std.proofs.Common.{◌≡◌, ◌↔◌, ◌≤◌, ℕ, Bool, true, false, ◌&&◌, cond, List, Option, Some, None, length, refl, sym, ap, subst, ◌∙◌, inl, inr, arith}
-use Rattle.std.proofs.lemmas.Bool.{false≢true, cases_Bool, and_from, leb-true, leb-false, le-leb, true_from_ne_false}
+use Rattle.std.proofs.lemmas.Bool.{false≢true, cases_Bool, and_parts, and_from, leb-true, leb-false, le-leb, true_from_ne_false}
+use Rattle.std.proofs.lemmas.Option.{none-some}
 use Rattle.qu_base.specs.Bounds.{quorum}
 use Rattle.qu_stamp.specs.declared.stamp.Stamp.{Stamp}
 use Rattle.qu_stamp.specs.declared.candidate.Candidate.{Candidate}
@@ -9,6 +10,7 @@ use Rattle.qu_stamp.proofs.Order.{same_stamp-self, equal_by_same_stamp}
 use Rattle.qu_history.specs.History.{ObjectHistory}
 use Rattle.qu_history.specs.Sets.{order_of, latest_of, object_candidate, if_method, method_at}
 use Rattle.qu_history.proofs.Method.{order_of_most}
+use Rattle.qu_class.specs.declared.class.Class.{Class}
 use Rattle.qu_class.specs.declared.class.Class.TheVariants.{Method, InlineMethod, Copy, InlineBarrier, Barrier}
 use Rattle.qu_class.specs.Repairable.{barrier_candidate, base_of}
 use Rattle.qu_class.specs.Class.{is_latest, is_full, barrier_class, class_of}
@@ -147,9 +149,99 @@ module _ (bounds : ℕ) (entries : List ObjectHistory) (formed : AreWellFormed b
             absurd cc
       ]
 
+-- both tell that a quorum of entries holds it
+module _ (bounds : ℕ) (entries : List ObjectHistory) (formed : AreWellFormed bounds entries) where
+  enough_where_full : (candidate : Candidate) → is_full bounds entries candidate ≡ true
+      → quorum bounds ≤ length entries
+  enough_where_full candidate full =
+      let most : order_of candidate entries ≤ length entries = order_of_most candidate entries in
+      let least : quorum bounds ≤ order_of candidate entries =
+      leb-true (quorum bounds) (order_of candidate entries) full in
+      omega (arith, most, least)
+
+  no_method : (candidate barrier : Candidate) (prior : Stamp) (latest full : Bool)
+      → cond (latest && full) Copy (cond latest (InlineBarrier barrier) (Barrier prior)) ≡ Method candidate → ⊥
+  no_method candidate barrier prior true true it = absurd (cc)
+  no_method candidate barrier prior true false it = absurd (cc)
+  no_method candidate barrier prior false full it = absurd (cc)
+
+  other_class : (candidate : Candidate) (prior : Stamp) (found : Option Candidate)
+      → barrier_class bounds entries prior found ≡ Method candidate → ⊥
+  unfolding barrier_class
+  other_class candidate prior None it = absurd (cc)
+  other_class candidate prior (Some barrier) it =
+      no_method candidate barrier prior (is_latest entries barrier) (is_full bounds entries barrier) it
+
+  enough_of_class : (candidate : Candidate) → class_of bounds entries ≡ Method candidate
+      → quorum bounds ≤ length entries
+  unfolding class_of
+  enough_of_class candidate is =
+      by_tests (is_latest entries (base_of bounds entries)) (is_full bounds entries (base_of bounds entries)) refl is
+    where
+      by_tests : (latest full : Bool) → is_full bounds entries (base_of bounds entries) ≡ full
+          → cond (latest && full) (Method (base_of bounds entries))
+          (cond latest (InlineMethod (base_of bounds entries))
+          (barrier_class bounds entries (base_of bounds entries).stamp (barrier_candidate bounds entries)))
+          ≡ Method candidate
+          → quorum bounds ≤ length entries
+      by_tests true true is_full_one it = enough_where_full (base_of bounds entries) is_full_one
+      by_tests true false not_full it = absurd (cc)
+      by_tests false full any it =
+          absurd (other_class candidate (base_of bounds entries).stamp (barrier_candidate bounds entries) it)
+
+  enough_of_method : (found : Option Candidate) (candidate : Candidate)
+      → if_method bounds entries found ≡ Some candidate → quorum bounds ≤ length entries
+  unfolding if_method
+  enough_of_method None candidate is = absurd (cc)
+  enough_of_method (Some first) candidate is =
+      elim (cases_Bool (is_latest entries first && is_full bounds entries first)) [
+        | inl passes ↦ enough_where_full first (and_parts _ _ passes).1
+        | inr fails ↦
+            let no : None ≡ Some candidate = sym (ap (λ test. cond test (Some first) None) fails) ∙ is in
+            absurd (cc)
+      ]
+
   pub method_is : (candidate : Candidate)
       → (class_of bounds entries ≡ Method candidate) ↔ (method_at bounds entries ≡ Some candidate)
-  method_is candidate = (method_found candidate, method_class candidate)
+  unfolding method_at
+  method_is candidate = (
+    λ is. method_found bounds entries formed (enough_of_class candidate is) candidate is,
+    λ is. method_class bounds entries formed
+        (enough_of_method (object_candidate bounds entries) candidate is) candidate is,
+  )
+
+-- the candidate of class METHOD, if that is the class
+abbrev pub method_in : Class → Option Candidate
+method_in (Method candidate) = Some candidate
+method_in (InlineMethod candidate) = None
+method_in Copy = None
+method_in (InlineBarrier candidate) = None
+method_in (Barrier prior) = None
+
+pub method_of_class : (bounds : ℕ) (entries : List ObjectHistory) → AreWellFormed bounds entries
+    → method_at bounds entries ≡ method_in (class_of bounds entries)
+method_of_class bounds entries formed =
+    by_class (class_of bounds entries) refl (method_at bounds entries) refl
+  where
+    none : (class : Class) → class_of bounds entries ≡ class → method_in class ≡ None → (found : Option Candidate)
+        → method_at bounds entries ≡ found → found ≡ None
+    none class is absent None found_is = refl
+    none class is absent (Some candidate) found_is =
+        let other : class_of bounds entries ≡ Method candidate =
+        (method_is bounds entries formed candidate).1 found_is in
+        absurd (none-some candidate (sym absent ∙ ap method_in (sym is ∙ other)))
+
+    by_class : (class : Class) → class_of bounds entries ≡ class → (found : Option Candidate)
+        → method_at bounds entries ≡ found → method_at bounds entries ≡ method_in (class_of bounds entries)
+    by_class (Method candidate) is found found_is =
+        (method_is bounds entries formed candidate).0 is ∙ ap method_in (sym is)
+    by_class (InlineMethod candidate) is found found_is =
+        found_is ∙ none (InlineMethod candidate) is refl found found_is ∙ ap method_in (sym is)
+    by_class Copy is found found_is = found_is ∙ none Copy is refl found found_is ∙ ap method_in (sym is)
+    by_class (InlineBarrier candidate) is found found_is =
+        found_is ∙ none (InlineBarrier candidate) is refl found found_is ∙ ap method_in (sym is)
+    by_class (Barrier prior) is found found_is =
+        found_is ∙ none (Barrier prior) is refl found found_is ∙ ap method_in (sym is)
 
 -- ---- a copy
 
@@ -186,3 +278,35 @@ copy_has_quorum bounds entries is =
     by_tests true true copy = absurd (cc)
     by_tests true false copy = absurd (cc)
     by_tests false full copy = copy_of_barrier bounds entries base.stamp (barrier_candidate bounds entries) copy
+
+-- ---- a barrier
+
+upon_prior : (bounds : ℕ) (entries : List ObjectHistory) (base prior : Stamp) (found : Option Candidate)
+    → barrier_class bounds entries base found ≡ Barrier prior → prior ≡ base
+unfolding barrier_class
+upon_prior bounds entries base prior None is = cc
+upon_prior bounds entries base prior (Some barrier) is =
+    by_tests (is_latest entries barrier) (is_full bounds entries barrier) is
+  where
+    by_tests : (latest full : Bool)
+        → cond (latest && full) Copy (cond latest (InlineBarrier barrier) (Barrier base)) ≡ Barrier prior → prior ≡ base
+    by_tests true true is = absurd (cc)
+    by_tests true false is = absurd (cc)
+    by_tests false full is = cc
+
+-- it rests upon the object candidate
+pub prior_of_barrier : (bounds : ℕ) (entries : List ObjectHistory) (prior : Stamp)
+    → class_of bounds entries ≡ Barrier prior → prior ≡ (base_of bounds entries).stamp
+unfolding class_of
+prior_of_barrier bounds entries prior is =
+    by_tests (is_latest entries (base_of bounds entries)) (is_full bounds entries (base_of bounds entries)) is
+  where
+    by_tests : (latest full : Bool)
+        → cond (latest && full) (Method (base_of bounds entries))
+        (cond latest (InlineMethod (base_of bounds entries))
+        (barrier_class bounds entries (base_of bounds entries).stamp (barrier_candidate bounds entries))) ≡ Barrier prior
+        → prior ≡ (base_of bounds entries).stamp
+    by_tests true true is = absurd (cc)
+    by_tests true false is = absurd (cc)
+    by_tests false full is =
+        upon_prior bounds entries (base_of bounds entries).stamp prior (barrier_candidate bounds entries) is

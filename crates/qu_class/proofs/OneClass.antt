@@ -1,16 +1,16 @@
 -- What a class tells fits no other class: what is told is told of the class of the definition.
-use Rattle.std.proofs.Common.{◌≡◌, ◌<◌, ◌≤◌, ℕ, Bool, true, false, ◌&&◌, cond, List, Option, Some, None, length, refl, sym, ap, subst, ◌∙◌, inl, inr, arith}
-use Rattle.std.proofs.lemmas.Bool.{false≢true, cases_Bool, le-leb, lt-leb, false_from_ne_true}
-use Rattle.qu_base.specs.Bounds.{quorum, repair}
+use Rattle.std.proofs.Common.{◌≡◌, ◌<◌, ◌≤◌, ℕ, Bool, true, false, ◌&&◌, cond, List, Option, Some, None, length, refl, sym, ap, ◌∙◌}
+use Rattle.std.proofs.lemmas.Bool.{false≢true, le-leb, lt-leb, false_from_ne_true}
+use Rattle.qu_base.specs.Bounds.{quorum}
 use Rattle.qu_stamp.specs.declared.stamp.Stamp.{Stamp}
 use Rattle.qu_stamp.specs.declared.candidate.Candidate.{Candidate}
-use Rattle.qu_stamp.specs.Stamp.{is_below, same_stamp}
+use Rattle.qu_stamp.specs.Stamp.{is_below}
 use Rattle.qu_stamp.proofs.Order.{is_below-self, equal_by_same_stamp}
 use Rattle.qu_history.specs.History.{ObjectHistory}
 use Rattle.qu_history.specs.Sets.{order_of, latest_of}
 use Rattle.qu_class.specs.declared.class.Class.{Class}
 use Rattle.qu_class.specs.declared.class.Class.TheVariants.{Method, InlineMethod, Copy, InlineBarrier, Barrier}
-use Rattle.qu_class.specs.Repairable.{greatest_of_kind, barrier_candidate, base_of}
+use Rattle.qu_class.specs.Repairable.{barrier_candidate, base_of}
 use Rattle.qu_class.specs.Class.{is_latest, is_full, barrier_class, class_of}
 use Rattle.qu_class.specs.Rows.{AreWellFormed, IsGreatestOfKind, IsLatestOfKind, NoneIsLatest, Tells}
 use Rattle.qu_class.proofs.OfKind.{plain_is_object_candidate, greatest_of_kind_is, greatest_of_kind_tells, base_is, base_is_greatest}

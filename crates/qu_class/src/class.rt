@@ -25,15 +25,28 @@ pub enum Class {
     Barrier { prior: Stamp },
 }
 
-/// The class of an object by the histories of the sets, of which it wants a quorum.
+/// The class of an object by the histories of the sets. Of fewer than a quorum of histories it tells nothing, but that
+/// the object is not of class METHOD.
 pub fn classify(sets: &Sets, object: ObjectId, bounds: &Bounds) -> Class
-    requires quorum { quorum bounds.now ≤ length (entries_of object sets.now) }
     ensures value { result ≡ class_of bounds.now (entries_of object sets.now) }
     ensures method { (candidate : Candidate) → (result ≡ Class.Method candidate)
         ↔ (method_at bounds.now (entries_of object sets.now) ≡ Some candidate) }
-    ensures tells { Tells bounds.now (entries_of object sets.now) result }
+    ensures tells { quorum bounds.now ≤ length (entries_of object sets.now)
+        → Tells bounds.now (entries_of object sets.now) result }
 {
     class_of(sets, object, bounds)
+}
+
+/// The candidate upon which an operation on the object may rest: that of class METHOD.
+#[tactic(auto, using(crate::proofs::ClassRows::method_of_class))]
+pub fn method_at(sets: &Sets, object: ObjectId, bounds: &Bounds) -> Option<Candidate>
+    ensures { result ≡ method_at bounds.now (entries_of object sets.now) }
+{
+    match class_of(sets, object, bounds) {
+        Class::Method(candidate) => Some(candidate),
+        Class::InlineMethod(_) | Class::Copy | Class::InlineBarrier(_) | Class::Barrier { .. } =>
+            None,
+    }
 }
 
 /// The first class that fits.

@@ -5,7 +5,7 @@ mod class;
 mod plan;
 mod repairable;
 
-pub use class::{Class, classify};
+pub use class::{Class, classify, method_at};
 pub use plan::{CopyPlan, evidence, plan_copy};
 pub use repairable::base_of;
 

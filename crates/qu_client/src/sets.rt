@@ -4,6 +4,7 @@ ghost use Rattle.qu_client.specs.Rounds.{operation_objects, are_objects, entries
 use super::Kept;
 use super::kept::kept_of;
 use qu_base::{Bounds, List, NoMemory, ObjectId};
+use qu_class::method_at;
 use qu_history::{Sealed, SetOf, Sets};
 use qu_objects::Op;
 use std::alloc::Global;
@@ -43,7 +44,7 @@ pub fn are_current(bounds: Bounds, sets: &Sets) -> bool
     ensures { result ≡ are_current bounds sets.now }
 {
     for set in sets.objects().as_slice() {
-        if sets.method_at(set.object, &bounds).is_none() {
+        if method_at(sets, set.object, &bounds).is_none() {
             return false;
         }
     }

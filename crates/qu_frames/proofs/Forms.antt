@@ -4,7 +4,7 @@ use Rattle.std.specs.Prelude.{IsTrue}
 use Rattle.std.proofs.lemmas.Bool.{cases_Bool, eqb-true}
 use Rattle.std.proofs.lemmas.Bool.Decides.{nat_tests}
 use Rattle.std.specs.Int.{w8, w64}
-use Rattle.qu_base.specs.declared.bad_text.Why.TheVariants.{Kind, Order}
+use Rattle.qu_base.specs.declared.bad_text.Why.TheVariants.{Kind, Order, Range}
 use Rattle.qu_base.specs.declared.party.ObjectId.{ObjectId}
 use Rattle.qu_base.specs.declared.party.ReplicaId.{ReplicaId}
 use Rattle.qu_base.specs.Format.{IsPrefixCode, Format, number, both, tested, FitsPart, made, either, object_form, replica_form, IsExact}
@@ -35,7 +35,7 @@ use Rattle.qu_frames.specs.declared.verdict.Refusal.TheVariants.{HistoryFull, Th
 use Rattle.qu_frames.specs.declared.verdict.Verdict.{Verdict}
 use Rattle.qu_frames.specs.declared.verdict.Verdict.TheVariants.{Done, Told, Already, Mended, Refused}
 use Rattle.qu_frames.specs.Verdict.{class_code}
-use Rattle.qu_frames.specs.Formats.{class_of, class_form, refused_object, latest_told, class_told, number_told, plain_refusal, plain_object, refusal_body, refusal_form, spelled_stamp, stamp_from, after_told, stamps_form, verdict_code, is_verdict_code, done, told, already, mended, refusal, answered_form, verdict_body, verdict_form, body_code, is_body_code, act_parts, ask_parts, body_of_code, body_form, round_form, is_after_pair, spelled_pair, pair_after, culled_form, RequestFields, request_fields, request_of, request_form, request_frame, ReplyFields, reply_fields, reply_of, reply_form, reply_frame, FetchFields, fetch_fields, fetch_of, fetch_form, fetch_frame, FetchedFields, fetched_fields, fetched_of, fetched_form, fetched_frame, frame_kind, is_version, is_frame_kind, frame_body, kind_form, frame_form}
+use Rattle.qu_frames.specs.Formats.{class_of, class_form, refused_object, latest_told, class_told, number_told, plain_refusal, plain_object, refusal_body, refusal_form, spelled_stamp, stamp_from, after_told, stamps_form, verdict_code, is_verdict_code, done, told, already, mended, refusal, answered_form, verdict_body, verdict_form, body_code, is_body_code, act_parts, ask_parts, body_of_code, body_form, round_form, is_after_pair, spelled_pair, pair_after, culled_form, RequestFields, request_fields, request_of, request_form, request_frame, ReplyFields, reply_fields, reply_of, reply_form, reply_frame, FetchFields, fetch_fields, fetch_of, fetch_form, fetch_frame, FetchedFields, fetched_fields, fetched_of, fetched_form, fetched_frame, frame_kind, is_version, is_frame_kind, frame_body, kind_form, frame_form, mend_target, target_form}
 
 -- ---- one of two formats, by a test
 
@@ -307,38 +307,59 @@ verdict-exact = tagged-exact is_verdict_code verdict_code verdict_body (λ code 
 act_again : (asked : Body) (found : List (ObjectId × Method)) → act_parts asked ≡ Some found → body.Act found ≡ asked
 act_again (body.Act parts) found is = of_part (λ (it : List (ObjectId × Method)). body.Act it) parts found is
 act_again (body.Ask parts) found is = absurd cc
+act_again (body.Mend target) found is = absurd cc
 
 ask_again : (asked : Body) (found : List (ObjectId × Ask)) → ask_parts asked ≡ Some found → body.Ask found ≡ asked
 ask_again (body.Act parts) found is = absurd cc
 ask_again (body.Ask parts) found is = of_part (λ (it : List (ObjectId × Ask)). body.Ask it) parts found is
+ask_again (body.Mend target) found is = absurd cc
+
+mend_again : (asked : Body) (found : ObjectId) → mend_target asked ≡ Some found → body.Mend found ≡ asked
+mend_again (body.Act parts) found is = absurd cc
+mend_again (body.Ask parts) found is = absurd cc
+mend_again (body.Mend target) found is = of_part (λ (it : ObjectId). body.Mend it) target found is
+
+target-exact : (objects : List ObjectId) → IsExact (target_form objects)
+target-exact objects = tested-exact (is_one_of objects) Range object_form object-exact
 
 body_of_code-exact : (objects : List ObjectId) (code : ℕ) → IsExact (body_of_code objects code)
 body_of_code-exact objects code =
     either-exact (code == 1) _ _ (made-exact body.Act act_parts _ (act-exact (is_one_of objects))
     (λ found fits. refl) (λ asked found fits is. act_again asked found is))
-    (λ no1. made-exact body.Ask ask_parts _ (query-exact (is_one_of objects)) (λ found fits. refl)
-    (λ asked found fits is. ask_again asked found is))
+    (λ no1. either-exact (code == 2) _ _ (made-exact body.Ask ask_parts _ (query-exact (is_one_of objects))
+    (λ found fits. refl) (λ asked found fits is. ask_again asked found is))
+    (λ no2. made-exact body.Mend mend_target _ (target-exact objects) (λ found fits. refl)
+    (λ asked found fits is. mend_again asked found is)))
 
 act_code : (form : Format (List (ObjectId × Method))) (asked : Body) → FitsPart form (act_parts asked)
     → body_code asked ≡ 1
 act_code form (body.Act parts) fits = refl
 act_code form (body.Ask parts) fits = absurd fits
+act_code form (body.Mend target) fits = absurd fits
 
 ask_code : (form : Format (List (ObjectId × Ask))) (asked : Body) → FitsPart form (ask_parts asked)
     → body_code asked ≡ 2
 ask_code form (body.Act parts) fits = absurd fits
 ask_code form (body.Ask parts) fits = refl
+ask_code form (body.Mend target) fits = absurd fits
 
--- the other one of two codes
-second_code : (code : ℕ) → IsTrue (is_body_code code) → (code == 1) ≡ false → 2 ≡ code
-second_code code known no1 = grind (arith, nat_tests)
+mend_code : (form : Format ObjectId) (asked : Body) → FitsPart form (mend_target asked) → body_code asked ≡ 3
+mend_code form (body.Act parts) fits = absurd fits
+mend_code form (body.Ask parts) fits = absurd fits
+mend_code form (body.Mend target) fits = refl
+
+-- the last one of three codes
+third_code : (code : ℕ) → IsTrue (is_body_code code) → (code == 1) ≡ false → (code == 2) ≡ false → 3 ≡ code
+third_code code known no1 no2 = grind (arith, nat_tests)
 
 body_coded : (objects : List ObjectId) (code : ℕ) (asked : Body) → IsTrue (is_body_code code)
     → (body_of_code objects code).Fits asked → body_code asked ≡ code
 body_coded objects code asked known fits =
     either-fits (code == 1) _ _ asked (λ is here. act_code (act_form (is_one_of objects)) asked here
     ∙ sym (eqb-true _ _ is))
-    (λ no1 here. ask_code (query_form (is_one_of objects)) asked here ∙ second_code code known no1) fits
+    (λ no1. either-fits (code == 2) _ _ asked (λ is here. ask_code (query_form (is_one_of objects)) asked here
+    ∙ sym (eqb-true _ _ is))
+    (λ no2 here. mend_code (target_form objects) asked here ∙ third_code code known no1 no2)) fits
 
 pub body-exact : (objects : List ObjectId) → IsExact (body_form objects)
 unfolding body_form

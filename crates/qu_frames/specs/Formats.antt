@@ -1,7 +1,7 @@
 -- The formats of verdicts, of what is asked for, and of frames.
 use Rattle.std.specs.Prelude.{ℕ, Bool, true, ◌==◌, ◌&&◌, ◌||◌, ◌-◌, ◌^◌, ◌+◌, nat_lt, nat_le, if◌then◌else◌, List, ◌++◌, map, Option, None, Some}
 use Rattle.std.specs.Int.{w8, w64}
-use Rattle.qu_base.specs.declared.bad_text.Why.TheVariants.{Kind, Order}
+use Rattle.qu_base.specs.declared.bad_text.Why.TheVariants.{Kind, Order, Range}
 use Rattle.qu_base.specs.declared.party.ClientId.{ClientId}
 use Rattle.qu_base.specs.declared.party.ObjectId.{ObjectId}
 use Rattle.qu_base.specs.declared.party.ReplicaId.{ReplicaId}
@@ -165,27 +165,40 @@ verdict_form = tagged is_verdict_code verdict_code verdict_body
 abbrev pub body_code : Body → ℕ
 body_code (body.Act parts) = 1
 body_code (body.Ask parts) = 2
+body_code (body.Mend target) = 3
 
 abbrev pub is_body_code : ℕ → Bool
-is_body_code code = nat_le 1 code && nat_le code 2
+is_body_code code = nat_le 1 code && nat_le code 3
 
 abbrev pub act_parts : Body → Option (List (ObjectId × Method))
 act_parts (body.Act parts) = Some parts
 act_parts (body.Ask parts) = None
+act_parts (body.Mend target) = None
 
 abbrev pub ask_parts : Body → Option (List (ObjectId × Ask))
 ask_parts (body.Act parts) = None
 ask_parts (body.Ask parts) = Some parts
+ask_parts (body.Mend target) = None
+
+abbrev pub mend_target : Body → Option ObjectId
+mend_target (body.Act parts) = None
+mend_target (body.Ask parts) = None
+mend_target (body.Mend target) = Some target
 
 abbrev pub objects_in_sets : List SetOf → List ObjectId
 objects_in_sets sets = map (λ set. set.object) sets
 
+-- the object that is to be mended, one of these
+abbrev pub target_form : List ObjectId → Format ObjectId
+target_form objects = tested (is_one_of objects) Range object_form
+
 abbrev pub body_of_code : List ObjectId → ℕ → Format Body
 body_of_code objects code =
     either (code == 1) (made body.Act act_parts (act_form (is_one_of objects)))
-    (made body.Ask ask_parts (query_form (is_one_of objects)))
+    (either (code == 2) (made body.Ask ask_parts (query_form (is_one_of objects)))
+    (made body.Mend mend_target (target_form objects)))
 
--- 1: an act; 2: a query; of these objects
+-- 1: an act; 2: a query; 3: a repair; of these objects
 unfoldable pub body_form : List ObjectId → Format Body
 body_form objects = tagged is_body_code body_code (body_of_code objects)
 

@@ -12,6 +12,8 @@ use std::alloc::Global;
 pub enum Body {
     Act(Act),
     Ask(Query),
+    /// That this object be repaired, by its class in the sets.
+    Mend(ObjectId),
 }
 
 impl Body {
@@ -24,6 +26,7 @@ impl Body {
         Ok(match self {
             Body::Act(act) => Body::Act(act.copy(alloc)?),
             Body::Ask(query) => Body::Ask(query.copy(alloc)?),
+            Body::Mend(target) => Body::Mend(*target),
         })
     }
 

@@ -1,7 +1,7 @@
 //! Frames from bytes, by the formats of `specs/Formats.antt`.
 ghost use Rattle.std.specs.Prelude.{◌≡◌, None, IfOk};
 ghost use Rattle.qu_base.specs.Reading.{Reads, Gives};
-ghost use Rattle.qu_frames.specs.Formats.{objects_in_sets, body_form, is_after_pair, pair_after, some_culled, culled_form, request_frame, reply_frame, fetch_frame, fetched_frame, kind_form, frame_form};
+ghost use Rattle.qu_frames.specs.Formats.{objects_in_sets, target_form, body_form, is_after_pair, pair_after, some_culled, culled_form, request_frame, reply_frame, fetch_frame, fetched_frame, kind_form, frame_form};
 
 use super::reading_verdict::verdict_at;
 use super::{Body, CULLED_LIMIT, Frame, LAST_ROUND};
@@ -122,7 +122,7 @@ fn fetched_at(alloc: Global, text: &mut Cursor) -> Result<Frame, ReadFail>
     })
 }
 
-/// What is asked of the objects of these sets: a code, and the parts.
+/// What is asked of the objects of these sets: a code, and the parts or the object that is to be repaired.
 #[tactic(auto, unfolding(crate::specs::Formats::body_form))]
 fn body_at(alloc: Global, sets: &[SetOf], text: &mut Cursor) -> Result<Body, ReadFail>
     ensures { Gives (body_form (objects_in_sets sets.now)) result text.old text.new }
@@ -133,7 +133,21 @@ fn body_at(alloc: Global, sets: &[SetOf], text: &mut Cursor) -> Result<Body, Rea
     match code {
         1 => Ok(Body::Act(read_act(alloc, objects.as_slice(), text)?)),
         2 => Ok(Body::Ask(read_query(alloc, objects.as_slice(), text)?)),
+        3 => Ok(Body::Mend(target_at(objects.as_slice(), text)?)),
         _ => Err(ReadFail::Bad(start.refusal(Why::Range))),
+    }
+}
+
+/// The object that is to be repaired, one of these.
+fn target_at(objects: &[ObjectId], text: &mut Cursor) -> Result<ObjectId, BadText>
+    ensures { Reads (target_form objects.now) result text.old text.new }
+{
+    let start = text.ahead();
+    let target = text.object()?;
+    if objects.contains(&target) {
+        Ok(target)
+    } else {
+        Err(start.refusal(Why::Range))
     }
 }
 

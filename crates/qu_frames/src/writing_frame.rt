@@ -130,6 +130,11 @@ fn append_body(body: &Body, out: &mut Outbytes) -> Result<(), NoMemory>
             write_query(query, out)?;
             Ok(())
         }
+        Body::Mend(target) => {
+            out.u8(3)?;
+            out.u16(target.0)?;
+            Ok(())
+        }
     }
 }
 

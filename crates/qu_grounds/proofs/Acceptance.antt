@@ -1,5 +1,5 @@
 -- What a replica accepts upon a frame, and why: nothing, or one candidate on each object of an act.
-use Rattle.std.proofs.Common.{◌≡◌, ◌⊎◌, ℕ, zero, suc, ◌<◌, Bool, true, false, ◌||◌, cond, List, [], ◌∷◌, ◌++◌, length, Option, None, Some, inl, inr, refl, sym, subst, ap, ◌∙◌, arith}
+use Rattle.std.proofs.Common.{◌≡◌, ◌⊎◌, ℕ, zero, suc, ◌<◌, Bool, true, false, ◌||◌, cond, List, [], ◌∷◌, ◌++◌, length, Option, None, Some, inl, inr, refl, sym, subst, ap, ◌∙◌, arith, IsSome, ltb, ◌+◌, ◌≤◌, ltb-false}
 use Rattle.std.specs.Prelude.{slice_get, option_map, option_and_then, IsTrue}
 use Rattle.std.proofs.lemmas.Bool.{false≢true}
 use Rattle.std.proofs.lemmas.Option.{none-some, same_Some}
@@ -9,10 +9,11 @@ use Rattle.qu_base.specs.declared.party.ObjectId.{ObjectId}
 use Rattle.qu_stamp.specs.declared.stamp.Stamp.{Stamp}
 use Rattle.qu_stamp.specs.declared.candidate.Candidate.{Candidate}
 use Rattle.qu_stamp.specs.Stamp.{is_below}
+use Rattle.qu_class.specs.Repairable.{base_of as object_base}
 use Rattle.qu_history.specs.declared.sets.SetOf.{SetOf}
 use Rattle.qu_history.specs.Culling.{culled}
 use Rattle.qu_history.specs.History.{ObjectHistory}
-use Rattle.qu_history.specs.Sets.{latest_of}
+use Rattle.qu_history.specs.Sets.{latest_of, entries_of, order_of}
 use Rattle.qu_objects.specs.declared.act.Method.{Method}
 use Rattle.qu_objects.specs.declared.query.Ask.{Ask}
 use Rattle.qu_objects.specs.declared.kind.Value.{Value}
@@ -41,16 +42,30 @@ use Rattle.qu_replica.specs.declared.decision.Accepted.{Accepted}
 use Rattle.qu_replica.specs.declared.decision.Decision.{Decision}
 use Rattle.qu_replica.specs.declared.decision.Decision.TheVariants.{Answers, Waits}
 use Rattle.qu_replica.specs.State.{ReplicaState, candidates_in, own_candidates, own_latest, with_candidate, accept, accept_all}
-use Rattle.qu_replica.specs.Rows.{Asked, asked_at, refuse, shown_of, base_of, base_version, fresh_stamp, fresh_on, standing_in, done_again, repeated, row_unknown, row_thin, row_retry, row_current, row_method, row_version, row_kept, row_time, row_full, row_done, row_told, first_given, decide_act, decide_ask, decision_on}
+use Rattle.qu_replica.specs.Rows.{Asked, asked_at, refuse, shown_of, base_of, base_version, fresh_stamp, fresh_on, standing_in, done_again, repeated, row_unknown, row_thin, row_retry, row_current, row_method, row_version, row_kept, row_time, row_full, row_done, row_told, first_given, decide_act, decide_ask, decision_on, class_told, row_few, decide_repair, mend_asked, wanted_version, decision_by, mending_on}
 use Rattle.qu_replica.specs.Step.{carried_out, on_frame}
 use Rattle.qu_replica.specs.Versions.{version_at}
 use Rattle.qu_replica.specs.Growth.{HasParts, MayAccept, MayAcceptAll, MayDecide}
 use Rattle.qu_replica.proofs.Accepting.{other_history}
 use Rattle.qu_replica.proofs.Allowed.{decision_on-may, no_first}
 use Rattle.qu_replica.proofs.Carried.{versions_one, done_one}
-use Rattle.qu_grounds.specs.Grounds.{IsGround, Accepts}
+use Rattle.qu_grounds.specs.Grounds.{IsGround, Accepts, Performs, IsMade, IsRemedy, made_stamp, IsFound}
 use Rattle.qu_grounds.proofs.Parts.{one_named}
 use Rattle.qu_runs.proofs.Small.{some_of, single}
+use Rattle.qu_mend.specs.declared.mending.Mending.{Mending}
+use Rattle.qu_mend.specs.declared.mending.Mending.TheVariants as mending
+use Rattle.qu_mend.specs.declared.mend.Mend.{Mend}
+use Rattle.qu_mend.specs.declared.remedy.Remedy.{Remedy}
+use Rattle.qu_mend.specs.declared.remedy.Remedy.TheVariants.{Shown, Fresh}
+use Rattle.qu_class.specs.declared.class.Class.{Class}
+use Rattle.qu_class.specs.declared.class.Class.TheVariants as class
+use Rattle.qu_mend.specs.Remedy.{remedy_by, remedy_of, fresh_on as fresh_candidate, wanted_by}
+use Rattle.qu_mend.specs.Causes.{Makes, HasVersion, HasCause}
+use Rattle.qu_class.specs.Rows.{AreWellFormed, IsLatestOfKind, Tells}
+use Rattle.qu_base.specs.Bounds.{quorum, repair}
+use Rattle.qu_class.specs.Class.{class_of}
+use Rattle.qu_class.proofs.ClassRows.{class_tells, prior_of_barrier}
+use Rattle.qu_mend.proofs.Decided.{decided_has_cause}
 
 -- ---- the rows that accept nothing
 
@@ -176,7 +191,7 @@ record MakesOne (state : ReplicaState) (asked : Asked) (part : ObjectId × Metho
   alone : accepted ≡ record {
     object = part.0;
     candidate = candidate;
-    state = version_by asked part before value;
+    state = Some (version_by asked part before value);
   } ∷ []
 
 pub no_wait : (missing : Bool) → cond (missing || false) (Some Waits) None ≡ None → missing ≡ false
@@ -236,7 +251,8 @@ done : (state : ReplicaState) (asked : Asked) (part : ObjectId × Method) (act :
 unfolding row_current row_method row_version row_kept
 done state asked part act is_act parts is_current is_method is_version is_new =
     let base : (it : Candidate) × (base_of state asked part.0 ≡ Some it) =
-    some_of (base_of state asked part.0) (no_first (λ it. NotMethod it Barrier) _ part.0 is_method) in
+    some_of (base_of state asked part.0)
+    (no_first (λ it. NotMethod it (class_told state asked it)) _ part.0 is_method) in
     let before : (it : ObjState) × (base_version state asked part.0 ≡ Some it) =
     some_of (base_version state asked part.0) (no_wait _ is_version) in
     let value : (it : Value) × (performed_values (part ∷ []) ((before.0).value ∷ []) ≡ it ∷ []) =
@@ -300,41 +316,24 @@ pub stays : (state new : ReplicaState) (accepted : List Accepted) → new ≡ ac
 unfolding accept_all
 stays state new accepted is_new none = is_new ∙ ap (accept_all state) none
 
-moves : (state new : ReplicaState) (client : ClientId) (number round : ℕ) (sent : List SetOf) (mac : List ℕ)
+performs : (state new : ReplicaState) (client : ClientId) (number : ℕ) (sent : List SetOf)
     (part : ObjectId × Method) (accepted : List Accepted)
-    → MayAcceptAll state accepted → MakesOne state (asked_at state client number sent (body.Act (part ∷ []))) part
-    accepted → new ≡ accept_all state accepted
-    → Accepts state new (frame.Request client number round sent (body.Act (part ∷ [])) mac)
-unfolding accept_all
-moves state new client number round sent mac part accepted may made is_new =
-    let asked : Asked = asked_at state client number sent (body.Act (part ∷ [])) in
-    let after : ObjState = version_by asked part made.before made.value in
-    let one : Accepted = record { object = part.0; candidate = made.candidate; state = after } in
-    let is_one : new ≡ accept state one = is_new ∙ ap (accept_all state) made.alone in
-    let may_one : MayAccept state one = subst (MayAcceptAll state) made.alone may in
+    (made : MakesOne state (asked_at state client number sent (body.Act (part ∷ []))) part accepted)
+    → new.versions ≡ state.versions ++ (record {
+      object = part.0;
+      stamp = (made.candidate).stamp;
+      state = version_by (asked_at state client number sent (body.Act (part ∷ []))) part made.before made.value;
+    } ∷ [])
+    → Performs state new (asked_at state client number sent (body.Act (part ∷ []))) (part ∷ [])
+    (λ object. made.candidate)
+performs state new client number sent part accepted made stored =
+    let after : ObjState =
+    version_by (asked_at state client number sent (body.Act (part ∷ []))) part made.before made.value in
     record {
-      client = client;
-      number = number;
-      round = round;
-      sent = sent;
-      sets = culled state.keys state.me sent;
-      culls = refl;
-      parts = part ∷ [];
-      mac = mac;
-      is_request = refl;
-      candidates = λ object. made.candidate;
-      added = λ object names. subst
-          (λ (it : ObjectId). own_candidates new it ≡ own_candidates state it ++ made.candidate ∷ [])
-          (one_named part object names)
-          (ap (λ (it : ReplicaState). own_candidates it part.0) is_one
-          ∙ candidates_after (part.0).0 made.candidate state.histories may_one.known);
-      others = λ other apart.
-          ap (λ (it : ReplicaState). own_candidates it other) is_one ∙
-          ap candidates_in (other_history (part.0).0 other.0 made.candidate state.histories
-          (λ same. apart (inl (ap (λ (it : ℕ). record { 0 = it }) (sym same)))));
       bases = λ object. made.base;
-      grounds = λ object names. subst (λ (it : ObjectId). IsGround state asked it made.candidate made.base)
-          (one_named part object names) made.grounds;
+      grounds = λ object names. subst
+          (λ (it : ObjectId). IsGround state (asked_at state client number sent (body.Act (part ∷ []))) it made.candidate
+          made.base) (one_named part object names) made.grounds;
       versions = λ object. after;
       performed = record {
         befores = λ object. made.before;
@@ -351,7 +350,43 @@ moves state new client number round sent mac part accepted may made is_new =
             (row_by client number (part ∷ []) ((made.before).value ∷ [])) made.value links made.before)
             (sym (no_others part (made.candidate).stamp)));
       };
-      stored = ap (λ (it : ReplicaState). it.versions) is_one;
+      stored = stored;
+    }
+
+moves : (state new : ReplicaState) (client : ClientId) (number round : ℕ) (sent : List SetOf) (mac : List ℕ)
+    (part : ObjectId × Method) (accepted : List Accepted)
+    → MayAcceptAll state accepted → MakesOne state (asked_at state client number sent (body.Act (part ∷ []))) part
+    accepted → new ≡ accept_all state accepted
+    → Accepts state new (frame.Request client number round sent (body.Act (part ∷ [])) mac)
+unfolding accept_all
+moves state new client number round sent mac part accepted may made is_new =
+    let asked : Asked = asked_at state client number sent (body.Act (part ∷ [])) in
+    let after : ObjState = version_by asked part made.before made.value in
+    let one : Accepted = record { object = part.0; candidate = made.candidate; state = Some after } in
+    let is_one : new ≡ accept state one = is_new ∙ ap (accept_all state) made.alone in
+    let may_one : MayAccept state one = subst (MayAcceptAll state) made.alone may in
+    record {
+      client = client;
+      number = number;
+      round = round;
+      sent = sent;
+      sets = culled state.keys state.me sent;
+      culls = refl;
+      asks = body.Act (part ∷ []);
+      mac = mac;
+      is_request = refl;
+      candidates = λ object. made.candidate;
+      added = λ object names. subst
+          (λ (it : ObjectId). own_candidates new it ≡ own_candidates state it ++ made.candidate ∷ [])
+          (one_named part object names)
+          (ap (λ (it : ReplicaState). own_candidates it part.0) is_one
+          ∙ candidates_after (part.0).0 made.candidate state.histories may_one.known);
+      others = λ other apart.
+          ap (λ (it : ReplicaState). own_candidates it other) is_one ∙
+          ap candidates_in (other_history (part.0).0 other.0 made.candidate state.histories
+          (λ same. apart (inl (ap (λ (it : ℕ). record { 0 = it }) (sym same)))));
+      reasons = performs state new client number sent part accepted made
+          (ap (λ (it : ReplicaState). it.versions) is_one);
     }
 
 act_moves : (state : ReplicaState) (client : ClientId) (number round : ℕ) (sets : List SetOf) (mac : List ℕ)
@@ -371,17 +406,283 @@ act_moves state client number round sets mac part parts =
           (may_accept state decision (decision_on-may state asked (body.Act (part ∷ [])) parts)) made is_new)
     ]
 
+-- ---- a repair
+
+-- what is wanted of a remedy's version is what the replica has under its stamp
+module _ (state : ReplicaState) (asked : Asked) (target : ObjectId) where
+  abbrev entries : List ObjectHistory
+  entries = entries_of target asked.sets
+
+  abbrev bounds : ℕ
+  bounds = state.keys.bounds
+
+  abbrev mend : Mend
+  mend = mend_asked state asked target
+
+  -- the same request, where its remedy is this one
+  abbrev mend_by : Remedy → Mend
+  mend_by remedy = record mend { remedy = remedy }
+
+  found_version : (found : Option ObjState) → IsSome found → (version : ObjState) × (found ≡ Some version)
+  found_version None some = absurd (grind (arith, some))
+  found_version (Some version) some = (version, refl)
+
+  module _ (no_act : asked.act ≡ None) where
+    -- a fresh candidate is made upon the object candidate
+    is_made : (barrier : Bool) (candidate : Candidate)
+        → candidate ≡ fresh_candidate mend barrier (object_base bounds entries).stamp
+        → IsMade bounds asked target candidate
+    is_made barrier candidate is =
+        let stamp : candidate.stamp ≡ made_stamp asked target barrier =
+        ap (λ (it : Candidate). it.stamp) is
+        ∙ ap (λ (act : Option Digest). record {
+          time = (latest_of entries).time + 1;
+          barrier = barrier;
+          client = asked.client;
+          act = act;
+          set = asked.set;
+        }) (sym no_act) in
+        record {
+          stamp = stamp ∙ ap (made_stamp asked target) (sym (ap (λ (it : Stamp). it.barrier) stamp));
+          prior = ap (λ (it : Candidate). it.prior) is;
+        }
+
+    is_fresh_kind : (barrier : Bool) (prior : Stamp) (candidate : Candidate)
+        → candidate ≡ fresh_candidate mend barrier prior
+        → candidate.stamp.barrier ≡ barrier
+    is_fresh_kind barrier prior candidate is = ap (λ (it : Candidate). it.stamp.barrier) is
+
+    copied : (candidate : Candidate) (latest : Candidate) (found stored : Option ObjState)
+        → candidate ≡ fresh_candidate mend false (object_base bounds entries).stamp
+        → IsLatestOfKind bounds entries true latest → quorum bounds ≤ order_of latest entries
+        → version_at target (object_base bounds entries).stamp state.versions ≡ found → IsSome found → stored ≡ found
+        → IsRemedy state asked target candidate stored
+    copied candidate latest found stored is of_kind full found_is some stored_is =
+        let version : (it : ObjState) × (found ≡ Some it) = found_version found some in
+        subst (IsRemedy state asked target candidate) (sym (stored_is ∙ version.1))
+        (IsRemedy.copy latest version.0 (is_fresh_kind false _ candidate is) (is_made false candidate is)
+        ((of_kind.greatest).repairable).kind of_kind.latest full
+        (ap (λ (stamp : Stamp). version_at target stamp state.versions) (ap (λ (it : Candidate). it.prior) is)
+        ∙ found_is ∙ version.1))
+
+    found_so : (barrier : Bool) (candidate shown : Candidate) → candidate ≡ shown
+        → IsLatestOfKind bounds entries barrier shown → IsFound bounds asked target candidate
+    found_so barrier candidate shown is of_kind = record {
+      latest = ap (λ (it : Candidate). it.stamp) is ∙ of_kind.latest;
+      order = subst (λ (it : Candidate). repair bounds ≤ order_of it entries) (sym is)
+          ((of_kind.greatest).repairable).order;
+    }
+
+    shown_kind : (barrier : Bool) (candidate shown : Candidate) → candidate ≡ shown
+        → IsLatestOfKind bounds entries barrier shown → candidate.stamp.barrier ≡ barrier
+    shown_kind barrier candidate shown is of_kind =
+        ap (λ (it : Candidate). it.stamp.barrier) is ∙ ((of_kind.greatest).repairable).kind
+
+    inlined : (candidate shown : Candidate) (found stored : Option ObjState) → candidate ≡ shown
+        → IsLatestOfKind bounds entries false shown
+        → version_at target shown.stamp state.versions ≡ found → IsSome found → stored ≡ None
+        → IsRemedy state asked target candidate stored
+    inlined candidate shown found stored is of_kind found_is some stored_is =
+        let version : (it : ObjState) × (found ≡ Some it) = found_version found some in
+        subst (IsRemedy state asked target candidate) (sym stored_is)
+        (IsRemedy.inline_method version.0 (shown_kind false candidate shown is of_kind)
+        (found_so false candidate shown is of_kind)
+        (ap (λ (it : Candidate). version_at target it.stamp state.versions) is ∙ found_is ∙ version.1))
+
+    -- the version that is wanted of a candidate without barrier
+    wanted_plain : (shown : Candidate) → shown.stamp.barrier ≡ false
+        → wanted_version state target (Shown shown) ≡ version_at target shown.stamp state.versions
+    unfolding wanted_by
+    wanted_plain shown plain =
+        ap (λ (barrier : Bool). option_and_then (λ (stamp : Stamp). version_at target stamp state.versions)
+        (cond barrier None (Some shown.stamp))) plain
+
+    wanted_copied : (prior : Stamp)
+        → wanted_version state target (Fresh false prior) ≡ version_at target prior state.versions
+    unfolding wanted_by
+    wanted_copied prior = refl
+
+    -- what the class makes of the object
+    remedy_is : (class : Class) → class_of bounds entries ≡ class → Tells bounds entries class → (candidate : Candidate)
+        (stored : Option ObjState) → Makes mend (remedy_by (object_base bounds entries).stamp class) candidate
+        → HasVersion (remedy_by (object_base bounds entries).stamp class)
+        (wanted_version state target (remedy_by (object_base bounds entries).stamp class)) stored
+        → IsRemedy state asked target candidate stored
+    unfolding remedy_by
+    remedy_is (class.Method base) is tells candidate stored never has = absurd never
+    remedy_is (class.InlineMethod shown) is tells candidate stored makes has =
+        inlined candidate shown (wanted_version state target (Shown shown)) stored makes.0 tells.0
+        (sym (wanted_plain shown (((tells.0).greatest).repairable).kind))
+        (has.0 (((tells.0).greatest).repairable).kind) has.1
+    remedy_is class.Copy is tells candidate stored makes has =
+        copied candidate tells.0 (wanted_version state target (Fresh false (object_base bounds entries).stamp)) stored makes.0
+        tells.1 tells.2 (sym (wanted_copied (object_base bounds entries).stamp)) has.0 has.1
+    remedy_is (class.InlineBarrier shown) is tells candidate stored makes has =
+        subst (IsRemedy state asked target candidate) (sym has.1)
+        (IsRemedy.inline_barrier (shown_kind true candidate shown makes.0 tells.0)
+        (found_so true candidate shown makes.0 tells.0))
+    remedy_is (class.Barrier prior) is tells candidate stored makes has =
+        let upon : prior ≡ (object_base bounds entries).stamp = prior_of_barrier bounds entries prior is in
+        subst (IsRemedy state asked target candidate) (sym has)
+        (IsRemedy.barrier (is_fresh_kind true prior candidate makes.0)
+        (is_made true candidate (makes.0 ∙ ap (fresh_candidate mend true) upon)))
+
+-- what a replica adds to mend an object
+record AddsOne (state : ReplicaState) (asked : Asked) (target : ObjectId) (accepted : List Accepted) : Type 0 where
+  candidate : Candidate
+  version : Option ObjState
+  current : is_below (latest_of (shown_of asked target)) (own_latest state target) ≡ false
+  above : is_below (own_latest state target) candidate.stamp ≡ true
+  remedy : IsRemedy state asked target candidate version
+  alone : accepted ≡ record { object = target; candidate = candidate; state = version } ∷ []
+
+abbrev AddsAtMostOne : ReplicaState → Asked → ObjectId → List Accepted → Type 0
+AddsAtMostOne state asked target accepted =
+    (accepted ≡ [])
+    ⊎ ((quorum state.keys.bounds ≤ length (shown_of asked target)) × AddsOne state asked target accepted)
+
+mended : (state : ReplicaState) (asked : Asked) (target : ObjectId) → asked.act ≡ None
+    → AreWellFormed state.keys.bounds (shown_of asked target)
+    → quorum state.keys.bounds ≤ length (shown_of asked target)
+    → (made : Mending)
+    → HasCause (mend_asked state asked target) (own_candidates state target)
+    (wanted_version state target (mend_asked state asked target).remedy) made
+    → AddsAtMostOne state asked target (accepted_in (decision_by target made))
+unfolding remedy_of
+mended state asked target no_act formed enough (mending.Mends candidate version) cause =
+    inr (
+      enough,
+      record {
+        candidate = candidate;
+        version = version;
+        current = (cause.1).current;
+        above = (cause.1).above;
+        remedy = remedy_is state asked target no_act (class_of state.keys.bounds (shown_of asked target)) refl
+            (class_tells state.keys.bounds (shown_of asked target) formed enough) candidate version cause.0 cause.2;
+        alone = refl;
+      },
+    )
+mended state asked target no_act formed enough (mending.Holds stamp) cause = inl refl
+mended state asked target no_act formed enough (mending.Refuses why) cause = inl refl
+mended state asked target no_act formed enough mending.Waits cause = inl refl
+
+few : (state : ReplicaState) (asked : Asked) (target : ObjectId) → AcceptsNothing (row_few state asked target)
+unfolding row_few
+few state asked target =
+    refused_if (ltb (length (shown_of asked target)) (quorum state.keys.bounds)) (refusal.Thin target)
+  where
+    refused_if : (test : Bool) (why : Refusal) → AcceptsNothing (cond test (Some (refuse why)) None)
+    refused_if false why decision given = absurd (none-some decision given)
+    refused_if true why decision given = ap accepted_in (sym (same_Some (refuse why) decision given))
+
+not_few : (state : ReplicaState) (asked : Asked) (target : ObjectId) → row_few state asked target ≡ None
+    → quorum state.keys.bounds ≤ length (shown_of asked target)
+unfolding row_few
+not_few state asked target none =
+    ltb-false _ _ (none_if (ltb (length (shown_of asked target)) (quorum state.keys.bounds)) _ none)
+  where
+    none_if : {X : Type 0} (test : Bool) (it : X) → cond test (Some it) None ≡ None → test ≡ false
+    none_if false it none = refl
+    none_if true it none = absurd (none-some it (sym none))
+
+at_last : (P : List Accepted → Type 0) (decision : Decision) → P (accepted_in decision)
+    → P (accepted_in (first_given (Some decision ∷ [])))
+unfolding first_given
+at_last P decision holds_so = holds_so
+
+repair_accepts : (state : ReplicaState) (asked : Asked) (target : ObjectId) → asked.act ≡ None
+    → AreWellFormed state.keys.bounds (shown_of asked target)
+    → AddsAtMostOne state asked target (accepted_in (decide_repair state asked target))
+unfolding decide_repair
+repair_accepts state asked target no_act formed =
+    let most : List Accepted → Type 0 = λ accepted. AddsAtMostOne state asked target accepted in
+    past most _ _ (inl refl) (unknown state asked) (λ _.
+    past most _ _ (inl refl) (thin state asked) (λ _.
+    past most _ _ (inl refl) (few state asked target) (λ enough.
+    at_last most (decision_by target (mending_on state asked target))
+    (mended state asked target no_act formed (not_few state asked target enough) (mending_on state asked target)
+    (decided_has_cause (mend_asked state asked target) (own_candidates state target)
+    (wanted_version state target (mend_asked state asked target).remedy))))))
+
+adds : (state new : ReplicaState) (client : ClientId) (number round : ℕ) (sent : List SetOf) (mac : List ℕ)
+    (target : ObjectId) (accepted : List Accepted) → MayAcceptAll state accepted
+    → quorum state.keys.bounds ≤ length (shown_of (asked_at state client number sent (body.Mend target)) target)
+    → AddsOne state (asked_at state client number sent (body.Mend target)) target accepted
+    → new ≡ accept_all state accepted
+    → Accepts state new (frame.Request client number round sent (body.Mend target) mac)
+unfolding accept_all
+adds state new client number round sent mac target accepted may enough made is_new =
+    let one : Accepted = record { object = target; candidate = made.candidate; state = made.version } in
+    let is_one : new ≡ accept state one = is_new ∙ ap (accept_all state) made.alone in
+    let may_one : MayAccept state one = subst (MayAcceptAll state) made.alone may in
+    record {
+      client = client;
+      number = number;
+      round = round;
+      sent = sent;
+      sets = culled state.keys state.me sent;
+      culls = refl;
+      asks = body.Mend target;
+      mac = mac;
+      is_request = refl;
+      candidates = λ object. made.candidate;
+      added = λ object is. subst
+          (λ (it : ObjectId). own_candidates new it ≡ own_candidates state it ++ made.candidate ∷ []) is
+          (ap (λ (it : ReplicaState). own_candidates it target) is_one
+          ∙ candidates_after target.0 made.candidate state.histories may_one.known);
+      others = λ other apart.
+          ap (λ (it : ReplicaState). own_candidates it other) is_one ∙
+          ap candidates_in (other_history target.0 other.0 made.candidate state.histories
+          (λ same. apart (ap (λ (it : ℕ). record { 0 = it }) (sym same))));
+      reasons = record {
+        enough = enough;
+        current = made.current;
+        above = made.above;
+        version = made.version;
+        remedy = made.remedy;
+        stored = ap (λ (it : ReplicaState). it.versions) is_one;
+      };
+    }
+
+mend_moves : (state : ReplicaState) (client : ClientId) (number round : ℕ) (sets : List SetOf) (mac : List ℕ)
+    (target : ObjectId)
+    → AreWellFormed state.keys.bounds (entries_of target (culled state.keys state.me sets))
+    → ((on_frame state (frame.Request client number round sets (body.Mend target) mac)).0 ≡ state)
+    ⊎ Accepts state (on_frame state (frame.Request client number round sets (body.Mend target) mac)).0
+    (frame.Request client number round sets (body.Mend target) mac)
+mend_moves state client number round sets mac target formed =
+    let asked : Asked = asked_at state client number sets (body.Mend target) in
+    let decision : Decision = decide_repair state asked target in
+    let new : ReplicaState = (carried_out state client number round sets decision).0 in
+    let is_new : new ≡ accept_all state (accepted_in decision) = carried state client number round sets decision in
+    elim (repair_accepts state asked target refl formed) [
+      | inl none ↦ inl (stays state new (accepted_in decision) is_new none)
+      | inr made ↦
+          inr (adds state new client number round sets mac target (accepted_in decision)
+          (may_accept state decision (decision_on-may state asked (body.Mend target) refl)) made.0 made.1 is_new)
+    ]
+
+-- ---- any request
+
+-- a replica can tell the classes of what the frame shows it
+abbrev pub IsFormed : ReplicaState → Frame → Type 0
+IsFormed state (frame.Request client number round sets asks mac) =
+    (object : ObjectId) → AreWellFormed state.keys.bounds (entries_of object (culled state.keys state.me sets))
+IsFormed state _ = Unit {0}
+
 -- a step leaves a replica as it is, or adds candidates for which there are grounds
-pub step_moves : (state : ReplicaState) (received : Frame) → HasParts received
+pub step_moves : (state : ReplicaState) (received : Frame) → HasParts received → IsFormed state received
     → ((on_frame state received).0 ≡ state) ⊎ Accepts state (on_frame state received).0 received
-step_moves state (frame.Request client number round sets (body.Act []) mac) parts = absurd (false≢true parts)
-step_moves state (frame.Request client number round sets (body.Act (part ∷ [])) mac) parts =
+step_moves state (frame.Request client number round sets (body.Act []) mac) parts formed = absurd (false≢true parts)
+step_moves state (frame.Request client number round sets (body.Act (part ∷ [])) mac) parts formed =
     act_moves state client number round sets mac part parts
-step_moves state (frame.Request client number round sets (body.Act (first ∷ second ∷ later)) mac) parts =
+step_moves state (frame.Request client number round sets (body.Act (first ∷ second ∷ later)) mac) parts formed =
     absurd (false≢true parts)
-step_moves state (frame.Request client number round sets (body.Ask asks) mac) parts =
+step_moves state (frame.Request client number round sets (body.Ask asks) mac) parts formed =
     let asked : Asked = asked_at state client number sets (body.Ask asks) in
     let decision : Decision = decision_on state asked (body.Ask asks) in
     inl (stays state (carried_out state client number round sets decision).0 (accepted_in decision)
     (carried state client number round sets decision) (ask_accepts state asked asks _))
-step_moves state _ parts = inl refl
+step_moves state (frame.Request client number round sets (body.Mend target) mac) parts formed =
+    mend_moves state client number round sets mac target (formed target)
+step_moves state _ parts formed = inl refl

@@ -121,6 +121,6 @@ acceptance trace is_run have at within object place candidate after before =
         is_new = found.is_at;
         delivered = delivered;
         candidate_is = added_is step.old found.item object ((delivered.accepts).candidates object) candidate
-            ((delivered.accepts).added object delivered.names) found.passed not_before;
+            ((delivered.accepts).added object delivered.adds) found.passed not_before;
       }
     ]

@@ -41,10 +41,10 @@ use Rattle.qu_runs.proofs.FewFaults.{either_counted}
 -- ---- what was held is still accepted
 
 -- a history that is found stands with a replica
-record StandsAt (world : WorldState) (history : ObjectHistory) : Type 0 where
-  state : ReplicaState
-  is_replica : slice_get world.replicas (history.replica).0 ≡ Some state
-  found : slice_get state.histories (history.object).0 ≡ Some history
+pub record StandsAt (world : WorldState) (history : ObjectHistory) : Type 0 where
+  pub state : ReplicaState
+  pub is_replica : slice_get world.replicas (history.replica).0 ≡ Some state
+  pub found : slice_get state.histories (history.object).0 ≡ Some history
 
 stands_with : (object : ObjectId) (there : Option ReplicaState) (history : ObjectHistory)
     → option_and_then (λ (it : ReplicaState). slice_get it.histories object.0) there ≡ Some history
@@ -52,7 +52,7 @@ stands_with : (object : ObjectId) (there : Option ReplicaState) (history : Objec
 stands_with object None history found = absurd (none-some history found)
 stands_with object (Some state) history found = (state, refl, found)
 
-stands_at : (world : WorldState) (history : ObjectHistory)
+pub stands_at : (world : WorldState) (history : ObjectHistory)
     → history_at world history.replica history.object ≡ Some history → StandsAt world history
 stands_at world history held =
     let with : (state : ReplicaState) × (slice_get world.replicas (history.replica).0 ≡ Some state)

@@ -5,12 +5,11 @@ use Rattle.qu_runs.proofs.Handing.{handed_offers, handed_correct}
 use Rattle.qu_runs.specs.Digested.{is_handler}
 use Rattle.qu_runs.proofs.Plain.{setup_after}
 use Rattle.std.proofs.Common.{false}
-use Rattle.std.proofs.Common.{◌≡◌, ℕ, suc, ◌<◌, ◌≤◌, Bool, true, not, cond, List, [], ◌∷◌, length, Option, get_or, None, Some, refl, sym, ap, ◌∙◌, arith, add-one}
+use Rattle.std.proofs.Common.{◌≡◌, ℕ, ◌<◌, ◌≤◌, Bool, true, not, cond, List, [], ◌∷◌, length, Option, None, Some, refl, sym, ap, ◌∙◌, arith}
 use Rattle.std.specs.Prelude.{slice_get, nat_le, nat_lt, Contains, option_map}
 use Rattle.std.specs.List.{list_all}
 use Rattle.std.proofs.lemmas.Bool.{and_parts, and_from, lt-ltb}
 use Rattle.std.proofs.lemmas.Bool.Decides.{nat_tests}
-use Rattle.std.proofs.lemmas.List.Elements.{Contains-get_or}
 use Rattle.std.proofs.lemmas.Option.{none-some, slice_get_within, same_Some}
 use Rattle.qu_base.specs.declared.party.ClientId.{ClientId}
 use Rattle.qu_base.specs.declared.party.ObjectId.{ObjectId}
@@ -33,24 +32,23 @@ use Rattle.qu_trace.specs.declared.event.Event.TheVariants.{Invoke, Deliver, Tic
 use Rattle.qu_trace.specs.declared.trace.Entry.{Entry}
 use Rattle.qu_trace.specs.declared.trace.Setup.{Setup}
 use Rattle.qu_trace.specs.declared.trace.Trace.{Trace}
-use Rattle.qu_world.specs.State.{WorldState, letter_of, ring_of}
+use Rattle.qu_world.specs.State.{letter_of, ring_of}
 use Rattle.qu_world.specs.Step.{world_step}
 use Rattle.qu_world.specs.Run.{IsRun}
 use Rattle.qu_runs.specs.Digested.{Request, is_known, request_to, request_by, handled_by, IsHandled, IsMadeFor, request_brought}
-use Rattle.qu_grounds.specs.Grounds.{Accepts, IsDelivered}
+use Rattle.qu_grounds.specs.Grounds.{Accepts, IsDelivered, Performs}
 use Rattle.qu_grounds.specs.Parts.{Names}
 use Rattle.qu_runs.specs.Times.{world_after}
-use Rattle.qu_grounds.proofs.Accepting.{some_entry, Acceptance}
 use Rattle.qu_runs.proofs.OpeningReplicas.{all_replicas, keys_are, me_is}
 use Rattle.qu_grounds.proofs.KnownObjects.{are_had, delivered_had}
 use Rattle.qu_runs.proofs.Objects.{run_has, found_within}
 use Rattle.qu_runs.proofs.Recording.{letter_stays}
-use Rattle.qu_runs.proofs.WorldGrowth.{world_after-next}
 use Rattle.qu_runs.specs.Carried.{Brings, handed}
 use Rattle.qu_frames.specs.Signing.{brought}
 use Rattle.qu_seal.specs.Keys.{Ring}
 use Rattle.qu_base.specs.declared.party.ReplicaId.{ReplicaId}
 use Rattle.qu_runs.proofs.Handing.{hand}
+use Rattle.qu_frames.specs.declared.frame.Body.{Body}
 
 -- ---- what is accepted was handled
 
@@ -162,7 +160,7 @@ handled_upon trace is_run time within entry of_trace place old is_old text hands
 -- the request upon which a replica accepts a candidate
 abbrev pub request_upon : (old new : ReplicaState) (received : Frame) → Accepts old new received → Request
 request_upon old new received one =
-    record { client = one.client; number = one.number; sets = one.sets; body = body.Act one.parts }
+    record { client = one.client; number = one.number; sets = one.sets; body = one.asks }
 
 -- a replica handled it
 pub upon_handled : (trace : Trace) → IsRun trace → (time : ℕ) → time < length trace.entries → (event : Event)
@@ -184,45 +182,38 @@ pub handled : (trace : Trace) → IsRun trace → (time : ℕ) → time < length
     → slice_get (world_after trace time).replicas place ≡ Some old
     → slice_get (world_step (world_after trace time) event).replicas place ≡ Some new
     → (object : ObjectId) (delivered : IsDelivered (world_after trace time) event place old new object)
-    → IsHandled trace (delivered.accepts).client (delivered.accepts).number (delivered.accepts).parts
-handled trace is_run time within entry of_trace event event_is place old new is_old is_new object delivered = record {
-  entry = entry;
-  of_trace = of_trace;
-  sets = (delivered.accepts).sets;
-  handled = ap (handled_by trace) (sym event_is) ∙ upon_handled trace is_run time within event place old new
-      is_old is_new object delivered;
-}
+    → (parts : List (ObjectId × Method)) → (delivered.accepts).asks ≡ body.Act parts
+    → IsHandled trace (delivered.accepts).client (delivered.accepts).number parts
+handled trace is_run time within entry of_trace event event_is place old new is_old is_new object delivered parts
+    is_act =
+    let one : Accepts old new delivered.carried = delivered.accepts in
+    record {
+      entry = entry;
+      of_trace = of_trace;
+      sets = one.sets;
+      handled = ap (handled_by trace) (sym event_is) ∙ upon_handled trace is_run time within event place old new
+          is_old is_new object delivered
+          ∙ ap (λ (asks : Body). Some (record {
+            client = one.client;
+            number = one.number;
+            sets = one.sets;
+            body = asks;
+          })) is_act;
+    }
 
 -- ---- for which act a candidate was made
 
--- the stamp is that of the act
-pub made_for : (trace : Trace) (old new : ReplicaState) (taken : Frame) (object : ObjectId)
-    (one : Accepts old new taken) → Names one.parts object → (candidate : Candidate) → one.candidates object ≡ candidate
-    → IsHandled trace one.client one.number one.parts → IsMadeFor trace candidate one.client one.number one.parts
-made_for trace old new taken object one names candidate is was =
-    let stamp : candidate.stamp ≡ fresh_stamp
-    (asked_of one.client one.number one.sets (body.Act one.parts)) object =
-    ap (λ (it : Candidate). it.stamp) (sym is) ∙ (one.grounds object names).stamp in
+-- the stamp of what an act makes is that of the act
+pub made_for : (trace : Trace) (old new : ReplicaState) (client : ClientId) (number : ℕ) (sets : List SetOf)
+    (parts : List (ObjectId × Method)) (candidates : ObjectId → Candidate) (object : ObjectId)
+    → Performs old new (asked_of client number sets (body.Act parts)) parts candidates → Names parts object
+    → (candidate : Candidate) → candidates object ≡ candidate
+    → IsHandled trace client number parts → IsMadeFor trace candidate client number parts
+made_for trace old new client number sets parts candidates object performs names candidate is was =
+    let stamp : candidate.stamp ≡ fresh_stamp (asked_of client number sets (body.Act parts)) object =
+    ap (λ (it : Candidate). it.stamp) (sym is) ∙ (performs.grounds object names).stamp in
     record {
       handled = was;
       of_client = ap (λ (it : Stamp). it.client) stamp;
-      of_act = ap (λ (it : Stamp). it.act)
-          stamp;
+      of_act = ap (λ (it : Stamp). it.act) stamp;
     }
-
--- what a replica accepts at an event was made for the act that the event asks of it
-pub accepted_made : (trace : Trace) → IsRun trace → (time : ℕ) → time < length trace.entries
-    → (object : ObjectId) (place : ℕ) (candidate : Candidate) (accepted : Acceptance trace time object place candidate)
-    → IsMadeFor trace candidate ((accepted.delivered).accepts).client ((accepted.delivered).accepts).number
-    ((accepted.delivered).accepts).parts
-accepted_made trace is_run time within object place candidate accepted =
-    let entry : Entry = get_or trace.entries time some_entry in
-    let next : world_step (world_after trace time) accepted.event ≡ world_after trace (suc time) =
-    ap (world_step (world_after trace time)) accepted.event_is
-    ∙ sym (world_after-next trace time some_entry within) ∙ ap (world_after trace) (add-one time) in
-    let is_new : slice_get (world_step (world_after trace time) accepted.event).replicas place ≡ Some accepted.new =
-    ap (λ (it : WorldState). slice_get it.replicas place) next ∙ accepted.is_new in
-    made_for trace accepted.old accepted.new (accepted.delivered).carried object (accepted.delivered).accepts
-    (accepted.delivered).names candidate accepted.candidate_is
-    (handled trace is_run time within entry (Contains-get_or trace.entries time some_entry within) accepted.event
-    accepted.event_is place accepted.old accepted.new accepted.is_old is_new object accepted.delivered)

@@ -23,8 +23,8 @@ use Rattle.qu_trace.specs.declared.event.Event.TheVariants.{Invoke, Deliver, Tic
 use Rattle.qu_world.specs.State.{WorldState, numbered, letter_of}
 use Rattle.qu_world.specs.Step.{world_step, at_replica, at_client, received, delivered}
 use Rattle.qu_grounds.specs.Grounds.{Accepts, IsMoved, IsDelivered}
-use Rattle.qu_grounds.proofs.Acceptance.{step_moves}
-use Rattle.qu_grounds.proofs.Parts.{named_or_not}
+use Rattle.qu_grounds.proofs.Acceptance.{step_moves, IsFormed}
+use Rattle.qu_grounds.proofs.Parts.{adds_or_not}
 use Rattle.qu_world.proofs.Each.{set_here, set_other}
 use Rattle.qu_runs.specs.Carried.{handed}
 use Rattle.qu_frames.specs.Decoding.{decoded}
@@ -38,6 +38,15 @@ use Rattle.qu_world.specs.Run.{IsRun}
 use Rattle.qu_runs.specs.Times.{world_after}
 use Rattle.qu_runs.proofs.FitParts.{fits_parts}
 use Rattle.qu_runs.proofs.Fitting.{handed_fits}
+use Rattle.qu_base.specs.Bounds.{AreThresholds}
+use Rattle.qu_runs.proofs.OpeningReplicas.{bounds_are}
+use Rattle.qu_base.proofs.ThresholdFacts.{are_thresholds}
+use Rattle.qu_frames.specs.Formats.{frame_form}
+use Rattle.qu_frames.specs.declared.frame.Frame.TheVariants as frame
+use Rattle.qu_grounds.proofs.Formed.{sets_formed}
+use Rattle.qu_history.specs.Culling.{culled}
+use Rattle.qu_replica.proofs.FitCulled.{culled-fits}
+use Rattle.qu_replica.proofs.FitSteps.{request-fits}
 
 -- ---- a replica before an event
 
@@ -79,23 +88,25 @@ record IsAccepted (read : Option Frame) (old new : ReplicaState) : Type 0 where
   accepts : Accepts old new frame
 
 text_moves : (old : ReplicaState) (read : Option Frame) → ((frame : Frame) → read ≡ Some frame → HasParts frame)
+    → ((frame : Frame) → read ≡ Some frame → IsFormed old frame)
     → ((on_received old read).0 ≡ old) ⊎ IsAccepted read old (on_received old read).0
-text_moves old (Some frame) parts =
-    elim (step_moves old frame (parts frame refl)) [
+text_moves old (Some frame) parts formed =
+    elim (step_moves old frame (parts frame refl) (formed frame refl)) [
       | inl same ↦ inl same
       | inr alone ↦ inr (record { frame = frame; is_frame = refl; accepts = alone })
     ]
-text_moves old None parts = inl refl
+text_moves old None parts formed = inl refl
 
 replica_takes : (world : WorldState) (event : Event) (me : ReplicaId) (text : List ℕ)
     (found : Option ReplicaState) (place : ℕ) (old new : ReplicaState)
     → slice_get world.replicas me.0 ≡ found → ((frame : Frame) → decoded text ≡ Ok frame → HasParts frame)
+    → ((frame : Frame) → decoded text ≡ Ok frame → IsFormed old frame)
     → slice_get world.replicas place ≡ Some old → slice_get (at_replica world event me text found).replicas
     place ≡ Some new
     → (new ≡ old) ⊎ IsTaken me text place old new
-replica_takes world event me text None place old new is_found parts is_old is_new =
+replica_takes world event me text None place old new is_found parts formed is_old is_new =
     inl (stays world.replicas world.replicas place old new refl is_old is_new)
-replica_takes world event me text (Some state) place old new is_found parts is_old is_new =
+replica_takes world event me text (Some state) place old new is_found parts formed is_old is_new =
     let moved : ReplicaState = (replica_step state text).0 in
     elim (cases_eq place me.0) [
       | inl here ↦
@@ -107,7 +118,8 @@ replica_takes world event me text (Some state) place old new is_found parts is_o
           let is_step : (replica_step old text).0 ≡ new =
           ap (λ (it : ReplicaState). (replica_step it text).0) (sym is_state) ∙ is_moved in
           elim (text_moves old (brought old.keys (party.Replica old.me) text)
-          (λ frame brings. parts frame (brought_is_decoded old.keys (party.Replica old.me) text frame brings))) [
+          (λ frame brings. parts frame (brought_is_decoded old.keys (party.Replica old.me) text frame brings))
+          (λ frame brings. formed frame (brought_is_decoded old.keys (party.Replica old.me) text frame brings))) [
             | inl same ↦ inl (sym is_step ∙ same)
             | inr alone ↦ inr
                 (record {
@@ -121,13 +133,16 @@ replica_takes world event me text (Some state) place old new is_found parts is_o
           (set_other world.replicas me.0 place moved apart) is_old is_new)
     ]
 
--- the parts of each frame that the event hands over are those of an act or a query
-abbrev pub HandsParts : WorldState → Event → Type 0
-HandsParts world event = (to : Party) (text : List ℕ) → handed world event ≡ Some (to, text) → (carried : Frame)
-    → decoded text ≡ Ok carried → HasParts carried
+-- each frame that the event hands over has the parts of what it asks for, and shows histories
+pub record HandsFitting (world : WorldState) (event : Event) : Type 0 where
+  pub parts : (to : Party) (text : List ℕ) → handed world event ≡ Some (to, text) → (carried : Frame)
+      → decoded text ≡ Ok carried → HasParts carried
+  pub formed : (place : ℕ) (state : ReplicaState) → slice_get world.replicas place ≡ Some state
+      → (to : Party) (text : List ℕ) → handed world event ≡ Some (to, text) → (carried : Frame)
+      → decoded text ≡ Ok carried → IsFormed state carried
 
 text_taken : (world : WorldState) (event : Event) (to : Party) (text : List ℕ) (place : ℕ) (old new : ReplicaState)
-    → handed world event ≡ Some (to, text) → HandsParts world event
+    → handed world event ≡ Some (to, text) → HandsFitting world event
     → slice_get world.replicas place ≡ Some old
     → slice_get (received world event to text).replicas place ≡ Some new
     → (new ≡ old) ⊎ IsMoved world event place old new
@@ -136,7 +151,8 @@ text_taken world event (party.Client me) text place old new hands parts is_old i
     (numbered world.clients me.0) place old new is_old is_new)
 text_taken world event (party.Replica me) text place old new hands parts is_old is_new =
     elim (replica_takes world event me text (slice_get world.replicas me.0) place old new refl
-    (parts (party.Replica me) text hands) is_old is_new) [
+    (parts.parts (party.Replica me) text hands)
+    (parts.formed place old is_old (party.Replica me) text hands) is_old is_new) [
       | inl same ↦ inl same
       | inr taken ↦ inr (record {
         text = text;
@@ -149,7 +165,7 @@ text_taken world event (party.Replica me) text place old new hands parts is_old 
 
 letter_delivered : (world : WorldState) (number : ℕ) → AtCorrect world (Deliver number) → (found : Option Letter)
     (place : ℕ) (old new : ReplicaState)
-    → letter_of world number ≡ found → HandsParts world (Deliver number)
+    → letter_of world number ≡ found → HandsFitting world (Deliver number)
     → slice_get world.replicas place ≡ Some old → slice_get (delivered world (Deliver number) found).replicas
     place ≡ Some new
     → (new ≡ old) ⊎ IsMoved world (Deliver number) place old new
@@ -173,7 +189,7 @@ moves_cases world event place old new is_old step =
 -- an event leaves a replica as it is, or hands it what adds candidates
 pub event_moves : (world : WorldState) (event : Event) (place : ℕ) (old new : ReplicaState)
     → slice_get world.replicas place ≡ Some old → slice_get (world_step world event).replicas place ≡ Some new
-    → HandsParts world event → (new ≡ old) ⊎ IsMoved world event place old new
+    → HandsFitting world event → (new ≡ old) ⊎ IsMoved world event place old new
 event_moves world (Invoke client op) place old new is_old is_new parts =
     moves_cases world (Invoke client op) place old new is_old (λ correct is.
     inl (client_stays world (Invoke client op) client (λ (state : ClientState). client_invoke state op)
@@ -193,26 +209,40 @@ event_moves world (Tick client) place old new is_old is_new parts =
 -- the same of one object
 pub event_accepts : (world : WorldState) (event : Event) (place : ℕ) (old new : ReplicaState)
     → slice_get world.replicas place ≡ Some old → slice_get (world_step world event).replicas place ≡ Some new
-    → HandsParts world event → (object : ObjectId) → (own_candidates new object ≡ own_candidates old object)
+    → HandsFitting world event → (object : ObjectId) → (own_candidates new object ≡ own_candidates old object)
     ⊎ IsDelivered world event place old new object
 event_accepts world event place old new is_old is_new parts object =
     elim (event_moves world event place old new is_old is_new parts) [
       | inl same ↦ inl (ap (λ (it : ReplicaState). own_candidates it object) same)
-      | inr moved ↦ elim (named_or_not (moved.accepts).parts object) [
-        | inr not_named ↦ inl ((moved.accepts).others object not_named)
-        | inl names ↦ inr (record {
+      | inr moved ↦ elim (adds_or_not (moved.accepts).asks object) [
+        | inr not_added ↦ inl ((moved.accepts).others object not_added)
+        | inl adds ↦ inr (record {
           text = moved.text;
           is_handed = moved.is_handed;
           carried = moved.carried;
           brings = moved.brings;
           accepts = moved.accepts;
-          names = names;
+          adds = adds;
         })
       ]
     ]
 
+pub formed_by : (state : ReplicaState) (carried : Frame) → AreThresholds state.keys.bounds → frame_form.Fits carried
+    → IsFormed state carried
+formed_by state (frame.Request client number round sets asks mac) thresholds fits =
+    sets_formed state.keys.bounds (culled state.keys state.me sets) thresholds
+    (culled-fits state.keys state.me sets (request-fits client number round sets asks mac fits).shown)
+formed_by state _ thresholds fits = tt
+
 -- an event of a run hands over such frames
 pub hands_parts : (trace : Trace) → IsRun trace → ArePlain trace → (at : ℕ) (default : Entry)
-    → at < length trace.entries → HandsParts (world_after trace at) (get_or trace.entries at default).event
-hands_parts trace is_run have at default below to text hands carried is =
-    fits_parts carried (handed_fits trace is_run have at default below to text hands carried is)
+    → at < length trace.entries → HandsFitting (world_after trace at) (get_or trace.entries at default).event
+hands_parts trace is_run have at default below = record {
+  parts = λ to text hands carried is.
+      fits_parts carried (handed_fits trace is_run have at default below to text hands carried is);
+  formed = λ place state is_state to text hands carried is.
+      formed_by state carried
+      (subst AreThresholds (sym (bounds_are trace at place state is_state))
+      (are_thresholds trace.setup.bounds (is_run.setup).some_faults))
+      (handed_fits trace is_run have at default below to text hands carried is);
+}

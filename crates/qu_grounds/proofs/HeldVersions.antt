@@ -21,13 +21,12 @@ use Rattle.qu_replica.specs.Versions.{version_at}
 use Rattle.qu_trace.specs.declared.event.Event.{Event}
 use Rattle.qu_world.specs.State.{WorldState}
 use Rattle.qu_world.specs.Step.{world_step}
-use Rattle.qu_grounds.specs.Parts.{Names}
-use Rattle.qu_grounds.specs.Grounds.{IsGround, Accepts}
-use Rattle.qu_replica.specs.Rows.{Asked}
-use Rattle.qu_grounds.proofs.Parts.{named_or_not}
-use Rattle.qu_grounds.proofs.Grounds.{above_held}
-use Rattle.qu_grounds.proofs.Happenings.{HandsParts, event_moves}
-use Rattle.qu_grounds.proofs.Performed.{stored_cases, among_stored, version_of_accepted}
+use Rattle.qu_grounds.specs.Grounds.{Accepts, AddsTo}
+use Rattle.qu_replica.specs.Rows.{asked_of}
+use Rattle.qu_grounds.proofs.Parts.{adds_or_not}
+use Rattle.qu_grounds.proofs.Grounds.{added_above}
+use Rattle.qu_grounds.proofs.Happenings.{HandsFitting, event_moves}
+use Rattle.qu_grounds.proofs.Performed.{stored_before}
 use Rattle.qu_seal.specs.Keys.{Ring}
 
 -- the replica holds a candidate with this stamp
@@ -88,10 +87,10 @@ held_still : (old new : ReplicaState) (received : Frame) → Accepts old new rec
     → (object : ObjectId) (held : Candidate) → holds held (own_candidates old object) ≡ true
     → holds held (own_candidates new object) ≡ true
 held_still old new received accepts object held holding =
-    elim (named_or_not accepts.parts object) [
-      | inr not_named ↦ ap (holds held) (accepts.others object not_named) ∙ holding
-      | inl names ↦
-          ap (holds held) (accepts.added object names)
+    elim (adds_or_not accepts.asks object) [
+      | inr not_added ↦ ap (holds held) (accepts.others object not_added) ∙ holding
+      | inl adds ↦
+          ap (holds held) (accepts.added object adds)
           ∙ holds_still held (accepts.candidates object) (own_candidates old object) holding
     ]
 
@@ -99,8 +98,8 @@ pub still_of_held : (old new : ReplicaState) (received : Frame) → Accepts old 
     → AreOfHeld new
 still_of_held old new received accepts are = record {
   of_held = λ object stamp version found.
-      elim (stored_cases object stamp old.versions _ version
-      (ap (version_at object stamp) (sym accepts.stored) ∙ found)) [
+      elim (stored_before old new (asked_of accepts.client accepts.number accepts.sets accepts.asks) accepts.asks
+      accepts.candidates accepts.reasons object stamp version found) [
         | inl before ↦
             let under : HoldsUnder old object stamp = are.of_held object stamp version before in
             record {
@@ -108,9 +107,7 @@ still_of_held old new received accepts are = record {
               is_held = held_still old new received accepts object under.held under.is_held;
               under = under.under;
             }
-        | inr newest ↦
-            let among : Names accepts.parts object × ((accepts.candidates object).stamp ≡ stamp) =
-            among_stored accepts.candidates accepts.versions accepts.parts object stamp version newest in
+        | inr among ↦
             record {
               held = accepts.candidates object;
               is_held = ap (holds (accepts.candidates object)) (accepts.added object among.0)
@@ -122,7 +119,7 @@ still_of_held old new received accepts are = record {
 
 pub event_of_held : (world : WorldState) (event : Event) (place : ℕ) (old new : ReplicaState)
     → slice_get world.replicas place ≡ Some old → slice_get (world_step world event).replicas place ≡ Some new
-    → HandsParts world event → AreOfHeld old → AreOfHeld new
+    → HandsFitting world event → AreOfHeld old → AreOfHeld new
 event_of_held world event place old new is_old is_new parts are =
     elim (event_moves world event place old new is_old is_new parts) [
       | inl same ↦ subst AreOfHeld (sym same) are
@@ -131,22 +128,26 @@ event_of_held world event place old new is_old is_new parts are =
 
 -- ---- what follows
 
--- a candidate with grounds is above all that are held, so no version is stored under its stamp
-module _ {state : ReplicaState} {asked : Asked} {object : ObjectId} {candidate base : Candidate}
-    (are : AreOfHeld state) (grounds : IsGround state asked object candidate base) where
-  none_of : (found : Option ObjState) → version_at object candidate.stamp state.versions ≡ found → found ≡ None
+-- under a stamp that is above all that are held no version is stored
+module _ {state : ReplicaState} (are : AreOfHeld state) (object : ObjectId) (stamp : Stamp)
+    (above : (held : Candidate) → holds held (own_candidates state object) ≡ true
+    → is_below held.stamp stamp ≡ true) where
+  none_of : (found : Option ObjState) → version_at object stamp state.versions ≡ found → found ≡ None
   none_of None is_found = refl
   none_of (Some version) is_found =
-      let under : HoldsUnder state object candidate.stamp = are.of_held object candidate.stamp version is_found in
-      absurd (false≢true (sym (is_below-self candidate.stamp)
-      ∙ ap (λ (stamp : Stamp). is_below stamp candidate.stamp) (sym under.under)
-      ∙ above_held grounds under.held under.is_held))
+      let under : HoldsUnder state object stamp = are.of_held object stamp version is_found in
+      absurd (false≢true (sym (is_below-self stamp)
+      ∙ ap (λ (it : Stamp). is_below it stamp) (sym under.under)
+      ∙ above under.held under.is_held))
 
-  pub none_under : version_at object candidate.stamp state.versions ≡ None
-  none_under = none_of (version_at object candidate.stamp state.versions) refl
+  pub none_under : version_at object stamp state.versions ≡ None
+  none_under = none_of (version_at object stamp state.versions) refl
 
-pub version_of_fresh : {old new : ReplicaState} {received : Frame} → AreOfHeld old
-    → (accepts : Accepts old new received) (object : ObjectId) → Names accepts.parts object
-    → version_at object (accepts.candidates object).stamp new.versions ≡ Some (accepts.versions object)
-version_of_fresh are accepts object names =
-    version_of_accepted accepts object names (none_under are (accepts.grounds object names))
+-- so none is stored yet under the stamp of what a request adds
+pub none_added : (old new : ReplicaState) (received : Frame) → AreOfHeld old
+    → (accepts : Accepts old new received) (object : ObjectId) → AddsTo accepts.asks object
+    → version_at object (accepts.candidates object).stamp old.versions ≡ None
+none_added old new received are accepts object adds =
+    none_under are object (accepts.candidates object).stamp
+    (added_above old new (asked_of accepts.client accepts.number accepts.sets accepts.asks) accepts.candidates
+    accepts.asks accepts.reasons object adds)

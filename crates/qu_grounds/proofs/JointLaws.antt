@@ -1,6 +1,5 @@
 -- A run meets what is asked of all objects together, where no two digested texts have one digest.
-use Rattle.std.proofs.Common.{◌≡◌, ap, inl, inr, length, sym, true, ◌∙◌}
-use Rattle.qu_grounds.specs.Grounds.{Accepts}
+use Rattle.std.proofs.Common.{◌≡◌, ap, inl, inr, length, sym, true, ◌∙◌, ℕ, ◌+◌, arith}
 use Rattle.qu_runs.specs.Plain.{ArePlain}
 use Rattle.qu_stamp.specs.declared.candidate.Candidate.{Candidate}
 use Rattle.qu_world.specs.Run.{IsRun}
@@ -11,11 +10,9 @@ use Rattle.qu_grounds.specs.Origins.{Origin}
 use Rattle.qu_stamp.specs.declared.stamp.Stamp.{Stamp}
 use Rattle.qu_trace.specs.declared.trace.Trace.{Trace}
 use Rattle.qu_grounds.proofs.Origins.{accepted_from}
-use Rattle.std.proofs.lemmas.Bool.{false≢true}
 use Rattle.qu_runs.specs.Accepted.{is_accepted}
-use Rattle.std.specs.Prelude.{is_some}
 use Rattle.qu_grounds.specs.Chained.{last_world}
-use Rattle.qu_grounds.proofs.Laws.{new_is_fresh, one_accepted}
+use Rattle.qu_grounds.proofs.Laws.{one_accepted, copies}
 use Rattle.std.proofs.lemmas.Option.{none-some}
 use Rattle.qu_stamp.specs.Candidate.{opening}
 use Rattle.qu_runs.proofs.Small.{same_candidate}
@@ -24,19 +21,15 @@ use Rattle.qu_runs.proofs.Settings.{somewhere_accepted}
 use Rattle.qu_grounds.proofs.Named.{stamps_name}
 
 module _ (trace : Trace) (is_run : IsRun trace) (have : ArePlain trace) where
-  -- what was accepted upon a request is made by an act
-  came_by_act : (object : ObjectId) (candidate : Candidate) → Origin trace (length trace.entries) object candidate
-      → is_some candidate.stamp.act ≡ true
-  came_by_act object candidate came =
-      let one : Accepts came.old came.new (came.delivered).carried = (came.delivered).accepts in
-      ap (λ (it : Candidate). is_some it.stamp.act) (sym came.is_candidate)
-      ∙ ap (λ (it : Stamp). is_some it.act) (one.grounds object (came.delivered).names).stamp
-
+  -- what a replica makes has a time above 0
   not_opening : (object : ObjectId) (candidate other : Candidate) → candidate ≡ opening
       → Origin trace (length trace.entries) object other → candidate.stamp ≡ other.stamp → ⊥
   not_opening object candidate other is came same =
-      false≢true (ap (λ (it : Candidate). is_some it.stamp.act) (sym is)
-      ∙ ap (λ (it : Stamp). is_some it.act) same ∙ came_by_act object other came)
+      no_sum _ (ap (λ (it : Candidate). it.stamp.time) (sym is) ∙ ap (λ (it : Stamp). it.time) same
+      ∙ ap (λ (it : Stamp). it.time) (came.made).stamp)
+    where
+      no_sum : (time : ℕ) → 0 ≡ time + 1 → ⊥
+      no_sum time sum = absurd (omega (arith, sum))
 
   module _ (no_collision : NoCollision trace) where
     -- a stamp that a replica accepted is that of one candidate
@@ -69,6 +62,5 @@ module _ (trace : Trace) (is_run : IsRun trace) (have : ArePlain trace) where
       together = λ time object other place elsewhere candidate companion apart new again.
           absurd (apart (ap (λ (it : ObjectId). it.0)
           (one_accepted trace is_run have time object other place elsewhere candidate companion new again).objects));
-      copies = λ time object place candidate plain no_act new.
-          absurd (false≢true (sym no_act ∙ (new_is_fresh trace is_run have time object place candidate new).is_act));
+      copies = copies trace is_run have;
     }

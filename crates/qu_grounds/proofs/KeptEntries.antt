@@ -53,10 +53,9 @@ use Rattle.qu_runs.proofs.OpeningReplicas.{keys_are, me_is}
 use Rattle.qu_runs.proofs.Plain.{setup_after}
 use Rattle.qu_runs.proofs.Settings.{acceptors_counted}
 use Rattle.qu_runs.proofs.Small.{same_object, only_one}
-use Rattle.qu_runs.proofs.WorldGrowth.{counted-more}
 use Rattle.qu_runs.proofs.Carrying.{brings_decoded}
 use Rattle.qu_grounds.specs.Views.{WasHeld, HeldIfCorrect}
-use Rattle.qu_grounds.proofs.Acceptors.{still_accepts, order_of-none}
+use Rattle.qu_grounds.proofs.Acceptors.{still_accepts}
 use Rattle.qu_grounds.proofs.Grounds.{is_base}
 use Rattle.qu_grounds.proofs.KnownObjects.{are_had}
 use Rattle.qu_grounds.proofs.Handled.{handler_at, known_sent}
@@ -80,10 +79,18 @@ count_further test least (suc n) order =
           omega (arith, before)
     ]
 
--- the entry's replica is below n, and passes the test where it holds the candidate
-pub record CountsIn (n : ℕ) (candidate : Candidate) (test : ℕ → Bool) (sealed : Sealed) : Type 0 where
+-- the entry's replica is below n, and passes the test where the first holds of its history and the second does not
+pub record CountsIn (n : ℕ) (first second : ObjectHistory → Bool) (test : ℕ → Bool) (sealed : Sealed) : Type 0 where
   pub within : ((sealed.history).replica).0 < n
-  pub passes : holds candidate (sealed.history).candidates ≡ true → test ((sealed.history).replica).0 ≡ true
+  pub passes : first sealed.history ≡ true → second sealed.history ≡ false
+      → test ((sealed.history).replica).0 ≡ true
+
+bit_either : (first second test : Bool) → (first ≡ true → second ≡ false → test ≡ true)
+    → cond first 1 0 ≤ cond second 1 0 + bit test
+bit_either false second test follows = omega arith
+bit_either true true test follows = omega arith
+bit_either true false true follows = omega arith
+bit_either true false false follows = absurd (false≢true (follows refl refl))
 
 least_replica : (object : ObjectId) (least : ℕ) (sealed : Sealed) → (sealed_entry_form object least).Fits sealed
     → least ≤ ((sealed.history).replica).0
@@ -95,59 +102,64 @@ entry_object : (object : ObjectId) (least : ℕ) (sealed : Sealed) → (sealed_e
 unfolding sealed_entry_form entry_form
 entry_object object least sealed fits = fits.0.0.1
 
-order_rising : (object : ObjectId) (candidate : Candidate) (n : ℕ) (test : ℕ → Bool) (entries : List Sealed)
-    (least : ℕ) → least ≤ n → FitsFrom (sealed_entry_form object) next_entry least entries
-    → AllByRecursion (CountsIn n candidate test) entries
-    → order_of candidate (histories entries) + count least test ≤ count n test
-unfolding order_of count
-order_rising object candidate n test [] least order fits each =
+-- the entries of which the first holds are at most those of which the second holds and the numbers that pass the test
+counted_rising : (object : ObjectId) (first second : ObjectHistory → Bool) (n : ℕ) (test : ℕ → Bool)
+    (entries : List Sealed) (least : ℕ) → least ≤ n → FitsFrom (sealed_entry_form object) next_entry least entries
+    → AllByRecursion (CountsIn n first second test) entries
+    → count_by first (histories entries) + count least test ≤ count_by second (histories entries) + count n test
+unfolding count
+counted_rising object first second n test [] least order fits each =
     let further : count least test ≤ count n test = count_further test least n order in
-    let none : order_of candidate [] ≡ 0 = order_of-none candidate in
-    omega (arith, further, none)
-order_rising object candidate n test (sealed ∷ later) least order fits each =
-    let holding : ObjectHistory → Bool = λ it. holds candidate it.candidates in
+    omega (arith, further)
+counted_rising object first second n test (sealed ∷ later) least order fits each =
     let replica : ℕ = ((sealed.history).replica).0 in
     let below : replica < n = each.0.within in
     let above : least ≤ replica = least_replica object least sealed fits.0 in
-    let rest : count_by holding (histories later) + count (replica + 1) test ≤ count n test =
-    order_rising object candidate n test later (replica + 1) (omega arith) fits.1 each.1 in
+    let rest : count_by first (histories later) + count (replica + 1) test
+    ≤ count_by second (histories later) + count n test =
+    counted_rising object first second n test later (replica + 1) (omega arith) fits.1 each.1 in
     let next : count (replica + 1) test ≡ count replica test + bit (test replica) =
     counted_next test replica in
-    let here : cond (holding sealed.history) 1 0 ≤ bit (test replica) =
-    counted-more (holding sealed.history) (test replica) (each.0).passes in
+    let here : cond (first sealed.history) 1 0 ≤ cond (second sealed.history) 1 0 + bit (test replica) =
+    bit_either (first sealed.history) (second sealed.history) (test replica) (each.0).passes in
     let before : count least test ≤ count replica test = count_further test least replica above in
-    let sum : count_by holding (sealed.history ∷ histories later)
-    ≡ cond (holding sealed.history) 1 0 + count_by holding (histories later) =
-    sum_by-cons (λ (it : ObjectHistory). cond (holding it) 1 0) sealed.history (histories later) in
-    rw sum (omega (arith, rest, next, here, before))
+    let sum : count_by first (sealed.history ∷ histories later)
+    ≡ cond (first sealed.history) 1 0 + count_by first (histories later) =
+    sum_by-cons (λ (it : ObjectHistory). cond (first it) 1 0) sealed.history (histories later) in
+    let other : count_by second (sealed.history ∷ histories later)
+    ≡ cond (second sealed.history) 1 0 + count_by second (histories later) =
+    sum_by-cons (λ (it : ObjectHistory). cond (second it) 1 0) sealed.history (histories later) in
+    rw (sum, other) (omega (arith, rest, next, here, before))
   where
     counted_next : (test : ℕ → Bool) (number : ℕ) → count (number + 1) test ≡ count number test + bit (test number)
     counted_next test number = ap (λ (it : ℕ). count it test) (add-one number)
 
 -- ---- sets
 
--- the entries of the object that the sets show count so
-order_in_sets : (object : ObjectId) (candidate : Candidate) (n : ℕ) (test : ℕ → Bool) (sets : List SetOf) (least : ℕ)
+-- the same of the entries of the object that the sets show
+counted_in_sets : (object : ObjectId) (first second : ObjectHistory → Bool) (n : ℕ) (test : ℕ → Bool)
+    (sets : List SetOf) (least : ℕ)
     → FitsFrom set_form (λ (set : SetOf). (set.object).0 + 1) least sets
     → AllByRecursion (λ (set : SetOf). ((set.object).0 == object.0) ≡ true
-    → AllByRecursion (CountsIn n candidate test) set.entries) sets
-    → order_of candidate (entries_of object sets) ≤ count n test
+    → AllByRecursion (CountsIn n first second test) set.entries) sets
+    → count_by first (entries_of object sets) ≤ count_by second (entries_of object sets) + count n test
 unfolding entries_of set_form entries_form
-order_in_sets object candidate n test [] least fits each =
-    let none : order_of candidate [] ≡ 0 = order_of-none candidate in
-    omega (arith, none)
-order_in_sets object candidate n test (set ∷ later) least fits each =
+counted_in_sets object first second n test [] least fits each = omega arith
+counted_in_sets object first second n test (set ∷ later) least fits each =
     elim (cases_Bool ((set.object).0 == object.0)) [
       | inl here ↦
-          let order : order_of candidate (histories set.entries) + count 0 test ≤ count n test =
-          order_rising set.object candidate n test set.entries 0 (omega arith) ((((fits.0).1).1).1) (each.0 here) in
-          let own : order_of candidate (histories set.entries) ≤ count n test = omega (arith, order) in
-          subst (λ (it : Bool). order_of candidate (cond it (histories set.entries) (entries_of object later))
-          ≤ count n test) (sym here) own
+          let own : count_by first (histories set.entries) + count 0 test
+          ≤ count_by second (histories set.entries) + count n test =
+          counted_rising set.object first second n test set.entries 0 (omega arith) ((((fits.0).1).1).1)
+          (each.0 here) in
+          let less : count_by first (histories set.entries) ≤ count_by second (histories set.entries) + count n test =
+          omega (arith, own) in
+          subst (λ (it : Bool). count_by first (cond it (histories set.entries) (entries_of object later))
+          ≤ count_by second (cond it (histories set.entries) (entries_of object later)) + count n test) (sym here) less
       | inr other ↦
-          subst (λ (it : Bool). order_of candidate (cond it (histories set.entries) (entries_of object later))
-          ≤ count n test) (sym other)
-          (order_in_sets object candidate n test later ((set.object).0 + 1) fits.1 each.1)
+          subst (λ (it : Bool). count_by first (cond it (histories set.entries) (entries_of object later))
+          ≤ count_by second (cond it (histories set.entries) (entries_of object later)) + count n test) (sym other)
+          (counted_in_sets object first second n test later ((set.object).0 + 1) fits.1 each.1)
     ]
 
 -- ---- culling
@@ -219,6 +231,11 @@ found_held trace time (Ok (frame.Reply replica client number round verdict left 
     (holds_so (frame.Reply replica client number round verdict left shown mac) refl) among
 found_held trace time _ holds_so it among = absurd (omega (arith, among.1))
 
+none_counted : (entries : List ObjectHistory) → count_by (λ (it : ObjectHistory). false) entries ≡ 0
+none_counted [] = refl
+none_counted (entry ∷ later) =
+    sum_by-cons (λ (it : ObjectHistory). cond false 1 0) entry later ∙ ap (λ (it : ℕ). 0 + it) (none_counted later)
+
 -- ---- what was shown before was held
 
 module _ (trace : Trace) (is_run : IsRun trace) (have : ArePlain trace) (time : ℕ)
@@ -249,6 +266,14 @@ module _ (trace : Trace) (is_run : IsRun trace) (have : ArePlain trace) (time : 
 
   module _ (client : ClientId) (number round : ℕ) (sent : List SetOf) (body : Body) (mac : List ℕ)
       (brings : Brings old text (frame.Request client number round sent body mac)) (had : are_had old sent ≡ true) where
+    -- it fits its format
+    pub sent_fits : sets_form.Fits sent
+    sent_fits =
+        (request-fits client number round sent body mac
+        (handed_fits trace is_run have time default below (party.Replica me) text hands
+        (frame.Request client number round sent body mac)
+        (brings_decoded old text (frame.Request client number round sent body mac) brings))).shown
+
     -- the entries of its sets
     entries_are : entries_to trace.setup text (party.Replica me) ≡ flat_map (λ (set : SetOf). set.entries) sent
     entries_are =
@@ -283,35 +308,25 @@ module _ (trace : Trace) (is_run : IsRun trace) (have : ArePlain trace) (time : 
         not_faulty true is = absurd (false≢true is)
         not_faulty false is = refl
 
-    module _ (object : ObjectId) (candidate : Candidate) where
-      -- the replica at this place accepted it, or is faulty
-      abbrev may_show : ℕ → Bool
-      may_show at = test_at (accepts object candidate) world.replicas at || not (is_good trace.setup at)
+    -- ---- counting what the culled sets show
 
+    module _ (object : ObjectId) (first second : ObjectHistory → Bool) (test : ℕ → Bool)
+        (passes : (history : ObjectHistory) → history.object ≡ object
+        → (history.replica).0 < replicas trace.setup.bounds → HeldIfCorrect trace time history
+        → first history ≡ true → second history ≡ false → test (history.replica).0 ≡ true) where
       shows_so : (of : ObjectId) (least : ℕ) (sealed : Sealed) → (of.0 == object.0) ≡ true
           → (sealed_entry_form of least).Fits sealed → Stays sealed
-          → CountsIn (replicas trace.setup.bounds) candidate may_show sealed
+          → CountsIn (replicas trace.setup.bounds) first second test sealed
       shows_so of least sealed same fits it = record {
         within = it.0;
-        passes = λ held.
-            let history : ObjectHistory = sealed.history in
-            let at : ℕ = (history.replica).0 in
-            let objects : history.object ≡ object =
-            same_object history.object of (entry_object of least sealed fits) ∙ same_object of object same in
-            elim (cases_Bool (is_good trace.setup at)) [
-              | inr faulty ↦
-                  or_right (test_at (accepts object candidate) world.replicas at) (not (is_good trace.setup at))
-                  (ap not faulty)
-              | inl good ↦
-                  or_left (test_at (accepts object candidate) world.replicas at) (not (is_good trace.setup at))
-                  (ap (λ (one : ObjectId). test_at (accepts one candidate) world.replicas at) (sym objects)
-                  ∙ still_accepts trace time history candidate (it.1 good) held)
-            ];
+        passes = passes sealed.history
+            (same_object (sealed.history).object of (entry_object of least sealed fits) ∙ same_object of object same)
+            it.0 it.1;
       }
 
       entries_show : (of : ObjectId) (least : ℕ) (entries : List Sealed) → (of.0 == object.0) ≡ true
           → FitsFrom (sealed_entry_form of) next_entry least entries → AllByRecursion Stays entries
-          → AllByRecursion (CountsIn (replicas trace.setup.bounds) candidate may_show) entries
+          → AllByRecursion (CountsIn (replicas trace.setup.bounds) first second test) entries
       entries_show of least [] same fits each = tt
       entries_show of least (sealed ∷ later) same fits each = (
         shows_so of least sealed same fits.0 each.0,
@@ -322,7 +337,7 @@ module _ (trace : Trace) (is_run : IsRun trace) (have : ArePlain trace) (time : 
           → FitsFrom set_form (λ (set : SetOf). (set.object).0 + 1) least sets
           → AllByRecursion (λ (set : SetOf). AllByRecursion Stays set.entries) sets
           → AllByRecursion (λ (set : SetOf). ((set.object).0 == object.0) ≡ true
-          → AllByRecursion (CountsIn (replicas trace.setup.bounds) candidate may_show) set.entries) sets
+          → AllByRecursion (CountsIn (replicas trace.setup.bounds) first second test) set.entries) sets
       unfolding set_form entries_form
       sets_show least [] fits each = tt
       sets_show least (set ∷ later) fits each = (
@@ -330,35 +345,62 @@ module _ (trace : Trace) (is_run : IsRun trace) (have : ArePlain trace) (time : 
         sets_show ((set.object).0 + 1) later fits.1 each.1,
       )
 
+      pub counted : count_by first (entries_of object (culled old.keys old.me sent))
+          ≤ count_by second (entries_of object (culled old.keys old.me sent)) + count (replicas trace.setup.bounds) test
+      unfolding sets_form
+      counted =
+          let fits : sets_form.Fits (culled (ring_of trace.setup) me sent) =
+          culled-fits (ring_of trace.setup) me sent sent_fits in
+          let same : culled old.keys old.me sent ≡ culled (ring_of trace.setup) me sent =
+          ap (λ (keys : Ring). culled keys old.me sent) (keys_are trace time place old is_old)
+          ∙ ap (λ (it : ReplicaId). culled (ring_of trace.setup) it sent) (me_is trace time place old is_old) in
+          subst (λ (sets : List SetOf). count_by first (entries_of object sets)
+          ≤ count_by second (entries_of object sets) + count (replicas trace.setup.bounds) test) (sym same)
+          (counted_in_sets object first second (replicas trace.setup.bounds) test
+          (culled (ring_of trace.setup) me sent) 0 fits.1.1
+          (sets_show 0 (culled (ring_of trace.setup) me sent) fits.1.1
+          (culled_each Stays (ring_of trace.setup) me sent stays)))
+
+    module _ (object : ObjectId) (candidate : Candidate) where
+      -- the replica at this place accepted it, or is faulty
+      abbrev may_show : ℕ → Bool
+      may_show at = test_at (accepts object candidate) world.replicas at || not (is_good trace.setup at)
+
+      held_shows : (history : ObjectHistory) → history.object ≡ object → HeldIfCorrect trace time history
+          → holds candidate history.candidates ≡ true → may_show (history.replica).0 ≡ true
+      held_shows history objects was held =
+          let at : ℕ = (history.replica).0 in
+          elim (cases_Bool (is_good trace.setup at)) [
+            | inr faulty ↦
+                or_right (test_at (accepts object candidate) world.replicas at) (not (is_good trace.setup at))
+                (ap not faulty)
+            | inl good ↦
+                or_left (test_at (accepts object candidate) world.replicas at) (not (is_good trace.setup at))
+                (ap (λ (one : ObjectId). test_at (accepts one candidate) world.replicas at) (sym objects)
+                ∙ still_accepts trace time history candidate (was good) held)
+          ]
+
       -- so many accepted a candidate that with the faulty ones they are as many as show it
       pub shown_by_accepting : order_of candidate (entries_of object (culled old.keys old.me sent))
           ≤ acceptors (setting trace) time object candidate + (setting trace).faults
-      unfolding setting sets_form
+      unfolding setting order_of
       shown_by_accepting =
           let n : ℕ = replicas trace.setup.bounds in
           let accepted : ℕ → Bool = test_at (accepts object candidate) world.replicas in
           let faulty : ℕ → Bool = λ at. not (is_good trace.setup at) in
-          let counted : acceptors (setting trace) time object candidate ≡ count n accepted =
+          let of_all : acceptors (setting trace) time object candidate ≡ count n accepted =
           acceptors_counted trace time object candidate in
           let either : count n (λ at. accepted at || faulty at) ≤ count n accepted + count n faulty =
           either_counted n accepted faulty in
-          let fits : sets_form.Fits (culled (ring_of trace.setup) me sent) =
-          culled-fits (ring_of trace.setup) me sent
-          (request-fits client number round sent body mac
-          (handed_fits trace is_run have time default below (party.Replica me) text hands
-          (frame.Request client number round sent body mac)
-          (brings_decoded old text (frame.Request client number round sent body mac) brings))).shown in
-          let order : order_of candidate (entries_of object (culled (ring_of trace.setup) me sent)) ≤ count n may_show =
-          order_in_sets object candidate n may_show (culled (ring_of trace.setup) me sent) 0 fits.1.1
-          (sets_show 0 (culled (ring_of trace.setup) me sent) fits.1.1
-          (culled_each Stays (ring_of trace.setup) me sent stays)) in
-          let same : culled old.keys old.me sent ≡ culled (ring_of trace.setup) me sent =
-          ap (λ (keys : Ring). culled keys old.me sent) (keys_are trace time place old is_old)
-          ∙ ap (λ (it : ReplicaId). culled (ring_of trace.setup) it sent) (me_is trace time place old is_old) in
-          let orders : order_of candidate (entries_of object (culled old.keys old.me sent))
-          ≡ order_of candidate (entries_of object (culled (ring_of trace.setup) me sent)) =
-          ap (λ (it : List SetOf). order_of candidate (entries_of object it)) same in
-          omega (arith, counted, either, order, orders)
+          let holding : ObjectHistory → Bool = λ it. holds candidate it.candidates in
+          let most : count_by holding (entries_of object (culled old.keys old.me sent))
+          ≤ count_by (λ (it : ObjectHistory). false) (entries_of object (culled old.keys old.me sent))
+          + count n may_show =
+          counted object holding (λ it. false) may_show (λ history objects among was held none.
+          held_shows history objects was held) in
+          let no_more : count_by (λ (it : ObjectHistory). false) (entries_of object (culled old.keys old.me sent)) ≡ 0 =
+          none_counted (entries_of object (culled old.keys old.me sent)) in
+          omega (arith, of_all, either, most, no_more)
 
       -- and what the sets are based on, so many accepted that with the faulty ones they are a quorum
       pub base_accepted : method_at trace.setup.bounds (entries_of object (culled old.keys old.me sent))

@@ -11,7 +11,6 @@ use Rattle.qu_seal.specs.Keys.{Ring}
 use Rattle.qu_stamp.specs.declared.candidate.Candidate.{Candidate}
 use Rattle.qu_history.specs.declared.sets.SetOf.{SetOf}
 use Rattle.qu_history.specs.Culling.{culled}
-use Rattle.qu_objects.specs.declared.act.Method.{Method}
 use Rattle.qu_frames.specs.declared.frame.Body.TheVariants as body
 use Rattle.qu_frames.specs.declared.frame.Frame.{Frame}
 use Rattle.qu_frames.specs.declared.frame.Frame.TheVariants as frame
@@ -19,16 +18,16 @@ use Rattle.qu_frames.specs.declared.verdict.Refusal.{Refusal}
 use Rattle.qu_frames.specs.declared.verdict.Refusal.TheVariants as refusal
 use Rattle.qu_replica.specs.declared.decision.Decision.{Decision}
 use Rattle.qu_replica.specs.State.{ReplicaState, own_candidates}
-use Rattle.qu_replica.specs.Rows.{Asked, asked_at, refuse, row_unknown, first_given, objects_of, decide_act}
+use Rattle.qu_replica.specs.Rows.{Asked, asked_at, refuse, row_unknown, first_given, decide_act, decide_ask, decide_repair, decision_on}
 use Rattle.qu_replica.specs.Step.{carried_out, on_frame, on_received, replica_step}
 use Rattle.qu_trace.specs.declared.event.Event.{Event}
 use Rattle.qu_world.specs.State.{WorldState}
 use Rattle.qu_world.specs.Step.{world_step, at_replica}
-use Rattle.qu_grounds.specs.Grounds.{Accepts, IsDelivered}
-use Rattle.qu_grounds.specs.Parts.{Names}
+use Rattle.qu_grounds.specs.Grounds.{Accepts, IsDelivered, AddsTo}
 use Rattle.qu_grounds.proofs.Acceptance.{accepted_in, AcceptsNothing, unknown, carried, stays}
 use Rattle.qu_world.proofs.Each.{set_here}
 use Rattle.qu_runs.proofs.Handing.{handed_step}
+use Rattle.qu_frames.specs.declared.frame.Body.{Body}
 
 -- ---- the rows
 
@@ -71,11 +70,17 @@ culled_had state keys me (set ∷ later) =
     ap (λ (rest : Bool). not (nat_le (length state.histories) (set.object).0) && rest)
     (culled_had state keys me later)
 
--- an act accepts nothing, or has such sets
-act_had : (state : ReplicaState) (asked : Asked) (parts : List (ObjectId × Method)) (objects : List ObjectId)
-    → (accepted_in (decide_act state asked parts objects) ≡ []) ⊎ (are_had state asked.sets ≡ true)
-unfolding decide_act
-act_had state asked parts objects =
+-- a replica accepts nothing upon a request, or has such sets
+request_had : (state : ReplicaState) (asked : Asked) (asks : Body)
+    → (accepted_in (decision_on state asked asks) ≡ []) ⊎ (are_had state asked.sets ≡ true)
+unfolding decide_act decide_ask decide_repair
+request_had state asked (body.Act parts) =
+    first_row (are_had state asked.sets ≡ true) (row_unknown state asked) _ (unknown state asked)
+    (not_unknown state asked)
+request_had state asked (body.Ask parts) =
+    first_row (are_had state asked.sets ≡ true) (row_unknown state asked) _ (unknown state asked)
+    (not_unknown state asked)
+request_had state asked (body.Mend target) =
     first_row (are_had state asked.sets ≡ true) (row_unknown state asked) _ (unknown state asked)
     (not_unknown state asked)
 
@@ -88,14 +93,14 @@ not_added candidates candidate same =
     let equal : length candidates ≡ length (candidates ++ candidate ∷ []) = ap length same in
     omega arith
 
-act_step_had : (state : ReplicaState) (client : ClientId) (number round : ℕ) (sets : List SetOf)
-    (parts : List (ObjectId × Method)) (mac : List ℕ) (object : ObjectId) (candidate : Candidate)
-    → own_candidates (on_frame state (frame.Request client number round sets (body.Act parts) mac)).0
+step_had : (state : ReplicaState) (client : ClientId) (number round : ℕ) (sets : List SetOf) (asks : Body)
+    (mac : List ℕ) (object : ObjectId) (candidate : Candidate)
+    → own_candidates (on_frame state (frame.Request client number round sets asks mac)).0
     object ≡ own_candidates state object ++ candidate ∷ [] → are_had state sets ≡ true
-act_step_had state client number round sets parts mac object candidate added =
-    let asked : Asked = asked_at state client number sets (body.Act parts) in
-    let decision : Decision = decide_act state asked parts (objects_of parts) in
-    elim (act_had state asked parts (objects_of parts)) [
+step_had state client number round sets asks mac object candidate added =
+    let asked : Asked = asked_at state client number sets asks in
+    let decision : Decision = decision_on state asked asks in
+    elim (request_had state asked asks) [
       | inl none ↦
           let same : (carried_out state client number round sets decision).0 ≡ state =
           stays state _ (accepted_in decision) (carried state client number round sets decision) none in
@@ -105,12 +110,12 @@ act_step_had state client number round sets parts mac object candidate added =
     ]
 
 had_by : (old new : ReplicaState) (taken : Frame) (object : ObjectId) (accepts : Accepts old new taken)
-    → Names accepts.parts object → (on_frame old taken).0 ≡ new → are_had old accepts.sent ≡ true
-had_by old new taken object accepts names is =
-    act_step_had old accepts.client accepts.number accepts.round accepts.sent accepts.parts
+    → AddsTo accepts.asks object → (on_frame old taken).0 ≡ new → are_had old accepts.sent ≡ true
+had_by old new taken object accepts adds is =
+    step_had old accepts.client accepts.number accepts.round accepts.sent accepts.asks
     accepts.mac object (accepts.candidates object)
     (ap (λ (it : Frame). own_candidates (on_frame old it).0 object) (sym accepts.is_request)
-    ∙ ap (λ (it : ReplicaState). own_candidates it object) is ∙ accepts.added object names)
+    ∙ ap (λ (it : ReplicaState). own_candidates it object) is ∙ accepts.added object adds)
 
 -- ---- the same in a run
 
@@ -134,5 +139,5 @@ pub delivered_had : (world : WorldState) (event : Event) (place : ℕ) (old new 
     → slice_get (world_step world event).replicas place ≡ Some new
     → are_had old (happened.accepts).sent ≡ true
 delivered_had world event place old new object happened is_old is_new =
-    had_by old new happened.carried object happened.accepts happened.names
+    had_by old new happened.carried object happened.accepts happened.adds
     (delivered_to world event place old new object happened is_old is_new)

@@ -1,60 +1,74 @@
 -- A run of the world meets the laws of the theory of what is decided.
-use Rattle.std.proofs.Common.{◌≡◌, Bool, List, Some, ap, arith, false, inl, inr, length, not, refl, subst, suc, sym, true, zero, ℕ, ◌⊎◌, ◌<◌, ◌≤◌, ◌∙◌, [], ◌+◌, add-one}
+use Rattle.std.proofs.Common.{◌≡◌, Bool, List, Some, ap, arith, false, inl, inr, length, not, refl, subst, suc, sym, true, zero, ℕ, ◌⊎◌, ◌<◌, ◌≤◌, ◌∙◌, [], ◌+◌, add-one, Option, get_or, None, count_by}
 use Rattle.qu_grounds.proofs.Accepting.{some_entry, opening_alone, StepAt, step_at, Acceptance, acceptance, added_is}
-use Rattle.qu_chain.proofs.Ancestry.{Acceptor, acceptor}
 use Rattle.qu_runs.proofs.WorldGrowth.{has_more, world_after-grows, world_after-next}
-use Rattle.qu_grounds.specs.Grounds.{IsGround, Accepts, IsDelivered}
+use Rattle.qu_grounds.specs.Grounds.{IsGround, Accepts, IsDelivered, AddsTo, Performs, IsFound, Mends, Reasons, IsMade, IsRemedy, made_stamp}
 use Rattle.qu_runs.specs.Plain.{ArePlain}
-use Rattle.qu_base.specs.Bounds.{AreThresholds, quorum, replicas}
+use Rattle.qu_base.specs.Bounds.{AreThresholds, quorum, replicas, repair}
 use Rattle.qu_stamp.specs.declared.candidate.Candidate.{Candidate}
-use Rattle.qu_chain.proofs.Counting.{Found, found_at, test_at-here}
+use Rattle.qu_chain.proofs.Counting.{Found, found_at, test_at-here, count-not}
 use Rattle.qu_frames.specs.declared.frame.Frame.{Frame}
 use Rattle.qu_chain.specs.Laws.{Given, IsLinked, Laws, Sizes}
-use Rattle.qu_chain.specs.Setting.{IsNew, acceptors}
+use Rattle.qu_chain.specs.Setting.{IsNew, acceptors, IsAttested, IsEstablished}
 use Rattle.qu_world.specs.Run.{IsRun}
 use Rattle.qu_base.specs.declared.party.ObjectId.{ObjectId}
 use Rattle.qu_base.specs.declared.party.Party.{Party}
-use Rattle.qu_replica.specs.State.{ReplicaState, own_candidates}
+use Rattle.qu_replica.specs.State.{ReplicaState, own_candidates, own_latest, candidates_in}
 use Rattle.qu_stamp.specs.declared.stamp.Stamp.{Stamp}
 use Rattle.qu_trace.specs.declared.trace.Trace.{Trace}
 use Rattle.qu_chain.proofs.Arrival.{Turn, turn_between}
-use Rattle.qu_grounds.proofs.Grounds.{above_base, above_held, base_not_below}
+use Rattle.qu_grounds.proofs.Grounds.{above_base, base_not_below, added_above, IsBase, is_base}
 use Rattle.qu_runs.proofs.Objects.{accepted_known}
 use Rattle.qu_runs.specs.Accepted.{accepts}
 use Rattle.qu_runs.proofs.FewFaults.{few_faulty}
 use Rattle.qu_runs.proofs.OpeningReplicas.{acceptor_is_good, all_begin, all_replicas, bounds_are}
 use Rattle.qu_base.proofs.ThresholdFacts.{are_thresholds}
-use Rattle.qu_replica.specs.Rows.{asked_of, fresh_stamp}
+use Rattle.qu_replica.specs.Rows.{asked_of, Asked}
 use Rattle.qu_runs.proofs.Carrying.{brings_decoded}
-use Rattle.std.proofs.lemmas.Bool.{cases_Bool, cases_lt, false≢true, lt-ltb, ltb-true}
-use Rattle.qu_chain.specs.Count.{test_at}
-use Rattle.std.specs.Prelude.{is_some, slice_get}
+use Rattle.std.proofs.lemmas.Bool.{cases_Bool, cases_lt, false≢true, lt-ltb, ltb-true, and_parts, not-true}
+use Rattle.qu_chain.specs.Count.{test_at, count}
+use Rattle.std.specs.Prelude.{is_some, slice_get, ◌&&◌}
 use Rattle.qu_frames.specs.Decoding.{decoded}
-use Rattle.qu_history.specs.Sets.{entries_of, method_at}
+use Rattle.qu_history.specs.Sets.{entries_of, order_of, latest_of, candidates_of}
 use Rattle.qu_history.proofs.Rising.{holds_pushed}
-use Rattle.qu_stamp.specs.Stamp.{is_below}
-use Rattle.qu_stamp.proofs.Order.{is_below-self}
+use Rattle.qu_stamp.specs.Stamp.{is_below, same_stamp}
+use Rattle.qu_stamp.proofs.Order.{is_below-not_chain, is_below-other, is_below-self, equal_by_same_stamp, is_below-not_back, is_before_by_stamp}
 use Rattle.qu_grounds.proofs.Acceptors.{more_at}
 use Rattle.qu_history.specs.declared.sets.SetOf.{SetOf}
 use Rattle.qu_world.specs.Step.{world_step}
 use Rattle.qu_world.specs.State.{WorldState}
-use Rattle.qu_stamp.specs.Candidate.{opening}
-use Rattle.qu_history.specs.History.{holds}
-use Rattle.qu_runs.specs.Carried.{handed}
+use Rattle.qu_stamp.specs.Candidate.{opening, is_before}
+use Rattle.qu_history.specs.History.{holds, ObjectHistory}
+use Rattle.qu_runs.specs.Carried.{handed, Brings}
 use Rattle.qu_runs.specs.Setting.{setting}
-use Rattle.std.proofs.lemmas.Option.{same_Some, slice_get_cases, slice_get_within}
+use Rattle.std.proofs.lemmas.Option.{same_Some, slice_get_cases, slice_get_within, none-some}
 use Rattle.qu_grounds.proofs.Views.{one_decoded}
 use Rattle.qu_grounds.proofs.Happenings.{hands_parts}
-use Rattle.qu_grounds.proofs.KeptEntries.{base_accepted}
+use Rattle.qu_grounds.proofs.KeptEntries.{shown_by_accepting, counted}
 use Rattle.qu_grounds.proofs.KnownObjects.{are_had, delivered_had}
 use Rattle.qu_grounds.specs.Parts.{Names}
-use Rattle.qu_grounds.proofs.Parts.{same_named}
+use Rattle.qu_grounds.proofs.Parts.{same_added}
 use Rattle.qu_replica.specs.Growth.{HasParts}
 use Rattle.qu_objects.specs.declared.act.Method.{Method}
 use Rattle.qu_runs.specs.Times.{world_after}
 use Rattle.qu_base.specs.declared.party.Party.TheVariants as party
 use Rattle.qu_frames.specs.declared.frame.Frame.TheVariants as frame
 use Rattle.qu_frames.specs.declared.frame.Body.TheVariants as body
+use Rattle.qu_class.specs.Rows.{AreWellFormed, IsGreatestOfKind}
+use Rattle.qu_trace.specs.Faulty.{is_good}
+use Rattle.qu_base.specs.declared.party.ClientId.{ClientId}
+use Rattle.qu_frames.specs.declared.frame.Body.{Body}
+use Rattle.qu_grounds.proofs.Acceptance.{IsFormed}
+use Rattle.qu_grounds.specs.Views.{WasHeld, HeldIfCorrect}
+use Rattle.qu_chain.specs.Joint.{IsCopied}
+use Rattle.qu_objects.specs.declared.state.ObjState.{ObjState}
+use Rattle.qu_history.proofs.Method.{method_at_plain}
+use Rattle.qu_grounds.proofs.Acceptors.{StandsAt, stands_at}
+use Rattle.qu_history.proofs.Stamps.{not_below_latest}
+use Rattle.qu_class.specs.Repairable.{base_of}
+use Rattle.qu_class.proofs.OfKind.{base_is_greatest, held_if_repairable}
+use Rattle.qu_replica.proofs.Allowed.{fresh_later}
+use Rattle.qu_base.specs.declared.party.Digest.{Digest}
 
 -- ---- letters
 
@@ -66,10 +80,17 @@ same_place : (first second : ℕ)
     → party.Replica (record { 0 = first }) ≡ party.Replica (record { 0 = second }) → first ≡ second
 same_place first second same = ap place_of same
 
-abbrev parts_in : Frame → List (ObjectId × Method)
-parts_in (frame.Request client number round sets (body.Act parts) mac) = parts
-parts_in (frame.Request client number round sets (body.Ask parts) mac) = []
-parts_in _ = []
+abbrev asks_in : Frame → Option Body
+asks_in (frame.Request client number round sets asks mac) = Some asks
+asks_in _ = None
+
+-- ---- sets
+
+-- nothing that is shown is above the latest
+not_above_shown : (shown : List ObjectHistory) (it : Candidate) → holds it (candidates_of shown) ≡ true
+    → is_below (latest_of shown) it.stamp ≡ false
+unfolding latest_of
+not_above_shown shown it holding = not_below_latest (candidates_of shown) it holding
 
 module _ (trace : Trace) (is_run : IsRun trace) (have : ArePlain trace) where
   sizes : Sizes (setting trace)
@@ -93,6 +114,13 @@ module _ (trace : Trace) (is_run : IsRun trace) (have : ArePlain trace) where
   acceptance_of time object place candidate new =
       acceptance trace is_run have time new.step object place candidate new.after new.before
 
+  -- the request upon which it is accepted
+  abbrev asked_for : {time : ℕ} {object : ObjectId} {place : ℕ} {candidate : Candidate}
+      → Acceptance trace time object place candidate → Asked
+  asked_for accepted =
+      asked_of ((accepted.delivered).accepts).client ((accepted.delivered).accepts).number
+      ((accepted.delivered).accepts).sets ((accepted.delivered).accepts).asks
+
   -- the step at which it is accepted
   step_is : {object : ObjectId} {place : ℕ} {candidate : Candidate} (time : ℕ) → time < length trace.entries
       → (accepted : Acceptance trace time object place candidate)
@@ -100,27 +128,6 @@ module _ (trace : Trace) (is_run : IsRun trace) (have : ArePlain trace) where
   step_is time within accepted =
       ap (world_step (world_after trace time)) accepted.event_is
       ∙ sym (world_after-next trace time some_entry within) ∙ ap (world_after trace) (add-one time)
-
-  -- the base of what is accepted was accepted by so many that with the faulty ones they are a quorum
-  base_shown : (time : ℕ) (object : ObjectId) (place : ℕ) (candidate : Candidate) → time < length trace.entries
-      → (accepted : Acceptance trace time object place candidate)
-      → quorum trace.setup.bounds
-      ≤ acceptors (setting trace) time object (((accepted.delivered).accepts).bases object) + (setting trace).faults
-  base_shown time object place candidate within accepted =
-      let delivered : IsDelivered (world_after trace time) accepted.event place accepted.old accepted.new object =
-      accepted.delivered in
-      let one : Accepts accepted.old accepted.new delivered.carried = delivered.accepts in
-      let had : are_had accepted.old one.sent ≡ true =
-      delivered_had (world_after trace time) accepted.event place accepted.old accepted.new object delivered
-      accepted.is_old (ap (λ (it : WorldState). slice_get it.replicas place) (step_is time within accepted)
-      ∙ accepted.is_new) in
-      base_accepted trace is_run have time within some_entry place accepted.old accepted.is_old delivered.text
-      (ap (handed (world_after trace time)) (sym accepted.event_is) ∙ delivered.is_handed) one.client one.number
-      one.round one.sent (body.Act one.parts) one.mac
-      (delivered.brings ∙ ap (λ (it : Frame). Some it) one.is_request) had object (one.bases object)
-      (ap (λ (sets : List SetOf). method_at trace.setup.bounds (entries_of object sets)) one.culls
-      ∙ ap (λ (bounds : ℕ). method_at bounds (entries_of object one.sets))
-      (sym (bounds_are trace time place accepted.old accepted.is_old)) ∙ (one.grounds object delivered.names).method)
 
   start : (object : ObjectId) (place : ℕ) (candidate : Candidate)
       → (setting trace).accepted 0 object place candidate ≡ true → candidate ≡ opening
@@ -139,6 +146,15 @@ module _ (trace : Trace) (is_run : IsRun trace) (have : ArePlain trace) where
       (has_more (world_after trace time) (world_after trace (suc time))
       (world_after-grows trace time (suc time) (omega arith))).replicas accepted
 
+  -- and so at each later time
+  still_accepted : (from to : ℕ) → from ≤ to → (object : ObjectId) (place : ℕ) (candidate : Candidate)
+      → (setting trace).accepted from object place candidate ≡ true
+      → (setting trace).accepted to object place candidate ≡ true
+  unfolding setting
+  still_accepted from to order object place candidate accepted =
+      more_at object candidate (world_after trace from).replicas (world_after trace to).replicas place
+      (has_more (world_after trace from) (world_after trace to) (world_after-grows trace from to order)).replicas accepted
+
   -- what the replica had accepted, it held
   held_before : (time : ℕ) (object : ObjectId) (place : ℕ) (candidate earlier : Candidate)
       (accepted : Acceptance trace time object place candidate)
@@ -155,8 +171,9 @@ module _ (trace : Trace) (is_run : IsRun trace) (have : ArePlain trace) where
   rising time object place candidate earlier new before =
       let accepted : Acceptance trace time object place candidate = acceptance_of time object place candidate new in
       subst (λ (it : Candidate). is_below earlier.stamp it.stamp ≡ true) accepted.candidate_is
-      (above_held (((accepted.delivered).accepts).grounds object (accepted.delivered).names) earlier
-      (held_before time object place candidate earlier accepted before))
+      (added_above accepted.old accepted.new (asked_for accepted) ((accepted.delivered).accepts).candidates
+      ((accepted.delivered).accepts).asks ((accepted.delivered).accepts).reasons object (accepted.delivered).adds
+      earlier (held_before time object place candidate earlier accepted before))
 
   alone : (time : ℕ) (object : ObjectId) (place : ℕ) (candidate other : Candidate)
       → IsNew (setting trace) time object place candidate → IsNew (setting trace) time object place other
@@ -173,78 +190,357 @@ module _ (trace : Trace) (is_run : IsRun trace) (have : ArePlain trace) where
       ∙ second.before in
       sym accepted.candidate_is
       ∙ added_is accepted.old accepted.new object (one.candidates object) other
-      (one.added object (accepted.delivered).names) after before
+      (one.added object (accepted.delivered).adds) after before
 
-  -- it is made by an act, and is no barrier
-  pub record IsFresh (candidate : Candidate) : Type 0 where
-    pub plain : (setting trace).plain candidate ≡ true
-    pub is_act : (setting trace).is_act candidate ≡ true
+  -- ---- what was shown when it was accepted
 
-  pub new_is_fresh : (time : ℕ) (object : ObjectId) (place : ℕ) (candidate : Candidate)
-      → IsNew (setting trace) time object place candidate → IsFresh candidate
-  unfolding setting
-  new_is_fresh time object place candidate new =
-      let accepted : Acceptance trace time object place candidate = acceptance_of time object place candidate new in
-      let one : Accepts accepted.old accepted.new (accepted.delivered).carried = (accepted.delivered).accepts in
-      let stamp : candidate.stamp ≡ fresh_stamp
-      (asked_of one.client one.number one.sets (body.Act one.parts)) object =
-      ap (λ (it : Candidate). it.stamp) (sym accepted.candidate_is)
-      ∙ (one.grounds object (accepted.delivered).names).stamp in
-      record {
-        plain = ap (λ (it : Stamp). not it.barrier) stamp;
-        is_act = ap (λ (it : Stamp). is_some it.act) stamp;
-      }
+  module _ (time : ℕ) (within : time < length trace.entries) (object : ObjectId) (place : ℕ) (candidate : Candidate)
+      (accepted : Acceptance trace time object place candidate) where
+    abbrev one : Accepts accepted.old accepted.new (accepted.delivered).carried
+    one = (accepted.delivered).accepts
 
-  pub accepted_plain : (time : ℕ) → time ≤ length trace.entries → (object : ObjectId) (place : ℕ)
-      (candidate : Candidate)
-      → place < (setting trace).n → (setting trace).accepted time object place candidate ≡ true
-      → (setting trace).plain candidate ≡ true
-  unfolding setting
-  accepted_plain time within object place candidate among accepted =
-      let test : ℕ → Bool = λ at. (setting trace).accepted at object place candidate in
-      elim (cases_Bool (test 0)) [
-        | inl at_first ↦
-            ap (λ (it : Candidate). not it.stamp.barrier) (start object place candidate at_first)
-        | inr not_at_first ↦
-            let turn : Turn test 0 time = turn_between test 0 time (omega arith) not_at_first accepted in
-            let before : turn.time < time = turn.within in
-            (new_is_fresh turn.time object place candidate (record {
-              step = omega arith;
-              within = among;
-              good = acceptor_is_good trace (suc turn.time) place object candidate turn.after;
-              after = turn.after;
-              before = turn.before;
-            })).plain
-      ]
+    abbrev shown_then : List ObjectHistory
+    shown_then = entries_of object one.sets
+
+    bounds_then : (accepted.old).keys.bounds ≡ trace.setup.bounds
+    bounds_then = bounds_are trace time place accepted.old accepted.is_old
+
+    had : are_had accepted.old one.sent ≡ true
+    had =
+        delivered_had (world_after trace time) accepted.event place accepted.old accepted.new object accepted.delivered
+        accepted.is_old (ap (λ (it : WorldState). slice_get it.replicas place) (step_is time within accepted)
+        ∙ accepted.is_new)
+
+    hands_it : handed (world_after trace time) (get_or trace.entries time some_entry).event
+        ≡ Some (party.Replica (record { 0 = place }), (accepted.delivered).text)
+    hands_it = ap (handed (world_after trace time)) (sym accepted.event_is) ∙ (accepted.delivered).is_handed
+
+    brings_it : Brings accepted.old (accepted.delivered).text
+        (frame.Request one.client one.number one.round one.sent one.asks one.mac)
+    brings_it = (accepted.delivered).brings ∙ ap (λ (it : Frame). Some it) one.is_request
+
+    -- the entries of an object are histories, of which the class can be told
+    formed_then : AreWellFormed trace.setup.bounds shown_then
+    formed_then =
+        subst (λ (bounds : ℕ). AreWellFormed bounds shown_then) bounds_then
+        (subst (λ (sets : List SetOf). AreWellFormed (accepted.old).keys.bounds (entries_of object sets)) one.culls
+        (subst (IsFormed accepted.old) one.is_request
+        ((hands_parts trace is_run have time some_entry within).formed place accepted.old accepted.is_old
+        (party.Replica (record { 0 = place })) (accepted.delivered).text hands_it (accepted.delivered).carried
+        (brings_decoded accepted.old (accepted.delivered).text (accepted.delivered).carried
+        (accepted.delivered).brings)) object))
+
+    -- so many accepted what is shown that with the faulty ones they are as many as show it
+    pub shown_accepted : (other : Candidate)
+        → order_of other shown_then ≤ acceptors (setting trace) time object other + (setting trace).faults
+    shown_accepted other =
+        subst (λ (sets : List SetOf). order_of other (entries_of object sets)
+        ≤ acceptors (setting trace) time object other + (setting trace).faults) one.culls
+        (shown_by_accepting trace is_run have time within some_entry place accepted.old accepted.is_old
+        (accepted.delivered).text hands_it one.client one.number one.round one.sent one.asks one.mac brings_it had
+        object other)
+
+    -- ---- what is established is shown below a barrier that a quorum shows
+
+    -- the replica at this place did not ever accept the other candidate, or is faulty
+    abbrev lacks : Candidate → ℕ → Bool
+    lacks other at = not (is_good trace.setup at && (setting trace).accepted (setting trace).last object at other)
+
+    -- a correct replica whose history has the higher candidate, and not the lower one, never accepts the lower one
+    never_later : (history : ObjectHistory) (higher lower : Candidate) → history.object ≡ object
+        → WasHeld trace time history → holds higher history.candidates ≡ true
+        → holds lower history.candidates ≡ false → is_below lower.stamp higher.stamp ≡ true
+        → is_good trace.setup (history.replica).0 ≡ true → (history.replica).0 < (setting trace).n
+        → (setting trace).accepted (setting trace).last object (history.replica).0 lower ≡ true → ⊥
+    unfolding setting
+    never_later history higher lower objects was has lacks_it below good among ever =
+        let at : ℕ = (history.replica).0 in
+        let stands : StandsAt (world_after trace was.past) history =
+        stands_at (world_after trace was.past) history was.held in
+        let earlier : was.past ≤ time = was.earlier in
+        let then : (it : Candidate) → test_at (accepts object it) (world_after trace was.past).replicas at
+        ≡ holds it history.candidates =
+        λ it. ap (λ (on : ObjectId). test_at (accepts on it) (world_after trace was.past).replicas at) (sym objects)
+        ∙ test_at-here (accepts history.object it) (world_after trace was.past).replicas at stands.state
+        stands.is_replica
+        ∙ ap (λ (found : Option ObjectHistory). holds it (candidates_in found)) stands.found in
+        let turn : Turn (λ (now : ℕ). (setting trace).accepted now object at lower) was.past (length trace.entries) =
+        turn_between (λ (now : ℕ). (setting trace).accepted now object at lower) was.past (length trace.entries)
+        (omega (arith, earlier, within)) (then lower ∙ lacks_it) ever in
+        let new : IsNew (setting trace) turn.time object at lower = record {
+          step = turn.within;
+          within = among;
+          good = good;
+          after = turn.after;
+          before = turn.before;
+        } in
+        false≢true (sym (is_below-not_back lower.stamp higher.stamp below)
+        ∙ rising turn.time object at lower higher new
+        (still_accepted was.past turn.time turn.from object at higher (then higher ∙ has)))
+
+    pub established_is_shown : (barrier other : Candidate) → quorum trace.setup.bounds ≤ order_of barrier shown_then
+        → IsEstablished (setting trace) (setting trace).last object other
+        → is_below other.stamp barrier.stamp ≡ true → repair trace.setup.bounds ≤ order_of other shown_then
+    unfolding setting order_of
+    established_is_shown barrier other full established below =
+        let n : ℕ = replicas trace.setup.bounds in
+        let ever : ℕ → Bool = λ at. is_good trace.setup at && (setting trace).accepted (setting trace).last object at
+        other in
+        let most : count_by (λ (it : ObjectHistory). holds barrier it.candidates) shown_then
+        ≤ count_by (λ (it : ObjectHistory). holds other it.candidates) shown_then + count n (lacks other) =
+        subst (λ (sets : List SetOf). count_by (λ (it : ObjectHistory). holds barrier it.candidates) (entries_of object sets)
+        ≤ count_by (λ (it : ObjectHistory). holds other it.candidates) (entries_of object sets)
+        + count n (lacks other)) one.culls
+        (counted trace is_run have time within some_entry place accepted.old accepted.is_old
+        (accepted.delivered).text hands_it one.client one.number one.round one.sent one.asks one.mac brings_it had
+        object (λ it. holds barrier it.candidates) (λ it. holds other it.candidates) (lacks other)
+        (λ history objects among was has lacks_it. lacking history objects among was has lacks_it)) in
+        let all : count n ever + count n (lacks other) ≡ n = count-not n ever in
+        let enough : (setting trace).quorum ≤ count n ever + (setting trace).b = established in
+        let sizes_are : Sizes (setting trace) = sizes in
+        let shares : n + trace.setup.bounds + repair trace.setup.bounds
+        ≤ quorum trace.setup.bounds + quorum trace.setup.bounds = sizes_are.shares in
+        omega (arith, most, all, enough, shares, full)
+      where
+        by_test : (test : Bool) → (test ≡ true → ⊥) → not test ≡ true
+        by_test true never = absurd (never refl)
+        by_test false never = refl
+
+        lacking : (history : ObjectHistory) → history.object ≡ object
+            → (history.replica).0 < replicas trace.setup.bounds → HeldIfCorrect trace time history
+            → holds barrier history.candidates ≡ true → holds other history.candidates ≡ false
+            → lacks other (history.replica).0 ≡ true
+        lacking history objects among was has lacks_it =
+            by_test _ (λ both.
+            let parts = and_parts _ _ both in
+            never_later history barrier other objects (was parts.0) has lacks_it below parts.0 among parts.1)
+
+  -- ---- the base of what is accepted
+
+  -- a candidate that is attested, or rests on such a one
+  abbrev IsBased : ℕ → ObjectId → ℕ → Candidate → Type 0
+  IsBased time object place candidate =
+      IsAttested (setting trace) time object candidate ⊎ IsLinked (setting trace) time object place candidate
+
+  module _ (time : ℕ) (within : time < length trace.entries) (object : ObjectId) (place : ℕ) (candidate : Candidate)
+      (accepted : Acceptance trace time object place candidate) where
+    abbrev upon : Accepts accepted.old accepted.new (accepted.delivered).carried
+    upon = (accepted.delivered).accepts
+
+    abbrev entries : List ObjectHistory
+    entries = entries_of object upon.sets
+
+    abbrev old_bounds : ℕ
+    old_bounds = (accepted.old).keys.bounds
+
+    same_bounds : old_bounds ≡ trace.setup.bounds
+    same_bounds = bounds_then time within object place candidate accepted
+
+    -- an act rests on an established candidate
+    act_linked : (asked : Asked) (parts : List (ObjectId × Method)) → asked.sets ≡ upon.sets
+        → Performs accepted.old accepted.new asked parts upon.candidates → Names parts object
+        → IsLinked (setting trace) time object place (upon.candidates object)
+    unfolding setting
+    act_linked asked parts sets performs names =
+        let base : Candidate = performs.bases object in
+        let why : IsGround accepted.old asked object (upon.candidates object) base = performs.grounds object names in
+        let is : IsBase old_bounds (entries_of object asked.sets) base =
+        is_base old_bounds (entries_of object asked.sets) base why.method in
+        let full : quorum trace.setup.bounds ≤ order_of base entries =
+        subst (λ (bounds : ℕ). quorum bounds ≤ order_of base entries) same_bounds
+        (subst (λ (it : List SetOf). quorum old_bounds ≤ order_of base (entries_of object it)) sets is.of_quorum) in
+        let shown : order_of base entries ≤ acceptors (setting trace) time object base + (setting trace).faults =
+        shown_accepted time within object place candidate accepted base in
+        let few : (setting trace).faults ≤ trace.setup.bounds = sizes.borne in
+        let thresholds : AreThresholds trace.setup.bounds =
+        are_thresholds trace.setup.bounds (is_run.setup).some_faults in
+        record {
+          base = base;
+          plain_base = ap not (method_at_plain old_bounds (entries_of object asked.sets) base why.method);
+          prior = why.prior;
+          below = above_base why;
+          attested = omega arith;
+          settled = λ is_act. omega (arith, full, shown, few);
+          not_below = λ other plain established before.
+              base_not_below why other (held_before time object place candidate other accepted before);
+        }
+
+    -- what so many show that it may be repaired is attested
+    found_attested : (asked : Asked) (target : ObjectId) (found : Candidate) → asked.sets ≡ upon.sets
+        → target ≡ object → IsFound old_bounds asked target found → IsAttested (setting trace) time object found
+    unfolding setting
+    found_attested asked target found sets is it =
+        let shown : order_of found entries ≤ acceptors (setting trace) time object found + (setting trace).faults =
+        shown_accepted time within object place candidate accepted found in
+        let enough : repair trace.setup.bounds ≤ order_of found entries =
+        subst (λ (bounds : ℕ). repair bounds ≤ order_of found entries) same_bounds
+        (subst (λ (all : List SetOf). repair old_bounds ≤ order_of found (entries_of object all)) sets
+        (subst (λ (on : ObjectId). repair old_bounds ≤ order_of found (entries_of on asked.sets)) is it.order)) in
+        omega (arith, shown, enough)
+
+    -- a copy rests on the object candidate, below which nothing is established
+    copy_linked : (asked : Asked) (latest copy : Candidate) → asked.sets ≡ upon.sets
+        → quorum old_bounds ≤ length (entries_of object asked.sets)
+        → is_below (latest_of (entries_of object asked.sets)) (own_latest accepted.old object) ≡ false
+        → (asked.act ≡ None) → IsMade old_bounds asked object copy
+        → latest.stamp.barrier ≡ true → latest.stamp ≡ latest_of (entries_of object asked.sets)
+        → quorum old_bounds ≤ order_of latest (entries_of object asked.sets)
+        → IsLinked (setting trace) time object place copy
+    unfolding setting
+    copy_linked asked latest copy sets enough current no_act made barrier is_latest full =
+        let formed : AreWellFormed trace.setup.bounds entries = formed_then time within object place candidate accepted in
+        let some : quorum trace.setup.bounds ≤ length entries =
+        subst (λ (bounds : ℕ). quorum bounds ≤ length entries) same_bounds
+        (subst (λ (it : List SetOf). quorum old_bounds ≤ length (entries_of object it)) sets enough) in
+        let base : Candidate = base_of trace.setup.bounds entries in
+        let greatest : IsGreatestOfKind trace.setup.bounds entries false base =
+        base_is_greatest trace.setup.bounds entries formed some in
+        let shown : order_of base entries ≤ acceptors (setting trace) time object base + (setting trace).faults =
+        shown_accepted time within object place candidate accepted base in
+        let enough_show : repair trace.setup.bounds ≤ order_of base entries = (greatest.repairable).order in
+        let held : holds base (candidates_of entries) ≡ true =
+        held_if_repairable trace.setup.bounds entries formed base enough_show in
+        let stamp : copy.stamp ≡ made_stamp asked object copy.stamp.barrier = made.stamp in
+        let latest_is : latest_of (entries_of object asked.sets) ≡ latest_of entries =
+        ap (λ (it : List SetOf). latest_of (entries_of object it)) sets in
+        record {
+          base = base;
+          plain_base = ap not (greatest.repairable).kind;
+          prior = made.prior ∙ ap (λ (it : List SetOf). (base_of old_bounds (entries_of object it)).stamp) sets
+              ∙ ap (λ (bounds : ℕ). (base_of bounds entries).stamp) same_bounds;
+          below = fresh_later (latest_of entries) base.stamp copy.stamp
+              (ap (λ (it : Stamp). it.time) stamp ∙ ap (λ (it : Stamp). it.time + 1) latest_is)
+              (not_above_shown entries base held);
+          attested = omega (arith, shown, enough_show);
+          settled = λ is_act. absurd (false≢true (sym (ap (λ (act : Option Digest). is_some act)
+              (ap (λ (it : Stamp). it.act) stamp ∙ no_act)) ∙ is_act));
+          not_below = λ other plain established before.
+              let not_above : is_below latest.stamp other.stamp ≡ false =
+              ap (λ (it : Stamp). is_below it other.stamp) is_latest
+              ∙ is_below-not_chain (latest_of (entries_of object asked.sets)) (own_latest accepted.old object)
+              other.stamp current
+              (not_below_latest (own_candidates accepted.old object) other
+              (held_before time object place candidate other accepted before)) in
+              let under : is_below other.stamp latest.stamp ≡ true =
+              is_below-other latest.stamp other.stamp not_above (unlike latest other barrier plain) in
+              let so_many : repair trace.setup.bounds ≤ order_of other entries =
+              established_is_shown time within object place candidate accepted latest other
+              (subst (λ (bounds : ℕ). quorum bounds ≤ order_of latest entries) same_bounds
+              (subst (λ (it : List SetOf). quorum old_bounds ≤ order_of latest (entries_of object it)) sets full))
+              established under in
+              not_below_greatest base other
+              (greatest.above other (record { kind = plain_kind other plain; order = so_many }));
+        }
+      where
+        plain_kind : (it : Candidate) → not it.stamp.barrier ≡ true → it.stamp.barrier ≡ false
+        plain_kind it plain = not-true it.stamp.barrier plain
+
+        unlike : (first second : Candidate) → first.stamp.barrier ≡ true → not second.stamp.barrier ≡ true
+            → same_stamp first.stamp second.stamp ≡ false
+        unlike first second is plain =
+            elim (cases_Bool (same_stamp first.stamp second.stamp)) [
+              | inl alike ↦
+                  absurd (false≢true (sym (plain_kind second plain)
+                  ∙ ap (λ (it : Stamp). it.barrier) (sym (equal_by_same_stamp first.stamp second.stamp alike)) ∙ is))
+              | inr differs ↦ differs
+            ]
+
+        not_below_greatest : (best it : Candidate) → is_before best it ≡ false → is_below best.stamp it.stamp ≡ false
+        not_below_greatest best it not_before =
+            elim (cases_Bool (is_below best.stamp it.stamp)) [
+              | inl below ↦ absurd (false≢true (sym not_before ∙ is_before_by_stamp best it below))
+              | inr not_below ↦ not_below
+            ]
+
+    mended_based : (asked : Asked) (target : ObjectId) → asked.sets ≡ upon.sets → asked.act ≡ None
+        → Mends accepted.old accepted.new asked target (upon.candidates target) → target ≡ object
+        → (setting trace).plain (upon.candidates object) ≡ true → IsBased time object place (upon.candidates object)
+    unfolding setting
+    mended_based asked target sets no_act mends is plain =
+        by_remedy (upon.candidates object) _
+        (subst (λ (on : ObjectId). IsRemedy accepted.old asked on (upon.candidates on) mends.version) is mends.remedy)
+        plain
+        (subst (λ (on : ObjectId). quorum old_bounds ≤ length (entries_of on asked.sets)) is mends.enough)
+        (subst (λ (on : ObjectId). is_below (latest_of (entries_of on asked.sets)) (own_latest accepted.old on) ≡ false)
+        is mends.current)
+      where
+        no_barrier : (it : Candidate) → it.stamp.barrier ≡ true → not it.stamp.barrier ≡ true → ⊥
+        no_barrier it barrier plain_it = false≢true (ap not (sym barrier) ∙ plain_it)
+
+        by_remedy : (it : Candidate) (version : Option ObjState) → IsRemedy accepted.old asked object it version
+            → not it.stamp.barrier ≡ true → quorum old_bounds ≤ length (entries_of object asked.sets)
+            → is_below (latest_of (entries_of object asked.sets)) (own_latest accepted.old object) ≡ false
+            → IsBased time object place it
+        by_remedy it version (IsRemedy.inline_barrier barrier found) plain_it enough current =
+            absurd (no_barrier it barrier plain_it)
+        by_remedy it version (IsRemedy.inline_method state kind found stored) plain_it enough current =
+            inl (found_attested asked object it sets refl found)
+        by_remedy it version (IsRemedy.barrier barrier made) plain_it enough current =
+            absurd (no_barrier it barrier plain_it)
+        by_remedy it version (IsRemedy.copy latest state kind made barrier is_latest full stored) plain_it enough current =
+            inr (copy_linked asked latest it sets enough current no_act made barrier is_latest full)
+
+    -- whatever the request asks for
+    based_by : (client : ClientId) (number : ℕ) (asks : Body)
+        → Reasons accepted.old accepted.new (asked_of client number upon.sets asks) asks upon.candidates
+        → AddsTo asks object → (setting trace).plain (upon.candidates object) ≡ true
+        → IsBased time object place (upon.candidates object)
+    based_by client number (body.Act parts) reasons names plain =
+        inr (act_linked (asked_of client number upon.sets (body.Act parts)) parts refl reasons names)
+    based_by client number (body.Ask parts) reasons never plain = absurd never
+    based_by client number (body.Mend target) reasons is plain =
+        mended_based (asked_of client number upon.sets (body.Mend target)) target refl refl reasons is plain
+
+    is_based : (setting trace).plain candidate ≡ true → IsBased time object place candidate
+    is_based plain =
+        subst (IsBased time object place) accepted.candidate_is
+        (based_by upon.client upon.number upon.asks upon.reasons (accepted.delivered).adds
+        (ap (setting trace).plain accepted.candidate_is ∙ plain))
+
+    -- ---- what a copy copies
+
+    copied_by : (client : ClientId) (number : ℕ) (asks : Body)
+        → Reasons accepted.old accepted.new (asked_of client number upon.sets asks) asks upon.candidates
+        → AddsTo asks object → (setting trace).plain (upon.candidates object) ≡ true
+        → (setting trace).is_act (upon.candidates object) ≡ false
+        → IsAttested (setting trace) time object (upon.candidates object)
+        ⊎ IsCopied (setting trace) time object place (upon.candidates object)
+    unfolding setting
+    copied_by client number asks reasons adds plain no_act =
+        elim (based_by client number asks reasons adds plain) [
+          | inl attested ↦ inl attested
+          | inr linked ↦ inr (record {
+            base = linked.base;
+            prior = linked.prior;
+            attested = linked.attested;
+            joined = λ other companion apart is_member also. absurd (none-some companion.stamp is_member);
+            covered = λ other stamp apart is_member none. absurd (none-some stamp is_member);
+          })
+        ]
+
+    pub is_copied : (setting trace).plain candidate ≡ true → (setting trace).is_act candidate ≡ false
+        → IsAttested (setting trace) time object candidate ⊎ IsCopied (setting trace) time object place candidate
+    is_copied plain no_act =
+        subst (λ (it : Candidate). IsAttested (setting trace) time object it
+        ⊎ IsCopied (setting trace) time object place it) accepted.candidate_is
+        (copied_by upon.client upon.number upon.asks upon.reasons (accepted.delivered).adds
+        (ap (setting trace).plain accepted.candidate_is ∙ plain)
+        (ap (setting trace).is_act accepted.candidate_is ∙ no_act))
 
   linked : (time : ℕ) (object : ObjectId) (place : ℕ) (candidate : Candidate)
-      → IsNew (setting trace) time object place candidate → IsLinked (setting trace) time object place candidate
+      → (setting trace).plain candidate ≡ true → IsNew (setting trace) time object place candidate
+      → IsBased time object place candidate
   unfolding setting
-  linked time object place candidate new =
-      let accepted : Acceptance trace time object place candidate = acceptance_of time object place candidate new in
-      let one : Accepts accepted.old accepted.new (accepted.delivered).carried = (accepted.delivered).accepts in
-      let base : Candidate = one.bases object in
-      let why : IsGround accepted.old (asked_of one.client one.number one.sets (body.Act one.parts)) object
-      (one.candidates object) base = one.grounds object (accepted.delivered).names in
-      let within : time < length trace.entries = new.step in
-      let shown : quorum trace.setup.bounds ≤ acceptors (setting trace) time object base + (setting trace).faults =
-      base_shown time object place candidate within accepted in
-      let few : (setting trace).faults ≤ trace.setup.bounds = sizes.borne in
-      let thresholds : AreThresholds trace.setup.bounds =
-      are_thresholds trace.setup.bounds (is_run.setup).some_faults in
-      let who : Acceptor (setting trace) time object base = acceptor (setting trace) time object base (omega arith) in
-      let order : time ≤ length trace.entries = omega arith in
-      record {
-        base = base;
-        plain_base = accepted_plain time order object who.replica base who.within who.accepted;
-        prior = ap (λ (it : Candidate). it.prior) (sym accepted.candidate_is) ∙ why.prior;
-        below = subst (λ (it : Candidate). is_below base.stamp it.stamp ≡ true) accepted.candidate_is
-            (above_base why);
-        attested = omega arith;
-        settled = λ is_act. omega arith;
-        not_below = λ other plain established before.
-            base_not_below why other (held_before time object place candidate other accepted before);
-      }
+  linked time object place candidate plain new =
+      is_based time new.step object place candidate (acceptance_of time object place candidate new) plain
+
+  pub copies : (time : ℕ) (object : ObjectId) (place : ℕ) (candidate : Candidate)
+      → (setting trace).plain candidate ≡ true → (setting trace).is_act candidate ≡ false
+      → IsNew (setting trace) time object place candidate
+      → IsAttested (setting trace) time object candidate ⊎ IsCopied (setting trace) time object place candidate
+  unfolding setting
+  copies time object place candidate plain no_act new =
+      is_copied time new.step object place candidate (acceptance_of time object place candidate new) plain no_act
 
   -- ---- who accepts at a step
 
@@ -253,17 +549,17 @@ module _ (trace : Trace) (is_run : IsRun trace) (have : ArePlain trace) where
       → slice_get (world_after trace time).replicas place ≡ Some old
       → slice_get (world_after trace (suc time)).replicas place ≡ Some new
       → (received : Frame) (accepts_so : Accepts old new received) (object : ObjectId)
-      → Names accepts_so.parts object
+      → AddsTo accepts_so.asks object
       → IsNew (setting trace) time object place (accepts_so.candidates object)
   unfolding setting
-  new_accepted time within place old new is_old is_new received accepts_so object names =
+  new_accepted time within place old new is_old is_new received accepts_so object adds =
       let candidate : Candidate = accepts_so.candidates object in
       let among : place < length (world_after trace time).replicas =
       slice_get_within (world_after trace time).replicas place old is_old in
       let all : length (world_after trace time).replicas ≡ replicas trace.setup.bounds = all_replicas trace time in
       let now : test_at (accepts object candidate) (world_after trace (suc time)).replicas place ≡ true =
       test_at-here (accepts object candidate) (world_after trace (suc time)).replicas place new is_new
-      ∙ ap (holds candidate) (accepts_so.added object names) ∙ holds_pushed candidate (own_candidates old object) in
+      ∙ ap (holds candidate) (accepts_so.added object adds) ∙ holds_pushed candidate (own_candidates old object) in
       record {
         step = within;
         within = omega (arith, among, all);
@@ -275,7 +571,9 @@ module _ (trace : Trace) (is_run : IsRun trace) (have : ArePlain trace) where
               | inr not_held ↦ not_held
               | inl held ↦
                   absurd (false≢true (sym (is_below-self candidate.stamp)
-                  ∙ above_held (accepts_so.grounds object names) candidate held))
+                  ∙ added_above old new
+                  (asked_of accepts_so.client accepts_so.number accepts_so.sets accepts_so.asks) accepts_so.candidates
+                  accepts_so.asks accepts_so.reasons object adds candidate held))
             ];
       }
 
@@ -305,7 +603,7 @@ module _ (trace : Trace) (is_run : IsRun trace) (have : ArePlain trace) where
                 replica = place;
                 candidate = (delivered.accepts).candidates object;
                 new = new_accepted time within place step.old new step.is_old is_new delivered.carried
-                    delivered.accepts object delivered.names;
+                    delivered.accepts object delivered.adds;
               })
         ]
   ]
@@ -367,15 +665,15 @@ module _ (trace : Trace) (is_run : IsRun trace) (have : ArePlain trace) where
       (ap decoded (sym (ap (λ (it : Party × List ℕ). it.1) same))
       ∙ brings_decoded one.old here.text here.carried here.brings)
       (brings_decoded two.old there.text there.carried there.brings) in
-      let parts : (here.accepts).parts ≡ (there.accepts).parts =
-      ap parts_in (sym (here.accepts).is_request ∙ carried ∙ (there.accepts).is_request) in
+      let bodies : (here.accepts).asks ≡ (there.accepts).asks =
+      same_Some _ _ (ap asks_in (sym (here.accepts).is_request ∙ carried ∙ (there.accepts).is_request)) in
       let some : HasParts here.carried =
-      hands_parts trace is_run have time some_entry within (party.Replica (record { 0 = place })) here.text
+      (hands_parts trace is_run have time some_entry within).parts (party.Replica (record { 0 = place })) here.text
       (ap (handed (world_after trace time)) (sym one.event_is) ∙ here.is_handed) here.carried
       (brings_decoded one.old here.text here.carried here.brings) in
       let objects : object ≡ other =
-      same_named (here.accepts).parts object other (subst HasParts (here.accepts).is_request some) here.names
-      (subst (λ (it : List (ObjectId × Method)). Names it other) (sym parts) there.names) in
+      same_added (here.accepts).asks object other (subst HasParts (here.accepts).is_request some) here.adds
+      (subst (λ (it : Body). AddsTo it other) (sym bodies) there.adds) in
       record {
         places = places;
         objects = objects;
@@ -399,5 +697,5 @@ module _ (trace : Trace) (is_run : IsRun trace) (have : ArePlain trace) where
     moves = moves;
     one_mover = λ time object other place elsewhere candidate second new again.
         (one_accepted time object other place elsewhere candidate second new again).places;
-    linked = λ time object place candidate holds plain new. inr (linked time object place candidate new);
+    linked = λ time object place candidate holds plain new. linked time object place candidate plain new;
   }

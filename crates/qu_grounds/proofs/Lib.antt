@@ -1,4 +1,5 @@
 pub mod Parts
+pub mod Formed
 pub mod Grounds
 pub mod Acceptance
 pub mod Happenings

@@ -1,7 +1,6 @@
 -- Where no two texts have one digest, a stamp names the histories upon which its candidate was accepted.
-use Rattle.std.proofs.Common.{◌≡◌, ℕ, ◌<◌, List, length, Some, refl, sym, ap, subst, ◌∙◌, arith}
+use Rattle.std.proofs.Common.{◌≡◌, ◌<◌, List, length, Some, refl, sym, ap, subst, ◌∙◌, arith}
 use Rattle.std.specs.Prelude.{slice_get, Contains}
-use Rattle.std.proofs.lemmas.Option.{same_Some}
 use Rattle.qu_base.specs.declared.party.ObjectId.{ObjectId}
 use Rattle.qu_seal.specs.declared.constants.TheConstants.{SETS_TAG}
 use Rattle.qu_seal.specs.Digesting.{digest_of}
@@ -9,13 +8,10 @@ use Rattle.qu_stamp.specs.declared.stamp.Stamp.{Stamp}
 use Rattle.qu_stamp.specs.declared.candidate.Candidate.{Candidate}
 use Rattle.qu_history.specs.declared.sets.SetOf.{SetOf}
 use Rattle.qu_history.specs.Formats.{sets_form}
-use Rattle.qu_history.specs.Sets.{method_at}
 use Rattle.qu_history.specs.Text.{sets_text, sets_digest}
 use Rattle.qu_history.proofs.Unsealed.{entries_of-one}
-use Rattle.qu_frames.specs.declared.frame.Body.TheVariants as body
 use Rattle.qu_frames.specs.declared.frame.Frame.{Frame}
 use Rattle.qu_frames.specs.Formats.{frame_form}
-use Rattle.qu_replica.specs.Rows.{asked_of, fresh_stamp}
 use Rattle.qu_replica.proofs.FitCulled.{culled-fits}
 use Rattle.qu_replica.proofs.FitSteps.{request-fits}
 use Rattle.qu_trace.specs.declared.trace.Trace.{Trace}
@@ -37,8 +33,10 @@ use Rattle.qu_base.specs.declared.party.Party.TheVariants as party
 use Rattle.qu_grounds.proofs.Handled.{request_upon, upon_handled}
 use Rattle.qu_runs.proofs.DigestedTexts.{request_digested}
 use Rattle.qu_grounds.proofs.Origins.{accepted_from}
-use Rattle.qu_runs.proofs.OpeningReplicas.{bounds_are}
 use Rattle.qu_runs.proofs.Carrying.{brings_decoded}
+use Rattle.qu_machine.proofs.Firsts.{contains_at}
+use Rattle.qu_history.specs.History.{ObjectHistory}
+use Rattle.qu_class.specs.Repairable.{base_of}
 
 -- the text of sets
 abbrev text_of : List SetOf → Text
@@ -64,14 +62,14 @@ module _ (trace : Trace) (is_run : IsRun trace) (plain : ArePlain trace) where
       let one : Accepts it.old it.new (it.delivered).carried = (it.delivered).accepts in
       let fits : frame_form.Fits (it.delivered).carried =
       offered_fits trace is_run plain it.past (omega arith) it.event
-      (event_parts it.entry it.of_trace it.event it.event_is)
+      (event_parts it.entry (contains_at trace.entries it.past it.entry it.is_entry) it.event it.event_is)
       (party.Replica (record { 0 = it.place })) (it.delivered).text
       (handed_offers (world_after trace it.past) it.event (party.Replica (record { 0 = it.place })) (it.delivered).text
       (it.delivered).is_handed) (it.delivered).carried
       (brings_decoded it.old (it.delivered).text (it.delivered).carried (it.delivered).brings) in
       subst sets_form.Fits one.culls
       (culled-fits (it.old).keys (it.old).me one.sent
-      (request-fits one.client one.number one.round one.sent (body.Act one.parts) one.mac
+      (request-fits one.client one.number one.round one.sent one.asks one.mac
       (subst (λ (sent : Frame). frame_form.Fits sent) one.is_request fits)).shown)
 
   sets_digested : (object : ObjectId) (candidate : Candidate)
@@ -86,19 +84,15 @@ module _ (trace : Trace) (is_run : IsRun trace) (plain : ArePlain trace) where
       ap (handled_by trace) (sym it.event_is) ∙ upon_handled trace is_run it.past it.earlier it.event it.place
       it.old it.new it.is_old is_new object it.delivered in
       let among : Contains (texts_of (Some request)) (text_of sets) = (0, omega arith, refl) in
-      request_digested trace it.entry (Some request) (text_of sets) it.of_trace handled among
+      request_digested trace it.entry (Some request) (text_of sets)
+      (contains_at trace.entries it.past it.entry it.is_entry) handled among
 
   -- the stamp holds the digest of the sets
   digest_named : (object : ObjectId) (candidate : Candidate)
       (it : Origin trace (length trace.entries) object candidate) → ((candidate.stamp).set).0 ≡ digest_of SETS_TAG
       (sets_text (sets_upon object candidate it))
   unfolding sets_digest
-  digest_named object candidate it =
-      let one : Accepts it.old it.new (it.delivered).carried = (it.delivered).accepts in
-      let stamp : candidate.stamp ≡ fresh_stamp
-      (asked_of one.client one.number one.sets (body.Act one.parts)) object =
-      ap (λ (made : Candidate). made.stamp) (sym it.is_candidate) ∙ (one.grounds object (it.delivered).names).stamp in
-      ap (λ (made : Stamp). (made.set).0) stamp
+  digest_named object candidate it = ap (λ (made : Stamp). (made.set).0) (it.made).stamp
 
   -- ---- what it names
 
@@ -119,30 +113,15 @@ module _ (trace : Trace) (is_run : IsRun trace) (plain : ArePlain trace) where
       entries_of-one sets others (sets_fit object first one) (sets_fit object second other)
       (ap (λ (it : Text). it.bytes) texts) object
 
-  -- the base that the sets show
-  base_named : (object : ObjectId) (candidate : Candidate) (it : Origin trace (length trace.entries) object candidate)
-      → method_at trace.setup.bounds (shown_to trace (length trace.entries) object candidate it) ≡ Some
-      (((it.delivered).accepts).bases object)
-  base_named object candidate it =
-      ap (λ (bounds : ℕ). method_at bounds (shown_to trace (length trace.entries) object candidate it))
-      (sym (bounds_are trace it.past it.place it.old it.is_old)) ∙
-      (((it.delivered).accepts).grounds object (it.delivered).names).method
-
-  prior_named : (object : ObjectId) (candidate : Candidate)
-      (it : Origin trace (length trace.entries) object candidate)
-      → candidate.prior ≡ (((it.delivered).accepts).bases object).stamp
-  prior_named object candidate it = ap (λ (made : Candidate). made.prior) (sym it.is_candidate)
-      ∙ (((it.delivered).accepts).grounds object (it.delivered).names).prior
-
+  -- and with them the object candidate, upon which it was made
   same_prior : NoCollision trace → (object : ObjectId) (first second : Candidate)
       → Origin trace (length trace.entries) object first → Origin trace (length trace.entries) object second
       → first.stamp ≡ second.stamp → first.prior ≡ second.prior
   same_prior no_collision object first second one other same =
-      let bases : Some (((one.delivered).accepts).bases object) ≡ Some (((other.delivered).accepts).bases object) =
-      sym (base_named object first one) ∙ ap (method_at trace.setup.bounds)
-      (same_histories no_collision object first second one other same) ∙ base_named object second other in
-      prior_named object first one ∙ ap (λ (base : Candidate). base.stamp) (same_Some _ _ bases)
-      ∙ sym (prior_named object second other)
+      (one.made).prior
+      ∙ ap (λ (entries : List ObjectHistory). (base_of trace.setup.bounds entries).stamp)
+      (same_histories no_collision object first second one other same)
+      ∙ sym (other.made).prior
 
   pub stamps_name : NoCollision trace → StampsNameHistories trace
   stamps_name no_collision = record {

@@ -4,6 +4,10 @@ use Rattle.std.proofs.lemmas.Bool.{false≢true, cases_eq}
 use Rattle.qu_base.specs.declared.party.ObjectId.{ObjectId}
 use Rattle.qu_objects.specs.Parts.{are_parts}
 use Rattle.qu_grounds.specs.Parts.{Names}
+use Rattle.qu_frames.specs.declared.frame.Body.{Body}
+use Rattle.qu_grounds.specs.Grounds.{AddsTo}
+use Rattle.qu_replica.specs.Growth.{has_parts}
+use Rattle.qu_frames.specs.declared.frame.Body.TheVariants as body
 
 pub named_or_not : {X : Type 0} (parts : List (ObjectId × X)) (object : ObjectId)
     → Names parts object ⊎ (Names parts object → ⊥)
@@ -33,3 +37,21 @@ same_named [] object other one names also = absurd names
 same_named (part ∷ []) object other one names also =
     sym (one_named part object names) ∙ one_named part other also
 same_named (first ∷ second ∷ later) object other one names also = absurd (false≢true one)
+
+-- ---- what a request adds to
+
+pub adds_or_not : (asks : Body) (object : ObjectId) → AddsTo asks object ⊎ (AddsTo asks object → ⊥)
+adds_or_not (body.Act parts) object = named_or_not parts object
+adds_or_not (body.Ask parts) object = inr (λ never. never)
+adds_or_not (body.Mend target) object =
+    elim (cases_eq target.0 object.0) [
+      | inl same ↦ inl (ap (λ (it : ℕ). record { 0 = it }) same)
+      | inr apart ↦ inr (λ is. apart (ap (λ (it : ObjectId). it.0) is))
+    ]
+
+-- it is one object
+pub same_added : (asks : Body) (object other : ObjectId) → has_parts asks ≡ true → AddsTo asks object
+    → AddsTo asks other → object ≡ other
+same_added (body.Act parts) object other some names besides = same_named parts object other some names besides
+same_added (body.Ask parts) object other some never besides = absurd never
+same_added (body.Mend target) object other some is besides = sym is ∙ besides

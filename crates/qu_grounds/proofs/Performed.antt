@@ -1,5 +1,5 @@
 -- The versions of accepted candidates are the parts of the act performed upon the versions of their bases.
-use Rattle.std.proofs.Common.{◌≡◌, ◌==◌, ◌⊎◌, ℕ, Bool, true, false, cond, List, [], ◌∷◌, ◌++◌, None, Some, inl, inr, refl, sym, ap, subst, ◌∙◌}
+use Rattle.std.proofs.Common.{◌≡◌, ◌==◌, ◌⊎◌, ℕ, Bool, true, false, cond, List, [], ◌∷◌, ◌++◌, None, Some, inl, inr, refl, sym, ap, subst, ◌∙◌, Option}
 use Rattle.std.proofs.lemmas.Bool.{cases_Bool, and_from, and_parts, eq-eqb, eqb-true}
 use Rattle.std.proofs.lemmas.Option.{none-some}
 use Rattle.qu_base.specs.declared.party.ObjectId.{ObjectId}
@@ -9,12 +9,14 @@ use Rattle.qu_stamp.specs.Stamp.{same_stamp}
 use Rattle.qu_stamp.proofs.Order.{same_stamp-self, equal_by_same_stamp}
 use Rattle.qu_objects.specs.declared.act.Method.{Method}
 use Rattle.qu_objects.specs.declared.state.ObjState.{ObjState}
-use Rattle.qu_frames.specs.declared.frame.Frame.{Frame}
 use Rattle.qu_replica.specs.declared.versions.Stored.{Stored}
-use Rattle.qu_replica.specs.State.{ReplicaState}
+use Rattle.qu_replica.specs.State.{ReplicaState, stored_if}
 use Rattle.qu_replica.specs.Versions.{is_stored, version_at}
 use Rattle.qu_grounds.specs.Parts.{Names}
-use Rattle.qu_grounds.specs.Grounds.{Accepts, stored_of}
+use Rattle.qu_grounds.specs.Grounds.{stored_of, Performs, Reasons, AddsTo}
+use Rattle.qu_replica.specs.Rows.{Asked}
+use Rattle.qu_frames.specs.declared.frame.Body.{Body}
+use Rattle.qu_frames.specs.declared.frame.Body.TheVariants as body
 
 -- what is found with more versions was found before, or is among these
 pub stored_cases : (object : ObjectId) (stamp : Stamp) (versions more : List Stored) (version : ObjState)
@@ -125,13 +127,58 @@ module _ (candidates : ObjectId → Candidate) (versions : ObjectId → ObjState
             ∙ named_stored later object names
       ]
 
-module _ {old new : ReplicaState} {received : Frame} (accepts : Accepts old new received) (object : ObjectId)
-    (names : Names accepts.parts object) where
-  -- the version of the candidate, where the replica held none under its stamp
-  pub version_of_accepted : version_at object (accepts.candidates object).stamp old.versions ≡ None
-      → version_at object (accepts.candidates object).stamp new.versions ≡ Some (accepts.versions object)
-  version_of_accepted none =
-      let stamp : Stamp = (accepts.candidates object).stamp in
-      ap (version_at object stamp) accepts.stored
-      ∙ version_at-later object stamp old.versions _ none
-      ∙ named_stored accepts.candidates accepts.versions accepts.parts object names
+-- the version of what an act makes, where the replica held none under its stamp
+pub version_of_performed : (old new : ReplicaState) (asked : Asked) (parts : List (ObjectId × Method))
+    (candidates : ObjectId → Candidate) (performs : Performs old new asked parts candidates) (object : ObjectId)
+    → Names parts object → version_at object (candidates object).stamp old.versions ≡ None
+    → version_at object (candidates object).stamp new.versions ≡ Some (performs.versions object)
+version_of_performed old new asked parts candidates performs object names none =
+    ap (version_at object (candidates object).stamp) performs.stored
+    ∙ version_at-later object (candidates object).stamp old.versions _ none
+    ∙ named_stored candidates performs.versions parts object names
+
+-- and of what is added to mend an object
+pub version_of_mended : (old new : ReplicaState) (target : ObjectId) (stamp : Stamp) (version : ObjState)
+    → new.versions ≡ old.versions ++ stored_if target stamp (Some version)
+    → version_at target stamp old.versions ≡ None → version_at target stamp new.versions ≡ Some version
+version_of_mended old new target stamp version stored none =
+    ap (version_at target stamp) stored ∙ version_at-push target stamp old.versions version none
+
+-- ---- what is stored anew
+
+-- a version that is found among those that are stored is of what is added
+among_mended : (target object : ObjectId) (stamp under : Stamp) (stored : Option ObjState) (version : ObjState)
+    → version_at object under (stored_if target stamp stored) ≡ Some version → (target ≡ object) × (stamp ≡ under)
+unfolding version_at
+among_mended target object stamp under None version found = absurd (none-some version found)
+among_mended target object stamp under (Some state) version found =
+    elim (cases_Bool (is_stored object under (record { object = target; stamp = stamp; state = state }))) [
+      | inl here ↦
+          let tests : ((target.0 == object.0) ≡ true) × (same_stamp stamp under ≡ true) = and_parts _ _ here in
+          let numbered : ℕ → ObjectId = λ it. record { 0 = it } in
+          (ap numbered (eqb-true _ _ tests.0), equal_by_same_stamp stamp under tests.1)
+      | inr there ↦
+          absurd (none-some version
+          (sym (ap (λ (test : Bool). cond test (Some state) None) there) ∙ found))
+    ]
+
+-- what a replica finds after a request it found before, or it is of what it adds
+pub stored_before : (old new : ReplicaState) (asked : Asked) (asks : Body) (candidates : ObjectId → Candidate)
+    → Reasons old new asked asks candidates → (object : ObjectId) (stamp : Stamp) (version : ObjState)
+    → version_at object stamp new.versions ≡ Some version
+    → (version_at object stamp old.versions ≡ Some version)
+    ⊎ (AddsTo asks object × ((candidates object).stamp ≡ stamp))
+stored_before old new asked (body.Act parts) candidates reasons object stamp version found =
+    elim (stored_cases object stamp old.versions _ version (ap (version_at object stamp) (sym reasons.stored) ∙ found)) [
+      | inl before ↦ inl before
+      | inr newest ↦ inr (among_stored candidates reasons.versions parts object stamp version newest)
+    ]
+stored_before old new asked (body.Ask parts) candidates reasons object stamp version found = absurd reasons
+stored_before old new asked (body.Mend target) candidates reasons object stamp version found =
+    elim (stored_cases object stamp old.versions _ version (ap (version_at object stamp) (sym reasons.stored) ∙ found)) [
+      | inl before ↦ inl before
+      | inr newest ↦
+          let both : (target ≡ object) × ((candidates target).stamp ≡ stamp) =
+          among_mended target object (candidates target).stamp stamp reasons.version version newest in
+          inr (both.0, ap (λ (it : ObjectId). (candidates it).stamp) (sym both.0) ∙ both.1)
+    ]

@@ -1,6 +1,6 @@
 -- What a run shows of each of its objects: what is established is never lost, it stays an ancestor of all that
 -- comes above it (Query/Update: an established candidate is in the history of every later one).
-use Rattle.std.specs.Prelude.{◌≡◌, false, true, length}
+use Rattle.std.specs.Prelude.{◌≡◌, true, length}
 use Rattle.qu_base.specs.declared.party.ObjectId.{ObjectId}
 use Rattle.qu_stamp.specs.declared.candidate.Candidate.{Candidate}
 use Rattle.qu_stamp.specs.Stamp.{is_below}
@@ -29,6 +29,3 @@ pub record IsChained (trace : Trace) : Type 0 where
       → IsAccepted (setting trace) (setting trace).last object first
       → IsAccepted (setting trace) (setting trace).last object second
       → first.stamp ≡ second.stamp → first ≡ second
-  -- nothing is repaired yet: no replica accepted a barrier
-  pub no_barrier : (object : ObjectId) (candidate : Candidate)
-      → IsAccepted (setting trace) (setting trace).last object candidate → candidate.stamp.barrier ≡ false

@@ -1,32 +1,60 @@
 -- Why a replica accepts a candidate, and what an event of a world adds to a replica.
-use Rattle.std.specs.Prelude.{◌≡◌, ℕ, false, List, [], ◌∷◌, ◌++◌, map, Some}
+use Rattle.std.specs.Prelude.{◌≡◌, ◌+◌, ◌≤◌, ℕ, Bool, true, false, List, [], ◌∷◌, ◌++◌, length, map, Option, None, Some}
 use Rattle.qu_base.specs.declared.party.ClientId.{ClientId}
 use Rattle.qu_base.specs.declared.party.ObjectId.{ObjectId}
 use Rattle.qu_base.specs.declared.party.Party.TheVariants as party
+use Rattle.qu_base.specs.Bounds.{quorum, repair}
+use Rattle.qu_stamp.specs.declared.stamp.Stamp.{Stamp}
 use Rattle.qu_stamp.specs.declared.candidate.Candidate.{Candidate}
 use Rattle.qu_stamp.specs.Stamp.{is_below}
 use Rattle.qu_history.specs.declared.sets.SetOf.{SetOf}
 use Rattle.qu_history.specs.Culling.{culled}
-use Rattle.qu_history.specs.Sets.{entries_of, latest_of, method_at}
+use Rattle.qu_history.specs.Sets.{entries_of, latest_of, order_of, method_at}
 use Rattle.qu_objects.specs.declared.act.Method.{Method}
 use Rattle.qu_objects.specs.declared.state.ObjState.{ObjState}
 use Rattle.qu_objects.specs.Performing.{performed_values}
 use Rattle.qu_kept.specs.Performing.{row_by, links_to_others, state_after}
 use Rattle.qu_kept.specs.Rows.{row_of}
 use Rattle.qu_kept.specs.Standing.{IsLower}
+use Rattle.qu_class.specs.Repairable.{base_of}
+use Rattle.qu_frames.specs.declared.frame.Body.{Body}
 use Rattle.qu_frames.specs.declared.frame.Body.TheVariants as body
 use Rattle.qu_frames.specs.declared.frame.Frame.{Frame}
 use Rattle.qu_frames.specs.declared.frame.Frame.TheVariants as frame
 use Rattle.qu_replica.specs.declared.versions.Stored.{Stored}
 use Rattle.qu_replica.specs.Rows.{Asked, asked_of, fresh_stamp}
-use Rattle.qu_replica.specs.State.{ReplicaState, own_candidates, own_latest}
+use Rattle.qu_replica.specs.State.{ReplicaState, own_candidates, own_latest, stored_if}
 use Rattle.qu_replica.specs.Versions.{version_at}
 use Rattle.qu_trace.specs.declared.event.Event.{Event}
 use Rattle.qu_world.specs.State.{WorldState}
 use Rattle.qu_runs.specs.Carried.{handed, Brings}
 use Rattle.qu_grounds.specs.Parts.{Names, values_of}
 
--- why a replica in this state accepts a candidate on an object upon a request: the sets show a base that
+-- the stamp of a candidate that is made upon these sets: its time is after the latest
+abbrev pub made_stamp : Asked → ObjectId → Bool → Stamp
+made_stamp asked object barrier =
+    record {
+      time = (latest_of (entries_of object asked.sets)).time + 1;
+      barrier = barrier;
+      client = asked.client;
+      act = asked.act;
+      set = asked.set;
+    }
+
+-- the replica makes the candidate: above all that is shown, upon the object candidate, with the digests of the act, if
+-- one is asked for, and of the sets
+pub record IsMade (bounds : ℕ) (asked : Asked) (object : ObjectId) (candidate : Candidate) : Type 0 where
+  pub stamp : candidate.stamp ≡ made_stamp asked object candidate.stamp.barrier
+  pub prior : candidate.prior ≡ (base_of bounds (entries_of object asked.sets)).stamp
+
+-- it is shown the candidate, by so many that it may be repaired, and nothing later
+pub record IsFound (bounds : ℕ) (asked : Asked) (object : ObjectId) (candidate : Candidate) : Type 0 where
+  pub latest : candidate.stamp ≡ latest_of (entries_of object asked.sets)
+  pub order : repair bounds ≤ order_of candidate (entries_of object asked.sets)
+
+-- ---- an act
+
+-- why a replica in this state accepts a candidate on an object upon a request of an act: the sets show a base that
 -- a quorum holds and that nothing shown is above, and the replica itself has nothing above what is shown
 pub record IsGround (state : ReplicaState) (asked : Asked) (object : ObjectId) (candidate base : Candidate)
     : Type 0 where
@@ -57,8 +85,64 @@ stored_of candidates versions parts = map (λ (part : ObjectId × Method). recor
   state = versions part.0;
 }) parts
 
--- upon a request of an act, one candidate more on each object that its parts name, with its version, and the other
--- objects as they were
+-- it accepts one candidate on each object that the act's parts name, with the version that the act makes
+pub record Performs (old new : ReplicaState) (asked : Asked) (parts : List (ObjectId × Method))
+    (candidates : ObjectId → Candidate) : Type 0 where
+  pub bases : ObjectId → Candidate
+  pub grounds : (object : ObjectId) → Names parts object
+      → IsGround old asked object (candidates object) (bases object)
+  pub versions : ObjectId → ObjState
+  pub performed : ArePerformed old asked.client asked.number parts bases candidates versions
+  pub stored : new.versions ≡ old.versions ++ stored_of candidates versions parts
+
+-- ---- a repair (Query/Update: inline repair, barriers and copies)
+
+-- why a replica adds a candidate to an object that is to be mended, and which version it stores with it
+pub data IsRemedy (state : ReplicaState) (asked : Asked) (target : ObjectId) (candidate : Candidate)
+    : Option ObjState → Type 0 where
+  -- it is shown a barrier
+  inline_barrier : candidate.stamp.barrier ≡ true → IsFound state.keys.bounds asked target candidate
+      → IsRemedy state asked target candidate None
+  -- it is shown a candidate without barrier, whose version it has already
+  inline_method : (version : ObjState) → candidate.stamp.barrier ≡ false
+      → IsFound state.keys.bounds asked target candidate
+      → version_at target candidate.stamp state.versions ≡ Some version
+      → IsRemedy state asked target candidate None
+  -- it sets a barrier
+  barrier : candidate.stamp.barrier ≡ true → IsMade state.keys.bounds asked target candidate
+      → IsRemedy state asked target candidate None
+  -- it copies the object candidate, where a quorum holds the latest, a barrier
+  copy : (latest : Candidate) (version : ObjState) → candidate.stamp.barrier ≡ false
+      → IsMade state.keys.bounds asked target candidate
+      → latest.stamp.barrier ≡ true → latest.stamp ≡ latest_of (entries_of target asked.sets)
+      → quorum state.keys.bounds ≤ order_of latest (entries_of target asked.sets)
+      → version_at target candidate.prior state.versions ≡ Some version
+      → IsRemedy state asked target candidate (Some version)
+
+-- it adds a candidate to the target, above all that it has
+pub record Mends (old new : ReplicaState) (asked : Asked) (target : ObjectId) (candidate : Candidate) : Type 0 where
+  -- the sets have a quorum of entries of the target
+  pub enough : quorum old.keys.bounds ≤ length (entries_of target asked.sets)
+  pub current : is_below (latest_of (entries_of target asked.sets)) (own_latest old target) ≡ false
+  pub above : is_below (own_latest old target) candidate.stamp ≡ true
+  pub version : Option ObjState
+  pub remedy : IsRemedy old asked target candidate version
+  pub stored : new.versions ≡ old.versions ++ stored_if target candidate.stamp version
+
+-- ---- what a request makes a replica accept
+
+-- the objects on which candidates are accepted
+abbrev pub AddsTo : Body → ObjectId → Type 0
+AddsTo (body.Act parts) object = Names parts object
+AddsTo (body.Ask parts) object = ⊥
+AddsTo (body.Mend target) object = target ≡ object
+
+abbrev pub Reasons : ReplicaState → ReplicaState → Asked → Body → (ObjectId → Candidate) → Type 0
+Reasons old new asked (body.Act parts) candidates = Performs old new asked parts candidates
+Reasons old new asked (body.Ask parts) candidates = ⊥
+Reasons old new asked (body.Mend target) candidates = Mends old new asked target (candidates target)
+
+-- upon a request, one candidate more on each object to which it adds, and the other objects as they were
 pub record Accepts (old new : ReplicaState) (received : Frame) : Type 0 where
   pub client : ClientId
   pub number : ℕ
@@ -67,19 +151,14 @@ pub record Accepts (old new : ReplicaState) (received : Frame) : Type 0 where
   pub sent : List SetOf
   pub sets : List SetOf
   pub culls : culled old.keys old.me sent ≡ sets
-  pub parts : List (ObjectId × Method)
+  pub asks : Body
   pub mac : List ℕ
-  pub is_request : received ≡ frame.Request client number round sent (body.Act parts) mac
+  pub is_request : received ≡ frame.Request client number round sent asks mac
   pub candidates : ObjectId → Candidate
-  pub added : (object : ObjectId) → Names parts object
+  pub added : (object : ObjectId) → AddsTo asks object
       → own_candidates new object ≡ own_candidates old object ++ candidates object ∷ []
-  pub others : (object : ObjectId) → (Names parts object → ⊥) → own_candidates new object ≡ own_candidates old object
-  pub bases : ObjectId → Candidate
-  pub grounds : (object : ObjectId) → Names parts object
-      → IsGround old (asked_of client number sets (body.Act parts)) object (candidates object) (bases object)
-  pub versions : ObjectId → ObjState
-  pub performed : ArePerformed old client number parts bases candidates versions
-  pub stored : new.versions ≡ old.versions ++ stored_of candidates versions parts
+  pub others : (object : ObjectId) → (AddsTo asks object → ⊥) → own_candidates new object ≡ own_candidates old object
+  pub reasons : Reasons old new (asked_of client number sets asks) asks candidates
 
 -- the event hands a text to the replica at this place, which accepts candidates
 pub record IsMoved (world : WorldState) (event : Event) (place : ℕ) (old new : ReplicaState) : Type 0 where
@@ -97,4 +176,4 @@ pub record IsDelivered (world : WorldState) (event : Event) (place : ℕ) (old n
   pub carried : Frame
   pub brings : Brings old text carried
   pub accepts : Accepts old new carried
-  pub names : Names accepts.parts object
+  pub adds : AddsTo accepts.asks object

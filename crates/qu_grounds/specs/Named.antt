@@ -11,16 +11,16 @@ use Rattle.qu_grounds.specs.Chained.{last_world}
 use Rattle.qu_runs.specs.Accepted.{is_accepted}
 use Rattle.qu_grounds.specs.Origins.{Origin}
 
--- the histories of the object that the request showed upon which the candidate was accepted, as its replica culled them
+-- the histories of the object that the request showed upon which the candidate was made, as its replica culled them
 abbrev pub shown_to : (trace : Trace) (count : ℕ) (object : ObjectId) (candidate : Candidate)
     → Origin trace count object candidate → List ObjectHistory
 shown_to trace count object candidate origin = entries_of object ((origin.delivered).accepts).sets
 
 pub record StampsNameHistories (trace : Trace) : Type 0 where
-  -- what a replica accepted is the opening candidate, or it was accepted upon a request
+  -- what a replica accepted is the opening candidate, or a replica made it upon a request
   pub origin : (object : ObjectId) (candidate : Candidate) → IsTrue (is_accepted (last_world trace) object candidate)
       → (candidate ≡ opening) ⊎ Origin trace (length trace.entries) object candidate
-  -- whichever replicas accepted candidates with one stamp, they kept the same histories in culling
+  -- whichever replicas made candidates with one stamp, they kept the same histories in culling
   pub histories : (object : ObjectId) (first second : Candidate)
       (one : Origin trace (length trace.entries) object first)
       (other : Origin trace (length trace.entries) object second)

@@ -25,9 +25,6 @@ pub record DecidesInTurn (trace : Trace) : Type 0 where
       → (candidate : Candidate) × IsTop (setting trace) time object candidate
   pub one_top : (time : ℕ) → time ≤ (setting trace).last → (object : ObjectId) (candidate other : Candidate)
       → IsTop (setting trace) time object candidate → IsTop (setting trace) time object other → candidate ≡ other
-  -- nothing is repaired yet: what an event decides is an act
-  pub acts : (time : ℕ) (object : ObjectId) (candidate : Candidate)
-      → IsDecidedBy (setting trace) time object candidate → (setting trace).is_act candidate ≡ true
 
 -- what is decided on one member of a group is decided on all of them, at the same times
 abbrev pub DecidesJointly : Trace → Type 0

@@ -187,6 +187,10 @@ history_fits (first ∷ later) fits some =
     and_from _ _ (and_from _ _ opening_first (prior_of_opening first.stamp first.prior (fits.0).1 opening_first))
     (rises first.stamp later fits.1)
 
+pub fits_history : (candidates : List Candidate) → candidates_form.Fits candidates → IsTrue (is_history candidates)
+unfolding candidates_form
+fits_history candidates fits = history_fits candidates (fits.1).1 (fits.0).0
+
 pub candidates_are_history : (old new : Front) (candidates : List Candidate) → AreBytes old.rest
     → candidates_form.read old ≡ Ok (candidates, new) → IsTrue (is_history candidates)
 unfolding candidates_form

@@ -1,15 +1,13 @@
 -- The greatest of some candidates is the one that they hold and that is before none of them.
-use Rattle.std.proofs.Common.{◌≡◌, ◌⊎◌, ◌+◌, ◌<◌, ℕ, List, [], ◌∷◌, ◌++◌, Bool, true, false, cond, Option, Some, None, refl, sym, ap, ◌∙◌, inl, inr, map, take, length, get_or, append-nil}
+use Rattle.std.proofs.Common.{◌≡◌, ◌⊎◌, List, [], ◌∷◌, ◌++◌, Bool, true, false, cond, Some, None, refl, sym, ap, ◌∙◌, inl, inr}
 use Rattle.std.proofs.lemmas.Bool.{false≢true, cases_Bool, or_cases, or_left, or_right}
 use Rattle.std.specs.List.{filter}
-use Rattle.std.proofs.lemmas.List.{map_more}
-use Rattle.std.proofs.lemmas.List.Elements.{filter-append}
 use Rattle.qu_stamp.proofs.Order.{is_before-self, is_before-not_back, is_before-not_chain, is_before-other, same-self, equal_by_same}
 use Rattle.qu_stamp.specs.declared.candidate.Candidate.{Candidate}
 use Rattle.qu_stamp.specs.Candidate.{is_before, same}
 use Rattle.qu_history.specs.History.{holds}
 use Rattle.qu_history.specs.Sets.{greater, greatest_from, greatest}
-use Rattle.qu_history.specs.Entries.{greater_of}
+use Rattle.qu_history.specs.Trimming.{greater_of}
 
 -- a candidate of the list that is before no other
 pub record IsGreatest (best : Candidate) (candidates : List Candidate) : Type 0 where
@@ -48,44 +46,6 @@ pub greatest_push : (candidates : List Candidate) (candidate : Candidate)
 unfolding greatest greatest_from
 greatest_push [] candidate = refl
 greatest_push (first ∷ later) candidate = ap Some (greatest_from_push first later candidate)
-
--- the greatest of those that pass, after one more item
-pub greatest_more : {X : Type 0} (test : Candidate → Bool) (view : X → Candidate) (items : List X) (index : ℕ)
-    (item : X) → index < length items → greatest (filter test (map view (take (index + 1) items))) ≡ cond
-    (test (view (get_or items index item)))
-    (Some (greater_of (greatest (filter test (map view (take index items)))) (view (get_or items index item))))
-    (greatest (filter test (map view (take index items))))
-greatest_more test view items index item within =
-    let next : Candidate = view (get_or items index item) in
-    let before : List Candidate = map view (take index items) in
-    ap (λ candidates. greatest (filter test candidates)) (map_more view items index item within) ∙
-    ap greatest (filter-append test before (next ∷ [])) ∙
-    elim (cases_Bool (test next)) [
-      | inl passes ↦
-          ap (λ kept. greatest (filter test before ++ cond kept (next ∷ []) [])) passes ∙
-          greatest_push (filter test before) next ∙
-          sym (ap (λ kept. cond kept (Some (greater_of (greatest (filter test before)) next))
-          (greatest (filter test before))) passes)
-      | inr fails ↦
-          ap (λ kept. greatest (filter test before ++ cond kept (next ∷ []) [])) fails ∙
-          ap greatest (append-nil (filter test before)) ∙
-          sym (ap (λ kept. cond kept (Some (greater_of (greatest (filter test before)) next))
-          (greatest (filter test before))) fails)
-    ]
-
--- the step of a search that has the greatest so far
-pub greatest_next : {X : Type 0} (test : Candidate → Bool) (view : X → Candidate) (items : List X) (index : ℕ)
-    (item : X) (candidate : Candidate) (best : Option Candidate) (passes : Bool) → index < length items
-    → candidate ≡ view (get_or items index item) → best ≡ greatest (filter test (map view (take index items)))
-    → passes ≡ test candidate → greatest (filter test (map view (take (index + 1) items))) ≡ cond passes
-    (Some (greater_of best candidate)) best
-greatest_next test view items index item candidate best passes within is_candidate is_best is_passes =
-    greatest_more test view items index item within ∙
-    ap (λ other. cond (test other)
-    (Some (greater_of (greatest (filter test (map view (take index items)))) other))
-    (greatest (filter test (map view (take index items))))) (sym is_candidate) ∙
-    ap (λ other. cond (test candidate) (Some (greater_of other candidate)) other) (sym is_best) ∙
-    ap (λ tested. cond tested (Some (greater_of best candidate)) best) (sym is_passes)
 
 -- what a search from one candidate on finds
 record IsFound (start : Candidate) (later : List Candidate) (best : Candidate) : Type 0 where

@@ -1,6 +1,6 @@
 -- What a replica sealed is right for each replica of its ring, and sets whose entries are all right are culled to
 -- themselves, with nothing left out.
-use Rattle.std.proofs.Common.{◌≡◌, ℕ, ◌+◌, ◌<◌, Bool, true, not, cond, List, [], ◌∷◌, ◌++◌, length, Some, IsTrue, refl, ap, ◌∙◌, arith}
+use Rattle.std.proofs.Common.{◌≡◌, ℕ, ◌<◌, Bool, true, not, cond, List, [], ◌∷◌, ◌++◌, length, Some, IsTrue, refl, ap, ◌∙◌, arith}
 use Rattle.std.specs.Prelude.{nat_eq, map, filter, slice_get}
 use Rattle.std.specs.List.{range_with_len, list_all, flat_map}
 use Rattle.std.specs.Cmp.Lexicographic.{pointwise, bytes_decides}

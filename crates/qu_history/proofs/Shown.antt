@@ -15,8 +15,7 @@ use Rattle.qu_stamp.specs.Candidate.{same}
 use Rattle.qu_history.specs.declared.sealed.Sealed.{Sealed}
 use Rattle.qu_history.specs.History.{ObjectHistory, rises_from, is_history, holds}
 use Rattle.qu_history.specs.Sets.{histories, greater, greatest_from, greatest, candidates_of}
-use Rattle.qu_history.specs.Entries.{greater_of}
-use Rattle.qu_history.specs.Trimming.{is_shown, greatest_shown, greater_found}
+use Rattle.qu_history.specs.Trimming.{is_shown, greatest_shown, greater_of, greater_found}
 use Rattle.qu_history.proofs.Rising.{history_parts}
 use Rattle.qu_history.proofs.Histories.{histories_within, histories_whole, history_at}
 use Rattle.qu_history.proofs.Greatest.{greatest_none, greatest_push, greatest_cases, holds-filter}

@@ -1,13 +1,12 @@
 -- The greatest stamp of some candidates is above none of the others, and joins over their lists.
 use Rattle.std.proofs.Common.{◌≡◌, List, [], ◌∷◌, ◌++◌, true, false, cond, IsTrue, refl, sym, ap, ◌∙◌, inl, inr}
-use Rattle.std.proofs.lemmas.Bool.{false≢true, cases_Bool, or_cases, or_left, or_right, and_parts}
+use Rattle.std.proofs.lemmas.Bool.{false≢true, cases_Bool, or_cases, or_left, or_right}
 use Rattle.qu_stamp.proofs.Order.{is_below-self, is_below-chain, is_below-not_back, is_below-other, is_below-not_chain, is_below-opening, equal_by_same_stamp, equal_by_same, same-self}
 use Rattle.qu_stamp.specs.declared.stamp.Stamp.{Stamp}
 use Rattle.qu_stamp.specs.declared.candidate.Candidate.{Candidate}
 use Rattle.qu_stamp.specs.Stamp.{opening_stamp, is_below, same_stamp}
 use Rattle.qu_stamp.specs.Candidate.{same}
-use Rattle.qu_history.specs.History.{rises_from, is_history, greater_stamp, greatest_stamp, latest, holds, last_from, last}
-use Rattle.qu_history.proofs.Rising.{history_parts, latest_is_last}
+use Rattle.qu_history.specs.History.{is_history, greater_stamp, greatest_stamp, latest, holds, last_from, last}
 
 pub greatest_stamp-append : (stamp : Stamp) (xs ys : List Candidate)
     → greatest_stamp stamp (xs ++ ys) ≡ greatest_stamp (greatest_stamp stamp xs) ys
@@ -108,45 +107,7 @@ pub not_below_latest : (candidates : List Candidate) (held : Candidate) → hold
     → is_below (latest candidates) held.stamp ≡ false
 not_below_latest candidates held holding = not_below_held opening_stamp candidates held holding
 
--- where stamps rise, the first is below the last of those that follow
-below_last : (first next : Candidate) (later : List Candidate) → rises_from first.stamp (next ∷ later) ≡ true
-    → is_below first.stamp (last_from next later).stamp ≡ true
-unfolding rises_from last_from
-below_last first next [] rising = (and_parts _ _ rising).0
-below_last first next (further ∷ later) rising =
-    let parts : (is_below first.stamp next.stamp ≡ true) × (rises_from next.stamp (further ∷ later) ≡ true) =
-    and_parts _ _ rising in
-    is_below-chain first.stamp next.stamp (last_from further later).stamp parts.0
-    (below_last next further later parts.1)
-
--- so only the last one is not below it
-equal_last : (held first : Candidate) (later : List Candidate) → rises_from first.stamp later ≡ true
-    → holds held (first ∷ later) ≡ true → is_below held.stamp (last_from first later).stamp ≡ false
-    → held ≡ last_from first later
-unfolding rises_from last_from
-equal_last held first [] rising holding above =
-    elim (or_cases (same first held) false holding) [
-      | inl alike ↦ sym (equal_by_same first held alike)
-      | inr none ↦ absurd (false≢true none)
-    ]
-equal_last held first (next ∷ later) rising holding above =
-    elim (or_cases (same first held) (holds held (next ∷ later)) holding) [
-      | inl alike ↦ absurd (false≢true (sym above ∙
-          ap (λ (other : Candidate). is_below other.stamp (last_from next later).stamp)
-          (sym (equal_by_same first held alike)) ∙
-          below_last first next later rising))
-      | inr in_later ↦ equal_last held next later (and_parts _ _ rising).1 in_later above
-    ]
-
--- a history holds one candidate with its latest stamp, the last
-pub equal_last_of : (candidates : List Candidate) (held : Candidate) → IsTrue (is_history candidates)
-    → holds held candidates ≡ true → is_below held.stamp (latest candidates) ≡ false → held ≡ last candidates
-unfolding is_history last_from
-equal_last_of [] held history holding above = absurd (false≢true history)
-equal_last_of (first ∷ later) held history holding above =
-    equal_last held first later (history_parts first later history).1 holding
-    (ap (is_below held.stamp) (sym (latest_is_last (first ∷ later) history)) ∙ above)
-
+-- a history holds its last candidate
 holds_last_from : (first : Candidate) (later : List Candidate) → holds (last_from first later) (first ∷ later) ≡ true
 unfolding last_from
 holds_last_from first [] = or_left _ _ (same-self first)

@@ -1,5 +1,5 @@
 -- The formats of histories, of sealed histories, of the sets of a request, and of what is digested of these.
-use Rattle.std.specs.Prelude.{ℕ, ◌==◌, ◌||◌, ◌+◌, nat_le, List, Option, None, Some}
+use Rattle.std.specs.Prelude.{ℕ, ◌==◌, ◌+◌, nat_le, List, Option, None, Some}
 use Rattle.std.specs.Int.{w8, w16}
 use Rattle.qu_base.specs.declared.bad_text.Why.TheVariants.{Range, Order}
 use Rattle.qu_base.specs.declared.limits.TheConstants.{REPLICA_IDS}

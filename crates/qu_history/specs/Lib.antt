@@ -1,6 +1,5 @@
 pub mod History
 pub mod Sets
-pub mod Entries
 pub mod Formats
 pub mod Text
 pub mod Culling

@@ -7,8 +7,7 @@ use Rattle.qu_stamp.specs.Stamp.{is_below}
 use Rattle.qu_history.specs.declared.sealed.Sealed.{Sealed}
 use Rattle.qu_history.specs.declared.sets.SetOf.{SetOf}
 use Rattle.qu_history.specs.History.{ObjectHistory, latest}
-use Rattle.qu_history.specs.Sets.{histories, order_of, candidates_of, greatest}
-use Rattle.qu_history.specs.Entries.{greater_of}
+use Rattle.qu_history.specs.Sets.{histories, order_of, candidates_of, greater, greatest}
 
 -- so many of the entries hold the candidate
 abbrev pub is_shown : List ObjectHistory → ℕ → Candidate → Bool
@@ -17,6 +16,11 @@ is_shown entries least candidate = nat_le least (order_of candidate entries)
 -- the greatest candidate that so many of the entries hold, with a barrier or without
 unfoldable pub greatest_shown : List ObjectHistory → ℕ → Option Candidate
 greatest_shown entries least = greatest (filter (is_shown entries least) (candidates_of entries))
+
+-- the greater of a candidate and the best so far
+abbrev pub greater_of : Option Candidate → Candidate → Candidate
+greater_of None candidate = candidate
+greater_of (Some best) candidate = greater best candidate
 
 -- the greater of the best so far and what was found
 abbrev pub greater_found : Option Candidate → Option Candidate → Option Candidate

@@ -1,5 +1,5 @@
 ghost use Rattle.std.specs.Prelude.{◌≡◌, ◌≤◌, ◌↔◌, [], length, true, false, IsTrue, IsNone, IfSome, IfOk};
-ghost use Rattle.qu_history.specs.Sets.{is_entry, are_entries, is_set, are_sets, histories, entries_of, order_of, latest_of, method_at};
+ghost use Rattle.qu_history.specs.Sets.{is_entry, are_entries, is_set, are_sets, histories, entries_of, order_of, latest_of};
 
 use super::{History, OBJECTS_LIMIT, Sealed, entries};
 use qu_base::{Bounds, List, NoMemory, OBJECT_IDS, ObjectId, REPLICA_IDS};
@@ -109,13 +109,6 @@ impl Sets {
             return None;
         }
         Some(entries::latest_of(entries))
-    }
-
-    /// The candidate of class METHOD of the object: an operation may rest upon it. It is no barrier.
-    pub fn method_at(&self, object: ObjectId, bounds: &Bounds) -> Option<Candidate>
-        ensures { result ≡ method_at bounds.now (entries_of object self.now) }
-    {
-        entries::method_at(self.find(object), bounds)
     }
 }
 

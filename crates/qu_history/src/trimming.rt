@@ -2,9 +2,9 @@ ghost use Rattle.std.specs.Prelude.{◌≡◌, ◌≤◌, length, filter, IfOk};
 ghost use Rattle.qu_base.specs.declared.party.ObjectId.{ObjectId as Object};
 ghost use Rattle.qu_base.specs.Bounds.{quorum};
 ghost use Rattle.qu_history.specs.Sets.{histories, entries_of, greatest};
-ghost use Rattle.qu_history.specs.Trimming.{is_shown, greatest_shown, greater_found, is_up_to, entries_up_to, trimmed_set, trimmed};
+ghost use Rattle.qu_history.specs.Trimming.{is_shown, greatest_shown, greater_of, greater_found, is_up_to, entries_up_to, trimmed_set, trimmed};
 
-use super::entries::{greater_of, order_of};
+use super::entries::order_of;
 use super::{History, Sealed, SetOf, Sets};
 use qu_base::{Bounds, List, NoMemory};
 use qu_stamp::Candidate;
@@ -100,6 +100,16 @@ fn greater_found(best: Option<Candidate>, found: Option<Candidate>) -> Option<Ca
     match found {
         Some(candidate) => Some(greater_of(best, candidate)),
         None => best,
+    }
+}
+
+/// The greater of a candidate and the best so far.
+fn greater_of(best: Option<Candidate>, candidate: Candidate) -> Candidate
+    ensures { result ≡ greater_of best candidate }
+{
+    match best {
+        Some(best) if !best.is_before(&candidate) => best,
+        _ => candidate,
     }
 }
 

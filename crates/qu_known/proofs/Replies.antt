@@ -1,6 +1,6 @@
 -- What a replica answers shows all that its step added to its histories: a reply shows the history of the one object
 -- that may have changed, and a replica that sends none stays as it was.
-use Rattle.std.proofs.Common.{◌≡◌, ◌⊎◌, ℕ, List, [], ◌∷◌, map, Option, None, Some, inl, inr, refl, sym, ap, subst, ◌∙◌, arith, true, false, ◌==◌, ◌||◌}
+use Rattle.std.proofs.Common.{◌≡◌, ◌⊎◌, ℕ, List, [], ◌∷◌, map, Option, None, Some, inl, inr, refl, sym, ap, subst, ◌∙◌, arith, true, false, ◌==◌, ◌||◌, ◌≤◌, zero, suc}
 use Rattle.std.proofs.lemmas.Bool.{false≢true, or_cases, eqb-true}
 use Rattle.qu_base.specs.declared.party.ClientId.{ClientId}
 use Rattle.qu_base.specs.declared.party.ObjectId.{ObjectId}
@@ -36,6 +36,10 @@ use Rattle.qu_grounds.proofs.Acceptance.{step_moves}
 use Rattle.qu_grounds.proofs.Parts.{one_named}
 use Rattle.qu_known.specs.Known.{shown_in}
 use Rattle.qu_known.proofs.Lengths.{reply-short}
+use Rattle.qu_grounds.specs.Grounds.{AddsTo}
+use Rattle.qu_grounds.proofs.Happenings.{formed_by}
+use Rattle.qu_base.proofs.ThresholdFacts.{are_thresholds}
+use Rattle.qu_base.specs.Bounds.{is_replica_count, replicas}
 
 -- the replica stays as it is, and sends nothing
 pub record IsSilent (old : ReplicaState) (made : ReplicaState × List Letter) : Type 0 where
@@ -68,6 +72,27 @@ part_in_set set (part ∷ []) fits object names =
       | inr never ↦ absurd (false≢true never)
     ]
 part_in_set set (first ∷ second ∷ later) fits object names = absurd (omega (arith, ((fits.1).0).1))
+
+-- and so is what the request adds to
+added_in_set : (set : SetOf) (asks : Body) → (body_form (objects_in_sets (set ∷ []))).Fits asks → (object : ObjectId)
+    → AddsTo asks object → object.0 ≡ (set.object).0
+unfolding body_form
+added_in_set set (body.Act parts) fits object names = part_in_set set parts fits object names
+added_in_set set (body.Ask parts) fits object never = absurd never
+added_in_set set (body.Mend target) fits object is =
+    let known : (((set.object).0 == target.0) || false) ≡ true = (fits.1).1 in
+    elim (or_cases ((set.object).0 == target.0) false known) [
+      | inl same ↦ ap (λ (it : ObjectId). it.0) (sym is) ∙ sym (eqb-true _ _ same)
+      | inr never ↦ absurd (false≢true never)
+    ]
+
+-- ---- thresholds
+
+-- a number of replicas that some number of faults wants is that of one fault or more
+some_faults : (bounds : ℕ) → is_replica_count (replicas bounds) ≡ true → 1 ≤ bounds
+unfolding is_replica_count replicas
+some_faults zero is = absurd (false≢true is)
+some_faults (suc bounds) is = omega arith
 
 -- ---- a reply
 
@@ -117,24 +142,23 @@ module _ (old : ReplicaState) (fits : StateFits old) where
       ≡ own_candidates old object
   others_stay client number round set asks mac within object apart =
       let asked : Frame = frame.Request client number round (set ∷ []) asks mac in
-      elim (step_moves old asked (fits_parts asked within)) [
+      elim (step_moves old asked (fits_parts asked within)
+      (formed_by old asked (are_thresholds old.keys.bounds (some_faults old.keys.bounds fits.bounds)) within)) [
         | inl same ↦ ap (λ (it : ReplicaState). own_candidates it object) same
         | inr accepts ↦ (accepts.others object
-            (λ names. apart (of_set accepts.client accepts.number accepts.round accepts.sent accepts.parts
+            (λ adds. apart (of_set accepts.client accepts.number accepts.round accepts.sent accepts.asks
             accepts.mac accepts.is_request (request-fits client number round (set ∷ []) asks mac within).asked
-            object names)))
+            object adds)))
       ]
     where
-      of_set : (other : ClientId) (again turn : ℕ) (sent : List SetOf) (parts : List (ObjectId × Method))
-          (seal : List ℕ)
-          → frame.Request client number round (set ∷ []) asks mac ≡ frame.Request other again turn sent
-          (body.Act parts) seal
-          → (body_form (objects_in_sets (set ∷ []))).Fits asks → (object : ObjectId) → Names parts object
+      of_set : (other : ClientId) (again turn : ℕ) (sent : List SetOf) (these : Body) (seal : List ℕ)
+          → frame.Request client number round (set ∷ []) asks mac ≡ frame.Request other again turn sent these seal
+          → (body_form (objects_in_sets (set ∷ []))).Fits asks → (object : ObjectId) → AddsTo these object
           → object.0 ≡ (set.object).0
-      of_set other again turn sent parts seal same asked object names =
-          let is : asks ≡ body.Act parts = cc in
-          part_in_set set parts (subst (λ (it : Body). (body_form (objects_in_sets (set ∷ []))).Fits it) is asked)
-          object names
+      of_set other again turn sent these seal same asked object adds =
+          let is : asks ≡ these = cc in
+          added_in_set set these (subst (λ (it : Body). (body_form (objects_in_sets (set ∷ []))).Fits it) is asked)
+          object adds
 
   request_shows : (client : ClientId) (number round : ℕ) (sets : List SetOf) (asks : Body) (mac : List ℕ)
       → frame_form.Fits (frame.Request client number round sets asks mac) → sets_form.Fits sets

@@ -14,7 +14,7 @@ use Rattle.qu_objects.specs.declared.state.ObjState.{ObjState}
 use Rattle.qu_history.specs.declared.sealed.Sealed.{Sealed}
 use Rattle.qu_history.specs.declared.sets.SetOf.{SetOf}
 use Rattle.qu_frames.specs.declared.frame.Body.{Body}
-use Rattle.qu_frames.specs.declared.frame.Body.TheVariants.{Act, Ask}
+use Rattle.qu_frames.specs.declared.frame.Body.TheVariants.{Act, Ask, Mend}
 use Rattle.qu_frames.specs.declared.frame.Frame.{Frame}
 use Rattle.qu_frames.specs.declared.frame.Frame.TheVariants.{Request, Reply, Fetch, Fetched}
 use Rattle.qu_print.specs.Words.{name_text}
@@ -26,6 +26,7 @@ use Rattle.qu_listing.specs.Verdicts.{stamp_text, verdict_text}
 abbrev pub body_text : Body → List ℕ
 body_text (Act act) = codes "act"
 body_text (Ask query) = codes "query"
+body_text (Mend target) = codes "mend " ++ object_text target
 
 abbrev pub shower_text : Sealed → List ℕ
 shower_text sealed = codes " " ++ decimal ((sealed.history).replica).0

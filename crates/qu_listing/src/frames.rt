@@ -66,7 +66,7 @@ pub fn put_frame(text: &mut String, frame: &Frame) -> Result<(), NoMemory>
         } => {
             text.push_str("request ")?;
             put_asked(text, *client, *number, *round)?;
-            text.push_str(body_word(body))?;
+            put_body(text, body)?;
             put_all(text, sets.objects().as_slice())
         }
         Frame::Reply {
@@ -130,13 +130,19 @@ fn put_asked(text: &mut String, client: ClientId, number: u64, round: u8) -> Res
     Ok(())
 }
 
-fn body_word(body: &Body) -> &'static str
-    ensures { result.now ≡ body_text body.now }
+/// Writes what is asked for.
+fn put_body(text: &mut String, body: &Body) -> Result<(), NoMemory>
+    ensures { OnOk result (string_bytes text.new ≡ string_bytes text.old ++ body_text body.now) }
 {
     match body {
-        Body::Act(_) => "act",
-        Body::Ask(_) => "query",
+        Body::Act(_) => text.push_str("act")?,
+        Body::Ask(_) => text.push_str("query")?,
+        Body::Mend(target) => {
+            text.push_str("mend ")?;
+            put_object(text, *target)?;
+        }
     }
+    Ok(())
 }
 
 /// Writes the replicas whose histories these are.

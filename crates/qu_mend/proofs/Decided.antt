@@ -1,7 +1,7 @@
 -- Each answer of the table has its cause.
-use Rattle.std.proofs.Common.{◌≡◌, Bool, true, false, not, ◌&&◌, ◌||◌, leb, ltb, cond, List, [], ◌∷◌, Option, Some, None, length, IsSome, IfOk, Result, Ok, Err, refl, sym, ap, subst, ◌∙◌, inl, inr, arith}
+use Rattle.std.proofs.Common.{◌≡◌, Bool, true, false, ◌&&◌, ◌||◌, leb, ltb, cond, List, [], ◌∷◌, Option, Some, None, length, IsSome, IfOk, Result, Ok, Err, refl, sym, ap, subst, ◌∙◌, inl, inr, arith}
 use Rattle.std.specs.Prelude.{is_some, is_none, option_map, option_and_then}
-use Rattle.std.proofs.lemmas.Bool.{false≢true, and_parts, or_cases, not-true, not-false, or_parts, leb-true, leb-false, ltb-true, lt-ltb}
+use Rattle.std.proofs.lemmas.Bool.{false≢true, and_parts, or_cases, not-true, not-false, or_parts, leb-true, leb-false, ltb-true, ltb-false}
 use Rattle.qu_stamp.specs.declared.limits.TheConstants.{LAST_TIME}
 use Rattle.qu_stamp.specs.declared.candidate.Candidate.{Candidate}
 use Rattle.qu_stamp.specs.Stamp.{is_below}
@@ -14,8 +14,8 @@ use Rattle.qu_mend.specs.declared.mend.Mend.{Mend}
 use Rattle.qu_mend.specs.declared.mending.Mending.{Mending}
 use Rattle.qu_mend.specs.declared.mending.Mending.TheVariants.{Mends, Holds}
 use Rattle.qu_mend.specs.Remedy.{fresh_on, addition_by, addition_of, wanted_by, stored_by}
-use Rattle.qu_mend.specs.Rows.{row_held, is_passed, row_current, is_sound, row_sound, row_version, is_fresh, row_time, row_full, row_mended, first_given, decide_mend}
-use Rattle.qu_mend.specs.Causes.{Makes, HasVersion, IsBehind, HasCause}
+use Rattle.qu_mend.specs.Rows.{row_held, is_passed, row_current, is_sound, row_sound, row_version, row_time, row_full, row_mended, first_given, decide_mend}
+use Rattle.qu_mend.specs.Causes.{Makes, HasVersion, IsBehind, IsSpent, HasCause}
 
 -- ---- the first row that fits
 
@@ -48,37 +48,36 @@ row_if_added Fact stored (Some found) candidate is here =
 -- ---- what the remedy makes
 
 module _ (mend : Mend) where
-  fresh_by_test : (test : Bool) (fresh candidate : Candidate) → cond test (Some fresh) None ≡ Some candidate
-      → (candidate ≡ fresh) × (test ≡ true)
-  fresh_by_test true fresh candidate is = (cc, refl)
-  fresh_by_test false fresh candidate is = absurd cc
+  by_test : (test : Bool) (it candidate : Candidate) → cond test (Some it) None ≡ Some candidate
+      → (candidate ≡ it) × (test ≡ true)
+  by_test true it candidate is = (cc, refl)
+  by_test false it candidate is = absurd cc
 
   made : (remedy : Remedy) (candidate : Candidate) → addition_by mend remedy ≡ Some candidate
       → Makes mend remedy candidate
   unfolding addition_by
   made Nothing candidate is = absurd cc
-  made (Shown shown) candidate is = cc
+  made (Shown shown) candidate is =
+      let both = by_test (leb shown.stamp.time LAST_TIME) shown candidate is in
+      (both.0, leb-true shown.stamp.time LAST_TIME both.1)
   made (Fresh barrier prior) candidate is =
-      let both = fresh_by_test (ltb mend.latest.time LAST_TIME) (fresh_on mend barrier prior) candidate is in
+      let both = by_test (ltb mend.latest.time LAST_TIME) (fresh_on mend barrier prior) candidate is in
       (both.0, ltb-true mend.latest.time LAST_TIME both.1)
 
-  in_time_by_test : (spent under : Bool) (fresh : Candidate) → (spent ≡ false → under ≡ true) → spent ≡ false
-      → (candidate : Candidate) × (cond under (Some fresh) None ≡ Some candidate)
-  in_time_by_test spent under fresh in_time not_spent =
-      (fresh, ap (λ test. cond test (Some fresh) None) (in_time not_spent))
+  not_added : (test : Bool) (it : Candidate) → is_none (cond test (Some it) None) ≡ true → test ≡ false
+  not_added true it none = absurd (false≢true none)
+  not_added false it none = refl
 
-  not_spent_under : leb LAST_TIME mend.latest.time ≡ false → ltb mend.latest.time LAST_TIME ≡ true
-  not_spent_under not_spent = lt-ltb mend.latest.time LAST_TIME (leb-false LAST_TIME mend.latest.time not_spent)
-
-  -- an object that is not sound has an addition in time
-  added : (remedy : Remedy) → is_sound remedy ≡ false → (is_fresh remedy && leb LAST_TIME mend.latest.time) ≡ false
-      → (candidate : Candidate) × (addition_by mend remedy ≡ Some candidate)
+  -- what is not sound, and has nothing to add, has no time for it
+  spent : (remedy : Remedy) → is_sound remedy ≡ false → is_none (addition_by mend remedy) ≡ true
+      → IsSpent mend remedy
   unfolding addition_by
-  added Nothing unsound in_time = absurd (false≢true (sym unsound))
-  added (Shown shown) unsound in_time = (shown, refl)
-  added (Fresh barrier prior) unsound in_time =
-      in_time_by_test (leb LAST_TIME mend.latest.time) (ltb mend.latest.time LAST_TIME) (fresh_on mend barrier prior)
-      not_spent_under in_time
+  spent Nothing unsound none = absurd (false≢true (sym unsound))
+  spent (Shown shown) unsound none =
+      leb-false shown.stamp.time LAST_TIME (not_added (leb shown.stamp.time LAST_TIME) shown none)
+  spent (Fresh barrier prior) unsound none =
+      ltb-false mend.latest.time LAST_TIME
+      (not_added (ltb mend.latest.time LAST_TIME) (fresh_on mend barrier prior) none)
 
 is_sound_nothing : (remedy : Remedy) → is_sound remedy ≡ true → remedy ≡ Nothing
 is_sound_nothing Nothing sound = refl
@@ -97,6 +96,10 @@ none_by_test (Some value) test = absurd (false≢true test)
 found_if : {X : Type 0} (found : Option X) → is_none found ≡ false → IsSome found
 found_if None test = absurd (false≢true (sym test))
 found_if (Some value) test = grind arith
+
+value_if : {X : Type 0} (found : Option X) → is_none found ≡ false → (value : X) × (found ≡ Some value)
+value_if None test = absurd (false≢true (sym test))
+value_if (Some value) test = (value, refl)
 
 has_version : (remedy : Remedy) (version : Option ObjState) → is_sound remedy ≡ false
     → (is_some (wanted_by remedy) && is_none version) ≡ false → HasVersion remedy version (stored_by remedy version)
@@ -140,15 +143,16 @@ module _ (mend : Mend) (own : List Candidate) (version : Option ObjState) where
   mended : is_sound mend.remedy ≡ false
       → (is_below mend.latest (latest own) || is_passed own (addition_of mend)) ≡ false
       → (is_some (wanted_by mend.remedy) && is_none version) ≡ false
-      → (is_fresh mend.remedy && leb LAST_TIME mend.latest.time) ≡ false
+      → is_none (addition_of mend) ≡ false
       → leb HISTORY_LIMIT (length own) ≡ false
       → Fact (first_given (row_mended mend version ∷ []))
   unfolding row_mended
   mended unsound current ready in_time room =
-      let addition = added mend mend.remedy unsound in_time in
+      let addition = value_if (addition_of mend) in_time in
       row_if_added Fact (stored_by mend.remedy version) (addition_of mend) addition.0 addition.1 (
         made mend mend.remedy addition.0 addition.1,
         record {
+          current = (or_parts (is_below mend.latest (latest own)) (is_passed own (addition_of mend)) current).0;
           above = above addition.0 addition.1 current;
           room = leb-false HISTORY_LIMIT (length own) room;
         },
@@ -165,11 +169,7 @@ module _ (mend : Mend) (own : List Candidate) (version : Option ObjState) where
       (λ unsound. row_by_test Fact _ _ _ (λ test.
       let parts = and_parts (is_some (wanted_by mend.remedy)) (is_none version) test in
       (some_by_test (wanted_by mend.remedy) parts.0, none_by_test version parts.1))
-      (λ ready. row_by_test Fact _ _ _ (λ test. (
-        refl,
-        leb-true LAST_TIME mend.latest.time
-            (and_parts (is_fresh mend.remedy) (leb LAST_TIME mend.latest.time) test).1,
-      ))
+      (λ ready. row_by_test Fact _ _ _ (λ test. (refl, spent mend mend.remedy unsound test))
       (λ in_time. row_by_test Fact _ _ _ (λ test. (refl, leb-true HISTORY_LIMIT (length own) test))
       (λ room. mended unsound current ready in_time room))))))
 

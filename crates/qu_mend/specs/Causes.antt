@@ -15,15 +15,16 @@ use Rattle.qu_mend.specs.declared.mending.Mending.{Mending}
 use Rattle.qu_mend.specs.declared.mending.Mending.TheVariants.{Mends, Holds, Refuses, Waits}
 use Rattle.qu_mend.specs.Remedy.{fresh_on, wanted_by}
 
--- what may be added at the end of these candidates
-pub record MayBeAdded (own : List Candidate) (candidate : Candidate) : Type 0 where
+-- what may be added at the end of these candidates, above which the sets show the latest
+pub record MayBeAdded (mend : Mend) (own : List Candidate) (candidate : Candidate) : Type 0 where
+  pub current : is_below mend.latest (latest own) ≡ false
   pub above : is_below (latest own) candidate.stamp ≡ true
   pub room : length own < HISTORY_LIMIT
 
 -- the remedy makes this candidate: one that is shown is left as it is, and no other has a time after the last
 abbrev pub Makes : Mend → Remedy → Candidate → Type 0
 Makes mend Nothing candidate = ⊥
-Makes mend (Shown shown) candidate = candidate ≡ shown
+Makes mend (Shown shown) candidate = (candidate ≡ shown) × (shown.stamp.time ≤ LAST_TIME)
 Makes mend (Fresh barrier prior) candidate = (candidate ≡ fresh_on mend barrier prior) × (mend.latest.time < LAST_TIME)
 
 -- what is added has a version, if the replica is to have one: that which was found under the wanted stamp
@@ -40,11 +41,17 @@ IsBehind mend own =
     ⊎ ((candidate : Candidate) × Makes mend mend.remedy candidate
     × (is_below (latest own) candidate.stamp ≡ false))
 
+-- what would be added would have a time after the last
+abbrev pub IsSpent : Mend → Remedy → Type 0
+IsSpent mend Nothing = ⊥
+IsSpent mend (Shown shown) = LAST_TIME < shown.stamp.time
+IsSpent mend (Fresh barrier prior) = LAST_TIME ≤ mend.latest.time
+
 -- no other refusal answers a request to mend an object that is known, with a quorum of histories
 abbrev pub RefusesFor : Mend → List Candidate → Refusal → Type 0
 RefusesFor mend own (NotCurrent object stamp) = (object ≡ mend.target) × (stamp ≡ latest own) × IsBehind mend own
 RefusesFor mend own (Sound object) = (object ≡ mend.target) × (mend.remedy ≡ Nothing)
-RefusesFor mend own (TimeSpent object) = (object ≡ mend.target) × (LAST_TIME ≤ mend.latest.time)
+RefusesFor mend own (TimeSpent object) = (object ≡ mend.target) × IsSpent mend mend.remedy
 RefusesFor mend own (HistoryFull object) = (object ≡ mend.target) × (HISTORY_LIMIT ≤ length own)
 RefusesFor mend own (Thin object) = ⊥
 RefusesFor mend own (Needs object) = ⊥
@@ -55,7 +62,7 @@ RefusesFor mend own (UnknownObject object) = ⊥
 
 abbrev pub HasCause : Mend → List Candidate → Option ObjState → Mending → Type 0
 HasCause mend own version (Mends candidate stored) =
-    Makes mend mend.remedy candidate × MayBeAdded own candidate × HasVersion mend.remedy version stored
+    Makes mend mend.remedy candidate × MayBeAdded mend own candidate × HasVersion mend.remedy version stored
 HasCause mend own version (Holds stamp) =
     (candidate : Candidate) × Makes mend mend.remedy candidate × (holds candidate own ≡ true)
     × (candidate.stamp ≡ stamp)

@@ -1,5 +1,5 @@
 -- What is added to the history of an object that is mended, by its class (Query/Update: repair, inline repair).
-use Rattle.std.specs.Prelude.{ℕ, Bool, true, false, not, ◌+◌, ◌≡◌, ◌≤◌, nat_lt, if◌then◌else◌, List, Option, None, Some, IsSome}
+use Rattle.std.specs.Prelude.{ℕ, Bool, true, false, not, ◌+◌, ◌≡◌, ◌≤◌, nat_le, nat_lt, if◌then◌else◌, List, Option, None, Some, IsSome}
 use Rattle.qu_base.specs.declared.party.ClientId.{ClientId}
 use Rattle.qu_base.specs.declared.party.Digest.{Digest}
 use Rattle.qu_base.specs.declared.party.ObjectId.{ObjectId}
@@ -59,7 +59,7 @@ fresh_on mend barrier prior =
 -- the candidate that the remedy adds; none has a time after the last
 unfoldable pub addition_by : Mend → Remedy → Option Candidate
 addition_by mend Nothing = None
-addition_by mend (Shown candidate) = Some candidate
+addition_by mend (Shown candidate) = if nat_le candidate.stamp.time LAST_TIME then Some candidate else None
 addition_by mend (Fresh barrier prior) =
     if nat_lt mend.latest.time LAST_TIME then Some (fresh_on mend barrier prior) else None
 

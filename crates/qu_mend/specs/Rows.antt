@@ -1,7 +1,6 @@
 -- What a replica makes of a request to mend an object, row by row (Query/Update: repair).
 use Rattle.std.specs.Prelude.{Bool, true, false, not, ◌||◌, nat_le, if◌then◌else◌, List, [], ◌∷◌, length, Option, None, Some, is_none, is_some, option_map, option_and_then, ◌&&◌}
 use Rattle.qu_base.specs.declared.party.ObjectId.{ObjectId}
-use Rattle.qu_stamp.specs.declared.limits.TheConstants.{LAST_TIME}
 use Rattle.qu_stamp.specs.declared.candidate.Candidate.{Candidate}
 use Rattle.qu_stamp.specs.Stamp.{is_below}
 use Rattle.qu_history.specs.declared.limits.TheConstants.{HISTORY_LIMIT}
@@ -47,16 +46,9 @@ row_sound mend = if is_sound mend.remedy then Some (Refuses (Sound mend.target))
 unfoldable pub row_version : Mend → Option ObjState → Option Mending
 row_version mend version = if is_some (wanted_by mend.remedy) && is_none version then Some Waits else None
 
-abbrev pub is_fresh : Remedy → Bool
-is_fresh Nothing = false
-is_fresh (Shown candidate) = false
-is_fresh (Fresh barrier prior) = true
-
--- a fresh candidate would have a time after the last
+-- what would be added would have a time after the last; no sets that are sent show such a candidate
 unfoldable pub row_time : Mend → Option Mending
-row_time mend =
-    if is_fresh mend.remedy && nat_le LAST_TIME mend.latest.time
-    then Some (Refuses (TimeSpent mend.target)) else None
+row_time mend = if is_none (addition_of mend) then Some (Refuses (TimeSpent mend.target)) else None
 
 -- the history of the object is full
 unfoldable pub row_full : Mend → List Candidate → Option Mending

@@ -147,17 +147,15 @@ impl Mend {
         }
     }
 
-    /// Refuses to make a candidate where the time of the object is spent.
+    /// Refuses to add what would have a time after the last.
     #[tactic(auto, unfolding(crate::specs::Rows::row_time, crate::specs::Remedy::addition_by))]
     fn row_time(&self) -> Option<Mending>
-        ensures added { IfNone result (is_sound self.now.remedy ≡ false → IsSome (addition_of self.now)) }
+        ensures added { IfNone result (IsSome (addition_of self.now)) }
         ensures value { result ≡ row_time self.now }
     {
-        match self.remedy {
-            Remedy::Fresh { .. } if LAST_TIME <= self.latest.time => {
-                Some(Mending::Refuses(Refusal::TimeSpent(self.target)))
-            }
-            _ => None,
+        match self.addition() {
+            None => Some(Mending::Refuses(Refusal::TimeSpent(self.target))),
+            Some(_) => None,
         }
     }
 
@@ -192,7 +190,8 @@ impl Mend {
     {
         match self.remedy {
             Remedy::Nothing => None,
-            Remedy::Shown(candidate) => Some(candidate),
+            Remedy::Shown(candidate) if candidate.stamp.time <= LAST_TIME => Some(candidate),
+            Remedy::Shown(_) => None,
             Remedy::Fresh { barrier, prior } => self.fresh(barrier, prior),
         }
     }

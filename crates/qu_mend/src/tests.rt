@@ -170,6 +170,17 @@ fn fresh_candidates_stand_above_all_that_is_shown(rt: HostRuntime) -> Result<(),
 }
 
 #[test]
+fn what_is_shown_is_added_up_to_the_last_time(rt: HostRuntime) -> Result<(), Fail> {
+    let alloc = rt.alloc();
+    let last = at(LAST_TIME);
+    let after = LAST_TIME + 1;
+    let spent = Seen::Refuses(Refusal::TimeSpent(OBJECT));
+    let added = Seen::Adds(last, None);
+    wants(alloc, Remedy::Shown(last), LAST_TIME, (4, true), &added)?;
+    wants(alloc, Remedy::Shown(at(after)), after, (4, true), &spent)
+}
+
+#[test]
 fn of_two_rows_the_earlier_one_comes(rt: HostRuntime) -> Result<(), Fail> {
     let alloc = rt.alloc();
     let inline = Remedy::Shown(at(2));

@@ -113,6 +113,7 @@ act_asked_is client number sets (body.Act parts) act is =
     asked : NamedAct → Request
     asked it = record { client = it.0; number = it.1; sets = sets; body = body.Act it.2 }
 act_asked_is client number sets (body.Ask parts) act is = absurd (none-some act is)
+act_asked_is client number sets (body.Mend target) act is = absurd (none-some act is)
 
 act_in_is : (found : Option Request) (act : NamedAct) → act_in found ≡ Some act → IsActAsked found act
 act_in_is None act is = absurd (none-some act is)

@@ -13,7 +13,6 @@ use Rattle.qu_objects.specs.Digesting.{act_digest, PartsFit}
 use Rattle.qu_objects.specs.Parts.{are_parts}
 use Rattle.qu_frames.specs.declared.frame.Body.{Body}
 use Rattle.qu_frames.specs.declared.frame.Body.TheVariants as body
-use Rattle.qu_frames.specs.declared.frame.Frame.TheVariants as frame
 use Rattle.qu_machine.specs.declared.record.OpRecord.{OpRecord}
 use Rattle.qu_machine.specs.declared.record.Point.{Point}
 use Rattle.qu_machine.specs.PointTests.{same_op}
@@ -38,6 +37,7 @@ NamedAct = ClientId × ℕ × List (ObjectId × Method)
 abbrev pub act_asked : ClientId → ℕ → Body → Option NamedAct
 act_asked client number (body.Act parts) = Some (client, number, parts)
 act_asked client number (body.Ask parts) = None
+act_asked client number (body.Mend target) = None
 
 -- the same of a request
 abbrev pub act_in : Option Request → Option NamedAct

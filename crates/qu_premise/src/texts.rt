@@ -184,7 +184,7 @@ fn add_body(
             let bytes = act_text(alloc, client, number, act)?;
             texts.push(digests.text(ACT_TAG, bytes))
         }
-        Body::Ask(_) => Ok(()),
+        Body::Ask(_) | Body::Mend(_) => Ok(()),
     }
 }
 

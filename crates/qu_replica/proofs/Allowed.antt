@@ -1,10 +1,11 @@
 -- What a replica decides upon a request with one part, it may accept.
-use Rattle.std.proofs.Common.{◌≡◌, ℕ, ◌+◌, ◌<◌, ◌≤◌, Bool, true, false, cond, IsTrue, List, [], ◌∷◌, length, Option, None, Some, inl, inr, refl, sym, subst, ap, ◌∙◌, arith}
-use Rattle.std.specs.Prelude.{◌==◌, nat_le, find, option_map}
-use Rattle.std.proofs.lemmas.Bool.{false≢true, leb-false, cases_Bool, cases_lt, eqb-true}
+use Rattle.std.proofs.Common.{◌≡◌, ℕ, zero, suc, ◌+◌, ◌<◌, ◌≤◌, Bool, true, false, cond, IsTrue, List, [], ◌∷◌, length, Option, None, Some, inl, inr, refl, sym, subst, ap, ◌∙◌, arith}
+use Rattle.std.specs.Prelude.{◌==◌, nat_le, find, option_map, slice_get}
+use Rattle.std.proofs.lemmas.Bool.{false≢true, leb-false, ltb-false, cases_Bool, cases_lt, eqb-true}
 use Rattle.std.proofs.lemmas.Option.{none-some, same_Some}
 use Rattle.qu_base.specs.declared.party.ClientId.{ClientId}
 use Rattle.qu_base.specs.declared.party.ObjectId.{ObjectId}
+use Rattle.qu_base.specs.Bounds.{quorum}
 use Rattle.qu_stamp.specs.declared.stamp.Stamp.{Stamp}
 use Rattle.qu_stamp.specs.declared.limits.TheConstants.{LAST_TIME}
 use Rattle.qu_stamp.specs.declared.candidate.Candidate.{Candidate}
@@ -18,7 +19,7 @@ use Rattle.qu_objects.specs.declared.act.Method.{Method}
 use Rattle.qu_objects.specs.declared.query.Ask.{Ask}
 use Rattle.qu_objects.specs.declared.state.ObjState.{ObjState}
 use Rattle.qu_kept.specs.declared.repeats.Standing.{Standing}
-use Rattle.qu_kept.specs.declared.repeats.Standing.TheVariants.{Fresh, Already, Spent}
+use Rattle.qu_kept.specs.declared.repeats.Standing.TheVariants as standing
 use Rattle.qu_frames.specs.declared.frame.Body.{Body}
 use Rattle.qu_frames.specs.declared.frame.Body.TheVariants as body
 use Rattle.qu_frames.specs.declared.verdict.Refusal.{Refusal}
@@ -26,10 +27,18 @@ use Rattle.qu_frames.specs.declared.verdict.Refusal.TheVariants.{UnknownObject, 
 use Rattle.qu_frames.specs.declared.verdict.Refusal.TheVariants as refusal
 use Rattle.qu_frames.specs.declared.verdict.Verdict.TheVariants.{Done}
 use Rattle.qu_frames.specs.declared.verdict.Verdict.TheVariants as verdict
+use Rattle.qu_mend.specs.declared.remedy.Remedy.{Remedy}
+use Rattle.qu_mend.specs.declared.remedy.Remedy.TheVariants.{Nothing, Shown, Fresh}
+use Rattle.qu_mend.specs.declared.mend.Mend.{Mend}
+use Rattle.qu_mend.specs.declared.mending.Mending.{Mending}
+use Rattle.qu_mend.specs.declared.mending.Mending.TheVariants.{Mends, Holds, Refuses}
+use Rattle.qu_mend.specs.declared.mending.Mending.TheVariants as mending
+use Rattle.qu_mend.specs.Causes.{Makes, HasCause}
+use Rattle.qu_mend.proofs.Decided.{decided_has_cause}
 use Rattle.qu_replica.specs.declared.decision.Decision.{Decision}
 use Rattle.qu_replica.specs.declared.decision.Decision.TheVariants.{Answers, Waits}
 use Rattle.qu_replica.specs.State.{ReplicaState, own_candidates, own_latest}
-use Rattle.qu_replica.specs.Rows.{Asked, refuse, base_of, shown_of, fresh_stamp, fresh_on, accepted_by, done_again, repeated, row_unknown, row_thin, row_retry, row_current, row_method, row_version, row_kept, row_time, row_full, row_done, row_told, first_given, decide_act, decide_ask, decision_on}
+use Rattle.qu_replica.specs.Rows.{Asked, refuse, base_of, shown_of, fresh_stamp, fresh_on, accepted_by, done_again, repeated, row_unknown, row_thin, row_retry, row_current, row_method, row_version, row_kept, row_time, row_full, row_done, row_told, row_few, mend_asked, wanted_version, mending_on, decision_by, first_given, decide_act, decide_ask, decide_repair, decision_on}
 use Rattle.qu_replica.specs.Step.{carried_out}
 use Rattle.qu_replica.specs.Growth.{AreHistories, MayAccept, MayAcceptAll, MayDecide, has_parts}
 use Rattle.qu_replica.proofs.Own.{accept_all-histories}
@@ -122,16 +131,16 @@ fresh_later latest own fresh next current =
 answering : (state : ReplicaState) (test : Bool) (stamps : List (ObjectId × Stamp)) (standing : Standing)
     → MayGive state (cond test (done_again stamps standing) None)
 answering state false stamps standing decision given = absurd (none-some decision given)
-answering state true stamps Fresh decision given = absurd (none-some decision given)
-answering state true stamps (Spent object number) decision given = absurd (none-some decision given)
-answering state true stamps (Already answer) decision given =
+answering state true stamps standing.Fresh decision given = absurd (none-some decision given)
+answering state true stamps (standing.Spent object number) decision given = absurd (none-some decision given)
+answering state true stamps (standing.Already answer) decision given =
     subst (MayDecide state) (same_Some (Answers (Done stamps answer) []) decision given) tt
 
 repeating : (state : ReplicaState) (standing : Standing) → MayGive state (repeated standing)
-repeating state Fresh decision given = absurd (none-some decision given)
-repeating state (Spent object number) decision given =
+repeating state standing.Fresh decision given = absurd (none-some decision given)
+repeating state (standing.Spent object number) decision given =
     subst (MayDecide state) (same_Some (refuse (refusal.Spent object number)) decision given) tt
-repeating state (Already answer) decision given =
+repeating state (standing.Already answer) decision given =
     subst (MayDecide state) (same_Some (Answers (verdict.Already answer) []) decision given) tt
 
 waiting : (state : ReplicaState) (test : Bool) → MayGive state (cond test (Some Waits) None)
@@ -179,7 +188,7 @@ may_accept_fresh : (state : ReplicaState) (asked : Asked) (object : ObjectId)
     → nat_le LAST_TIME (latest_of (shown_of asked object)).time ≡ false
     → nat_le HISTORY_LIMIT (length (own_candidates state object)) ≡ false
     → (fresh : Candidate) → fresh_on state asked object ≡ Some fresh → (version : ObjState)
-    → MayAccept state (record { object = object; candidate = fresh; state = version })
+    → MayAccept state (record { object = object; candidate = fresh; state = Some version })
 may_accept_fresh state asked object known current in_time room fresh made version =
     let parts : (base_of state asked object ≡ None → ⊥) × (fresh.stamp ≡ fresh_stamp asked object) =
     made_of asked object (base_of state asked object) fresh made in
@@ -197,7 +206,7 @@ may_accept_fresh state asked object known current in_time room fresh made versio
 may_accept_made : (state : ReplicaState) (asked : Asked) (object : ObjectId) (versions : List ObjState)
     (made : Option Candidate) → fresh_on state asked object ≡ made
     → ((fresh : Candidate) → fresh_on state asked object ≡ Some fresh → (version : ObjState)
-    → MayAccept state (record { object = object; candidate = fresh; state = version }))
+    → MayAccept state (record { object = object; candidate = fresh; state = Some version }))
     → MayAcceptAll state (accepted_by state asked (object ∷ []) versions)
 unfolding accepted_by
 may_accept_made state asked object [] made is_made may = tt
@@ -257,6 +266,85 @@ may_ask state asked part object =
     past state _ _ (version state asked (object ∷ [])) (λ _.
     past state _ _ (told-may state asked (part ∷ []) (object ∷ [])) (λ _. nothing state))))))
 
+refused_if : (state : ReplicaState) (why : Refusal) (test : Bool)
+    → MayGive state (cond test (Some (refuse why)) None)
+refused_if state why false decision given = absurd (none-some decision given)
+refused_if state why true decision given = subst (MayDecide state) (same_Some (refuse why) decision given) tt
+
+few : (state : ReplicaState) (asked : Asked) (target : ObjectId) → MayGive state (row_few state asked target)
+unfolding row_few
+few state asked target = refused_if state _ _
+
+-- an object that the row of few entries passes has a quorum of them
+enough_shown : (state : ReplicaState) (asked : Asked) (target : ObjectId) → row_few state asked target ≡ None
+    → quorum state.keys.bounds ≤ length (shown_of asked target)
+unfolding row_few
+enough_shown state asked target none =
+    ltb-false (length (shown_of asked target)) (quorum state.keys.bounds) (not_first _ _ None none).0
+
+-- and is known, as a quorum is one at least
+pub known_target : (state : ReplicaState) (asked : Asked) (target : ObjectId) → row_unknown state asked ≡ None
+    → quorum state.keys.bounds ≤ length (shown_of asked target) → target.0 < length state.histories
+unfolding quorum
+known_target state asked target known enough =
+    known_by_entries (length state.histories) asked.sets target (no_unknown state asked known)
+    (λ empty. let none : length (shown_of asked target) ≡ 0 = ap length empty in absurd (omega (arith, none)))
+
+pub target_found : (state : ReplicaState) (asked : Asked) (target : ObjectId) → row_unknown state asked ≡ None
+    → quorum state.keys.bounds ≤ length (shown_of asked target)
+    → (slice_get state.histories target.0 ≡ None → ⊥)
+target_found state asked target known enough =
+    none_within state.histories target.0 (known_target state asked target known enough)
+  where
+    none_within : (histories : List ObjectHistory) (place : ℕ) → place < length histories
+        → slice_get histories place ≡ None → ⊥
+    none_within [] place within none = absurd (omega arith)
+    none_within (first ∷ later) zero within none = none-some first (sym none)
+    none_within (first ∷ later) (suc place) within none = none_within later place (omega arith) none
+
+-- what mends an object has no time after the last
+made_in_time : (mend : Mend) (remedy : Remedy) (candidate : Candidate) → Makes mend remedy candidate
+    → candidate.stamp.time ≤ LAST_TIME
+made_in_time mend Nothing candidate made = absurd made
+made_in_time mend (Shown shown) candidate made =
+    subst (λ (it : Candidate). it.stamp.time ≤ LAST_TIME) (sym made.0) made.1
+made_in_time mend (Fresh barrier prior) candidate made =
+    let time : candidate.stamp.time ≡ mend.latest.time + 1 = ap (λ (it : Candidate). it.stamp.time) made.0 in
+    omega (arith, time, made.1)
+
+-- what is made of a request to mend a known object, and has its cause
+caused_may : (state : ReplicaState) (target : ObjectId) (mend : Mend) (version : Option ObjState) (made : Mending)
+    → target.0 < length state.histories → HasCause mend (own_candidates state target) version made
+    → MayDecide state (decision_by target made)
+caused_may state target mend version (Mends candidate stored) known cause = record {
+  known = known;
+  later = (cause.1).above;
+  room = (cause.1).room;
+  in_time = made_in_time mend mend.remedy candidate cause.0;
+}
+caused_may state target mend version (Holds stamp) known cause = tt
+caused_may state target mend version (Refuses why) known cause = tt
+caused_may state target mend version mending.Waits known cause = tt
+
+mended : (state : ReplicaState) (asked : Asked) (target : ObjectId) → row_unknown state asked ≡ None
+    → row_few state asked target ≡ None
+    → MayGive state (Some (decision_by target (mending_on state asked target)))
+mended state asked target known enough decision given =
+    let mend : Mend = mend_asked state asked target in
+    subst (MayDecide state) (same_Some (decision_by target (mending_on state asked target)) decision given)
+    (caused_may state target mend (wanted_version state target mend.remedy) (mending_on state asked target)
+    (known_target state asked target known (enough_shown state asked target enough))
+    (decided_has_cause mend (own_candidates state target) (wanted_version state target mend.remedy)))
+
+pub may_repair : (state : ReplicaState) (asked : Asked) (target : ObjectId)
+    → MayDecide state (decide_repair state asked target)
+unfolding decide_repair
+may_repair state asked target =
+    past state _ _ (unknown state asked) (λ known.
+    past state _ _ (thin state asked) (λ _.
+    past state _ _ (few state asked target) (λ enough.
+    past state _ _ (mended state asked target known enough) (λ _. nothing state))))
+
 pub decision_on-may : (state : ReplicaState) (asked : Asked) (asks : Body) → IsTrue (has_parts asks)
     → MayDecide state (decision_on state asked asks)
 decision_on-may state asked (body.Act []) parts = absurd (false≢true parts)
@@ -265,6 +353,7 @@ decision_on-may state asked (body.Act (first ∷ second ∷ later)) parts = absu
 decision_on-may state asked (body.Ask []) parts = absurd (false≢true parts)
 decision_on-may state asked (body.Ask (part ∷ [])) parts = may_ask state asked part part.0
 decision_on-may state asked (body.Ask (first ∷ second ∷ later)) parts = absurd (false≢true parts)
+decision_on-may state asked (body.Mend target) parts = may_repair state asked target
 
 pub carried_out-histories : (state : ReplicaState) (client : ClientId) (number round : ℕ) (sets : List SetOf)
     (decision : Decision) → AreHistories state → MayDecide state decision

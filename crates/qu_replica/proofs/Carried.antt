@@ -21,7 +21,7 @@ use Rattle.qu_replica.specs.Rows.{Asked, base_of, base_version, base_versions, f
 accepted_one : (state : ReplicaState) (asked : Asked) (object : ObjectId) (fresh : Candidate) (version : ObjState)
     → fresh_on state asked object ≡ Some fresh
     → accepted_by state asked (object ∷ []) (version ∷ [])
-    ≡ record { object = object; candidate = fresh; state = version } ∷ []
+    ≡ record { object = object; candidate = fresh; state = Some version } ∷ []
 unfolding accepted_by
 accepted_one state asked object fresh version is_fresh = rw (is_fresh, accepted_by) refl
 
@@ -53,7 +53,7 @@ pub done_one : (state : ReplicaState) (asked : Asked) (parts : List (ObjectId ×
     → performed_answer parts (version.value ∷ []) ≡ answer
     → row_done state asked parts (object ∷ []) ≡ Some
     (Answers (Done ((object, fresh.stamp) ∷ []) answer)
-    (record { object = object; candidate = fresh; state = after } ∷ []))
+    (record { object = object; candidate = fresh; state = Some after } ∷ []))
 unfolding row_done
 done_one state asked parts object fresh version after answer is_fresh is_version is_after is_answer =
     let gives : Answer → List ObjState → Option Decision =
@@ -72,7 +72,7 @@ done_one state asked parts object fresh version after answer is_fresh is_version
     (Answers (Done (fresh_stamps state asked (object ∷ [])) answer) accepted))
     (accepted_one state asked object fresh after is_fresh) ∙
     ap (λ (stamps : List (ObjectId × Stamp)). Some
-    (Answers (Done stamps answer) (record { object = object; candidate = fresh; state = after } ∷ [])))
+    (Answers (Done stamps answer) (record { object = object; candidate = fresh; state = Some after } ∷ [])))
     (stamps_one state asked object fresh is_fresh)
 
 pub told_one : (state : ReplicaState) (asked : Asked) (parts : List (ObjectId × Ask)) (object : ObjectId)

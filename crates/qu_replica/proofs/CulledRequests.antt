@@ -14,7 +14,7 @@ use Rattle.qu_frames.specs.declared.verdict.Refusal.TheVariants as refusal
 use Rattle.qu_replica.specs.declared.decision.Accepted.{Accepted}
 use Rattle.qu_replica.specs.declared.decision.Decision.{Decision}
 use Rattle.qu_replica.specs.State.{ReplicaState, accept_all}
-use Rattle.qu_replica.specs.Rows.{Asked, asked_at, refuse, unknown_in, unknown_refused, row_unknown, first_given, decide_act, decide_ask, decision_on}
+use Rattle.qu_replica.specs.Rows.{Asked, asked_at, refuse, unknown_in, unknown_refused, row_unknown, first_given, decide_act, decide_ask, decide_repair, decision_on}
 use Rattle.qu_replica.specs.Step.{named}
 use Rattle.qu_replica.specs.Growth.{Grows, MayDecide}
 use Rattle.qu_replica.proofs.Growth.{accept_all-grows}
@@ -41,9 +41,10 @@ first_is_given decision row later is = rw is refl
 
 row_decides : (state : ReplicaState) (asked : Asked) (asks : Body) (decision : Decision)
     → row_unknown state asked ≡ Some decision → decision_on state asked asks ≡ decision
-unfolding decide_act decide_ask
+unfolding decide_act decide_ask decide_repair
 row_decides state asked (body.Act parts) decision is = first_is_given decision _ _ is
 row_decides state asked (body.Ask parts) decision is = first_is_given decision _ _ is
+row_decides state asked (body.Mend target) decision is = first_is_given decision _ _ is
 
 module _ (state : ReplicaState) (sets : List SetOf) where
   refused_culled : unknown_refused (unknown_in state (culled state.keys state.me sets)) ≡ unknown_refused

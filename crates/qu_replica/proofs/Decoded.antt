@@ -1,5 +1,5 @@
 -- What was decoded fits its format, so a request that was decoded has parts.
-use Rattle.std.proofs.Common.{List}
+use Rattle.std.proofs.Common.{List, refl}
 use Rattle.std.specs.Prelude.{IsTrue}
 use Rattle.qu_base.specs.declared.party.ObjectId.{ObjectId}
 use Rattle.qu_objects.specs.Formats.{method_form, ask_form, act_form, query_form}
@@ -13,3 +13,4 @@ pub body_has_parts : (objects : List ObjectId) (asks : Body) → (body_form obje
 unfolding body_form act_form query_form
 body_has_parts objects (body.Act parts) fits = in_order method_form _ parts fits.1
 body_has_parts objects (body.Ask parts) fits = in_order ask_form _ parts fits.1
+body_has_parts objects (body.Mend target) fits = refl

@@ -1,6 +1,6 @@
 -- What a replica decides upon a request that fits, fits: its verdict, and the candidates that it accepts.
 use Rattle.std.proofs.Common.{◌≡◌, ◌-◌, ◌^◌, ℕ, ◌+◌, ◌<◌, ◌≤◌, Bool, true, false, not, ◌&&◌, ◌||◌, cond, List, [], ◌∷◌, length, Option, None, Some, inl, inr, refl, sym, ap, subst, ◌∙◌, arith}
-use Rattle.std.specs.Prelude.{IsTrue, ◌==◌, find, is_none, option_map, option_and_then, slice_get}
+use Rattle.std.specs.Prelude.{IsTrue, IfSome, ◌==◌, find, is_none, option_map, option_and_then, slice_get}
 use Rattle.std.specs.List.{AllByRecursion, cons_option}
 use Rattle.std.proofs.lemmas.Bool.Decides.{nat_tests}
 use Rattle.std.proofs.lemmas.Bool.{cases_Bool, and_parts, false≢true, leb-false}
@@ -14,7 +14,7 @@ use Rattle.qu_stamp.specs.declared.stamp.Stamp.{Stamp}
 use Rattle.qu_stamp.specs.declared.limits.TheConstants.{LAST_TIME}
 use Rattle.qu_stamp.specs.declared.candidate.Candidate.{Candidate}
 use Rattle.qu_stamp.specs.Stamp.{opening_stamp, is_below, same_stamp}
-use Rattle.qu_stamp.specs.Formats.{stamp_form, prior_form}
+use Rattle.qu_stamp.specs.Formats.{stamp_form}
 use Rattle.qu_stamp.proofs.Order.{is_below_by_time}
 use Rattle.qu_history.specs.declared.sets.SetOf.{SetOf}
 use Rattle.qu_history.specs.History.{ObjectHistory, is_history, greatest_stamp, latest, last, holds}
@@ -38,22 +38,29 @@ use Rattle.qu_kept.proofs.OneObject.{performed_to}
 use Rattle.qu_objects.specs.Formats.{answer_form}
 use Rattle.qu_objects.specs.Performing.{performed_answer, told_answer}
 use Rattle.qu_frames.specs.declared.verdict.Refusal.{Refusal}
-use Rattle.qu_frames.specs.declared.verdict.Refusal.TheVariants.{UnknownObject, Thin, NotCurrent, NotMethod, TimeSpent, HistoryFull}
+use Rattle.qu_frames.specs.declared.verdict.Refusal.TheVariants.{UnknownObject, Thin, Needs, Stale, NotCurrent, NotMethod, TimeSpent, HistoryFull, Sound}
 use Rattle.qu_frames.specs.declared.verdict.Refusal.TheVariants as refusal
-use Rattle.qu_frames.specs.declared.verdict.ClassCode.TheVariants.{Barrier}
 use Rattle.qu_frames.specs.declared.verdict.Verdict.TheVariants.{Refused}
 use Rattle.qu_frames.specs.Formats.{verdict_form}
+use Rattle.qu_mend.specs.declared.mend.Mend.{Mend}
+use Rattle.qu_mend.specs.declared.mending.Mending.{Mending}
+use Rattle.qu_mend.specs.declared.mending.Mending.TheVariants.{Mends, Holds, Refuses}
+use Rattle.qu_mend.specs.declared.mending.Mending.TheVariants as mending
+use Rattle.qu_mend.specs.Remedy.{wanted_by}
+use Rattle.qu_mend.specs.Causes.{Makes, RefusesFor, HasCause}
+use Rattle.qu_mend.proofs.Decided.{decided_has_cause}
 use Rattle.qu_replica.specs.declared.decision.Decision.{Decision}
 use Rattle.qu_replica.specs.declared.decision.Decision.TheVariants.{Answers, Waits}
 use Rattle.qu_replica.specs.State.{ReplicaState, candidates_in, own_candidates, own_latest}
-use Rattle.qu_replica.specs.Rows.{Asked, refuse, base_of, base_version, shown_of, fresh_stamp, fresh_on, fresh_stamps, standing_in, done_again, repeated, row_unknown, row_thin, row_retry, is_held, row_current, row_method, row_version, row_kept, row_time, row_full, row_done, row_told, first_given, decide_act, decide_ask}
+use Rattle.qu_replica.specs.Rows.{Asked, refuse, base_of, base_version, shown_of, fresh_stamp, fresh_on, fresh_stamps, standing_in, done_again, repeated, row_unknown, row_thin, row_retry, is_held, row_current, row_method, row_version, row_kept, row_time, row_full, row_done, row_told, row_few, class_told, mend_asked, wanted_version, mending_on, decision_by, first_given, decide_act, decide_ask, decide_repair}
 use Rattle.qu_replica.specs.Versions.{version_at}
 use Rattle.qu_replica.specs.Fits.{ValueFits, RowFits, VersionFits, StateFits}
 use Rattle.qu_replica.proofs.Own.{own_history}
 use Rattle.qu_replica.proofs.Held.{is_held_by, own_in_time}
 use Rattle.qu_replica.proofs.Carried.{stamps_one, versions_one, fresh_on-stamp, done_one, told_one}
-use Rattle.qu_replica.proofs.FitStamps.{stamp_fits, not_opening, prior_fits, opening_fits, stamps_fit, shown_fit, base_latest, base_shown}
-use Rattle.qu_replica.proofs.FitVerdicts.{unknown_fits, thin_fits, time_fits, full_fits, method_fits, current_fits, done_fits, told_fits, performed_fits, after_fits, read_fits, already_fits, spent_fits}
+use Rattle.qu_replica.proofs.FitStamps.{CandidateFits, stamp_fits, later_time, not_opening, prior_fits, opening_fits, candidates_fit, shown_fit, base_latest, base_shown}
+use Rattle.qu_replica.proofs.FitVerdicts.{unknown_fits, thin_fits, time_fits, full_fits, method_fits, current_fits, done_fits, told_fits, performed_fits, after_fits, read_fits, already_fits, spent_fits, sound_fits, mended_fits}
+use Rattle.qu_replica.proofs.FitRepairs.{remedy_fits, made_fits, stored_version_fits}
 use Rattle.qu_replica.proofs.FitState.{AcceptAllFit, version_fits}
 use Rattle.qu_replica.proofs.Allowed.{no_first}
 
@@ -123,9 +130,6 @@ set_found test sets fits found given = found_set test 0 sets (fits.1).1 found gi
 
 -- ---- the stamps
 
-later_time : (time : ℕ) → ((time + 1) == 0) ≡ false
-later_time time = grind (arith, nat_tests)
-
 before_later : (time : ℕ) → (0 == (time + 1)) ≡ false
 before_later time = grind (arith, nat_tests)
 
@@ -143,18 +147,15 @@ module _ (state : ReplicaState) (asked : Asked) (fits : StateFits state) (asks :
   fresh_other =
       other_time opening_stamp (fresh_stamp asked object) (before_later (latest_of (shown_of asked object)).time)
 
-  record FreshFits (fresh : Candidate) : Type 0 where
-    stamp : stamp_form.Fits fresh.stamp
-    prior : (prior_form fresh.stamp).Fits fresh.prior
-
   fresh_upon : (base : Candidate) → base_of state asked object ≡ Some base
       → (latest_of (shown_of asked object)).time + 1 ≤ LAST_TIME
-      → FreshFits (record { stamp = fresh_stamp asked object; prior = base.stamp })
+      → CandidateFits (record { stamp = fresh_stamp asked object; prior = base.stamp })
   fresh_upon base is_base in_time =
       let fresh : Stamp = fresh_stamp asked object in
       let above : (fresh.time == 0) ≡ false = later_time (latest_of (shown_of asked object)).time in
       let base_fits : stamp_form.Fits base.stamp =
-      shown_fit asked.sets asks.sets object base (base_shown state.keys.bounds (shown_of asked object) base is_base) in
+      (shown_fit asked.sets asks.sets object base (base_shown state.keys.bounds (shown_of asked object) base is_base)).stamp
+      in
       let latest : base.stamp ≡ latest_of (shown_of asked object) =
       base_latest state.keys.bounds (shown_of asked object) base is_base in
       let time : base.stamp.time ≡ (latest_of (shown_of asked object)).time = ap (λ (it : Stamp). it.time) latest in
@@ -178,10 +179,10 @@ module _ (state : ReplicaState) (asked : Asked) (fits : StateFits state) (asks :
   fresh_base (Some base) fresh made = (base, refl, same_Some _ fresh made)
 
   fresh_on-fits : (fresh : Candidate) → fresh_on state asked object ≡ Some fresh
-      → (latest_of (shown_of asked object)).time + 1 ≤ LAST_TIME → FreshFits fresh
+      → (latest_of (shown_of asked object)).time + 1 ≤ LAST_TIME → CandidateFits fresh
   fresh_on-fits fresh made in_time =
       let base = fresh_base (base_of state asked object) fresh made in
-      subst FreshFits base.2 (fresh_upon base.0 base.1 in_time)
+      subst CandidateFits base.2 (fresh_upon base.0 base.1 in_time)
 
   -- what the replica accepted last
   latest_in : (found : Option ObjectHistory) → slice_get state.histories object.0 ≡ found
@@ -190,8 +191,8 @@ module _ (state : ReplicaState) (asked : Asked) (fits : StateFits state) (asks :
   latest_in (Some history) is =
       let rises : IsTrue (is_history history.candidates) = (own_history state object.0 history fits.own is).rises in
       subst (λ (it : Stamp). stamp_form.Fits it) (sym (latest_is_last history.candidates rises))
-      (stamps_fit history.candidates (fits.histories object.0 history is) (last history.candidates)
-      (holds_last history.candidates rises))
+      (candidates_fit history.candidates (fits.histories object.0 history is) (last history.candidates)
+      (holds_last history.candidates rises)).stamp
 
   own_fits : stamp_form.Fits (own_latest state object)
   own_fits = latest_in (slice_get state.histories object.0) refl
@@ -215,7 +216,8 @@ module _ (state : ReplicaState) (asked : Asked) (fits : StateFits state) (asks :
 
   method : Gives (row_method state asked (object ∷ []))
   unfolding row_method
-  method = refusing_one (λ it. NotMethod it Barrier) _ object (method_fits object within)
+  method = refusing_one (λ it. NotMethod it (class_told state asked it)) _ object
+      (method_fits object within (class_told state asked object))
 
   time : Gives (row_time state asked (object ∷ []))
   unfolding row_time
@@ -287,8 +289,8 @@ module _ (state : ReplicaState) (asked : Asked) (fits : StateFits state) (asks :
         | None ↦ Fresh
         | Some digest ↦ standing_of asked.client asked.number digest ((object, method) ∷ []) (version ∷ [])
       ])
-  standing_fits method version fits None = tt
-  standing_fits method version fits (Some act) =
+  standing_fits update version fits None = tt
+  standing_fits update version fits (Some act) =
       stands_so asked.number act (row_of asked.client version.kept)
       (row_found asked.client version.kept fits.kept)
 
@@ -385,7 +387,7 @@ module _ (state : ReplicaState) (asked : Asked) (fits : StateFits state) (asks :
         stamp = fresh_stamp asked object;
         prior = it.stamp;
       } in candidate) found) upon.1 in
-      let fresh_fit : FreshFits fresh = fresh_upon base upon.1 (omega (arith, spent)) in
+      let fresh_fit : CandidateFits fresh = fresh_upon base upon.1 (omega (arith, spent)) in
       let version_fit : VersionFits version =
       version_fits object base.stamp state.versions version fits.versions upon.2 in
       let parts : List (ObjectId × Method) = (object, method) ∷ [] in
@@ -418,7 +420,8 @@ module _ (state : ReplicaState) (asked : Asked) (fits : StateFits state) (asks :
       let upon = version_of (base_of state asked object) version is_version in
       let base : Candidate = upon.0 in
       let base_fits : stamp_form.Fits base.stamp =
-      shown_fit asked.sets asks.sets object base (base_shown state.keys.bounds (shown_of asked object) base upon.1) in
+      (shown_fit asked.sets asks.sets object base (base_shown state.keys.bounds (shown_of asked object) base upon.1)).stamp
+      in
       let value_fits : ValueFits version.value =
       (version_fits object base.stamp state.versions version fits.versions upon.2).value in
       subst DecisionFits
@@ -449,3 +452,85 @@ module _ (state : ReplicaState) (asked : Asked) (fits : StateFits state) (asks :
       past _ _ unknown
       (λ _. past _ _ thin (λ _. past _ _ current (λ _. past _ _ method (λ _. past _ _ lacking (λ is_version.
       past _ _ (let has = has_version is_version in told part has.0 has.1) (λ _. no_row))))))
+
+  -- ---- a repair
+
+  refused_if : (why : Refusal) (test : Bool) → verdict_form.Fits (Refused why)
+      → Gives (cond test (Some (refuse why)) None)
+  refused_if why false fits decision given = absurd (none-some decision given)
+  refused_if why true fits decision given =
+      subst DecisionFits (same_Some (refuse why) decision given) (fits, tt)
+
+  few : Gives (row_few state asked object)
+  unfolding row_few
+  few = refused_if (Thin object) _ (thin_fits object within)
+
+  abbrev mend : Mend
+  mend = mend_asked state asked object
+
+  added_fits : (candidate : Candidate) → Makes mend mend.remedy candidate → CandidateFits candidate
+  added_fits candidate made =
+      made_fits mend asks.low asks.high asks.set mend.remedy candidate
+      (remedy_fits state.keys.bounds (shown_of asked object) (shown_fit asked.sets asks.sets object)) made
+
+  found_fits : (wanted : Option Stamp)
+      → IfSome (option_and_then (λ (stamp : Stamp). version_at object stamp state.versions) wanted) VersionFits
+  found_fits None = tt
+  found_fits (Some stamp) = by_found (version_at object stamp state.versions) refl
+    where
+      by_found : (found : Option ObjState) → version_at object stamp state.versions ≡ found
+          → IfSome found VersionFits
+      by_found None is = tt
+      by_found (Some version) is = version_fits object stamp state.versions version fits.versions is
+
+  why_fits : (why : Refusal) → RefusesFor mend (own_candidates state object) why → verdict_form.Fits (Refused why)
+  why_fits (NotCurrent on stamp) cause =
+      subst (λ (it : ObjectId). verdict_form.Fits (Refused (NotCurrent it stamp))) (sym cause.0)
+      (current_fits object within stamp (subst (λ (it : Stamp). stamp_form.Fits it) (sym cause.1) own_fits))
+  why_fits (Sound on) cause =
+      subst (λ (it : ObjectId). verdict_form.Fits (Refused (Sound it))) (sym cause.0) (sound_fits object within)
+  why_fits (TimeSpent on) cause =
+      subst (λ (it : ObjectId). verdict_form.Fits (Refused (TimeSpent it))) (sym cause.0) (time_fits object within)
+  why_fits (HistoryFull on) cause =
+      subst (λ (it : ObjectId). verdict_form.Fits (Refused (HistoryFull it))) (sym cause.0) (full_fits object within)
+  why_fits (Thin on) cause = absurd cause
+  why_fits (Needs on) cause = absurd cause
+  why_fits (Stale on) cause = absurd cause
+  why_fits (NotMethod on class) cause = absurd cause
+  why_fits (refusal.Spent on number) cause = absurd cause
+  why_fits (UnknownObject on) cause = absurd cause
+
+  caused_fits : (made : Mending)
+      → HasCause mend (own_candidates state object) (wanted_version state object mend.remedy) made
+      → DecisionFits (decision_by object made)
+  caused_fits (Mends candidate stored) cause =
+      let added : CandidateFits candidate = added_fits candidate cause.0 in (
+        mended_fits object within candidate.stamp added.stamp,
+        (
+          record {
+            stamp = added.stamp;
+            prior = added.prior;
+            version = stored_version_fits mend.remedy (wanted_version state object mend.remedy) stored
+                (found_fits (wanted_by mend.remedy)) cause.2;
+          },
+          tt,
+        ),
+      )
+  caused_fits (Holds stamp) cause = (
+    mended_fits object within stamp
+        (subst (λ (it : Stamp). stamp_form.Fits it) cause.3 (added_fits cause.0 cause.1).stamp),
+    tt,
+  )
+  caused_fits (Refuses why) cause = (why_fits why cause, tt)
+  caused_fits mending.Waits cause = tt
+
+  mended : Gives (Some (decision_by object (mending_on state asked object)))
+  mended decision given =
+      subst DecisionFits (same_Some (decision_by object (mending_on state asked object)) decision given)
+      (caused_fits (mending_on state asked object)
+      (decided_has_cause mend (own_candidates state object) (wanted_version state object mend.remedy)))
+
+  pub mend_decision-fits : DecisionFits (decide_repair state asked object)
+  unfolding decide_repair
+  mend_decision-fits =
+      past _ _ unknown (λ _. past _ _ thin (λ _. past _ _ few (λ _. past _ _ mended (λ _. no_row))))

@@ -2,7 +2,8 @@
 use Rattle.std.proofs.Common.{◌≡◌, ℕ, ◌+◌, ◌≤◌, Bool, true, false, not, ◌&&◌, ◌||◌, cond, List, [], ◌∷◌, ◌++◌, length, Option, None, Some, inl, inr, refl, sym, ap, subst, ◌∙◌, arith}
 use Rattle.std.specs.Prelude.{nat_le, ◌==◌}
 use Rattle.std.specs.List.{filter, flat_map}
-use Rattle.std.proofs.lemmas.Bool.{false≢true, and_from, and_parts, cases_Bool}
+use Rattle.std.proofs.lemmas.Bool.Decides.{nat_tests}
+use Rattle.std.proofs.lemmas.Bool.{false≢true, not-true, and_from, and_parts, cases_Bool}
 use Rattle.std.proofs.lemmas.Option.{none-some, same_Some, cond_some}
 use Rattle.std.proofs.lemmas.List.Folds.{list_any-append}
 use Rattle.qu_base.specs.declared.limits.TheConstants.{LAST_CLIENT}
@@ -15,7 +16,7 @@ use Rattle.qu_stamp.specs.declared.stamp.Stamp.{Stamp}
 use Rattle.qu_stamp.specs.declared.limits.TheConstants.{LAST_TIME}
 use Rattle.qu_stamp.specs.declared.candidate.Candidate.{Candidate}
 use Rattle.qu_stamp.specs.Stamp.{opening_stamp, is_below, same_stamp}
-use Rattle.qu_stamp.specs.Candidate.{same}
+use Rattle.qu_stamp.specs.Candidate.{opening, same}
 use Rattle.qu_stamp.specs.Formats.{stamp_with, stamp_form, prior_form}
 use Rattle.qu_stamp.proofs.Order.{equal_by_same, equal_by_same_stamp}
 use Rattle.qu_history.specs.declared.sealed.Sealed.{Sealed}
@@ -24,6 +25,7 @@ use Rattle.qu_history.specs.History.{ObjectHistory, holds}
 use Rattle.qu_history.specs.Sets.{histories, entries_of, order_of, candidates_of, latest_of, greatest, object_candidate, if_method, method_at}
 use Rattle.qu_history.specs.Formats.{next_candidate, candidates_form, sealed_entry_form, entry_form, next_entry, entries_form, set_form, sets_form}
 use Rattle.qu_history.proofs.Greatest.{greatest_cases, holds-filter}
+use Rattle.qu_class.specs.Repairable.{is_shown_of_kind, greatest_of_kind, barrier_candidate}
 
 -- ---- a fresh stamp
 
@@ -40,6 +42,21 @@ pub stamp_fits : (time : ℕ) (client : ClientId) (act : Option Digest) (set : D
 unfolding stamp_with
 stamp_fits time client act set above within low high acted sized =
     rw above (((omega arith, within), ((omega arith, omega arith), ((low, high), (act_fits act acted, (sized, refl))))))
+
+-- a stamp above time 0 without an act, a barrier's or not
+pub actless_stamp_fits : (time : ℕ) (barrier : Bool) (client : ClientId) (set : Digest) → (time == 0) ≡ false
+    → time ≤ LAST_TIME → 1 ≤ client.0 → client.0 ≤ LAST_CLIENT → length set.0 ≡ 32
+    → stamp_form.Fits (record { time = time; barrier = barrier; client = client; act = None; set = set })
+unfolding stamp_with
+actless_stamp_fits time true client set above within low high sized =
+    rw above
+    (((omega arith, within), ((omega arith, omega arith), ((low, high), (((omega arith, omega arith), refl), (sized, refl))))))
+actless_stamp_fits time false client set above within low high sized =
+    rw above
+    (((omega arith, within), ((omega arith, omega arith), ((low, high), (((omega arith, omega arith), refl), (sized, refl))))))
+
+pub later_time : (time : ℕ) → ((time + 1) == 0) ≡ false
+later_time time = grind (arith, nat_tests)
 
 pub not_opening : (stamp : Stamp) → (stamp.time == 0) ≡ false → same_stamp stamp opening_stamp ≡ false
 unfolding same_stamp
@@ -71,74 +88,113 @@ prior_of_opening_fits = ((opening_fits, refl), (omega arith, omega arith))
 
 -- ---- what entries hold
 
--- the stamps of all of these fit
-abbrev pub StampsFit : List Candidate → Type 0
-StampsFit candidates = (held : Candidate) → holds held candidates ≡ true → stamp_form.Fits held.stamp
+pub record CandidateFits (candidate : Candidate) : Type 0 where
+  pub stamp : stamp_form.Fits candidate.stamp
+  pub prior : (prior_form candidate.stamp).Fits candidate.prior
+
+pub opening_candidate_fits : CandidateFits opening
+opening_candidate_fits = record { stamp = opening_fits; prior = prior_of_opening_fits }
+
+-- all of these fit
+abbrev pub CandidatesFit : List Candidate → Type 0
+CandidatesFit candidates = (held : Candidate) → holds held candidates ≡ true → CandidateFits held
 
 -- one of two
 pub of_either : {P : Type 0} (left right : Bool) → (left ≡ true → P) → (right ≡ true → P) → (left || right) ≡ true → P
 of_either true right one two is = one refl
 of_either false right one two is = two is
 
-pub stamps_fit_from : (before : Option Stamp) (candidates : List Candidate)
-    → FitsFrom next_candidate (λ (candidate : Candidate). Some candidate.stamp) before candidates → StampsFit candidates
+pub candidates_fit_from : (before : Option Stamp) (candidates : List Candidate)
+    → FitsFrom next_candidate (λ (candidate : Candidate). Some candidate.stamp) before candidates → CandidatesFit candidates
 unfolding next_candidate
-stamps_fit_from before [] fits held holding = absurd (false≢true holding)
-stamps_fit_from None (first ∷ later) fits held holding =
+candidates_fit_from before [] fits held holding = absurd (false≢true holding)
+candidates_fit_from None (first ∷ later) fits held holding =
     of_either (same first held) (holds held later)
-    (λ is. subst (λ (it : Candidate). stamp_form.Fits it.stamp) (equal_by_same first held is) (((fits.0).0).0))
-    (λ there. stamps_fit_from (Some first.stamp) later fits.1 held there) holding
-stamps_fit_from (Some stamp) (first ∷ later) fits held holding =
+    (λ is. subst CandidateFits (equal_by_same first held is)
+    (record { stamp = (((fits.0).0).0); prior = (fits.0).1 }))
+    (λ there. candidates_fit_from (Some first.stamp) later fits.1 held there) holding
+candidates_fit_from (Some stamp) (first ∷ later) fits held holding =
     of_either (same first held) (holds held later)
-    (λ is. subst (λ (it : Candidate). stamp_form.Fits it.stamp) (equal_by_same first held is) (((fits.0).0).0))
-    (λ there. stamps_fit_from (Some first.stamp) later fits.1 held there) holding
+    (λ is. subst CandidateFits (equal_by_same first held is)
+    (record { stamp = (((fits.0).0).0); prior = (fits.0).1 }))
+    (λ there. candidates_fit_from (Some first.stamp) later fits.1 held there) holding
 
-pub stamps_fit : (candidates : List Candidate) → candidates_form.Fits candidates → StampsFit candidates
+pub candidates_fit : (candidates : List Candidate) → candidates_form.Fits candidates → CandidatesFit candidates
 unfolding candidates_form
-stamps_fit candidates fits = stamps_fit_from None candidates (fits.1).1
+candidates_fit candidates fits = candidates_fit_from None candidates (fits.1).1
 
-joined_fit : (one two : List Candidate) → StampsFit one → StampsFit two → StampsFit (one ++ two)
+joined_fit : (one two : List Candidate) → CandidatesFit one → CandidatesFit two → CandidatesFit (one ++ two)
 joined_fit one two fits later held holding =
     of_either (holds held one) (holds held two) (fits held) (later held)
     (sym (list_any-append (λ (it : Candidate). same it held) one two) ∙ holding)
 
 entries_fit : (object : ObjectId) (least : ℕ) (entries : List Sealed)
-    → FitsFrom (sealed_entry_form object) next_entry least entries → StampsFit (candidates_of (histories entries))
+    → FitsFrom (sealed_entry_form object) next_entry least entries → CandidatesFit (candidates_of (histories entries))
 unfolding sealed_entry_form entry_form candidates_of
 entries_fit object least [] fits = λ held holding. absurd (false≢true holding)
 entries_fit object least (sealed ∷ later) fits =
     let each : ObjectHistory → List Candidate = λ (entry : ObjectHistory). entry.candidates in
     joined_fit (sealed.history).candidates (flat_map each (histories later))
-    (stamps_fit (sealed.history).candidates ((((fits.0).0).1).1))
+    (candidates_fit (sealed.history).candidates ((((fits.0).0).1).1))
     (entries_fit object (next_entry sealed) later fits.1)
 
-none_fit : StampsFit (candidates_of [])
+none_fit : CandidatesFit (candidates_of [])
 unfolding candidates_of
 none_fit held holding = absurd (false≢true holding)
 
 sets_fit_from : (least : ℕ) (sets : List SetOf) → FitsFrom set_form (λ (set : SetOf). (set.object).0 + 1) least
-    sets → (object : ObjectId) → StampsFit (candidates_of (entries_of object sets))
+    sets → (object : ObjectId) → CandidatesFit (candidates_of (entries_of object sets))
 unfolding set_form entries_form entries_of
 sets_fit_from least [] fits object = none_fit
 sets_fit_from least (set ∷ later) fits object =
     elim (cases_Bool ((set.object).0 == object.0)) [
       | inl is ↦
-          subst (λ (test : Bool). StampsFit
+          subst (λ (test : Bool). CandidatesFit
           (candidates_of (cond test (histories set.entries) (entries_of object later)))) (sym is)
           (entries_fit set.object 0 set.entries (((fits.0).1).1).1)
       | inr other ↦
-          subst (λ (test : Bool). StampsFit
+          subst (λ (test : Bool). CandidatesFit
           (candidates_of (cond test (histories set.entries) (entries_of object later)))) (sym other)
           (sets_fit_from ((set.object).0 + 1) later fits.1 object)
     ]
 
 -- all that fitting sets show of an object
 pub shown_fit : (sets : List SetOf) → sets_form.Fits sets → (object : ObjectId)
-    → StampsFit (candidates_of (entries_of object sets))
+    → CandidatesFit (candidates_of (entries_of object sets))
 unfolding sets_form
 shown_fit sets fits object = sets_fit_from 0 sets (fits.1).1 object
 
--- ---- what operations rest upon
+-- ---- what operations and repairs rest upon
+
+held_greatest : (test : Candidate → Bool) (candidates : List Candidate) (found : Option Candidate)
+    → greatest (filter test candidates) ≡ found → (base : Candidate) → found ≡ Some base
+    → (holds base candidates ≡ true) × (test base ≡ true)
+held_greatest test candidates found is base given =
+    elim (greatest_cases (filter test candidates)) [
+      | inl none ↦ absurd (none-some base (sym none.0 ∙ is ∙ given))
+      | inr best ↦
+          let equal : best.0 ≡ base = same_Some best.0 base (sym best.1 ∙ is ∙ given) in
+          subst (λ (it : Candidate). (holds it candidates ≡ true) × (test it ≡ true)) equal
+          (holds-filter test best.0 candidates (best.2).held)
+    ]
+
+-- an object candidate is held by an entry, and is no barrier
+pub object_candidate_shown : (bounds : ℕ) (entries : List ObjectHistory) (base : Candidate)
+    → object_candidate bounds entries ≡ Some base
+    → (holds base (candidates_of entries) ≡ true) × (base.stamp.barrier ≡ false)
+unfolding object_candidate
+object_candidate_shown bounds entries base given =
+    let test : Candidate → Bool = λ (other : Candidate). not other.stamp.barrier && nat_le (repair bounds)
+    (order_of other entries) in
+    let held = held_greatest test (candidates_of entries) _ refl base given in
+    (held.0, not-true base.stamp.barrier (and_parts _ _ held.1).0)
+
+-- so is a barrier that may be repaired
+pub barrier_candidate_shown : (bounds : ℕ) (entries : List ObjectHistory) (barrier : Candidate)
+    → barrier_candidate bounds entries ≡ Some barrier → holds barrier (candidates_of entries) ≡ true
+unfolding greatest_of_kind
+barrier_candidate_shown bounds entries barrier given =
+    (held_greatest (is_shown_of_kind true (repair bounds) entries) (candidates_of entries) _ refl barrier given).0
 
 module _ (bounds : ℕ) (entries : List ObjectHistory) (base : Candidate) where
   found_passes : (found : Option Candidate) → if_method bounds entries found ≡ Some base → (found ≡ Some base)
@@ -160,16 +216,6 @@ module _ (bounds : ℕ) (entries : List ObjectHistory) (base : Candidate) where
   base_latest given = (found_passes (object_candidate bounds entries) given).1
 
   pub base_shown : method_at bounds entries ≡ Some base → holds base (candidates_of entries) ≡ true
-  unfolding method_at object_candidate
+  unfolding method_at
   base_shown given =
-      let test : Candidate → Bool = λ (other : Candidate). not other.stamp.barrier && nat_le (repair bounds)
-      (order_of other entries) in
-      let is_found : greatest (filter test (candidates_of entries)) ≡ Some base =
-      (found_passes (greatest (filter test (candidates_of entries))) given).0 in
-      elim (greatest_cases (filter test (candidates_of entries))) [
-        | inl none ↦ absurd (none-some base (sym none.0 ∙ is_found))
-        | inr found ↦
-            let equal : found.0 ≡ base = same_Some found.0 base (sym found.1 ∙ is_found) in
-            ap (λ (it : Candidate). holds it (candidates_of entries)) (sym equal)
-            ∙ (holds-filter test found.0 (candidates_of entries) (found.2).held).0
-      ]
+      (object_candidate_shown bounds entries base (found_passes (object_candidate bounds entries) given).0).0

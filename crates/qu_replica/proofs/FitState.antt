@@ -1,6 +1,6 @@
 -- All that a replica holds fits its format, at the beginning and once it accepted a candidate that fits.
 use Rattle.std.proofs.Common.{◌≡◌, ◌-◌, ℕ, zero, suc, ◌+◌, ◌<◌, ◌≤◌, Bool, true, cond, List, [], ◌∷◌, ◌++◌, length, length-append, Option, None, Some, inl, inr, refl, sym, ap, subst, ◌∙◌, arith}
-use Rattle.std.specs.Prelude.{IsTrue, slice_get}
+use Rattle.std.specs.Prelude.{IsTrue, IfSome, slice_get}
 use Rattle.std.proofs.lemmas.Bool.{cases_Bool, false≢true}
 use Rattle.std.proofs.lemmas.Option.{none-some, same_Some}
 use Rattle.qu_base.specs.declared.limits.TheConstants.{OBJECT_IDS, REPLICA_IDS}
@@ -24,7 +24,7 @@ use Rattle.qu_objects.specs.declared.state.ObjState.{ObjState}
 use Rattle.qu_objects.specs.Kind.{fresh_value}
 use Rattle.qu_replica.specs.declared.decision.Accepted.{Accepted}
 use Rattle.qu_replica.specs.declared.versions.Stored.{Stored}
-use Rattle.qu_replica.specs.State.{ReplicaState, candidates_in, with_candidate, accept, accept_all, opening_histories, opening_versions, opening_state}
+use Rattle.qu_replica.specs.State.{ReplicaState, candidates_in, with_candidate, stored_if, accept, accept_all, opening_histories, opening_versions, opening_state}
 use Rattle.qu_replica.specs.Growth.{MayAccept, MayAcceptAll}
 use Rattle.qu_replica.specs.Versions.{is_stored, version_at}
 use Rattle.qu_replica.specs.Fits.{ValueFits, VersionFits, VersionsFit, StateFits}
@@ -88,7 +88,7 @@ push_fits candidates candidate fits rises later room stamp prior =
 pub record AcceptFits (accepted : Accepted) : Type 0 where
   pub stamp : stamp_form.Fits accepted.candidate.stamp
   pub prior : (prior_form accepted.candidate.stamp).Fits accepted.candidate.prior
-  pub version : VersionFits accepted.state
+  pub version : IfSome accepted.state VersionFits
 
 histories_with : (number : ℕ) (candidate : Candidate) (histories : List ObjectHistory)
     → ((place : ℕ) (history : ObjectHistory) → slice_get histories place ≡ Some history
@@ -107,10 +107,15 @@ histories_with (suc number) candidate (here ∷ later) before grown zero history
 histories_with (suc number) candidate (here ∷ later) before grown (suc place) history found =
     histories_with number candidate later (λ at it. before (suc at) it) grown place history found
 
-versions_with : (versions : List Stored) (stored : Stored) → VersionsFit versions
-    → VersionFits stored.state → VersionsFit (versions ++ stored ∷ [])
-versions_with [] stored fits here = (here, tt)
-versions_with (first ∷ later) stored fits here = (fits.0, versions_with later stored fits.1 here)
+stored_fits : (object : ObjectId) (stamp : Stamp) (version : Option ObjState) → IfSome version VersionFits
+    → VersionsFit (stored_if object stamp version)
+stored_fits object stamp None fits = tt
+stored_fits object stamp (Some version) fits = (fits, tt)
+
+versions_with : (versions more : List Stored) → VersionsFit versions → VersionsFit more
+    → VersionsFit (versions ++ more)
+versions_with [] more fits here = here
+versions_with (first ∷ later) more fits here = (fits.0, versions_with later more fits.1 here)
 
 pub accept-fits : (state : ReplicaState) (accepted : Accepted) → StateFits state → MayAccept state accepted
     → AcceptFits accepted → StateFits (accept state accepted)
@@ -130,7 +135,8 @@ accept-fits state accepted fits may made = record {
       subst (λ (it : Option ObjectHistory). length (candidates_in it) < HISTORY_LIMIT) found may.room in
       push_fits history.candidates accepted.candidate (fits.histories (accepted.object).0 history found)
       (own_history state (accepted.object).0 history fits.own found).rises later room made.stamp made.prior);
-  versions = versions_with state.versions _ fits.versions made.version;
+  versions = versions_with state.versions _ fits.versions
+      (stored_fits accepted.object accepted.candidate.stamp accepted.state made.version);
 }
 
 abbrev pub AcceptAllFit : List Accepted → Type 0

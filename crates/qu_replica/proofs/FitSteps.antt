@@ -44,7 +44,7 @@ use Rattle.qu_replica.proofs.Allowed.{decision_on-may}
 use Rattle.qu_replica.proofs.Decoded.{body_has_parts}
 use Rattle.qu_replica.proofs.FitCulled.{seals_fit, culled-fits, left_out-fits, none_named-fit}
 use Rattle.qu_replica.proofs.FitState.{accept_all-fits}
-use Rattle.qu_replica.proofs.FitDecisions.{AskedFits, DecisionFits, act_decision-fits, ask_decision-fits}
+use Rattle.qu_replica.proofs.FitDecisions.{AskedFits, DecisionFits, act_decision-fits, ask_decision-fits, mend_decision-fits}
 
 -- ---- a reply
 
@@ -164,6 +164,7 @@ acted_sized client number (body.Act parts) digest is =
     subst (λ (it : Digest). length it.0 ≡ 32) (same_Some (act_digest client number parts) digest is)
     (act_sized client number parts)
 acted_sized client number (body.Ask parts) digest is = absurd cc
+acted_sized client number (body.Mend target) digest is = absurd cc
 
 pub decision-fits : (state : ReplicaState) (client : ClientId) (number round : ℕ) (sets : List SetOf)
     (asks : Body) → StateFits state → RequestFits client number round sets asks
@@ -192,6 +193,8 @@ decision-fits state client number round sets asks fits request =
     decided (body.Ask (part ∷ [])) asked asked_fits within =
         ask_decision-fits state asked fits asked_fits part.0 (((((((within.1).1).1).0).0).0).0).1 part
     decided (body.Ask (first ∷ second ∷ later)) asked asked_fits within = absurd (omega (arith, ((within.1).0).1))
+    decided (body.Mend target) asked asked_fits within =
+        mend_decision-fits state asked fits asked_fits target ((within.1).0).1
 
 -- ---- a step
 

@@ -20,11 +20,12 @@ use Rattle.qu_objects.specs.declared.kind.Value.TheVariants.{Counter}
 use Rattle.qu_objects.specs.Kind.{applied}
 use Rattle.qu_objects.specs.Performing.{performed_answer, performed_values, told_answer, answer_by, refusal_from, items_of, values_by, changed_values}
 use Rattle.qu_objects.specs.Formats.{item_form, answer_form}
-use Rattle.qu_frames.specs.declared.verdict.ClassCode.TheVariants.{Barrier}
+use Rattle.qu_frames.specs.declared.verdict.ClassCode.{ClassCode}
+use Rattle.qu_frames.specs.declared.verdict.ClassCode.TheVariants.{InlineMethod, Copy, InlineBarrier, Barrier, Needs}
 use Rattle.qu_frames.specs.declared.verdict.Refusal.{Refusal}
-use Rattle.qu_frames.specs.declared.verdict.Refusal.TheVariants.{HistoryFull, Thin, NotCurrent, NotMethod, Spent, TimeSpent, UnknownObject}
-use Rattle.qu_frames.specs.declared.verdict.Verdict.TheVariants.{Done, Told, Already, Refused}
-use Rattle.qu_frames.specs.Formats.{refusal_form, stamps_form, verdict_form}
+use Rattle.qu_frames.specs.declared.verdict.Refusal.TheVariants.{HistoryFull, Thin, NotCurrent, NotMethod, Spent, TimeSpent, UnknownObject, Sound}
+use Rattle.qu_frames.specs.declared.verdict.Verdict.TheVariants.{Done, Told, Already, Mended, Refused}
+use Rattle.qu_frames.specs.Formats.{class_form, refusal_form, stamps_form, verdict_form}
 use Rattle.qu_replica.specs.Fits.{ValueFits}
 
 -- ---- refusals
@@ -32,6 +33,13 @@ use Rattle.qu_replica.specs.Fits.{ValueFits}
 refused_fits : (why : Refusal) → refusal_form.Fits why → verdict_form.Fits (Refused why)
 unfolding verdict_form
 refused_fits why fits = (((omega arith, omega arith), refl), fits)
+
+class_fits : (class : ClassCode) → class_form.Fits class
+class_fits InlineMethod = (omega arith, omega arith)
+class_fits Copy = (omega arith, omega arith)
+class_fits InlineBarrier = (omega arith, omega arith)
+class_fits Barrier = (omega arith, omega arith)
+class_fits Needs = (omega arith, omega arith)
 
 module _ (object : ObjectId) (within : object.0 ≤ OBJECT_IDS - 1) where
   pub unknown_fits : verdict_form.Fits (Refused (UnknownObject object))
@@ -50,9 +58,14 @@ module _ (object : ObjectId) (within : object.0 ≤ OBJECT_IDS - 1) where
   unfolding refusal_form
   full_fits = refused_fits _ (((omega arith, omega arith), refl), (omega arith, within))
 
-  pub method_fits : verdict_form.Fits (Refused (NotMethod object Barrier))
+  pub sound_fits : verdict_form.Fits (Refused (Sound object))
   unfolding refusal_form
-  method_fits = refused_fits _ (((omega arith, omega arith), refl), ((omega arith, within), (omega arith, omega arith)))
+  sound_fits = refused_fits _ (((omega arith, omega arith), refl), (omega arith, within))
+
+  pub method_fits : (class : ClassCode) → verdict_form.Fits (Refused (NotMethod object class))
+  unfolding refusal_form
+  method_fits class =
+      refused_fits _ (((omega arith, omega arith), refl), ((omega arith, within), class_fits class))
 
   pub current_fits : (latest : Stamp) → stamp_form.Fits latest → verdict_form.Fits (Refused (NotCurrent object latest))
   unfolding refusal_form
@@ -78,6 +91,10 @@ module _ (object : ObjectId) (within : object.0 ≤ OBJECT_IDS - 1) where
       → verdict_form.Fits (Told ((object, stamp) ∷ []) answer)
   unfolding verdict_form
   told_fits stamp answer fits answered = (((omega arith, omega arith), refl), (one_stamp stamp fits, answered))
+
+  pub mended_fits : (stamp : Stamp) → stamp_form.Fits stamp → verdict_form.Fits (Mended object stamp)
+  unfolding verdict_form
+  mended_fits stamp fits = (((omega arith, omega arith), refl), ((omega arith, within), fits))
 
 pub already_fits : (answer : Answer) → answer_form.Fits answer → verdict_form.Fits (Already answer)
 unfolding verdict_form

@@ -20,7 +20,7 @@ use Rattle.qu_replica.specs.declared.versions.Stored.{Stored}
 use Rattle.qu_replica.specs.declared.decision.Accepted.{Accepted}
 use Rattle.qu_replica.specs.declared.decision.Decision.{Decision}
 use Rattle.qu_replica.specs.declared.decision.Decision.TheVariants.{Answers, Waits}
-use Rattle.qu_replica.specs.State.{ReplicaState, candidates_in, own_candidates, with_candidate, accept, accept_all}
+use Rattle.qu_replica.specs.State.{ReplicaState, candidates_in, own_candidates, with_candidate, stored_if, accept, accept_all}
 use Rattle.qu_replica.specs.Rows.{asked_at, decision_on}
 use Rattle.qu_replica.specs.Step.{carried_out, on_frame, on_received, replica_step}
 use Rattle.qu_replica.specs.Versions.{version_at}
@@ -81,7 +81,7 @@ accept-grows state accepted = record {
   keys = refl;
   number = length-with_candidate (accepted.object).0 accepted.candidate state.histories;
   candidates = λ object. candidates-with_candidate (accepted.object).0 object.0 accepted.candidate state.histories;
-  versions = (record { object = accepted.object; stamp = accepted.candidate.stamp; state = accepted.state } ∷ [], refl);
+  versions = (stored_if accepted.object accepted.candidate.stamp accepted.state, refl);
 }
 
 pub accept_all-grows : (state : ReplicaState) (accepted : List Accepted) → Grows state (accept_all state accepted)

@@ -13,6 +13,7 @@ pub mod Decoded
 pub mod FitCulled
 pub mod FitStamps
 pub mod FitVerdicts
+pub mod FitRepairs
 pub mod FitState
 pub mod FitDecisions
 pub mod FitSteps

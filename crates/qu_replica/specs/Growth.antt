@@ -47,7 +47,7 @@ MayAcceptAll state [] = Unit {0}
 MayAcceptAll state (accepted ∷ []) = MayAccept state accepted
 MayAcceptAll state (first ∷ second ∷ later) = ⊥
 
--- what a replica's state may gain: the history of an object that it has stays its own, and a list holds all the versions
+-- what a replica's state may gain: the history of an object that it has stays its own, and a list holds all versions
 pub record MayGain (state : ReplicaState) (gain : Gain) : Type 0 where
   pub known : ((gain.history).object).0 < length state.histories
   pub own : AreHistories (state_after state (Some gain))
@@ -70,6 +70,7 @@ pub record Grows (old new : ReplicaState) : Type 0 where
 abbrev pub has_parts : Body → Bool
 has_parts (body.Act parts) = are_parts parts
 has_parts (body.Ask parts) = are_parts parts
+has_parts (body.Mend target) = true
 
 abbrev pub HasParts : Frame → Type 0
 HasParts (frame.Request client number round sets asked mac) = IsTrue (has_parts asked)

@@ -1,5 +1,5 @@
 -- What a replica makes of a request, row by row (Query/Update: the replica's handling of a request).
-use Rattle.std.specs.Prelude.{ℕ, Bool, false, ◌+◌, nat_lt, nat_le, if◌then◌else◌, List, [], ◌∷◌, length, map, find, Option, None, Some, is_none, option_map, option_and_then}
+use Rattle.std.specs.Prelude.{ℕ, Bool, false, ◌+◌, nat_lt, nat_le, if◌then◌else◌, List, [], ◌∷◌, length, map, find, Option, None, Some, is_none, option_map, option_and_then, unwrap_or}
 use Rattle.std.specs.List.{list_all, list_any, filter_map}
 use Rattle.qu_base.specs.declared.party.ClientId.{ClientId}
 use Rattle.qu_base.specs.declared.party.Digest.{Digest}
@@ -20,21 +20,39 @@ use Rattle.qu_objects.specs.declared.query.Ask.{Ask}
 use Rattle.qu_objects.specs.declared.state.ObjState.{ObjState}
 use Rattle.qu_objects.specs.Performing.{performed_answer, told_answer}
 use Rattle.qu_objects.specs.Digesting.{act_digest}
+use Rattle.qu_class.specs.declared.class.Class.{Class}
+use Rattle.qu_class.specs.declared.class.Class.TheVariants as class
+use Rattle.qu_class.specs.Class.{class_of}
 use Rattle.qu_kept.specs.declared.repeats.Standing.{Standing}
 use Rattle.qu_kept.specs.declared.repeats.Standing.TheVariants.{Fresh, Already, Spent}
 use Rattle.qu_kept.specs.Performing.{values_of, performed_states}
 use Rattle.qu_kept.specs.Standing.{standing_of}
 use Rattle.qu_frames.specs.declared.frame.Body.{Body}
 use Rattle.qu_frames.specs.declared.frame.Body.TheVariants as body
-use Rattle.qu_frames.specs.declared.verdict.ClassCode.TheVariants.{Barrier}
+use Rattle.qu_frames.specs.declared.verdict.ClassCode.{ClassCode}
+use Rattle.qu_frames.specs.declared.verdict.ClassCode.TheVariants.{InlineMethod, Copy, InlineBarrier, Barrier}
 use Rattle.qu_frames.specs.declared.verdict.Refusal.{Refusal}
 use Rattle.qu_frames.specs.declared.verdict.Refusal.TheVariants as refusal
 use Rattle.qu_frames.specs.declared.verdict.Verdict.TheVariants as verdict
+use Rattle.qu_mend.specs.declared.remedy.Remedy.{Remedy}
+use Rattle.qu_mend.specs.declared.mend.Mend.{Mend}
+use Rattle.qu_mend.specs.declared.mending.Mending.{Mending}
+use Rattle.qu_mend.specs.declared.mending.Mending.TheVariants as mending
+use Rattle.qu_mend.specs.Remedy.{mend_of, wanted_by}
+use Rattle.qu_mend.specs.Rows.{decide_mend}
 use Rattle.qu_replica.specs.declared.decision.Accepted.{Accepted}
 use Rattle.qu_replica.specs.declared.decision.Decision.{Decision}
 use Rattle.qu_replica.specs.declared.decision.Decision.TheVariants.{Answers, Waits}
 use Rattle.qu_replica.specs.State.{ReplicaState, own_candidates, own_latest}
 use Rattle.qu_replica.specs.Versions.{version_at}
+
+-- the class that a refusal carries; none of METHOD does
+abbrev pub class_code : Class → Option ClassCode
+class_code (class.Method candidate) = None
+class_code (class.InlineMethod candidate) = Some InlineMethod
+class_code class.Copy = Some Copy
+class_code (class.InlineBarrier candidate) = Some InlineBarrier
+class_code (class.Barrier prior) = Some Barrier
 
 -- a request, as a replica is handed it
 pub record Asked : Type 0 where
@@ -42,7 +60,7 @@ pub record Asked : Type 0 where
   pub number : ℕ
   -- the sets, culled
   pub sets : List SetOf
-  -- the digest of the act that is asked for, none of a query
+  -- the digest of the act that is asked for, none of a query or a repair
   pub act : Option Digest
   -- the digest of the culled sets
   pub set : Digest
@@ -50,6 +68,7 @@ pub record Asked : Type 0 where
 abbrev pub act_asked : ClientId → ℕ → Body → Option Digest
 act_asked client number (body.Act parts) = Some (act_digest client number parts)
 act_asked client number (body.Ask parts) = None
+act_asked client number (body.Mend target) = None
 
 -- the request with its digests
 abbrev pub asked_of : ClientId → ℕ → List SetOf → Body → Asked
@@ -164,10 +183,16 @@ row_current state asked objects =
     refuse_first (λ object. is_below (latest_of (shown_of asked object)) (own_latest state object))
     (λ object. refusal.NotCurrent object (own_latest state object)) objects
 
+-- the class that is told of an object upon which no operation may rest: without an object candidate it is BARRIER
+abbrev pub class_told : ReplicaState → Asked → ObjectId → ClassCode
+class_told state asked object =
+    unwrap_or (class_code (class_of state.keys.bounds (shown_of asked object))) Barrier
+
 -- the object is of another class than METHOD
 unfoldable pub row_method : ReplicaState → Asked → List ObjectId → Option Decision
 row_method state asked objects =
-    refuse_first (λ object. is_none (base_of state asked object)) (λ object. refusal.NotMethod object Barrier) objects
+    refuse_first (λ object. is_none (base_of state asked object))
+    (λ object. refusal.NotMethod object (class_told state asked object)) objects
 
 -- a version upon which the operation rests is missing
 unfoldable pub row_version : ReplicaState → Asked → List ObjectId → Option Decision
@@ -202,7 +227,7 @@ accepted_by state asked [] versions = []
 accepted_by state asked (object ∷ objects) [] = []
 accepted_by state asked (object ∷ objects) (version ∷ versions) = elim (fresh_on state asked object) [
   | None ↦ accepted_by state asked objects versions
-  | Some fresh ↦ record { object = object; candidate = fresh; state = version }
+  | Some fresh ↦ record { object = object; candidate = fresh; state = Some version }
       ∷ accepted_by state asked objects versions
 ]
 
@@ -254,6 +279,47 @@ decide_ask state asked parts objects = first_given (
     ∷ row_told state asked parts objects
     ∷ [])
 
+-- ---- a repair
+
+-- the sets show fewer entries of the target than a quorum: it is not among their objects, or the row of thin sets fits
+unfoldable pub row_few : ReplicaState → Asked → ObjectId → Option Decision
+row_few state asked target =
+    if nat_lt (length (shown_of asked target)) (quorum state.keys.bounds) then Some (refuse (refusal.Thin target))
+    else None
+
+-- the request, with what its sets say of the target
+abbrev pub mend_asked : ReplicaState → Asked → ObjectId → Mend
+mend_asked state asked target = mend_of state.keys.bounds asked.sets asked.set target asked.client
+
+-- the version that the remedy wants, where the replica has it
+abbrev pub wanted_version : ReplicaState → ObjectId → Remedy → Option ObjState
+wanted_version state target remedy =
+    option_and_then (λ stamp. version_at target stamp state.versions) (wanted_by remedy)
+
+-- what the replica makes of it
+abbrev pub mending_on : ReplicaState → Asked → ObjectId → Mending
+mending_on state asked target =
+    decide_mend (mend_asked state asked target) (own_candidates state target)
+    (wanted_version state target (mend_asked state asked target).remedy)
+
+-- what is added is accepted, with the version that is stored with it
+abbrev pub decision_by : ObjectId → Mending → Decision
+decision_by target (mending.Mends candidate version) =
+    Answers (verdict.Mended target candidate.stamp)
+    (record { object = target; candidate = candidate; state = version } ∷ [])
+decision_by target (mending.Holds stamp) = Answers (verdict.Mended target stamp) []
+decision_by target (mending.Refuses why) = refuse why
+decision_by target mending.Waits = Waits
+
+unfoldable pub decide_repair : ReplicaState → Asked → ObjectId → Decision
+decide_repair state asked target = first_given (
+    row_unknown state asked
+    ∷ row_thin state asked
+    ∷ row_few state asked target
+    ∷ Some (decision_by target (mending_on state asked target))
+    ∷ [])
+
 abbrev pub decision_on : ReplicaState → Asked → Body → Decision
 decision_on state asked (body.Act parts) = decide_act state asked parts (objects_of parts)
 decision_on state asked (body.Ask parts) = decide_ask state asked parts (objects_of parts)
+decision_on state asked (body.Mend target) = decide_repair state asked target

@@ -41,15 +41,16 @@ with_candidate zero candidate (history ∷ later) =
     record history { candidates = history.candidates ++ candidate ∷ [] } ∷ later
 with_candidate (suc number) candidate (history ∷ later) = history ∷ with_candidate number candidate later
 
--- a candidate is accepted with its version
+-- the version that is stored under the stamp, if there is one
+abbrev pub stored_if : ObjectId → Stamp → Option ObjState → List Stored
+stored_if object stamp None = []
+stored_if object stamp (Some version) = record { object = object; stamp = stamp; state = version } ∷ []
+
+-- a candidate is accepted, with its version where it has one that is not stored yet
 abbrev pub accept : ReplicaState → Accepted → ReplicaState
 accept state accepted = record state {
   histories = with_candidate (accepted.object).0 accepted.candidate state.histories;
-  versions = state.versions ++ (record {
-    object = accepted.object;
-    stamp = accepted.candidate.stamp;
-    state = accepted.state;
-  }) ∷ [];
+  versions = state.versions ++ stored_if accepted.object accepted.candidate.stamp accepted.state;
 }
 
 unfoldable pub accept_all : ReplicaState → List Accepted → ReplicaState

@@ -17,7 +17,7 @@ pub(crate) struct Asked<'a> {
     pub(crate) client: ClientId,
     pub(crate) number: u64,
     pub(crate) sets: &'a Sets,
-    /// The digest of the act that is asked for, none of a query.
+    /// The digest of the act that is asked for, none of a query or a repair.
     pub(crate) act: Option<Digest>,
     /// The digest of the culled sets.
     pub(crate) set: Digest,
@@ -72,7 +72,7 @@ impl<'a> Asked<'a> {
     }
 }
 
-/// The digest of the act that is asked for, none of a query.
+/// The digest of the act that is asked for, none of a query or a repair.
 fn act_asked(
     alloc: Global,
     client: ClientId,
@@ -83,6 +83,6 @@ fn act_asked(
 {
     match body {
         Body::Act(act) => Ok(Some(act_digest(alloc, client, number, act)?)),
-        Body::Ask(_) => Ok(None),
+        Body::Ask(_) | Body::Mend(_) => Ok(None),
     }
 }

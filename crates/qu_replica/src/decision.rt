@@ -1,30 +1,53 @@
 ghost use Rattle.std.specs.Prelude.{◌≡◌, [], ◌∷◌, IfOk};
+ghost use Rattle.qu_replica.specs.State.{stored_if};
 ghost use Rattle.qu_replica.specs.Rows.{refuse};
 
+use crate::versions::{self, Stored};
 use qu_base::{List, NoMemory, ObjectId};
 use qu_frames::{Refusal, Verdict};
 use qu_objects::ObjState;
 use qu_stamp::Candidate;
 use std::alloc::Global;
+use std::collections::LinkedList;
 
-/// A candidate that a replica accepts on an object, and its version.
+/// A candidate that a replica accepts on an object.
 #[derive(Debug, Drop)]
 pub struct Accepted {
     pub object: ObjectId,
     pub candidate: Candidate,
-    pub state: ObjState,
+    /// Its version. A barrier has none, and that of a candidate which was shown is stored already.
+    pub state: Option<ObjState>,
 }
 
 impl Accepted {
-    /// An equal candidate with an equal version.
+    /// An equal candidate with an equal version, if it has one.
     pub fn copy(&self, alloc: Global) -> Result<Accepted, NoMemory>
         ensures { IfOk result (λ accepted. accepted ≡ self.now) }
     {
         Ok(Accepted {
             object: self.object,
             candidate: self.candidate,
-            state: self.state.copy(alloc)?,
+            state: match &self.state {
+                Some(state) => Some(state.copy(alloc)?),
+                None => None,
+            },
         })
+    }
+
+    /// What is stored of it: its version, if it has one.
+    pub(crate) fn stored(&self, alloc: Global) -> Result<LinkedList<Stored>, NoMemory>
+        ensures { IfOk result
+            (λ versions. versions ≡ stored_if self.now.object self.now.candidate.stamp self.now.state) }
+    {
+        let Some(state) = &self.state else {
+            return Ok(LinkedList::new(alloc));
+        };
+        let stored = Stored {
+            object: self.object,
+            stamp: self.candidate.stamp,
+            state: state.copy(alloc)?,
+        };
+        versions::one(alloc, stored)
     }
 }
 

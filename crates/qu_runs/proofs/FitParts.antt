@@ -1,5 +1,5 @@
 -- What fits a frame's format asks for what an operation may ask for.
-use Rattle.std.proofs.Common.{◌≡◌, true, List, [], ◌∷◌, arith, Bool}
+use Rattle.std.proofs.Common.{◌≡◌, true, List, [], ◌∷◌, arith, Bool, refl}
 use Rattle.std.proofs.lemmas.Bool.{lt-ltb}
 use Rattle.qu_base.specs.declared.party.ObjectId.{ObjectId}
 use Rattle.qu_base.specs.Format.{Format}
@@ -23,6 +23,7 @@ body_parts : (objects : List ObjectId) (asks : Body) → (body_form objects).Fit
 unfolding body_form act_form query_form
 body_parts objects (body.Act parts) fits = one_part method_form _ parts fits.1
 body_parts objects (body.Ask parts) fits = one_part ask_form _ parts fits.1
+body_parts objects (body.Mend target) fits = refl
 
 pub fits_parts : (sent : Frame) → frame_form.Fits sent → HasParts sent
 fits_parts (frame.Request client number round sets asks mac) fits =

@@ -137,10 +137,11 @@ frame_text text = record { tag = FRAME_TAG; bytes = before_mac text }
 abbrev pub history_text : Sealed → Text
 history_text sealed = record { tag = HISTORY_TAG; bytes = history_form.spell sealed.history }
 
--- the text of an act has its tag; a query has none
+-- the text of an act has its tag; a query and a repair have none
 abbrev pub body_texts : ClientId → ℕ → Body → List Text
 body_texts client number (body.Act parts) = record { tag = ACT_TAG; bytes = act_text client number parts } ∷ []
 body_texts client number (body.Ask parts) = []
+body_texts client number (body.Mend target) = []
 
 -- the text of the culled sets has its tag: it is their digest that a stamp holds
 abbrev pub texts_of : Option Request → List Text

@@ -33,6 +33,7 @@ use Rattle.qu_values.proofs.ClientFacts.{ClientFacts}
 use Rattle.qu_safety.proofs.Along.{objects_in, all_beside}
 use Rattle.qu_values.proofs.UpdateFacts.{UpdateFacts}
 use Rattle.qu_runs.proofs.Small.{some_member, quorum_outnumbers}
+use Rattle.qu_frames.specs.declared.verdict.Verdict.{Verdict}
 
 module _ (trace : Trace) (is_run : IsRun trace) (have : ArePlain trace) (clients : ClientFacts trace)
     (laws : Laws (setting trace)) (joint : Joint (setting trace)) (facts : UpdateFacts trace) where
@@ -90,10 +91,11 @@ module _ (trace : Trace) (is_run : IsRun trace) (have : ArePlain trace) (clients
             (told_from operation reply done.round answer told.stamps) done.members all;
       }
 
-  act_of_quorum : (operation : OpRecord) (reply : ℕ) (answer : Answer) → CompletedAct trace operation reply answer
-      → (act : List (ObjectId × Method)) → operation.op ≡ op.Act act → ActOfQuorum trace operation act reply
-  act_of_quorum operation reply answer done act is =
-      subst (λ (parts : List (ObjectId × Method)). ActOfQuorum trace operation parts reply)
+  act_of_quorum : (operation : OpRecord) (reply : ℕ) (told : Verdict) (answer : Answer)
+      → CompletedAct trace operation reply told answer
+      → (act : List (ObjectId × Method)) → operation.op ≡ op.Act act → ActOfQuorum trace operation act reply told
+  act_of_quorum operation reply told answer done act is =
+      subst (λ (parts : List (ObjectId × Method)). ActOfQuorum trace operation parts reply told)
       (same_act done.parts act (sym done.is_act ∙ is)) done.of_quorum
     where
       same_act : (first second : List (ObjectId × Method)) → op.Act first ≡ op.Act second → first ≡ second
@@ -101,16 +103,18 @@ module _ (trace : Trace) (is_run : IsRun trace) (have : ArePlain trace) (clients
 
   of_quorum : (operation : OpRecord) (reply : ℕ) (answer : Answer)
       → Contains (operations_of trace.entries) operation → Completes operation reply answer
-      → (what : Op) → operation.op ≡ what → IsOfQuorum trace operation reply answer what
-  of_quorum operation reply answer among completes (op.Act act) is =
-      act_of_quorum operation reply answer
-      (completed_act trace is_run have clients laws joint facts operation among reply answer completes act is) act is
-  of_quorum operation reply answer among completes (op.Query query) is =
-      query_of_quorum operation among reply answer
-      (clients.completes operation among reply answer completes) query is
+      → (done : IsCompleted trace operation reply answer)
+      → (what : Op) → operation.op ≡ what → IsOfQuorum trace operation reply done.verdict answer what
+  of_quorum operation reply answer among completes done (op.Act act) is =
+      act_of_quorum operation reply done.verdict answer
+      (completed_act trace is_run have clients laws joint facts operation among reply answer completes done act is) act
+      is
+  of_quorum operation reply answer among completes done (op.Query query) is =
+      query_of_quorum operation among reply answer done query is
 
   pub completes_by_quorums : CompletesByQuorums trace
   completes_by_quorums operation reply answer among completes = (
     clients.completes operation among reply answer completes,
-    of_quorum operation reply answer among completes operation.op refl,
+    of_quorum operation reply answer among completes (clients.completes operation among reply answer completes)
+        operation.op refl,
   )

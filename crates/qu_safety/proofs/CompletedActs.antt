@@ -51,7 +51,7 @@ use Rattle.qu_runs.specs.Plain.{ArePlain}
 use Rattle.qu_rounds.proofs.Endings.{EndsAt, operation_ends}
 use Rattle.qu_values.proofs.ClientFacts.{ClientFacts}
 use Rattle.qu_values.proofs.Updates.{same_accepted}
-use Rattle.qu_values.proofs.EverAccepted.{place_ever}
+use Rattle.qu_values.proofs.EverAccepted.{place_ever, held_ever}
 use Rattle.qu_rounds.proofs.Members.{is_among, members_count}
 use Rattle.qu_points.proofs.Recorded.{recorded_op}
 use Rattle.qu_values.proofs.RepliesInRuns.{IsActOn, act_of_update, update_handled, done_in_run, already_in_run}
@@ -66,7 +66,8 @@ use Rattle.qu_runs.proofs.Small.{some_member, quorum_outnumbers}
 use Rattle.qu_runs.proofs.Carrying.{tells_as}
 
 -- what a completed act rests on: a candidate of it, decided in the world before the event of the reply
-pub record CompletedAct (trace : Trace) (operation : OpRecord) (reply : ℕ) (answer : Answer) : Type 0 where
+pub record CompletedAct (trace : Trace) (operation : OpRecord) (reply : ℕ) (told : Verdict) (answer : Answer)
+    : Type 0 where
   pub parts : List (ObjectId × Method)
   pub is_act : operation.op ≡ op.Act parts
   pub object : ObjectId
@@ -78,7 +79,7 @@ pub record CompletedAct (trace : Trace) (operation : OpRecord) (reply : ℕ) (an
   pub keeps : Keeps operation.client operation.number (act_digest operation.client operation.number parts) answer
       version
   pub decided : IsDecided (setting trace) (reply - 1) object candidate
-  pub of_quorum : ActOfQuorum trace operation parts reply
+  pub of_quorum : ActOfQuorum trace operation parts reply told
   pub within : reply ≤ length trace.entries
   pub begins : 1 ≤ reply
 
@@ -214,7 +215,10 @@ module _ (trace : Trace) (is_run : IsRun trace) (have : ArePlain trace) (clients
                     reply.new reply.is_new ∙ it.held;
                 version = it.version;
                 has = version_is trace laws joint is_run have (at + 1) (omega arith) replica reply.new
-                    reply.is_new told.0 it.candidate it.held it.version it.of_candidate;
+                    reply.is_new told.0 it.candidate
+                    (facts.plain told.0 it.candidate
+                    (held_ever trace laws (at + 1) (omega arith) replica reply.new reply.is_new told.0 it.candidate it.held)
+                    (rw it.of_act refl)) it.held it.version it.of_candidate;
                 keeps = it.keeps;
               }) stamps done.each;
         }
@@ -303,14 +307,16 @@ module _ (trace : Trace) (is_run : IsRun trace) (have : ArePlain trace) (clients
         → AllPairs (λ (a b : ℕ). a ≢ b) members → All (λ (member : ℕ). member < replicas trace.setup.bounds) members
         → quorum trace.setup.bounds ≤ length members + trace.setup.bounds → All (Has (reply - 1)) members → (first : ℕ)
         → first < replicas trace.setup.bounds → (held : Has (reply - 1) first)
-        → All (λ (part : ObjectId × Method). PartOfQuorum trace operation parts reply part.0) parts
+        → All (λ (part : ObjectId × Method). PartOfQuorum trace operation parts reply (verdict.Done stamps answer)
+        part.0) parts
     each_of_quorum reply ends members different within enough all first below held =
-        all_along (PartOfQuorum trace operation parts reply) stamps parts held.of_parts
-        (all_contained (λ (told : ObjectId × Stamp). PartOfQuorum trace operation parts reply told.0) stamps
+        all_along (PartOfQuorum trace operation parts reply (verdict.Done stamps answer)) stamps parts held.of_parts
+        (all_contained (λ (told : ObjectId × Stamp).
+        PartOfQuorum trace operation parts reply (verdict.Done stamps answer) told.0) stamps
         (λ told one. at told one (All-contains (Part (reply - 1) first) stamps told held.each one)))
       where
         at : (told : ObjectId × Stamp) → Contains stamps told → Part (reply - 1) first told
-            → PartOfQuorum trace operation parts reply told.0
+            → PartOfQuorum trace operation parts reply (verdict.Done stamps answer) told.0
         at told one part =
             let counted : quorum trace.setup.bounds
             ≤ acceptors (setting trace) (reply - 1) told.0 part.candidate + trace.setup.bounds =
@@ -319,6 +325,8 @@ module _ (trace : Trace) (is_run : IsRun trace) (have : ArePlain trace) (clients
               candidate = part.candidate;
               of_client = (part.made).of_client;
               of_act = (part.made).of_act;
+              complete = part.candidate;
+              upon = refl;
               accepted = let same = acceptors_are trace (reply - 1) told.0 part.candidate in omega
                   (arith, counted, same);
             }
@@ -327,7 +335,7 @@ module _ (trace : Trace) (is_run : IsRun trace) (have : ArePlain trace) (clients
     by_members : (reply : ℕ) → reply ≤ length trace.entries → 1 ≤ reply → (members : List ℕ)
         → AllPairs (λ (a b : ℕ). a ≢ b) members → All (λ (member : ℕ). member < replicas trace.setup.bounds) members
         → quorum trace.setup.bounds ≤ length members + trace.setup.bounds → All (Has (reply - 1)) members
-        → CompletedAct trace operation reply answer
+        → CompletedAct trace operation reply (verdict.Done stamps answer) answer
     by_members reply ends begins members different within enough all =
         let some : trace.setup.bounds < quorum trace.setup.bounds =
         quorum_outnumbers trace.setup.bounds (is_run.setup).some_faults in
@@ -386,7 +394,9 @@ module _ (trace : Trace) (is_run : IsRun trace) (have : ArePlain trace) (clients
     has = it.has;
     keeps = it.keeps;
     decided = decided-later (setting trace) laws early late order object it.candidate it.decided;
-    established = established-later (setting trace) laws early late order object it.candidate it.established;
+    complete = it.complete;
+    upon = it.upon;
+    established = established-later (setting trace) laws early late order object it.complete it.established;
   }
 
   -- on each of its objects by the event of a reply that tells it
@@ -418,23 +428,25 @@ module _ (trace : Trace) (is_run : IsRun trace) (have : ArePlain trace) (clients
       )
 
   quorum_of_kept : (reply : ℕ) → (object : ObjectId) → Kept (reply - 1) object
-      → PartOfQuorum trace operation parts reply object
+      → PartOfQuorum trace operation parts reply (verdict.Already answer) object
   unfolding setting
   quorum_of_kept reply object it =
       let counted : quorum trace.setup.bounds
-      ≤ acceptors (setting trace) (reply - 1) object it.candidate + trace.setup.bounds = it.established in
+      ≤ acceptors (setting trace) (reply - 1) object it.complete + trace.setup.bounds = it.established in
       record {
         candidate = it.candidate;
         of_client = (it.made).of_client;
         of_act = (it.made).of_act;
-        accepted = let same = acceptors_are trace (reply - 1) object it.candidate in omega (arith, counted, same);
+        complete = it.complete;
+        upon = it.upon;
+        accepted = let same = acceptors_are trace (reply - 1) object it.complete in omega (arith, counted, same);
       }
 
   -- one correct replica that told it is enough
   by_already : (reply : ℕ) → reply ≤ length trace.entries → 1 ≤ reply → (round : ℕ) (given : Verdict)
       → given ≡ verdict.Already answer → (replica : ℕ)
       → Replied trace (reply - 1) operation.client operation.number round given replica
-      → CompletedAct trace operation reply answer
+      → CompletedAct trace operation reply (verdict.Already answer) answer
   by_already reply ends begins round given is_already replica replied =
       let at : ℕ = replied.at in
       let earlier : at < reply - 1 = replied.earlier in
@@ -466,7 +478,7 @@ module _ (trace : Trace) (is_run : IsRun trace) (have : ArePlain trace) (clients
         of_quorum = record {
           some = all.0;
           each = All-weaker (λ (part : ObjectId × Method). Kept (reply - 1) part.0)
-              (λ (part : ObjectId × Method). PartOfQuorum trace operation parts reply part.0)
+              (λ (part : ObjectId × Method). PartOfQuorum trace operation parts reply (verdict.Already answer) part.0)
               (λ part kept. quorum_of_kept reply part.0 kept) parts each;
         };
         within = ends;
@@ -478,10 +490,10 @@ pub completed_act : (trace : Trace) → IsRun trace → ArePlain trace → Clien
     → Joint (setting trace) → UpdateFacts trace → (operation : OpRecord)
     → Contains (operations_of trace.entries) operation
     → (reply : ℕ) (answer : Answer) → operation.reply ≡ Some (reply, outcome.Done answer)
-    → (act : List (ObjectId × Method)) → operation.op ≡ op.Act act → CompletedAct trace operation reply answer
-completed_act trace is_run have clients laws joint facts operation among reply answer replied act is_act =
-    let done : IsCompleted trace operation reply answer =
-    clients.completes operation among reply answer replied in
+    → (done : IsCompleted trace operation reply answer)
+    → (act : List (ObjectId × Method)) → operation.op ≡ op.Act act
+    → CompletedAct trace operation reply done.verdict answer
+completed_act trace is_run have clients laws joint facts operation among reply answer replied done act is_act =
     let ends : EndsAt trace.entries 1 operation.client operation.number reply (outcome.Done answer) =
     operation_ends trace.entries operation among reply (outcome.Done answer) replied in
     let at : reply ≡ 1 + ends.index = ends.is_at in
@@ -489,12 +501,13 @@ completed_act trace is_run have clients laws joint facts operation among reply a
     slice_get_within trace.entries ends.index ends.entry ends.is_entry in
     elim (fits_act act done.verdict answer (ap (λ (it : Op). fitting it done.verdict) (sym is_act) ∙ done.fits)) [
       | inl given ↦
-          by_members trace is_run have clients laws joint facts operation among act is_act answer given.stamps reply
+          subst (λ (told : Verdict). CompletedAct trace operation reply told answer) (sym given.is)
+          (by_members trace is_run have clients laws joint facts operation among act is_act answer given.stamps reply
           (omega arith) (omega arith) done.members done.different done.within done.enough
           (All-weaker (Replied trace (reply - 1) operation.client operation.number done.round done.verdict)
           (HasAll trace operation act answer given.stamps (reply - 1))
           (has_by_verdict trace is_run have clients laws joint facts operation among act is_act answer given.stamps
-          (reply - 1) done.round done.verdict given.is) done.members done.replied)
+          (reply - 1) done.round done.verdict given.is) done.members done.replied))
       | inr already ↦
           let some : trace.setup.bounds < quorum trace.setup.bounds =
           quorum_outnumbers trace.setup.bounds (is_run.setup).some_faults in
@@ -502,6 +515,7 @@ completed_act trace is_run have clients laws joint facts operation among reply a
           let P : ℕ → Type 0 =
           Replied trace (reply - 1) operation.client operation.number done.round done.verdict in
           let one : (member : ℕ) × P member = some_member P done.members (omega (arith, some, enough)) done.replied in
-          by_already trace is_run have clients laws joint facts operation among act is_act answer reply (omega arith)
-          (omega arith) done.round done.verdict already one.0 one.1
+          subst (λ (told : Verdict). CompletedAct trace operation reply told answer) (sym already)
+          (by_already trace is_run have clients laws joint facts operation among act is_act answer reply (omega arith)
+          (omega arith) done.round done.verdict already one.0 one.1)
     ]

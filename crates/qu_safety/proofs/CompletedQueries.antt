@@ -246,6 +246,7 @@ tells_by_reply trace is_run have client number round before given answer told re
 abbrev asks_in : Body → List (ObjectId × Ask)
 asks_in (body.Act parts) = []
 asks_in (body.Ask parts) = parts
+asks_in (body.Mend target) = []
 
 -- ---- the point of the query
 
@@ -436,6 +437,9 @@ module _ (trace : Trace) (is_run : IsRun trace) (have : ArePlain trace) (clients
         mine.is_old object held under.is_held) accepted
         under.under in
         version_is trace laws joint is_run have at (omega arith) member mine.old mine.is_old object base
+        (facts.plain_base object base (entries_of object (culled_in mine.old mine.sets))
+        (ap (λ (bounds : ℕ). method_at bounds (entries_of object (culled_in mine.old mine.sets)))
+        (sym (bounds_are trace at member mine.old mine.is_old)) ∙ has.method) accepted)
         (ap (λ (it : Candidate). holds it (own_candidates mine.old object)) (sym is_base) ∙ under.is_held) has.version
         has.of_base
 

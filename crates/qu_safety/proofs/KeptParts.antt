@@ -1,5 +1,5 @@
 -- What a replica says when it tells Already: the version of an established candidate keeps the update, so that a
--- candidate of the update on the way to it is established too, and its version has the answer.
+-- candidate of the update on the way to it is decided, and its version has the answer.
 use Rattle.std.proofs.Common.{◌≡◌, ℕ, ◌+◌, ◌<◌, ◌≤◌, true, List, length, get_or, Some, sym, ap, subst, ◌∙◌, arith, inl, inr}
 use Rattle.std.proofs.lemmas.Option.{get_or_from_slice_get}
 use Rattle.qu_base.specs.declared.party.ClientId.{ClientId}
@@ -10,13 +10,11 @@ use Rattle.qu_base.specs.Bounds.{quorum}
 use Rattle.qu_stamp.specs.declared.candidate.Candidate.{Candidate}
 use Rattle.qu_history.specs.History.{holds}
 use Rattle.qu_history.specs.Sets.{entries_of, method_at}
-use Rattle.qu_chain.specs.Setting.{acceptors, IsAccepted, IsEstablished, IsAncestor}
+use Rattle.qu_chain.specs.Setting.{acceptors, IsEstablished}
 use Rattle.qu_chain.specs.Laws.{Laws}
 use Rattle.qu_chain.specs.Decided.{IsDecided}
 use Rattle.qu_chain.specs.Joint.{Joint}
-use Rattle.qu_chain.proofs.Ancestry.{accepted_by_attested, attested_by_established, established-later}
 use Rattle.qu_chain.proofs.Deciding.{decided_down}
-use Rattle.qu_chain.proofs.Parents.{rests}
 use Rattle.qu_objects.specs.declared.act.Method.{Method}
 use Rattle.qu_objects.specs.declared.answer.Answer.{Answer}
 use Rattle.qu_objects.specs.declared.state.KeptRow.{KeptRow}
@@ -44,11 +42,11 @@ use Rattle.qu_values.specs.Values.{HasVersion}
 use Rattle.qu_values.proofs.EverAccepted.{held_ever, quorum_ever}
 use Rattle.qu_values.proofs.RepliesInRuns.{act_of_update, update_brings, update_had}
 use Rattle.qu_values.proofs.StoredValues.{version_is}
-use Rattle.qu_values.proofs.UpdateFacts.{IsUnder, IsUpTo, IsWritten, UpdateFacts}
+use Rattle.qu_values.proofs.UpdateFacts.{IsUpTo, IsWritten, UpdateFacts}
 use Rattle.qu_values.proofs.Updates.{same_accepted}
-use Rattle.qu_values.proofs.UpdatesOfRuns.{opening_or_act, all_plain}
 
--- on an object, a candidate of the act that was decided and established by this time, whose version keeps the answer
+-- on an object, a candidate of the act that was decided by this time, whose version keeps the answer, and the
+-- established one that rests on it
 pub record KeptPart (trace : Trace) (client : ClientId) (number : ℕ) (parts : List (ObjectId × Method))
     (answer : Answer) (time : ℕ) (object : ObjectId) : Type 0 where
   pub candidate : Candidate
@@ -57,68 +55,18 @@ pub record KeptPart (trace : Trace) (client : ClientId) (number : ℕ) (parts : 
   pub has : HasVersion trace object candidate version
   pub keeps : Keeps client number (act_digest client number parts) answer version
   pub decided : IsDecided (setting trace) time object candidate
-  pub established : IsEstablished (setting trace) time object candidate
+  pub complete : Candidate
+  pub upon : IsUpTo trace object candidate complete
+  pub established : IsEstablished (setting trace) time object complete
 
 module _ (trace : Trace) (is_run : IsRun trace) (have : ArePlain trace) (laws : Laws (setting trace))
     (joint : Joint (setting trace)) (facts : UpdateFacts trace) where
-  -- ---- ancestors of what is established
-
-  accepted_then : (time : ℕ) (object : ObjectId) (candidate : Candidate)
-      → IsEstablished (setting trace) time object candidate → IsAccepted (setting trace) time object candidate
-  accepted_then time object candidate established =
-      accepted_by_attested (setting trace) laws time object candidate
-      (attested_by_established (setting trace) laws time object candidate established)
-
-  -- the prior of an established candidate is established
-  prior_established : (time : ℕ) → time ≤ (setting trace).last → (object : ObjectId) (first second : Candidate)
-      → IsEverAccepted trace object first → IsEverAccepted trace object second
-      → IsEstablished (setting trace) time object second → second.prior ≡ first.stamp
-      → IsEstablished (setting trace) time object first
-  prior_established time within object first second accepted also established prior =
-      elim (opening_or_act trace is_run have object second also) [
-        | inl begins ↦
-            let itself : second.prior ≡ second.stamp =
-            ap (λ (it : Candidate). it.prior) begins ∙ ap (λ (it : Candidate). it.stamp) (sym begins) in
-            subst (IsEstablished (setting trace) time object)
-            (same_accepted trace laws joint object second first also accepted (sym itself ∙ prior)) established
-        | inr is_act ↦
-            elim (rests (setting trace) laws joint time within object first second
-            (accepted_then time object second established) (all_plain trace is_run have object second also) accepted
-            prior) [
-              | inl same ↦ subst (IsEstablished (setting trace) time object) (sym same.0) established
-              | inr on ↦
-                  let before : on.first.time < time = on.first.within in
-                  established-later (setting trace) laws on.first.time time (omega (arith, before)) object first
-                  (on.settled is_act)
-            ]
-      ]
-
-  established_under : (time : ℕ) → time ≤ (setting trace).last → (object : ObjectId) (first second : Candidate)
-      → IsEverAccepted trace object first → IsEverAccepted trace object second
-      → IsEstablished (setting trace) time object second → IsUnder trace object first second
-      → IsEstablished (setting trace) time object first
-  established_under time within object first second accepted also established (IsAncestor.direct same prior) =
-      prior_established time within object first second accepted also established prior
-  established_under time within object first second accepted also established
-      (IsAncestor.through between same prior plain attested under) =
-      let ever : IsEverAccepted trace object between =
-      accepted_by_attested (setting trace) laws (setting trace).last object between attested in
-      established_under time within object first between accepted ever
-      (prior_established time within object between second ever also established prior) under
-
   -- ---- a candidate that is established by a time
 
   module _ (time : ℕ) (within : time ≤ (setting trace).last) (object : ObjectId) (base : Candidate)
-      (ever : IsEverAccepted trace object base) (established : IsEstablished (setting trace) time object base) where
-    up_to_established : (first : Candidate) → IsEverAccepted trace object first → IsUpTo trace object first base
-        → IsEstablished (setting trace) time object first
-    up_to_established first accepted (inl same) =
-        subst (IsEstablished (setting trace) time object) (sym same) established
-    up_to_established first accepted (inr under) =
-        established_under time within object first base accepted ever established under
-
+      (plain : (setting trace).plain base ≡ true) (established : IsEstablished (setting trace) time object base) where
     base_decided : IsDecided (setting trace) time object base
-    base_decided = IsDecided.established base (all_plain trace is_run have object base ever) established
+    base_decided = IsDecided.established base plain established
 
     up_to_decided : (first : Candidate) → IsEverAccepted trace object first → IsUpTo trace object first base
         → IsDecided (setting trace) time object first
@@ -167,6 +115,12 @@ module _ (trace : Trace) (is_run : IsRun trace) (have : ArePlain trace) (laws : 
     base_ever : IsEverAccepted trace object kept.base
     base_ever = quorum_ever trace laws at (omega arith) object kept.base base_shown
 
+    base_plain : (setting trace).plain kept.base ≡ true
+    base_plain =
+        facts.plain_base object kept.base (entries_of object (culled_in reply.old reply.sets))
+        (ap (λ (bounds : ℕ). method_at bounds (entries_of object (culled_in reply.old reply.sets)))
+        (sym (bounds_are trace at replica reply.old reply.is_old)) ∙ kept.method) base_ever
+
     -- the version that is found under its stamp is its own
     base_version : HasVersion trace object kept.base kept.version
     base_version =
@@ -179,6 +133,7 @@ module _ (trace : Trace) (is_run : IsRun trace) (have : ArePlain trace) (laws : 
         (held_ever trace laws at (omega arith) replica reply.old reply.is_old object under.held under.is_held)
         base_ever under.under in
         version_is trace laws joint is_run have at (omega arith) replica reply.old reply.is_old object kept.base
+        base_plain
         (subst (λ (it : Candidate). holds it (own_candidates reply.old object) ≡ true) is_base under.is_held)
         kept.version kept.of_base
 
@@ -200,8 +155,9 @@ module _ (trace : Trace) (is_run : IsRun trace) (have : ArePlain trace) (laws : 
           version = it.its;
           has = it.has;
           keeps = it.keeps;
-          decided = up_to_decided at (omega arith) object kept.base base_ever base_established it.first it.accepted
+          decided = up_to_decided at (omega arith) object kept.base base_plain base_established it.first it.accepted
               it.up_to;
-          established = up_to_established at (omega arith) object kept.base base_ever base_established it.first
-              it.accepted it.up_to;
+          complete = kept.base;
+          upon = it.up_to;
+          established = base_established;
         }

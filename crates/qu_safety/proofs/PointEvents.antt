@@ -12,11 +12,10 @@ use Rattle.qu_objects.specs.declared.op.Op.{Op}
 use Rattle.qu_objects.specs.declared.op.Op.TheVariants as op
 use Rattle.qu_objects.specs.declared.op.Outcome.{Outcome}
 use Rattle.qu_objects.specs.declared.op.Outcome.TheVariants as outcome
-use Rattle.qu_chain.specs.Setting.{IsNew}
+use Rattle.qu_chain.specs.Setting.{IsNew, IsAccepted}
 use Rattle.qu_chain.specs.Laws.{Laws}
 use Rattle.qu_chain.specs.Joint.{Joint}
-use Rattle.qu_chain.proofs.Ancestry.{accepted_by_decided}
-use Rattle.qu_chain.proofs.Parents.{first_new}
+use Rattle.qu_chain.proofs.Ancestry.{accepted_by_decided, Acceptor, acceptor}
 use Rattle.qu_chain.proofs.Tops.{newly}
 use Rattle.qu_chain.proofs.Updates.{one_update}
 use Rattle.qu_frames.specs.declared.frame.Body.{Body}
@@ -41,9 +40,8 @@ use Rattle.qu_safety.proofs.ActPoints.{IsTurnOf, turn_at}
 use Rattle.qu_values.proofs.Updates.{last_is, acts, one_of, opening_no_act}
 use Rattle.qu_values.proofs.UpdateFacts.{UpdateFacts, NoneIsRepeated}
 use Rattle.qu_values.proofs.OneAct.{ActsAreOne, one_made_for}
-use Rattle.qu_grounds.proofs.Handled.{accepted_made}
 use Rattle.qu_runs.specs.Digested.{IsMadeFor}
-use Rattle.qu_grounds.specs.Grounds.{Accepts, IsDelivered}
+use Rattle.qu_grounds.specs.Grounds.{Accepts, IsDelivered, AddsTo}
 use Rattle.qu_rounds.specs.Invocations.{IsRequestOf}
 use Rattle.qu_runs.specs.Times.{world_after}
 use Rattle.qu_points.specs.Order.{AnswersFirst, query_effect, effect_of, IsOperationPoint, IsFaultyPoint, IsPoint}
@@ -69,6 +67,11 @@ use Rattle.qu_base.specs.declared.bad_text.BadText.{BadText}
 use Rattle.qu_replica.specs.State.{ReplicaState}
 use Rattle.qu_base.specs.declared.party.Party.{Party}
 use Rattle.qu_base.specs.declared.party.Party.TheVariants as party
+use Rattle.qu_grounds.specs.Origins.{Origin}
+use Rattle.qu_grounds.proofs.Origins.{origin}
+use Rattle.qu_chain.proofs.Counting.{Found, found_at}
+use Rattle.qu_values.proofs.UpdatesOfRuns.{of_act, made_so}
+use Rattle.qu_runs.specs.Accepted.{accepts}
 
 -- ---- answers
 
@@ -239,18 +242,24 @@ module _ (trace : Trace) (is_run : IsRun trace) (have : ArePlain trace) (clients
 
   -- ---- updates
 
-  -- where a replica accepts a candidate it is handed the request of an act for which the candidate was made
-  record TakesAct (time : ℕ) (object : ObjectId) (candidate : Candidate) : Type 0 where
+  -- what a replica is asked is no query
+  abbrev IsNoQuery : Body → Type 0
+  IsNoQuery asks = (query : List (ObjectId × Ask)) → asks ≡ body.Ask query → ⊥
+
+  adds_no_query : (asks : Body) (object : ObjectId) → AddsTo asks object → IsNoQuery asks
+  adds_no_query (body.Act parts) object names query same = absurd (cc)
+  adds_no_query (body.Ask parts) object never query same = never
+  adds_no_query (body.Mend target) object is query same = absurd (cc)
+
+  -- where a replica accepts a candidate it is handed the request of an act or of a repair
+  record TakesRequest (time : ℕ) : Type 0 where
     client : ClientId
     number : ℕ
-    parts : List (ObjectId × Method)
     asked : IsAskedAt trace time client number
-    is_act : asked.asks ≡ body.Act parts
-    made : IsMadeFor trace candidate client number parts
+    no_query : IsNoQuery asked.asks
 
   accepts_asked : (time : ℕ) (object : ObjectId) (place : ℕ) (candidate : Candidate)
-      → IsNew (setting trace) time object place candidate → time < length trace.entries
-      → TakesAct time object candidate
+      → IsNew (setting trace) time object place candidate → time < length trace.entries → TakesRequest time
   accepts_asked time object place candidate new within =
       let accepted : Acceptance trace time object place candidate =
       acceptance_of trace is_run have time object place candidate new in
@@ -260,7 +269,6 @@ module _ (trace : Trace) (is_run : IsRun trace) (have : ArePlain trace) (clients
       record {
         client = one.client;
         number = one.number;
-        parts = one.parts;
         asked = record {
           within = within;
           place = place;
@@ -270,72 +278,113 @@ module _ (trace : Trace) (is_run : IsRun trace) (have : ArePlain trace) (clients
           is_handed = ap (handed (world_after trace time)) (sym accepted.event_is) ∙ delivered.is_handed;
           round = one.round;
           sets = one.sent;
-          asks = body.Act one.parts;
+          asks = one.asks;
           mac = one.mac;
           brings = delivered.brings ∙ ap (λ (it : Frame). Some it) one.is_request;
         };
-        is_act = refl;
-        made = accepted_made trace is_run time within object place candidate accepted;
+        no_query = adds_no_query one.asks object delivered.adds;
       }
+
+  -- where an operation's candidate was made, a replica was handed the request of its update
+  record MakesAct (time : ℕ) (candidate : Candidate) : Type 0 where
+    client : ClientId
+    number : ℕ
+    parts : List (ObjectId × Method)
+    asked : IsAskedAt trace time client number
+    made : IsMadeFor trace candidate client number parts
+
+  makes_asked : (object : ObjectId) (candidate : Candidate) (count : ℕ) → count ≤ length trace.entries
+      → (came : Origin trace count object candidate)
+      → (setting trace).is_act candidate ≡ true → MakesAct came.past candidate
+  makes_asked object candidate count within came is_act =
+      let one : Accepts came.old came.new (came.delivered).carried = (came.delivered).accepts in
+      let earlier : came.past < count = came.earlier in
+      record {
+        client = one.client;
+        number = one.number;
+        parts = (of_act trace is_run have count within object candidate came is_act).parts;
+        asked = record {
+          within = omega arith;
+          place = came.place;
+          old = came.old;
+          is_old = came.is_old;
+          text = (came.delivered).text;
+          is_handed = ap (λ (it : Entry). handed (world_after trace came.past) it.event)
+              (get_or_from_slice_get trace.entries came.past came.entry some_entry came.is_entry)
+              ∙ ap (handed (world_after trace came.past)) (sym came.event_is) ∙ (came.delivered).is_handed;
+          round = one.round;
+          sets = one.sent;
+          asks = one.asks;
+          mac = one.mac;
+          brings = (came.delivered).brings ∙ ap (λ (it : Frame). Some it) one.is_request;
+        };
+        made = made_so trace is_run have count within object candidate came is_act;
+      }
+
+  -- an operation's candidate that is accepted by this time was made before
+  made_before : (time : ℕ) → time ≤ length trace.entries → (object : ObjectId) (candidate : Candidate)
+      → IsAccepted (setting trace) time object candidate → (setting trace).is_act candidate ≡ true
+      → (past : ℕ) × (past < time) × MakesAct past candidate
+  unfolding setting
+  made_before time within object candidate accepted is_act =
+      let who : Acceptor (setting trace) time object candidate = acceptor (setting trace) time object candidate accepted in
+      let found : Found (accepts object candidate) (world_after trace time).replicas who.replica =
+      found_at (accepts object candidate) (world_after trace time).replicas who.replica who.accepted in
+      elim (origin trace is_run have time within who.replica found.item found.is_at object candidate found.passed) [
+        | inl begins ↦ absurd (opening_no_act trace candidate begins is_act)
+        | inr came ↦ (came.past, came.earlier, makes_asked object candidate time within came is_act)
+      ]
 
   module _ (one_act : ActsAreOne trace) (laws : Laws (setting trace)) (joint : Joint (setting trace))
       (facts : UpdateFacts trace) (once : NoneIsRepeated trace) where
     abbrev update_of : OpRecord → List (ObjectId × Method) → Update
     update_of operation parts = record { client = operation.client; number = operation.number; parts = parts }
 
-    -- the event of such a step hands over the request of an act
+    -- the event of such a step hands over a request that is no query's
     turn_asked : (time : ℕ) (update : Update) → (turn : IsTurnOf trace laws joint one_act facts once time update)
-        → (object : ObjectId) × (candidate : Candidate) × TakesAct time object candidate
+        → TakesRequest time
     turn_asked time update it =
         let within : time < (setting trace).last = (it.turn).within in
         elim (newly (setting trace) laws joint time within it.object it.candidate (it.turn).after) [
           | inl before ↦ absurd ((it.turn).before before)
-          | inr under ↦ (
-            it.object,
-            under.given,
-            accepts_asked time it.object under.replica under.given under.new (omega (arith, last_is trace, within)),
-          )
+          | inr under ↦
+              accepts_asked time it.object under.replica under.given under.new (omega (arith, last_is trace, within))
         ]
 
-    -- an update began before the step that decides it: before its candidate was accepted first
+    -- an update began before the step that decides it: before its candidate was made
     turn_begun : (time : ℕ) (operation : OpRecord) → Contains (operations_of trace.entries) operation
         → (parts : List (ObjectId × Method))
         → IsTurnOf trace laws joint one_act facts once time (update_of operation parts) → operation.invoked ≤ time
     turn_begun time operation among parts it =
         let within : time < (setting trace).last = (it.turn).within in
-        elim (first_new (setting trace) laws (suc time) within it.object it.candidate
-        (accepted_by_decided (setting trace) laws (suc time) it.object it.candidate (it.turn).after)) [
-          | inl begins ↦
-              absurd (opening_no_act trace it.candidate begins
-              (acts trace (update_of operation parts) it.object it.candidate it.is_of))
-          | inr first ↦
-              let earlier : first.time < suc time = first.within in
-              let upon : TakesAct first.time it.object it.candidate =
-              accepts_asked first.time it.object first.replica it.candidate first.new
-              (omega (arith, last_is trace, within, earlier)) in
-              let asked : IsAskedAt trace first.time upon.client upon.number = upon.asked in
-              let same =
-              one_made_for trace one_act it.candidate upon.client operation.client upon.number operation.number
-              upon.parts parts upon.made (it.is_of).made in
-              let letter : AskedBy trace first.time upon.client upon.number asked.round asked.sets asked.asks =
-              asked_by_letter trace have first.time upon.client upon.number asked
-              (ap (λ (who : ClientId). is_faulty trace.setup (party.Client who)) same.0
-              ∙ own_client trace is_run operation among) in
-              let request : IsRequestOf trace first.time upon.client upon.number asked.asks =
-              clients.asks first.time letter.asked letter.letter upon.client upon.number asked.round asked.sets
-              asked.asks (record {
-                within = omega (arith, last_is trace, within, earlier);
-                is_letter = letter.is_letter;
-                is_request = letter.is_request;
-              }) in
-              let begun : (request.operation).invoked ≤ first.time = request.begun in
-              let records : request.operation ≡ operation =
-              recorded_op trace request.operation operation request.of_trace among
-              (ap (λ (who : ClientId). who.0) (request.of_client ∙ same.0)) (request.of_number ∙ same.1) in
-              let invoked : operation.invoked ≤ first.time =
-              subst (λ (one : OpRecord). one.invoked ≤ first.time) records begun in
-              omega arith
-        ]
+        let made = made_before (suc time) (omega (arith, last_is trace, within)) it.object it.candidate
+        (accepted_by_decided (setting trace) laws (suc time) it.object it.candidate (it.turn).after)
+        (acts trace (update_of operation parts) it.object it.candidate it.is_of) in
+        let past : ℕ = made.0 in
+        let earlier : past < suc time = made.1 in
+        let upon : MakesAct past it.candidate = made.2 in
+        let asked : IsAskedAt trace past upon.client upon.number = upon.asked in
+        let same =
+        one_made_for trace one_act it.candidate upon.client operation.client upon.number operation.number
+        upon.parts parts upon.made (it.is_of).made in
+        let letter : AskedBy trace past upon.client upon.number asked.round asked.sets asked.asks =
+        asked_by_letter trace have past upon.client upon.number asked
+        (ap (λ (who : ClientId). is_faulty trace.setup (party.Client who)) same.0
+        ∙ own_client trace is_run operation among) in
+        let request : IsRequestOf trace past upon.client upon.number asked.asks =
+        clients.asks past letter.asked letter.letter upon.client upon.number asked.round asked.sets
+        asked.asks (record {
+          within = omega (arith, last_is trace, within, earlier);
+          is_letter = letter.is_letter;
+          is_request = letter.is_request;
+        }) in
+        let begun : (request.operation).invoked ≤ past = request.begun in
+        let records : request.operation ≡ operation =
+        recorded_op trace request.operation operation request.of_trace among
+        (ap (λ (who : ClientId). who.0) (request.of_client ∙ same.0)) (request.of_number ∙ same.1) in
+        let invoked : operation.invoked ≤ past =
+        subst (λ (one : OpRecord). one.invoked ≤ past) records begun in
+        omega arith
 
     -- ---- points
 
@@ -400,16 +449,10 @@ module _ (trace : Trace) (is_run : IsRun trace) (have : ArePlain trace) (clients
         → (query : List (ObjectId × Ask)) → operation.op ≡ op.Query query
         → IsAskedAt trace time operation.client operation.number → ⊥
     not_both time update turn operation among query is asked =
-        let found = turn_asked time update turn in
-        let upon : TakesAct time found.0 found.1 = found.2 in
-        different upon.parts query
-        (sym upon.is_act
-        ∙ (one_asked trace time upon.client operation.client upon.number operation.number upon.asked asked).2
+        let upon : TakesRequest time = turn_asked time update turn in
+        upon.no_query query
+        ((one_asked trace time upon.client operation.client upon.number operation.number upon.asked asked).2
         ∙ (asks_for trace is_run have clients time operation among asked).same ∙ ap body_of is)
-      where
-        different : (parts : List (ObjectId × Method)) (query : List (ObjectId × Ask))
-            → body.Act parts ≡ body.Ask query → ⊥
-        different parts query same = absurd (cc)
 
     one_takes : (time : ℕ) (first second : OpRecord) → Contains (operations_of trace.entries) first
         → Contains (operations_of trace.entries) second → Takes time first → Takes time second

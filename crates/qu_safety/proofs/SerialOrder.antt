@@ -52,6 +52,7 @@ use Rattle.qu_safety.proofs.PointEvents.{point_bounds, one_point, points_apart}
 use Rattle.qu_safety.proofs.SerialFields.{is_point_at, point_at_place, points_known, points_faulty, stand_at_most_once, stands_of}
 use Rattle.qu_values.proofs.Updates.{last_is, acts, one_of, one_companion}
 use Rattle.qu_values.proofs.UpdateFacts.{befores, IsPerformed, UpdateFacts, NoneIsRepeated}
+use Rattle.qu_rounds.specs.Completions.{IsCompleted}
 
 -- a member of a list stands at a place
 record PlaceOf (order : List Point) (point : Point) : Type 0 where
@@ -120,8 +121,10 @@ module _ (trace : Trace) (is_run : IsRun trace) (have : ArePlain trace) (clients
       → (reply : ℕ) (answer : Answer) → operation.reply ≡ Some (reply, outcome.Done answer)
       → (what : Op) → operation.op ≡ what → StandsBefore trace operation reply
   stands_before operation among reply answer replied (op.Act act) is =
-      let it : CompletedAct trace operation reply answer =
-      completed_act trace is_run have clients laws joint facts operation among reply answer replied act is in
+      let quorum_is : IsCompleted trace operation reply answer =
+      clients.completes operation among reply answer replied in
+      let it : CompletedAct trace operation reply quorum_is.verdict answer =
+      completed_act trace is_run have clients laws joint facts operation among reply answer replied quorum_is act is in
       act_has_point trace laws joint one_act facts once operation among (own operation among) it.parts it.is_act reply
       it.begins it.within
       it.object it.candidate it.is_of it.decided
@@ -201,8 +204,11 @@ module _ (trace : Trace) (is_run : IsRun trace) (have : ArePlain trace) (clients
       → answer_at trace.setup.kinds order at point ≡ answer
   act_answers operation reply answer among completes act is_act at point here time same =
       let it : IsOperationPoint trace point = point_at_place trace order printed operation at point here in
-      let done : CompletedAct trace operation reply answer =
-      completed_act trace is_run have clients laws joint facts operation among reply answer completes act is_act in
+      let quorum_is : IsCompleted trace operation reply answer =
+      clients.completes operation among reply answer completes in
+      let done : CompletedAct trace operation reply quorum_is.verdict answer =
+      completed_act trace is_run have clients laws joint facts operation among reply answer completes quorum_is act is_act
+      in
       let operations : it.operation ≡ operation = stands_of trace order printed operation among point here.stands it in
       let effect : effect_of trace operation point.event operation.op =
       subst (λ (one : OpRecord). effect_of trace one point.event one.op) operations it.effect in

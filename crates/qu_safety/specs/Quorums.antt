@@ -23,22 +23,35 @@ use Rattle.qu_trace.specs.Operation.{operations_of}
 use Rattle.qu_rounds.specs.Completions.{RepliedAt, IsCompleted}
 use Rattle.qu_runs.specs.Accepted.{accepts}
 use Rattle.qu_runs.specs.Times.{world_after}
+use Rattle.qu_chain.specs.Setting.{IsAncestor}
+use Rattle.qu_runs.specs.Setting.{setting}
+use Rattle.qu_frames.specs.declared.verdict.Verdict.{Verdict}
+use Rattle.std.proofs.Common.{◌⊎◌}
+
+-- what the quorum accepted is the act's candidate; where the act is told to be done already, it is that, or a later one
+-- which rests on it
+abbrev pub StandsUpon : Trace → Verdict → ObjectId → Candidate → Candidate → Type 0
+StandsUpon trace (verdict.Already answer) object candidate complete =
+    (candidate ≡ complete) ⊎ IsAncestor (setting trace) (setting trace).last object candidate complete
+StandsUpon trace _ object candidate complete = candidate ≡ complete
 
 -- so many correct replicas had accepted a candidate of the act, on this object, before the event of its reply, that
 -- with b more they are a quorum (Query/Update: a complete candidate)
 pub record PartOfQuorum (trace : Trace) (operation : OpRecord) (parts : List (ObjectId × Method)) (reply : ℕ)
-    (object : ObjectId) : Type 0 where
+    (told : Verdict) (object : ObjectId) : Type 0 where
   pub candidate : Candidate
   pub of_client : candidate.stamp.client ≡ operation.client
   pub of_act : candidate.stamp.act ≡ Some (act_digest operation.client operation.number parts)
-  pub accepted : quorum trace.setup.bounds ≤ count_by (accepts object candidate)
+  pub complete : Candidate
+  pub upon : StandsUpon trace told object candidate complete
+  pub accepted : quorum trace.setup.bounds ≤ count_by (accepts object complete)
       (world_after trace (reply - 1)).replicas + trace.setup.bounds
 
 -- on each of its objects, of which there are some
 pub record ActOfQuorum (trace : Trace) (operation : OpRecord) (parts : List (ObjectId × Method)) (reply : ℕ)
-    : Type 0 where
+    (told : Verdict) : Type 0 where
   pub some : 1 ≤ length parts
-  pub each : All (λ (part : ObjectId × Method). PartOfQuorum trace operation parts reply part.0) parts
+  pub each : All (λ (part : ObjectId × Method). PartOfQuorum trace operation parts reply told part.0) parts
 
 -- the replica told this answer to the query, from the versions with these stamps, and had then accepted
 -- nothing above them (Query/Update)
@@ -66,13 +79,15 @@ pub record QueryOfQuorum (trace : Trace) (operation : OpRecord) (parts : List (O
   pub enough : quorum trace.setup.bounds ≤ length members + trace.setup.bounds
   pub told : All (ToldFrom trace operation reply round stamps answer) members
 
-abbrev pub IsOfQuorum : Trace → OpRecord → ℕ → Answer → Op → Type 0
-IsOfQuorum trace operation reply answer (op.Act parts) = ActOfQuorum trace operation parts reply
-IsOfQuorum trace operation reply answer (op.Query query) = QueryOfQuorum trace operation query reply answer
+-- an operation that was told this verdict, with this answer
+abbrev pub IsOfQuorum : Trace → OpRecord → ℕ → Verdict → Answer → Op → Type 0
+IsOfQuorum trace operation reply told answer (op.Act parts) = ActOfQuorum trace operation parts reply told
+IsOfQuorum trace operation reply told answer (op.Query query) = QueryOfQuorum trace operation query reply answer
 
 -- each completed operation of a run
 abbrev pub CompletesByQuorums : Trace → Type 0
 CompletesByQuorums trace = (operation : OpRecord) (reply : ℕ) (answer : Answer) → Contains (operations_of trace.entries)
     operation
     → Completes operation reply answer
-    → IsCompleted trace operation reply answer × IsOfQuorum trace operation reply answer operation.op
+    → (done : IsCompleted trace operation reply answer)
+    × IsOfQuorum trace operation reply done.verdict answer operation.op

@@ -20,8 +20,8 @@ use Rattle.qu_values.specs.Values.{RestsOn, HasVersion}
 use Rattle.qu_grounds.specs.Parts.{Names, values_of}
 use Rattle.qu_values.proofs.OneAct.{ActsAreOne}
 use Rattle.qu_values.proofs.UpdateFacts.{ValueStep, befores, afters, IsStep, IsPerformed, UpdateFacts}
-use Rattle.qu_values.proofs.Updates.{acts, opening_no_act, one_of, same_accepted, one_companion, one_act_of}
-use Rattle.qu_values.proofs.Values.{same_values, values_same, row_upon, IsUpdated, version_cases, value_after, own_row}
+use Rattle.qu_values.proofs.Updates.{acts, one_of, same_accepted, one_companion, one_act_of}
+use Rattle.qu_values.proofs.Values.{same_values, values_same, row_upon, IsUpdated, value_after, own_row, updated}
 
 -- ---- steps of a list of parts
 
@@ -148,10 +148,7 @@ module _ (trace : Trace) (laws : Laws (setting trace)) (joint : Joint (setting t
         let stored : (it : ObjState) × HasVersion trace other companion it =
         facts.stored other companion rest.accepted is_act in
         let mine : IsUpdated trace other companion stored.0 =
-        elim (version_cases trace other companion stored.0 stored.1) [
-          | inl fresh ↦ absurd (opening_no_act trace companion fresh.is_opening is_act)
-          | inr it ↦ it
-        ] in
+        updated trace other companion stored.0 stored.1 is_act in
         record {
           companion = companion;
           is_companion = rest.is_companion;
@@ -185,10 +182,8 @@ module _ (trace : Trace) (laws : Laws (setting trace)) (joint : Joint (setting t
       let is_act : (setting trace).is_act candidate ≡ true = acts trace update object candidate is_of in
       let stored : (it : ObjState) × HasVersion trace object candidate it =
       facts.stored object candidate accepted is_act in
-      elim (version_cases trace object candidate stored.0 stored.1) [
-        | inl fresh ↦ absurd (opening_no_act trace candidate fresh.is_opening is_act)
-        | inr made ↦
-            subst (λ (it : Update). IsPerformed trace it object candidate)
-            (one_of trace one_act made.update update object candidate made.is_of is_of)
-            (by_made object candidate accepted stored.0 made)
-      ]
+      let made : IsUpdated trace object candidate stored.0 =
+      updated trace object candidate stored.0 stored.1 is_act in
+      subst (λ (it : Update). IsPerformed trace it object candidate)
+      (one_of trace one_act made.update update object candidate made.is_of is_of)
+      (by_made object candidate accepted stored.0 made)

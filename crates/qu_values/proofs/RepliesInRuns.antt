@@ -31,7 +31,7 @@ use Rattle.qu_values.specs.Replies.{culled_in, TellsDone, TellsAlready, TellsQue
 use Rattle.qu_runs.specs.Plain.{ArePlain}
 use Rattle.qu_grounds.proofs.HeldInRuns.{held_versions}
 use Rattle.qu_grounds.proofs.HeldVersions.{AreOfHeld}
-use Rattle.qu_values.proofs.TrueReplies.{done_is_true, already_is_true, act_is_not_told, told_is_true, query_is_no_update, update_is_known}
+use Rattle.qu_values.proofs.TrueReplies.{done_is_true, already_is_true, act_is_not_told, told_is_true, query_is_no_update, update_is_known, mend_is_not_told, mend_is_no_update}
 use Rattle.qu_runs.specs.Carried.{Brings}
 use Rattle.qu_frames.specs.declared.frame.Frame.TheVariants as frame
 
@@ -102,11 +102,15 @@ module _ (state : ReplicaState) (client : ClientId) (number : ℕ) (sets : List 
       record { parts = parts; is_act = refl; some = some_parts parts some }
   update_to_act given of_update (body.Ask query) some decided =
       absurd (query_no_update given of_update query some decided)
+  update_to_act given of_update (body.Mend target) some decided =
+      absurd (mend_is_no_update state client number sets target accepted given of_update decided)
 
   told_to_ask : (stamps : List (ObjectId × Stamp)) (answer : Answer) (asks : Body) → IsTrue (has_parts asks)
       → Decides asks (verdict.Told stamps answer) → IsAskOf asks
   told_to_ask stamps answer (body.Act parts) some decided = absurd (act_not_told stamps answer parts some decided)
   told_to_ask stamps answer (body.Ask query) some decided = record { query = query; is_ask = refl }
+  told_to_ask stamps answer (body.Mend target) some decided =
+      absurd (mend_is_not_told state client number sets target accepted stamps answer decided)
 
 -- ---- replies
 

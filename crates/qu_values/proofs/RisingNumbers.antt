@@ -2,7 +2,7 @@
 -- that keep none of its client's numbers from its own on, and a version keeps the number of its client. So no update is
 -- done upon itself, whoever is faulty; and the rows of a version are those of updates on the way to it.
 use Rattle.std.proofs.Common.{◌≡◌, ℕ, ◌<◌, ◌≤◌, true, Option, Some, refl, sym, ap, subst, ◌∙◌, arith, inl, inr}
-use Rattle.std.proofs.lemmas.Bool.{cases_eq}
+use Rattle.std.proofs.lemmas.Bool.{cases_eq, false≢true}
 use Rattle.std.proofs.lemmas.Option.{none-some, same_Some}
 use Rattle.qu_base.specs.declared.party.ClientId.{ClientId}
 use Rattle.qu_base.specs.declared.party.ObjectId.{ObjectId}
@@ -24,7 +24,8 @@ use Rattle.qu_values.specs.Values.{RestsOn, HasVersion}
 use Rattle.qu_values.proofs.OneAct.{ActsAreOne}
 use Rattle.qu_values.proofs.UpdateFacts.{IsUnder, IsUpTo, IsWritten, NoneIsRepeated}
 use Rattle.qu_values.proofs.Updates.{acts, opening_no_act, one_of, same_accepted}
-use Rattle.qu_values.proofs.Values.{row_upon, IsUpdated, version_induction, version_cases, own_row, other_row, own_rest, own_prior}
+use Rattle.qu_values.proofs.Values.{row_upon, IsUpdated, version_induction, version_cases, own_row, other_row, own_rest, own_prior, updated, not_opening, IsCopyOf}
+use Rattle.qu_stamp.specs.Stamp.{is_below}
 
 -- a row of the client with a number from this one on
 abbrev pub KeepsFrom : ClientId → ℕ → ObjState → Type 0
@@ -149,6 +150,17 @@ module _ (trace : Trace) (laws : Laws (setting trace)) (joint : Joint (setting t
           still_keeps update.client update.number
           (so_far first update accepted is_of (up_to_base first accepted under))
 
+    -- a copy is of no update, and keeps what its base keeps
+    keeps_copied : (object : ObjectId) (candidate : Candidate) (state : ObjState)
+        (copy : IsCopyOf trace object candidate state) → KeepsAll object copy.base state
+        → KeepsAll object candidate state
+    keeps_copied object candidate state copy so_far first update accepted is_of (inl same) =
+        absurd (false≢true (sym copy.no_act ∙ ap (setting trace).is_act (sym same)
+        ∙ acts trace update object first is_of))
+    keeps_copied object candidate state copy so_far first update accepted is_of (inr under) =
+        so_far first update accepted is_of
+        (by_base object first candidate copy.base accepted copy.base_accepted copy.prior under)
+
     pub keeps : (object : ObjectId) (candidate : Candidate) (state : ObjState)
         → HasVersion trace object candidate state → IsEverAccepted trace object candidate
         → KeepsAll object candidate state
@@ -157,6 +169,7 @@ module _ (trace : Trace) (laws : Laws (setting trace)) (joint : Joint (setting t
         IsEverAccepted trace on it → KeepsAll on it version)
         (λ on it version fresh also first update ever is_of up_to.
         absurd (none_up_to_opening on first it update ever is_of also fresh.is_opening up_to))
+        (λ on it version copy so_far also. keeps_copied on it version copy (so_far copy.base_accepted))
         (λ on it version made so_far also.
         keeps_after on it version made
         (so_far on (made.is_of).names (own_rest trace on it version made).base_accepted))
@@ -164,9 +177,10 @@ module _ (trace : Trace) (laws : Laws (setting trace)) (joint : Joint (setting t
 
     -- ---- numbers rise
 
+    -- accepted candidates of operations have a version
     abbrev pub AreStored : Type 0
     AreStored = (object : ObjectId) (candidate : Candidate) → IsEverAccepted trace object candidate
-        → (state : ObjState) × HasVersion trace object candidate state
+        → (setting trace).is_act candidate ≡ true → (state : ObjState) × HasVersion trace object candidate state
 
     rises_to : (object : ObjectId) (first second : Candidate) (update later : Update) (state : ObjState)
         → IsUpdated trace object second state → IsOf trace update object first → IsEverAccepted trace object first
@@ -187,21 +201,88 @@ module _ (trace : Trace) (laws : Laws (setting trace)) (joint : Joint (setting t
 
     pub numbers_rise : AreStored → NumbersRise trace
     numbers_rise stored object first second update later is_of accepted is_later also under clients =
-        let it : (state : ObjState) × HasVersion trace object second state = stored object second also in
-        elim (version_cases trace object second it.0 it.1) [
-          | inl fresh ↦ absurd (opening_no_act trace second fresh.is_opening (acts trace later object second is_later))
-          | inr made ↦
-              rises_to object first second update later it.0 made is_of accepted is_later under clients
-        ]
+        let is_act : (setting trace).is_act second ≡ true = acts trace later object second is_later in
+        let it : (state : ObjState) × HasVersion trace object second state = stored object second also is_act in
+        rises_to object first second update later it.0 (updated trace object second it.0 it.1 is_act) is_of accepted
+        is_later under clients
 
     -- ---- rows are those of updates
 
-    -- where accepted candidates have no barrier
-    module _ (all_plain : (object : ObjectId) (candidate : Candidate) → IsEverAccepted trace object candidate
-        → (setting trace).plain candidate ≡ true) where
+    -- where accepted candidates of operations have no barrier
+    module _ (plain_acts : (object : ObjectId) (candidate : Candidate) → IsEverAccepted trace object candidate
+        → (setting trace).is_act candidate ≡ true → (setting trace).plain candidate ≡ true) where
+      abbrev last : ℕ
+      last = (setting trace).last
+
+      -- what has a version has no barrier
+      versioned_plain : (object : ObjectId) (candidate : Candidate) (state : ObjState)
+          → HasVersion trace object candidate state → IsEverAccepted trace object candidate
+          → (setting trace).plain candidate ≡ true
+      versioned_plain object candidate state has accepted =
+          elim (version_cases trace object candidate state has) [
+            | inl fresh ↦ ap (setting trace).plain fresh.is_opening ∙ laws.opens
+            | inr later ↦ elim (later) [
+              | inl copy ↦ copy.plain
+              | inr made ↦ plain_acts object candidate accepted (acts trace made.update object candidate made.is_of)
+            ]
+          ]
+
+      -- the base of an accepted candidate that is not the opening one is attested
+      base_attested : (object : ObjectId) (candidate lower : Candidate) → IsEverAccepted trace object candidate
+          → (setting trace).plain candidate ≡ true → is_below candidate.prior candidate.stamp ≡ true
+          → IsEverAccepted trace object lower → candidate.prior ≡ lower.stamp
+          → IsAttested (setting trace) last object lower
+      base_attested object candidate lower accepted plain below base_accepted prior =
+          elim (rests (setting trace) laws joint last (omega arith) object lower candidate accepted plain base_accepted
+          prior) [
+            | inl opens ↦ absurd (not_opening candidate below opens.1)
+            | inr on ↦
+                let within : on.first.time < last = on.first.within in
+                attested-later (setting trace) laws on.first.time last (omega arith) object lower on.attested
+          ]
+
+      -- what is up to the base is under the candidate
+      on_base : (object : ObjectId) (candidate lower first : Candidate) → IsEverAccepted trace object candidate
+          → (setting trace).plain candidate ≡ true → is_below candidate.prior candidate.stamp ≡ true
+          → IsEverAccepted trace object lower → (setting trace).plain lower ≡ true → candidate.prior ≡ lower.stamp
+          → IsUpTo trace object first lower → IsUnder trace object first candidate
+      on_base object candidate lower first accepted plain below base_accepted plain_base prior (inl same) =
+          IsAncestor.direct candidate (prior ∙ ap (λ (it : Candidate). it.stamp) (sym same))
+      on_base object candidate lower first accepted plain below base_accepted plain_base prior (inr under) =
+          IsAncestor.through lower candidate prior plain_base
+          (base_attested object candidate lower accepted plain below base_accepted prior) under
+
       abbrev AreWritten : ObjectId → Candidate → ObjState → Type 0
       AreWritten object candidate state = (client : ClientId) (row : KeptRow) → row_of client state.kept ≡ Some row
           → IsWritten trace object candidate client row
+
+      -- what wrote a row of the base wrote it of what rests on the base
+      written_under : (object : ObjectId) (lower candidate : Candidate) (client : ClientId) (row : KeptRow)
+          → ((first : Candidate) → IsUpTo trace object first lower → IsUnder trace object first candidate)
+          → IsWritten trace object lower client row → IsWritten trace object candidate client row
+      written_under object lower candidate client row under it = record {
+        first = it.first;
+        up_to = inr (under it.first it.up_to);
+        accepted = it.accepted;
+        update = it.update;
+        is_of = it.is_of;
+        of_client = it.of_client;
+        of_number = it.of_number;
+        of_act = it.of_act;
+        its = it.its;
+        has = it.has;
+        keeps = it.keeps;
+      }
+
+      written_copied : (object : ObjectId) (candidate : Candidate) (state : ObjState)
+          (copy : IsCopyOf trace object candidate state) → IsEverAccepted trace object candidate
+          → AreWritten object copy.base state → AreWritten object candidate state
+      written_copied object candidate state copy accepted so_far client row found =
+          written_under object copy.base candidate client row
+          (λ first up_to.
+          on_base object candidate copy.base first accepted copy.plain copy.below copy.base_accepted
+          (versioned_plain object copy.base state copy.has copy.base_accepted) copy.prior up_to)
+          (so_far client row found)
 
       module _ (object : ObjectId) (candidate : Candidate) (state : ObjState)
           (made : IsUpdated trace object candidate state) (has : HasVersion trace object candidate state)
@@ -209,29 +290,13 @@ module _ (trace : Trace) (laws : Laws (setting trace)) (joint : Joint (setting t
         abbrev rest : RestsOn trace object candidate object (made.bases object)
         rest = own_rest trace object candidate state made
 
-        abbrev last : ℕ
-        last = (setting trace).last
-
-        base_attested : IsAttested (setting trace) last object (made.bases object)
-        base_attested =
-            elim (rests (setting trace) laws joint last (omega arith) object (made.bases object) candidate accepted
-            (all_plain object candidate accepted) rest.base_accepted (own_prior trace object candidate state made)) [
-              | inl opens ↦
-                  absurd (opening_no_act trace candidate opens.1 (acts trace made.update object candidate made.is_of))
-              | inr on ↦
-                  let within : on.first.time < last = on.first.within in
-                  attested-later (setting trace) laws on.first.time last (omega arith) object (made.bases object)
-                  on.attested
-            ]
-
-        on_base : (first : Candidate) → IsUpTo trace object first (made.bases object)
+        under_base : (first : Candidate) → IsUpTo trace object first (made.bases object)
             → IsUnder trace object first candidate
-        on_base first (inl same) =
-            IsAncestor.direct candidate (own_prior trace object candidate state made
-            ∙ ap (λ (it : Candidate). it.stamp) (sym same))
-        on_base first (inr under) =
-            IsAncestor.through (made.bases object) candidate (own_prior trace object candidate state made)
-            (all_plain object (made.bases object) rest.base_accepted) base_attested under
+        under_base first up_to =
+            on_base object candidate (made.bases object) first accepted
+            (versioned_plain object candidate state has accepted) made.below rest.base_accepted
+            (versioned_plain object (made.bases object) (made.befores object) (made.has object (made.is_of).names)
+            rest.base_accepted) (own_prior trace object candidate state made) up_to
 
         written_own : (client : ClientId) (row : KeptRow) → client ≡ (made.update).client
             → row_of client state.kept ≡ Some row → IsWritten trace object candidate client row
@@ -256,19 +321,7 @@ module _ (trace : Trace) (laws : Laws (setting trace)) (joint : Joint (setting t
 
         written_before : (client : ClientId) (row : KeptRow) → IsWritten trace object (made.bases object) client row
             → IsWritten trace object candidate client row
-        written_before client row it = record {
-          first = it.first;
-          up_to = inr (on_base it.first it.up_to);
-          accepted = it.accepted;
-          update = it.update;
-          is_of = it.is_of;
-          of_client = it.of_client;
-          of_number = it.of_number;
-          of_act = it.of_act;
-          its = it.its;
-          has = it.has;
-          keeps = it.keeps;
-        }
+        written_before client row it = written_under object (made.bases object) candidate client row under_base it
 
         written_after : AreWritten object (made.bases object) (made.befores object) → AreWritten object candidate state
         written_after so_far client row found =
@@ -287,6 +340,8 @@ module _ (trace : Trace) (laws : Laws (setting trace)) (joint : Joint (setting t
           HasVersion trace on it version → IsEverAccepted trace on it → AreWritten on it version)
           (λ on it version fresh given also client row found.
           absurd (none-some row (sym (ap (λ (one : ObjState). row_of client one.kept) fresh.fresh) ∙ found)))
+          (λ on it version copy so_far given also.
+          written_copied on it version copy also (so_far copy.has copy.base_accepted))
           (λ on it version made so_far given also.
           written_after on it version made given also
           (so_far on (made.is_of).names (made.has on (made.is_of).names)

@@ -1,5 +1,5 @@
 -- What a verdict says is true of the replica that gives it.
-use Rattle.std.proofs.Common.{◌≡◌, ℕ, ◌<◌, Bool, true, false, ◌&&◌, cond, List, [], ◌∷◌, length, Option, None, Some, inl, inr, refl, sym, subst, ap, ◌∙◌, arith}
+use Rattle.std.proofs.Common.{◌≡◌, ℕ, ◌<◌, Bool, true, false, ◌&&◌, cond, List, [], ◌∷◌, length, Option, None, Some, inl, inr, refl, sym, subst, ap, ◌∙◌, arith, ltb}
 use Rattle.std.specs.List.{cons_option}
 use Rattle.std.specs.Prelude.{option_map, option_and_then, find, nat_le, ◌==◌}
 use Rattle.std.proofs.lemmas.Bool.{cases_Bool, leb-false, eqb-true}
@@ -33,7 +33,6 @@ use Rattle.qu_kept.specs.Standing.{standing_of}
 use Rattle.qu_kept.proofs.KeyedLaws.{own_item}
 use Rattle.qu_kept.proofs.OneObject.{values_one, performed_to}
 use Rattle.qu_frames.specs.declared.frame.Body.TheVariants as body
-use Rattle.qu_frames.specs.declared.verdict.ClassCode.TheVariants.{Barrier}
 use Rattle.qu_frames.specs.declared.verdict.Refusal.{Refusal}
 use Rattle.qu_frames.specs.declared.verdict.Refusal.TheVariants.{NotCurrent, NotMethod, UnknownObject}
 use Rattle.qu_frames.specs.declared.verdict.Verdict.{Verdict}
@@ -42,18 +41,22 @@ use Rattle.qu_replica.specs.declared.decision.Accepted.{Accepted}
 use Rattle.qu_replica.specs.declared.decision.Decision.{Decision}
 use Rattle.qu_replica.specs.declared.decision.Decision.TheVariants.{Answers, Waits}
 use Rattle.qu_replica.specs.State.{ReplicaState, own_candidates, own_latest, accept_all}
-use Rattle.qu_replica.specs.Rows.{asked_of, Asked, refuse, shown_of, base_of, base_version, fresh_stamp, fresh_on, fresh_stamps, fresh_versions, is_held, standing_in, done_again, repeated, row_unknown, row_thin, row_retry, row_current, row_method, row_version, row_kept, row_time, row_full, row_done, row_told, first_given, decide_act, decide_ask, decision_on}
+use Rattle.qu_replica.specs.Rows.{asked_of, Asked, refuse, shown_of, base_of, base_version, fresh_stamp, fresh_on, fresh_stamps, fresh_versions, is_held, standing_in, done_again, repeated, row_unknown, row_thin, row_retry, row_current, row_method, row_version, row_kept, row_time, row_full, row_done, row_told, first_given, decide_act, decide_ask, decision_on, class_told, row_few, decision_by, mending_on, decide_repair}
 use Rattle.qu_replica.specs.Versions.{is_stored, version_at}
 use Rattle.qu_replica.proofs.Carried.{versions_one, done_one, told_one}
 use Rattle.qu_grounds.specs.Grounds.{IsGround}
 use Rattle.qu_values.specs.Replies.{Keeps, HasDone, TellsDone, HasKept, TellsAlready, TellsQuery, IsOfUpdate}
 use Rattle.qu_values.proofs.KeptActs.{kept_where}
-use Rattle.qu_grounds.proofs.Grounds.{is_base}
+use Rattle.qu_grounds.proofs.Grounds.{is_base, above_held}
 use Rattle.qu_grounds.proofs.HeldVersions.{AreOfHeld, none_under}
 use Rattle.qu_runs.proofs.Small.{some_of, single}
 use Rattle.qu_grounds.proofs.Acceptance.{no_wait, candidates_after}
 use Rattle.qu_grounds.proofs.Performed.{version_at-push}
 use Rattle.qu_replica.proofs.Allowed.{no_first, not_first, unmapped, method_at_none}
+use Rattle.qu_mend.specs.declared.mending.Mending.TheVariants as mending
+use Rattle.qu_mend.specs.declared.mending.Mending.{Mending}
+use Rattle.qu_base.specs.Bounds.{quorum}
+use Rattle.qu_frames.specs.declared.verdict.Refusal.TheVariants as refusal
 
 -- ---- the rows
 
@@ -145,6 +148,24 @@ module _ (P : Decision → Type 0) (refused : (why : Refusal) → P (refuse why)
       past P _ _ (version objects) (λ is_version.
       past P _ _ (told is_current is_method is_version) (λ _. no_row))))))
 
+  few : (target : ObjectId) → Gives P (row_few state asked target)
+  unfolding row_few
+  few target = by_test (ltb (length (shown_of asked target)) (quorum state.keys.bounds))
+    where
+      by_test : (test : Bool) → Gives P (cond test (Some (refuse (refusal.Thin target))) None)
+      by_test false decision given = absurd (none-some decision given)
+      by_test true decision given = subst P (same_Some (refuse (refusal.Thin target)) decision given) (refused _)
+
+  last_row : (decision : Decision) → P decision → P (first_given (Some decision ∷ []))
+  unfolding first_given
+  last_row decision is = is
+
+  mend_cases : (target : ObjectId) → P (decision_by target (mending_on state asked target))
+      → P (decide_repair state asked target)
+  unfolding decide_repair
+  mend_cases target mended =
+      past P _ _ unknown (λ _. past P _ _ thin (λ _. past P _ _ (few target) (λ _. last_row _ mended)))
+
 -- ---- what is so where a row decided nothing
 
 -- no object of the sets is unknown, so one that has a base is known
@@ -181,7 +202,8 @@ module _ (state : ReplicaState) (asked : Asked) (object : ObjectId) where
   passed_method : row_method state asked (object ∷ []) ≡ None → (it : Candidate)
       × (base_of state asked object ≡ Some it)
   unfolding row_method
-  passed_method none = some_of (base_of state asked object) (no_first (λ it. NotMethod it Barrier) _ object none)
+  passed_method none =
+      some_of (base_of state asked object) (no_first (λ it. NotMethod it (class_told state asked it)) _ object none)
 
   passed_version : row_version state asked (object ∷ []) ≡ None → (it : ObjState)
       × (base_version state asked object ≡ Some it)
@@ -275,6 +297,50 @@ module _ (state : ReplicaState) (client : ClientId) (number : ℕ) (sets : List 
   query_is_no_update (verdict.Told those said) of_update decided = absurd of_update
   query_is_no_update (verdict.Mended other stamp) of_update decided = absurd of_update
   query_is_no_update (verdict.Refused why) of_update decided = absurd of_update
+
+-- ---- a repair
+
+-- no operation is answered
+abbrev IsNoAnswer : Decision → Type 0
+IsNoAnswer (Answers (verdict.Done stamps answer) accepted) = ⊥
+IsNoAnswer (Answers (verdict.Told stamps answer) accepted) = ⊥
+IsNoAnswer (Answers (verdict.Already answer) accepted) = ⊥
+IsNoAnswer (Answers (verdict.Mended other stamp) accepted) = Unit {0}
+IsNoAnswer (Answers (verdict.Refused why) accepted) = Unit {0}
+IsNoAnswer Waits = Unit {0}
+
+module _ (state : ReplicaState) (client : ClientId) (number : ℕ) (sets : List SetOf) (target : ObjectId)
+    (accepted : List Accepted) where
+  by_mending : (made : Mending) → IsNoAnswer (decision_by target made)
+  by_mending (mending.Mends candidate version) = tt
+  by_mending (mending.Holds stamp) = tt
+  by_mending (mending.Refuses why) = tt
+  by_mending mending.Waits = tt
+
+  mend_answers_none : (given : Verdict)
+      → decision_on state (asked_of client number sets (body.Mend target)) (body.Mend target)
+      ≡ Answers given accepted → IsNoAnswer (Answers given accepted)
+  mend_answers_none given decided =
+      subst IsNoAnswer decided
+      (mend_cases IsNoAnswer (λ why. tt) tt state (asked_of client number sets (body.Mend target)) target
+      (by_mending (mending_on state (asked_of client number sets (body.Mend target)) target)))
+
+  -- what is told of an operation is not told of a repair
+  pub mend_is_not_told : (stamps : List (ObjectId × Stamp)) (answer : Answer)
+      → decision_on state (asked_of client number sets (body.Mend target)) (body.Mend target)
+      ≡ Answers (verdict.Told stamps answer) accepted → ⊥
+  mend_is_not_told stamps answer decided = mend_answers_none (verdict.Told stamps answer) decided
+
+  pub mend_is_no_update : (given : Verdict) → IsOfUpdate given
+      → decision_on state (asked_of client number sets (body.Mend target)) (body.Mend target)
+      ≡ Answers given accepted → ⊥
+  mend_is_no_update (verdict.Done those said) of_update decided =
+      mend_answers_none (verdict.Done those said) decided
+  mend_is_no_update (verdict.Already said) of_update decided =
+      mend_answers_none (verdict.Already said) decided
+  mend_is_no_update (verdict.Told those said) of_update decided = absurd of_update
+  mend_is_no_update (verdict.Mended other stamp) of_update decided = absurd of_update
+  mend_is_no_update (verdict.Refused why) of_update decided = absurd of_update
 
 -- ---- an act
 
@@ -462,7 +528,7 @@ accepted_tells : (state : ReplicaState) (asked : Asked) (act : Digest) → asked
     → Keeps asked.client asked.number act answer version
     → object.0 < length state.histories → version_at object (fresh_stamp asked object) state.versions ≡ None
     → DoneOnOne (accept_all state
-    (record { object = object; candidate = fresh_of asked object base; state = version } ∷ [])) asked.client
+    (record { object = object; candidate = fresh_of asked object base; state = Some version } ∷ [])) asked.client
     asked.number act object ((object, fresh_stamp asked object) ∷ []) answer
 unfolding accept_all
 accepted_tells state asked act is_act object base version answer keeps known none =
@@ -515,7 +581,7 @@ done_tells state asked object method is_act are is_known is_current is_method is
     (performed_to asked.client asked.number parts (fresh_stamp asked object ∷ []) before.0 value.0 refl refl value.1)
     refl) ∙ given))
     (accepted_tells state asked act is_act object base after answer (own_item client_of row (before.0).kept) known
-    (none_under are grounds))
+    (none_under are object fresh.stamp (above_held grounds)))
 
 act_tells : (state : ReplicaState) (asked : Asked) (object : ObjectId) (method : Method)
     → asked.act ≡ Some (act_digest asked.client asked.number ((object, method) ∷ [])) → AreOfHeld state

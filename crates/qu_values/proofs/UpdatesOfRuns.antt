@@ -1,7 +1,6 @@
--- The updates of a run are as the values along the order ask: no copies, no groups, and none is done upon itself.
-use Rattle.std.proofs.Common.{◌≡◌, ◌⊎◌, true, false, not, length, None, Some, refl, sym, ap, subst, ◌∙◌, arith, inl, inr}
+-- The updates of a run are as the values along the order ask: no groups, and none is done upon itself.
+use Rattle.std.proofs.Common.{◌≡◌, ◌⊎◌, true, false, not, length, Some, sym, ap, subst, ◌∙◌, arith, inl, inr, ℕ, ◌≤◌, ◌<◌}
 use Rattle.std.specs.Prelude.{slice_get, is_some, Option}
-use Rattle.std.proofs.lemmas.Bool.{false≢true}
 use Rattle.std.proofs.lemmas.Option.{none-some}
 use Rattle.qu_base.specs.declared.party.Digest.{Digest}
 use Rattle.qu_base.specs.declared.party.ObjectId.{ObjectId}
@@ -24,11 +23,11 @@ use Rattle.qu_runs.specs.Digested.{IsHandled, IsMadeFor}
 use Rattle.qu_runs.specs.Plain.{ArePlain}
 use Rattle.qu_runs.specs.Setting.{setting}
 use Rattle.qu_grounds.specs.Chained.{last_world}
-use Rattle.qu_grounds.specs.Grounds.{IsGround, Accepts}
+use Rattle.qu_grounds.specs.Grounds.{Accepts, Performs}
 use Rattle.qu_replica.specs.Rows.{asked_of}
 use Rattle.qu_grounds.specs.Origins.{Origin}
 use Rattle.qu_runs.proofs.Settings.{AcceptedAt, accepted_somewhere, is_accepted_by}
-use Rattle.qu_grounds.proofs.Grounds.{above_base}
+use Rattle.qu_grounds.proofs.Grounds.{IsOfAct, act_added}
 use Rattle.qu_values.specs.Updates.{Update, IsOf, IsEverAccepted, NumbersRise}
 use Rattle.qu_values.specs.Values.{HasVersion}
 use Rattle.qu_grounds.proofs.Handled.{handled, made_for}
@@ -36,11 +35,14 @@ use Rattle.qu_values.proofs.OneAct.{ActsAreOne}
 use Rattle.qu_values.proofs.FitActs.{fit}
 use Rattle.qu_grounds.proofs.Origins.{accepted_from}
 use Rattle.qu_values.proofs.RisingNumbers.{numbers_rise as rising, none_repeated, rows_are_true}
-use Rattle.qu_values.proofs.StoredValues.{version_held}
+use Rattle.qu_values.proofs.StoredValues.{version_held, plain_of_method}
 use Rattle.qu_values.proofs.Updates.{opening_no_act, same_accepted}
 use Rattle.qu_values.proofs.UpdateFacts.{HasValue, MadeFor, UpdateFacts, NoneIsRepeated}
 use Rattle.qu_values.proofs.Values.{one_version}
 use Rattle.qu_grounds.proofs.Parts.{same_named}
+use Rattle.qu_machine.proofs.Firsts.{contains_at}
+use Rattle.qu_chain.proofs.Parents.{parent}
+use Rattle.qu_frames.specs.declared.frame.Body.{Body}
 
 module _ (trace : Trace) where
   in_world : (object : ObjectId) (candidate : Candidate) → IsEverAccepted trace object candidate
@@ -64,65 +66,63 @@ module _ (trace : Trace) (is_run : IsRun trace) (have : ArePlain trace) where
         | inr came ↦ came
       ]
 
-  module _ (object : ObjectId) (candidate : Candidate) (came : Origin trace
-      (length trace.entries) object candidate) where
+  module _ (count : ℕ) (bound : count ≤ length trace.entries) (object : ObjectId) (candidate : Candidate)
+      (came : Origin trace count object candidate) where
     abbrev one : Accepts came.old came.new (came.delivered).carried
     one = (came.delivered).accepts
 
-    abbrev why : IsGround came.old (asked_of one.client one.number one.sets (body.Act one.parts)) object
-        (one.candidates object) (one.bases object)
-    why = one.grounds object (came.delivered).names
-
-    was_handled : IsHandled trace one.client one.number one.parts
-    was_handled =
-        handled trace is_run came.past came.earlier came.entry came.of_trace came.event came.event_is came.place
-        came.old came.new came.is_old
-        (ap (λ (it : WorldState). slice_get it.replicas came.place) (sym came.is_step) ∙ came.is_new) object
-        came.delivered
-
-    made_for_one : IsMadeFor trace candidate one.client one.number one.parts
-    made_for_one =
-        made_for trace came.old came.new (came.delivered).carried object one (came.delivered).names candidate
-        came.is_candidate was_handled
-
-    made_by : MadeFor trace object candidate
-    made_by = record {
-      update = record { client = one.client; number = one.number; parts = one.parts };
-      is_of = record { made = made_for_one; names = (came.delivered).names };
-    }
-
-    no_barrier : (setting trace).plain candidate ≡ true
+    -- the request asked for an act, where the candidate is an operation's
+    pub act_of_origin : (setting trace).is_act candidate ≡ true
+        → IsOfAct came.old came.new (asked_of one.client one.number one.sets one.asks) one.asks one.candidates object
     unfolding setting
-    no_barrier =
-        ap (λ (it : Candidate). not it.stamp.barrier) (sym came.is_candidate)
-        ∙ ap (λ (it : Stamp). not it.barrier) why.stamp
+    act_of_origin is_act =
+        act_added came.old came.new one.client one.number one.sets one.asks one.candidates object one.reasons
+        (came.delivered).adds
+        (ap (λ (act : Option Digest). is_some act) (sym (ap (λ (it : Stamp). it.act) (came.made).stamp)) ∙ is_act)
 
-    -- its prior is strictly below it
-    prior_below : is_below candidate.prior candidate.stamp ≡ true
-    prior_below =
-        subst (λ (it : Candidate). is_below it.prior it.stamp ≡ true) came.is_candidate
-        (ap (λ (it : Stamp). is_below it (one.candidates object).stamp) why.prior ∙ above_base why)
+    module _ (is_act : (setting trace).is_act candidate ≡ true) where
+      abbrev pub of_act : IsOfAct came.old came.new (asked_of one.client one.number one.sets one.asks) one.asks
+          one.candidates object
+      of_act = act_of_origin is_act
 
-  -- an accepted candidate is the opening one or an operation's
-  pub opening_or_act : (object : ObjectId) (candidate : Candidate) → IsEverAccepted trace object candidate
-      → (candidate ≡ opening) ⊎ ((setting trace).is_act candidate ≡ true)
-  unfolding setting
-  opening_or_act object candidate accepted =
-      elim (came_from object candidate accepted) [
-        | inl begins ↦ inl begins
-        | inr came ↦
-            inr (ap (λ (act : Option Digest). is_some act)
-            (((made_by object candidate came).is_of).made).of_act)
-      ]
+      performs_so : Performs came.old came.new (asked_of one.client one.number one.sets (body.Act of_act.parts))
+          of_act.parts one.candidates
+      performs_so =
+          subst (λ (asks : Body). Performs came.old came.new (asked_of one.client one.number one.sets asks) of_act.parts
+          one.candidates) of_act.is_act of_act.performs
 
-  pub all_plain : (object : ObjectId) (candidate : Candidate) → IsEverAccepted trace object candidate
-      → (setting trace).plain candidate ≡ true
-  unfolding setting
-  all_plain object candidate accepted =
-      elim (came_from object candidate accepted) [
-        | inl begins ↦ ap (λ (it : Candidate). not it.stamp.barrier) begins
-        | inr came ↦ no_barrier object candidate came
-      ]
+      was_handled : IsHandled trace one.client one.number of_act.parts
+      was_handled =
+          let earlier : came.past < count = came.earlier in
+          handled trace is_run came.past (omega arith) came.entry
+          (contains_at trace.entries came.past came.entry came.is_entry) came.event came.event_is came.place
+          came.old came.new came.is_old
+          (ap (λ (it : WorldState). slice_get it.replicas came.place) (sym came.is_step) ∙ came.is_new) object
+          came.delivered of_act.parts of_act.is_act
+
+      pub made_so : IsMadeFor trace candidate one.client one.number of_act.parts
+      made_so =
+          made_for trace came.old came.new one.client one.number one.sets of_act.parts one.candidates object
+          performs_so of_act.names candidate came.is_candidate was_handled
+
+      made_by : MadeFor trace object candidate
+      made_by = record {
+        update = record { client = one.client; number = one.number; parts = of_act.parts };
+        is_of = record { made = made_so; names = of_act.names };
+      }
+
+      -- it has no barrier
+      act_plain : (setting trace).plain candidate ≡ true
+      unfolding setting
+      act_plain =
+          ap (λ (it : Candidate). not it.stamp.barrier) (sym came.is_candidate)
+          ∙ ap (λ (it : Stamp). not it.barrier) (performs_so.grounds object of_act.names).stamp
+
+  pub plain_acts : (object : ObjectId) (candidate : Candidate) → IsEverAccepted trace object candidate
+      → (setting trace).is_act candidate ≡ true → (setting trace).plain candidate ≡ true
+  plain_acts object candidate accepted is_act =
+      act_plain (length trace.entries) (omega arith) object candidate (act_origin object candidate accepted is_act)
+      is_act
 
   module _ (one_act : ActsAreOne trace) (laws : Laws (setting trace)) (joint : Joint (setting trace)) where
     -- an update is on one object
@@ -133,37 +133,37 @@ module _ (trace : Trace) (is_run : IsRun trace) (have : ArePlain trace) where
         ((fit trace is_run have update.client update.number update.parts (one.made).handled).parts).0
         one.names two.names
 
+    -- a copy has the value of its base
     copied : (object : ObjectId) (candidate base : Candidate) (value : Value)
-        → IsEverAccepted trace object candidate → (setting trace).is_act candidate ≡ false
-        → candidate.prior ≡ base.stamp → IsEverAccepted trace object base
-        → HasValue trace object base value → HasValue trace object candidate value
-    unfolding setting
-    copied object candidate base value accepted not_act prior base_accepted has =
-        elim (came_from object candidate accepted) [
+        → IsEverAccepted trace object candidate → (setting trace).plain candidate ≡ true
+        → (setting trace).is_act candidate ≡ false → candidate.prior ≡ base.stamp
+        → IsEverAccepted trace object base → HasValue trace object base value → HasValue trace object candidate value
+    copied object candidate base value accepted plain not_act prior base_accepted has =
+        elim (parent (setting trace) laws (setting trace).last (omega arith) object candidate accepted plain) [
           | inl begins ↦
               subst (λ (it : Candidate). HasValue trace object it value)
               (same_accepted trace laws joint object base candidate base_accepted accepted
               (sym prior ∙ ap (λ (it : Candidate). it.prior) begins ∙ ap (λ (it : Candidate). it.stamp) (sym begins)))
               has
-          | inr came ↦
-              let it : MadeFor trace object candidate = made_by object candidate came in
-              absurd (none-some _ (none candidate.stamp.act not_act ∙ ((it.is_of).made).of_act))
+          | inr upon ↦ record {
+            version = has.version;
+            has = HasVersion.of_copy object candidate base has.version
+                (ap (λ (it : Stamp). is_below it candidate.stamp) (upon.link).prior ∙ (upon.link).below) plain not_act
+                prior base_accepted has.has;
+            value_is = has.value_is;
+          }
         ]
-      where
-        none : (found : Option Digest) → is_some found ≡ false → None ≡ found
-        none None is = refl
-        none (Some act) is = absurd (false≢true (sym is))
 
-    -- every accepted candidate has a version
+    -- every accepted candidate without barrier has a version
     stored : (object : ObjectId) (candidate : Candidate) → IsEverAccepted trace object candidate
-        → (version : ObjState) × HasVersion trace object candidate version
-    stored object candidate accepted =
+        → (setting trace).plain candidate ≡ true → (version : ObjState) × HasVersion trace object candidate version
+    stored object candidate accepted plain =
         let found : AcceptedAt object candidate (last_world trace).replicas =
         accepted_somewhere object candidate (last_world trace).replicas (in_world trace object candidate accepted) in
         let state : Found (accepts object candidate) (last_world trace).replicas found.place =
         found_at (accepts object candidate) (last_world trace).replicas found.place found.accepted in
         let held = version_held trace laws joint is_run have (length trace.entries) (omega arith)
-        found.place state.item state.is_at object candidate state.passed in
+        found.place state.item state.is_at object candidate plain state.passed in
         (held.0, held.2)
 
     -- no candidate has a group
@@ -177,21 +177,26 @@ module _ (trace : Trace) (is_run : IsRun trace) (have : ArePlain trace) where
 
     pub update_facts : UpdateFacts trace
     update_facts = record {
-      made = λ object candidate accepted is_act. made_by object candidate (act_origin object candidate accepted is_act);
-      plain = λ object candidate accepted is_act. all_plain object candidate accepted;
-      plain_base = λ object base entries is accepted. all_plain object base accepted;
+      made = λ object candidate accepted is_act.
+          made_by (length trace.entries) (omega arith) object candidate (act_origin object candidate accepted is_act)
+          is_act;
+      plain = plain_acts;
+      plain_base = λ object base entries is accepted. plain_of_method trace trace.setup.bounds entries base is;
       shared = no_group;
       spread = λ update object other candidate companion one accepted two besides.
           inl (one_object update object other candidate companion one two);
       one_version = one_version trace laws joint one_act;
-      written = rows_are_true trace laws joint one_act all_plain;
+      written = rows_are_true trace laws joint one_act plain_acts;
       copied = λ object candidate base value accepted plain not_act prior plain_base base_accepted has.
-          copied object candidate base value accepted not_act prior base_accepted has;
-      stored = λ object candidate accepted is_act. stored object candidate accepted;
+          copied object candidate base value accepted plain not_act prior base_accepted has;
+      stored = λ object candidate accepted is_act.
+          stored object candidate accepted (plain_acts object candidate accepted is_act);
     }
 
     pub numbers_rise : NumbersRise trace
-    numbers_rise = rising trace laws joint one_act stored
+    numbers_rise =
+        rising trace laws joint one_act (λ object candidate accepted is_act.
+        stored object candidate accepted (plain_acts object candidate accepted is_act))
 
     -- so no update is repeated
     pub none_is_repeated : NoneIsRepeated trace

@@ -1,5 +1,5 @@
 -- How a candidate has its version, which rows that keeps, and that there is one at most.
-use Rattle.std.proofs.Common.{◌≡◌, ◌⊎◌, true, List, [], ◌∷◌, Some, inl, inr, refl, sym, ap, subst, ◌∙◌}
+use Rattle.std.proofs.Common.{◌≡◌, ◌⊎◌, true, List, [], ◌∷◌, Some, inl, inr, refl, sym, ap, subst, ◌∙◌, false}
 use Rattle.std.specs.Prelude.{slice_get}
 use Rattle.std.proofs.lemmas.Bool.{false≢true}
 use Rattle.std.proofs.lemmas.Option.{same_Some}
@@ -24,11 +24,11 @@ use Rattle.qu_kept.specs.Standing.{IsLower}
 use Rattle.qu_kept.proofs.KeyedLaws.{own_item, other_item}
 use Rattle.qu_trace.specs.declared.trace.Trace.{Trace}
 use Rattle.qu_runs.specs.Setting.{setting}
-use Rattle.qu_values.specs.Updates.{Update, IsOf}
+use Rattle.qu_values.specs.Updates.{Update, IsOf, IsEverAccepted}
 use Rattle.qu_values.specs.Values.{RestsOn, HasVersion}
 use Rattle.qu_grounds.specs.Parts.{Names, values_of}
 use Rattle.qu_values.proofs.OneAct.{ActsAreOne}
-use Rattle.qu_values.proofs.Updates.{one_of, same_accepted, one_companion}
+use Rattle.qu_values.proofs.Updates.{one_of, same_accepted, one_companion, acts, opening_no_act}
 
 -- ---- parts of equal wholes
 
@@ -60,7 +60,7 @@ values_same first second (part ∷ parts) same object (inl here) =
 values_same first second (part ∷ parts) same object (inr later) =
     values_same first second parts (ap rest_of same) object later
 
--- ---- the two ways to have a version
+-- ---- the three ways to have a version
 
 pub record IsFresh (trace : Trace) (object : ObjectId) (candidate : Candidate) (version : ObjState) : Type 0 where
   pub kind : KindName
@@ -73,7 +73,17 @@ abbrev pub row_upon : Update → (ObjectId → ObjState) → KeptRow
 row_upon update states =
     row_by update.client update.number update.parts (values_of (λ (it : ObjectId). (states it).value) update.parts)
 
--- how a candidate other than the opening one has its version
+-- a copy has the version of its base
+pub record IsCopyOf (trace : Trace) (object : ObjectId) (candidate : Candidate) (version : ObjState) : Type 0 where
+  pub base : Candidate
+  pub below : is_below candidate.prior candidate.stamp ≡ true
+  pub plain : (setting trace).plain candidate ≡ true
+  pub no_act : (setting trace).is_act candidate ≡ false
+  pub prior : candidate.prior ≡ base.stamp
+  pub base_accepted : IsEverAccepted trace object base
+  pub has : HasVersion trace object base version
+
+-- how a candidate of an update has its version
 pub record IsUpdated (trace : Trace) (object : ObjectId) (candidate : Candidate) (version : ObjState) : Type 0 where
   pub update : Update
   pub bases : ObjectId → Candidate
@@ -95,14 +105,27 @@ pub version_induction : (trace : Trace) (P : ObjectId → Candidate → ObjState
     → ((object : ObjectId) (candidate : Candidate) (version : ObjState) → IsFresh trace object candidate version
     → P object candidate version)
     → ((object : ObjectId) (candidate : Candidate) (version : ObjState)
+    → (copy : IsCopyOf trace object candidate version) → P object copy.base version → P object candidate version)
+    → ((object : ObjectId) (candidate : Candidate) (version : ObjState)
     → (made : IsUpdated trace object candidate version)
     → ((other : ObjectId) → Names (made.update).parts other → P other (made.bases other) (made.befores other))
     → P object candidate version)
     → (object : ObjectId) (candidate : Candidate) (version : ObjState) → HasVersion trace object candidate version
     → P object candidate version
-version_induction trace P begins goes object candidate version (HasVersion.of_opening _ kind is_kind) =
+version_induction trace P begins copies goes object candidate version (HasVersion.of_opening _ kind is_kind) =
     begins object candidate version (record { kind = kind; is_kind = is_kind; is_opening = refl; fresh = refl })
-version_induction trace P begins goes object candidate version
+version_induction trace P begins copies goes object candidate version
+    (HasVersion.of_copy _ it base state below plain no_act prior accepted has) =
+    copies object candidate version (record {
+      base = base;
+      below = below;
+      plain = plain;
+      no_act = no_act;
+      prior = prior;
+      base_accepted = accepted;
+      has = has;
+    }) (version_induction trace P begins copies goes object base version has)
+version_induction trace P begins copies goes object candidate version
     (HasVersion.of_update _ it update bases befores afters made below is_of rests has values after lower) =
     goes object candidate version (record {
       update = update;
@@ -116,22 +139,43 @@ version_induction trace P begins goes object candidate version
       values = values;
       after = after;
       lower = lower;
-    }) (λ other names. version_induction trace P begins goes other (bases other) (befores other) (has other names))
+    }) (λ other names. version_induction trace P begins copies goes other (bases other) (befores other)
+    (has other names))
 
 pub version_cases : (trace : Trace) (object : ObjectId) (candidate : Candidate) (version : ObjState)
     → HasVersion trace object candidate version
-    → IsFresh trace object candidate version ⊎ IsUpdated trace object candidate version
+    → IsFresh trace object candidate version
+    ⊎ (IsCopyOf trace object candidate version ⊎ IsUpdated trace object candidate version)
 version_cases trace object candidate version has =
     version_induction trace (λ (on : ObjectId) (it : Candidate) (state : ObjState).
-    IsFresh trace on it state ⊎ IsUpdated trace on it state)
-    (λ on it state fresh. inl fresh) (λ on it state made so_far. inr made) object candidate version has
+    IsFresh trace on it state ⊎ (IsCopyOf trace on it state ⊎ IsUpdated trace on it state))
+    (λ on it state fresh. inl fresh) (λ on it state copy so_far. inr (inl copy))
+    (λ on it state made so_far. inr (inr made)) object candidate version has
 
 -- nothing is below the opening candidate
-made_not_opening : (trace : Trace) (object : ObjectId) (candidate : Candidate) (version : ObjState)
-    → IsUpdated trace object candidate version → candidate ≡ opening → ⊥
-made_not_opening trace object candidate version made is_opening =
+pub not_opening : (candidate : Candidate) → is_below candidate.prior candidate.stamp ≡ true → candidate ≡ opening → ⊥
+not_opening candidate below is_opening =
     false≢true (sym (is_below-opening candidate.prior)
-    ∙ ap (λ (it : Candidate). is_below candidate.prior it.stamp) (sym is_opening) ∙ made.below)
+    ∙ ap (λ (it : Candidate). is_below candidate.prior it.stamp) (sym is_opening) ∙ below)
+
+-- a copy is made for no update
+pub not_of_both : (trace : Trace) (object : ObjectId) (candidate : Candidate) (first second : ObjState)
+    → IsCopyOf trace object candidate first → IsUpdated trace object candidate second → ⊥
+not_of_both trace object candidate first second copy made =
+    false≢true (sym copy.no_act ∙ acts trace made.update object candidate made.is_of)
+
+-- what is the version of an operation's candidate is made by its update
+pub updated : (trace : Trace) (object : ObjectId) (candidate : Candidate) (version : ObjState)
+    → HasVersion trace object candidate version → (setting trace).is_act candidate ≡ true
+    → IsUpdated trace object candidate version
+updated trace object candidate version has is_act =
+    elim (version_cases trace object candidate version has) [
+      | inl fresh ↦ absurd (opening_no_act trace candidate fresh.is_opening is_act)
+      | inr other ↦ elim (other) [
+        | inl copy ↦ absurd (false≢true (sym copy.no_act ∙ is_act))
+        | inr made ↦ made
+      ]
+    ]
 
 -- ---- what the version of an updated candidate has
 
@@ -256,7 +300,27 @@ module _ (trace : Trace) (laws : Laws (setting trace)) (joint : Joint (setting t
     fresh_only object candidate first second one held =
         elim (version_cases trace object candidate second held) [
           | inl other ↦ fresh_same object candidate first second one other
-          | inr other ↦ absurd (made_not_opening trace object candidate second other one.is_opening)
+          | inr later ↦ elim (later) [
+            | inl copy ↦ absurd (not_opening candidate copy.below one.is_opening)
+            | inr made ↦ absurd (not_opening candidate made.below one.is_opening)
+          ]
+        ]
+
+    copy_only : (object : ObjectId) (candidate : Candidate) (first second : ObjState)
+        (one : IsCopyOf trace object candidate first)
+        → ((it : ObjState) → HasVersion trace object one.base it → first ≡ it)
+        → HasVersion trace object candidate second → first ≡ second
+    copy_only object candidate first second one only held =
+        elim (version_cases trace object candidate second held) [
+          | inl fresh ↦ absurd (not_opening candidate one.below fresh.is_opening)
+          | inr later ↦ elim (later) [
+            | inl copy ↦
+                only second
+                (subst (λ (base : Candidate). HasVersion trace object base second)
+                (same_accepted trace laws joint object copy.base one.base copy.base_accepted one.base_accepted
+                (sym copy.prior ∙ one.prior)) copy.has)
+            | inr made ↦ absurd (not_of_both trace object candidate first second one made)
+          ]
         ]
 
     made_only : (object : ObjectId) (candidate : Candidate) (first second : ObjState)
@@ -266,8 +330,11 @@ module _ (trace : Trace) (laws : Laws (setting trace)) (joint : Joint (setting t
         → HasVersion trace object candidate second → first ≡ second
     made_only object candidate first second one only held =
         elim (version_cases trace object candidate second held) [
-          | inl other ↦ absurd (made_not_opening trace object candidate first one other.is_opening)
-          | inr other ↦ made_same object candidate first second one other only
+          | inl fresh ↦ absurd (not_opening candidate one.below fresh.is_opening)
+          | inr later ↦ elim (later) [
+            | inl copy ↦ absurd (not_of_both trace object candidate second first copy one)
+            | inr made ↦ made_same object candidate first second one made only
+          ]
         ]
 
     pub one_version : (object : ObjectId) (candidate : Candidate) (first second : ObjState)
@@ -276,5 +343,6 @@ module _ (trace : Trace) (laws : Laws (setting trace)) (joint : Joint (setting t
         version_induction trace (λ (on : ObjectId) (it : Candidate) (version : ObjState).
         (other : ObjState) → HasVersion trace on it other → version ≡ other)
         (λ on it version fresh other. fresh_only on it version other fresh)
+        (λ on it version copy so_far other. copy_only on it version other copy so_far)
         (λ on it version made so_far other. made_only on it version other made so_far)
         object candidate first has second held

@@ -1,5 +1,5 @@
--- The version of a candidate: the state that its update makes of the versions of its bases.
-use Rattle.std.specs.Prelude.{◌≡◌, true, [], slice_get, Some}
+-- The version of a candidate: the state that its update makes of the versions of its bases, or that of what it copies.
+use Rattle.std.specs.Prelude.{◌≡◌, true, false, [], slice_get, Some}
 use Rattle.qu_chain.specs.Joint.{IsOneAct}
 use Rattle.qu_base.specs.declared.party.ObjectId.{ObjectId}
 use Rattle.qu_stamp.specs.declared.candidate.Candidate.{Candidate}
@@ -27,12 +27,18 @@ pub record RestsOn (trace : Trace) (object : ObjectId) (candidate : Candidate) (
   pub prior : companion.prior ≡ base.stamp
   pub base_accepted : IsEverAccepted trace other base
 
--- the version of a candidate of an object: the opening one's is fresh; another's is what its update makes of the
--- versions of its bases, one on each of its objects, none of which keeps a number of the client that is at least the
--- update's
+-- the version of a candidate of an object: the opening one's is fresh; that of a copy is its prior's; another's is what
+-- its update makes of the versions of its bases, one on each of its objects, none of which keeps a number of the client
+-- that is at least the update's. A barrier has none.
 pub data HasVersion (trace : Trace) : ObjectId → Candidate → ObjState → Type 0 where
   of_opening : (object : ObjectId) (kind : KindName) → slice_get trace.setup.kinds object.0 ≡ Some kind
       → HasVersion trace object opening (record { value = fresh_value kind; kept = []; links = [] })
+  of_copy : (object : ObjectId) (candidate base : Candidate) (state : ObjState)
+      → is_below candidate.prior candidate.stamp ≡ true
+      → (setting trace).plain candidate ≡ true → (setting trace).is_act candidate ≡ false
+      → candidate.prior ≡ base.stamp → IsEverAccepted trace object base
+      → HasVersion trace object base state
+      → HasVersion trace object candidate state
   of_update : (object : ObjectId) (candidate : Candidate) (update : Update) (bases : ObjectId → Candidate)
       (befores : ObjectId → ObjState) (afters : ObjectId → Value) (state : ObjState)
       → is_below candidate.prior candidate.stamp ≡ true

@@ -5,10 +5,9 @@ ghost use Rattle.qu_replica.specs.Step.{shown, named, reply, carried_out};
 ghost use Rattle.qu_replica.specs.Growth.{MayAccept, MayAcceptAll, MayDecide, MayGain};
 
 use super::Replica;
-use crate::Stored;
 use crate::decision::{Accepted, Decision};
 use crate::planned::{Gain, Planned};
-use crate::versions::{self, MOST_VERSIONS};
+use crate::versions::MOST_VERSIONS;
 use qu_base::{List, NoMemory, ObjectId, Party, ReplicaId};
 use qu_frames::{Frame, Letter, Reading, Verdict, blank_mac};
 use qu_history::{AddFail, History, Sealed, Sets};
@@ -165,8 +164,8 @@ impl Replica {
         }
     }
 
-    /// What the state gains by accepting a candidate with its version. More versions than a list holds take
-    /// more memory than there is.
+    /// What the state gains by accepting a candidate, with its version where it has one. More versions than a list
+    /// holds take more memory than there is.
     fn gain(&self, accepted: &Accepted) -> Result<Gain, NoMemory>
         requires { MayAccept self.now accepted.now }
         ensures state { IfOk result (λ gain. state_after self.now (Some gain) ≡ accept self.now accepted.now) }
@@ -175,14 +174,10 @@ impl Replica {
         if MOST_VERSIONS <= self.versions.len() {
             return Err(NoMemory);
         }
-        let stored = Stored {
-            object: accepted.object,
-            stamp: accepted.candidate.stamp,
-            state: accepted.state.copy(self.alloc)?,
-        };
+        let versions = accepted.stored(self.alloc)?;
         Ok(Gain {
             history: self.grown(accepted)?,
-            versions: versions::one(self.alloc, stored)?,
+            versions,
         })
     }
 }

@@ -1,4 +1,5 @@
-ghost use Rattle.std.specs.Prelude.{◌≡◌, ◌<◌, [], ◌∷◌, length, None, IfOk, IsSome, IfSome, IfNone, IsTrue, ◌↔◌};
+ghost use Rattle.qu_base.specs.Bounds.{quorum};
+ghost use Rattle.std.specs.Prelude.{◌≡◌, ◌<◌, ◌≤◌, [], ◌∷◌, length, None, IfOk, IsSome, IfSome, IfNone, IsTrue, ◌↔◌};
 ghost use Rattle.std.specs.Option.{option_copied, option_or};
 ghost use Rattle.qu_stamp.specs.declared.limits.TheConstants.{LAST_TIME};
 ghost use Rattle.qu_history.specs.Sets.{latest_of};
@@ -7,15 +8,17 @@ ghost use Rattle.qu_objects.specs.Performing.{performed_answer};
 ghost use Rattle.qu_kept.specs.Performing.{performed_states};
 ghost use Rattle.qu_replica.specs.State.{own_latest};
 ghost use Rattle.qu_replica.specs.Growth.{MayDecide};
-ghost use Rattle.qu_replica.specs.Rows.{shown_of, base_of, base_version, fresh_on, is_held, unknown_in, unknown_refused, row_unknown, row_thin, standing_in, done_again, repeated, row_retry, row_current, row_method, row_version, row_kept, row_time, row_full, row_done, row_told, decide_act, decide_ask, decision_on, objects_of};
+ghost use Rattle.qu_replica.specs.Rows.{shown_of, base_of, class_code, class_told, row_few, mending_on, decision_by, decide_repair, base_version, fresh_on, is_held, unknown_in, unknown_refused, row_unknown, row_thin, standing_in, done_again, repeated, row_retry, row_current, row_method, row_version, row_kept, row_time, row_full, row_done, row_told, decide_act, decide_ask, decision_on, objects_of};
 
 use super::Replica;
 use crate::asked::Asked;
 use crate::decision::{Accepted, Decision, refuse};
 use qu_base::{List, NoMemory, ObjectId};
+use qu_class::{Class, classify, method_at};
 use qu_frames::{Body, ClassCode, Refusal, Verdict};
 use qu_history::{HISTORY_LIMIT, Sets};
 use qu_kept::{Performed, Standing, perform, standing_of};
+use qu_mend::{Mend, Mending};
 use qu_objects::{Act, Answer, ObjState, Query, tell_all};
 use qu_stamp::{Candidate, LAST_TIME, Stamp};
 use std::alloc::Global;
@@ -33,6 +36,7 @@ impl Replica {
         match body {
             Body::Act(act) => self.decide_act(asked, act),
             Body::Ask(query) => self.decide_ask(asked, query),
+            Body::Mend(target) => self.decide_repair(asked, *target),
         }
     }
 
@@ -114,6 +118,58 @@ impl Replica {
             return Ok(decision);
         }
         self.row_told(asked, query, object)
+    }
+
+    /// What it makes of a request to mend an object.
+    #[tactic(auto, unfolding(crate::specs::Rows::decide_repair, crate::specs::Rows::first_given))]
+    fn decide_repair(&self, asked: &Asked, target: ObjectId) -> Result<Decision, NoMemory>
+        requires { row_unknown self.now asked.now ≡ None }
+        ensures { IfOk result (λ decision. decision ≡ decide_repair self.now asked.now target) }
+    {
+        if let Some(refusal) = self.row_thin(asked) {
+            return Ok(refusal);
+        }
+        if let Some(refusal) = self.row_few(asked, target) {
+            return Ok(refusal);
+        }
+        let mending = self.mending(asked, target)?;
+        decision_by(self.alloc, target, mending)
+    }
+
+    /// Refuses to mend an object of which the sets show fewer entries than a quorum.
+    #[tactic(auto, unfolding(crate::specs::Rows::row_few))]
+    fn row_few(&self, asked: &Asked, target: ObjectId) -> Option<Decision>
+        ensures enough { IfNone result (quorum self.now.keys.bounds ≤ length (shown_of asked.now target)) }
+        ensures value { result ≡ row_few self.now asked.now target }
+    {
+        if asked.sets.entries(target) < self.keys.bounds().q() {
+            Some(refuse(self.alloc, Refusal::Thin(target)))
+        } else {
+            None
+        }
+    }
+
+    /// What it makes of a request to mend an object that has a quorum of entries.
+    fn mending(&self, asked: &Asked, target: ObjectId) -> Result<Mending, NoMemory>
+        requires known { row_unknown self.now asked.now ≡ None }
+        requires enough { quorum self.now.keys.bounds ≤ length (shown_of asked.now target) }
+        ensures { IfOk result (λ mending. mending ≡ mending_on self.now asked.now target) }
+    {
+        let Some(own) = self.history(target) else {
+            unreachable!()
+        };
+        let mend = Mend::of(
+            asked.sets,
+            asked.set,
+            target,
+            asked.client,
+            &self.keys.bounds(),
+        );
+        let version = match mend.remedy.wanted() {
+            Some(stamp) => self.version(target, &stamp),
+            None => None,
+        };
+        mend.decide(self.alloc, own, version)
     }
 
     /// The rows that look for a version upon which an operation on the object may rest.
@@ -215,8 +271,19 @@ impl Replica {
     {
         match self.base(asked, object) {
             Some(_) => None,
-            None => Some(refuse(self.alloc, Refusal::NotMethod(object, ClassCode::Barrier))),
+            None => {
+                let class = self.class_told(asked, object);
+                Some(refuse(self.alloc, Refusal::NotMethod(object, class)))
+            }
         }
+    }
+
+    /// The class that is told of an object upon which no operation may rest.
+    fn class_told(&self, asked: &Asked, object: ObjectId) -> ClassCode
+        ensures { result ≡ class_told self.now asked.now object }
+    {
+        let class = classify(asked.sets, object, &self.keys.bounds());
+        class_code(&class).unwrap_or(ClassCode::Barrier)
     }
 
     /// Waits where the version is missing upon which the operation rests.
@@ -274,7 +341,7 @@ impl Replica {
         let accepted = Accepted {
             object,
             candidate,
-            state,
+            state: Some(state),
         };
         done(self.alloc, accepted, answer)
     }
@@ -302,7 +369,7 @@ impl Replica {
     fn base(&self, asked: &Asked, object: ObjectId) -> Option<Candidate>
         ensures { result ≡ base_of self.now asked.now object }
     {
-        asked.sets.method_at(object, &self.keys.bounds())
+        method_at(asked.sets, object, &self.keys.bounds())
     }
 
     /// The version of that candidate, where the replica has it.
@@ -364,6 +431,44 @@ impl Replica {
             None
         }
     }
+}
+
+/// The class that a refusal carries, none where it is METHOD.
+fn class_code(class: &Class) -> Option<ClassCode>
+    ensures { result ≡ class_code class.now }
+{
+    match class {
+        Class::Method(_) => None,
+        Class::InlineMethod(_) => Some(ClassCode::InlineMethod),
+        Class::Copy => Some(ClassCode::Copy),
+        Class::InlineBarrier(_) => Some(ClassCode::InlineBarrier),
+        Class::Barrier { .. } => Some(ClassCode::Barrier),
+    }
+}
+
+/// The decision of a replica that makes this of a request to mend the target.
+fn decision_by(alloc: Global, target: ObjectId, mending: Mending) -> Result<Decision, NoMemory>
+    ensures { IfOk result (λ decision. decision ≡ decision_by target mending) }
+{
+    Ok(match mending {
+        Mending::Mends { candidate, version } => {
+            let accepted = Accepted {
+                object: target,
+                candidate,
+                state: version,
+            };
+            Decision::Answers {
+                verdict: Verdict::Mended(target, candidate.stamp),
+                accepted: List::one(alloc, accepted)?,
+            }
+        }
+        Mending::Holds { stamp } => Decision::Answers {
+            verdict: Verdict::Mended(target, stamp),
+            accepted: List::new(alloc),
+        },
+        Mending::Refuses(why) => refuse(alloc, why),
+        Mending::Waits => Decision::Waits,
+    })
 }
 
 /// The decision to accept one candidate, with this answer.

@@ -1,5 +1,5 @@
 -- What a request with one part is decided, the replica may accept.
-use Rattle.std.proofs.Common.{◌≡◌, subst, sym}
+use Rattle.std.proofs.Common.{◌≡◌, refl, subst, sym}
 use Rattle.std.proofs.lemmas.Result.{IfOk-weaker}
 use Rattle.qu_frames.specs.declared.frame.Body.TheVariants as body
 use Rattle.qu_replica.specs.declared.decision.Decision.{Decision}
@@ -25,3 +25,12 @@ returns-in-Ask-clause-may c =
     (λ decision is. subst (MayDecide c.args.self.now) (sym is)
     (decision_on-may c.args.self.now c.args.asked.now (body.Ask c.in-Ask.query) c.decide_ask.ensures.parts))
     c.decide_ask.ensures.value
+
+pub returns-in-Mend-clause-may : goal.returns-in-Mend-clause-may
+returns-in-Mend-clause-may c =
+    IfOk-weaker c.decide_repair.result
+    (λ (decision : Decision). decision ≡ decision_on c.args.self.now c.args.asked.now (body.Mend c.in-Mend.target))
+    (λ (decision : Decision). MayDecide c.args.self.now decision)
+    (λ decision is. subst (MayDecide c.args.self.now) (sym is)
+    (decision_on-may c.args.self.now c.args.asked.now (body.Mend c.in-Mend.target) refl))
+    c.decide_repair.ensures

@@ -7,12 +7,12 @@ use Rattle.qu_replica.proofs.replica.Replica.gain.Goals as goal
 
 pub returns-clause-state : goal.returns-clause-state
 returns-clause-state c =
-    let gain : Gain = record { history = c.in_ok-grown.field-0; versions = c.in_ok-one.field-0 } in
+    let gain : Gain = record { history = c.in_ok-grown.field-0; versions = c.in_ok-versions.versions } in
     let own : AreHistories c.args.self.now = search rules in
     gain_is_accepted c.args.self.now c.args.accepted.now gain own c.requires c.in_ok-grown.ensures (search rules)
 
 pub returns-clause-may : goal.returns-clause-may
 returns-clause-may c =
-    let gain : Gain = record { history = c.in_ok-grown.field-0; versions = c.in_ok-one.field-0 } in
+    let gain : Gain = record { history = c.in_ok-grown.field-0; versions = c.in_ok-versions.versions } in
     let own : AreHistories c.args.self.now = search rules in
     gain_may c.args.self.now c.args.accepted.now gain own c.requires c.in_ok-grown.ensures (search rules) (search rules)
