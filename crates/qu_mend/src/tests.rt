@@ -198,6 +198,11 @@ fn a_full_history_is_told_last(rt: HostRuntime) -> Result<(), Fail> {
     let sound = Seen::Refuses(Refusal::Sound(OBJECT));
     let spent = Seen::Refuses(Refusal::TimeSpent(OBJECT));
     let is_full = Seen::Refuses(Refusal::HistoryFull(OBJECT));
+    let newest = at(1023);
+    let held = Seen::Holds(newest.stamp);
+    let passed = Seen::Refuses(Refusal::NotCurrent(OBJECT, newest.stamp));
+    wants(alloc, Remedy::Shown(newest), 1023, (full, true), &held)?;
+    wants(alloc, copy(), 2, (full, true), &passed)?;
     wants(alloc, Remedy::Nothing, 2000, (full, true), &sound)?;
     wants(alloc, copy(), 2000, (full, false), &Seen::Waits)?;
     wants(alloc, barrier(), LAST_TIME, (full, false), &spent)?;
