@@ -13,6 +13,3 @@ pub use naming::in_name_of;
 pub use replying::reply_of;
 pub use requesting::request_of;
 pub use sealing::sealed_for;
-
-#[cfg(test)]
-mod tests;

@@ -4,14 +4,14 @@ use Rattle.std.specs.Prelude.{IsTrue}
 use Rattle.std.specs.List.{flat_map}
 use Rattle.std.specs.Int.{Width, w8, w16, w64, byte_len, from_be_bytes, to_be_bytes, from_bool}
 use Rattle.std.proofs.lemmas.Bool.{cases_lt, ltb-false, le-ltb, lt-ltb, le-leb, leb-true, and_parts, and_from}
-use Rattle.std.proofs.lemmas.List.{take_at, drop_at, take-append-drop, length-append, length-take, get_or-append-add, get_or-take, get_or_past, append-nil}
+use Rattle.std.proofs.lemmas.List.{take_at, drop_at, take-append-drop, length-append, length-take, get_or-append-add, get_or-take, get_or_past}
 use Rattle.std.proofs.lemmas.Nat.{be_bytes_2, be_bytes_8, from_be_bytes-to_be_bytes_2, from_be_bytes-to_be_bytes_8}
 use Rattle.qu_base.specs.declared.bad_text.BadText.{BadText}
 use Rattle.qu_base.specs.declared.bad_text.Why.{Why}
 use Rattle.qu_base.specs.declared.bad_text.Why.TheVariants.{Short, Range}
 use Rattle.qu_base.specs.declared.limits.TheConstants.{LAST_CLIENT, OBJECT_IDS, REPLICA_IDS}
 use Rattle.qu_base.specs.Cursor.{Front, Takes}
-use Rattle.qu_base.specs.Format.{Format, front_of, behind, refused, and_then, number_at, number, bytes_at, bytes, nothing, both, tested, FitsPart, spelled_part, made, either, FitsFrom, items_at, items, counted, flag, optional, tagged, digest_form, object_form, replica_form, client_form, Spells, AreBytes, IsExact, IsPrefixCode}
+use Rattle.qu_base.specs.Format.{Format, behind, refused, and_then, number_at, number, bytes_at, bytes, nothing, both, tested, FitsPart, spelled_part, made, either, FitsFrom, items_at, items, counted, flag, optional, tagged, digest_form, object_form, replica_form, client_form, Spells, AreBytes, IsExact}
 
 -- ---- fronts
 
@@ -52,7 +52,7 @@ pub and_then-ok : {V W : Type 0} (result : Result (V × Front) BadText)
 and_then-ok (Ok found) later value given = (found, refl, given)
 and_then-ok (Err bad) later value given = absurd cc
 
-same_ok : {A : Type 0} (one other : A) (bad : BadText) → cond true (Ok one) (Err bad) ≡ Ok other → one ≡ other
+pub same_ok : {A : Type 0} (one other : A) (bad : BadText) → cond true (Ok one) (Err bad) ≡ Ok other → one ≡ other
 same_ok one other bad given = cc
 
 -- ---- numbers
@@ -478,30 +478,3 @@ replica-exact = fields-exact _ _ _ (number-exact w8 (2 ^ 8) 0 (REPLICA_IDS - 1) 
 pub client-exact : IsExact client_form
 client-exact = fields-exact _ _ _ (number-exact w16 (2 ^ 16) 1 LAST_CLIENT wide16 (omega arith))
     (λ found fits. refl) (λ client. refl)
-
--- ---- what exactness gives
-
--- no spelling begins another one: where the spellings of two values stand at one front, the values are one
-pub one_value : {V : Type 0} (form : Format V) → IsExact form → (old new end : Front) (value other : V)
-    → Spells form old new value → Spells form old end other → (value ≡ other) × (new ≡ end)
-one_value {V = V} form exact old new end value other first second =
-    let is : (value, new) ≡ (other, end) =
-    same_ok _ _ (record { place = 0; why = Short }) (sym (exact.only old new value first)
-    ∙ exact.only old end other second) in
-    (ap (λ (pair : V × Front). pair.0) is, ap (λ (pair : V × Front). pair.1) is)
-
--- two values with one spelling are one
-pub one_spelling : {V : Type 0} (form : Format V) → IsExact form → (value other : V) → form.Fits value
-    → form.Fits other → form.spell value ≡ form.spell other → value ≡ other
-one_spelling {V = V} form exact value other fits others same =
-    let end : V → Front = λ it. record { place = length (form.spell it); rest = [] } in
-    let spelled : (it : V) → form.Fits it → Spells form (front_of (form.spell it)) (end it) it =
-    λ it fit. record { fits = fit; takes = record { bytes = sym (append-nil (form.spell it)); place = omega arith } } in
-    (one_value form exact (front_of (form.spell value)) (end value) (end other) value other (spelled value fits)
-    (subst (λ (text : List ℕ). Spells form (front_of text) (end other) other) (sym same) (spelled other others))).0
-
-pub prefix_code : {V : Type 0} (form : Format V) → IsExact form → IsPrefixCode form
-prefix_code form exact = record {
-  exact = exact;
-  one = one_value form exact;
-}

@@ -1,6 +1,7 @@
 -- What a proof may use of the sizes of quorums.
-use Rattle.std.proofs.Common.{◌≡◌, ℕ, zero, suc, ◌≤◌, true, refl, arith}
+use Rattle.std.proofs.Common.{◌≡◌, ℕ, zero, suc, ◌≤◌, ◌<◌, true, refl, arith}
 use Rattle.std.specs.Prelude.{IsTrue}
+use Rattle.std.proofs.lemmas.Bool.{false≢true}
 use Rattle.std.proofs.lemmas.Bool.Decides.{nat_tests}
 use Rattle.qu_base.specs.declared.limits.TheConstants.{MOST_FAULTS, REPLICA_IDS}
 use Rattle.qu_base.specs.Bounds.{replicas, is_replica_count, quorum, repair, AreThresholds}
@@ -14,6 +15,11 @@ are_thresholds b some = record {
   correct_make_quorum = omega arith;
   repair_outnumbers = omega arith;
 }
+
+-- a quorum has a member
+pub some_quorum : (b : ℕ) → 0 < quorum b
+unfolding quorum
+some_quorum b = omega arith
 
 -- ---- the number of replicas
 
@@ -32,3 +38,9 @@ replicas_are_count (suc (suc (suc (suc more)))) some few = absurd (omega arith)
 pub count_is_few : (count : ℕ) → IsTrue (is_replica_count count) → count ≤ REPLICA_IDS
 unfolding is_replica_count replicas
 count_is_few count is = grind (arith, nat_tests)
+
+-- a number of replicas that some number of faults wants is that of one fault or more
+pub count_has_faults : (b : ℕ) → is_replica_count (replicas b) ≡ true → 1 ≤ b
+unfolding is_replica_count replicas
+count_has_faults zero is = absurd (false≢true is)
+count_has_faults (suc b) is = omega arith

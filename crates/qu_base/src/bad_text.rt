@@ -7,15 +7,15 @@ use std::alloc::{AllocError, AllocFailed};
 /// What is wrong with a field of a text.
 #[derive(Clone, Copy, Debug, PartialEq, Eq)]
 pub enum Why {
-    /// Fewer bytes remain than the field takes.
+    /// Number 17: fewer bytes remain than the field takes.
     Short,
-    /// The version or the kind of a frame is not a known one.
+    /// Number 18: the version or the kind of a frame is not a known one.
     Kind,
-    /// A number, a code or a count is outside its range.
+    /// Number 19: a number, a code or a count is outside its range.
     Range,
-    /// An item is not above the one before it.
+    /// Number 20: an item is not above the one before it.
     Order,
-    /// Bytes follow the last field.
+    /// Number 21: bytes follow the last field.
     Rest,
 }
 

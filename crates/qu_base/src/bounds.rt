@@ -7,6 +7,7 @@ use std::marker::Model;
 /// Why a number of faulty replicas is refused.
 #[derive(Clone, Copy, Debug, PartialEq, Eq)]
 pub enum BadBounds {
+    /// Number 1: it is not from 1 to `MOST_FAULTS`.
     OutOfRange(u8),
 }
 

@@ -18,6 +18,3 @@ pub use list::List;
 pub use no_memory::NoMemory;
 pub use outbytes::Outbytes;
 pub use party::{ClientId, Digest, ObjectId, Party, ReplicaId};
-
-#[cfg(test)]
-mod tests;

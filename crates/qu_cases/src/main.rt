@@ -1,55 +1,28 @@
-//! The stored cases of the repository: reads cases from standard input, and prints the answer of each.
+//! The stored cases of the repository: standard input names topics, a line each, and the cases of each are compared
+//! with the answers that stand beside them.
 //!
-//! A case is a line `== NAME COMMAND WORDS` and the lines below it. Before the first case stand names of
-//! bytes. docs/testing.md has the commands.
+//! A topic is a file of `cases/`. Behind its name a line may have the name of a case, whose answer is then printed as
+//! a whole. docs/testing.md has the form of the files.
 #![tactic(auto)]
 
-mod answer;
-mod audits;
-mod case;
-mod changes;
-mod events;
-mod forms;
-mod names;
-mod no_answer;
-mod parts;
+mod answers;
 mod program;
-mod reading;
-mod runs;
-mod seals;
+mod topic;
 
-use case::Case;
-use names::{Named, read_names};
-use std::io;
 use std::rt::Files;
+use std::{fs, io};
+use topic::check_topic;
 
 fn main(rt: HostRuntime) -> io::Result<()> {
-    let text = io::read_to_string(rt.alloc(), rt.stdin())?;
-    print_all(&rt, text.as_str())
+    let topics = io::read_to_string(rt.alloc(), rt.stdin())?;
+    let names = fs::read_to_string(&rt, "cases/names")?;
+    check_all(&rt, names.as_str(), topics.as_str())
 }
 
-fn print_all(rt: &(impl Files + Print + AllocGlobal), text: &str) -> io::Result<()> {
-    let mut pieces = text.split("== ");
-    match read_names(rt.alloc(), pieces.next().unwrap_or("")) {
-        Ok(names) => {
-            for piece in pieces {
-                print_case(rt, names.as_slice(), &Case::of(piece))?;
-            }
-            Ok(())
-        }
-        Err(error) => println!(rt; "no names: {}", error.words()),
+fn check_all(rt: &(impl Files + Print + AllocGlobal), names: &str, topics: &str) -> io::Result<()> {
+    for line in topics.lines() {
+        let (topic, case) = line.split_once(' ').unwrap_or((line, ""));
+        check_topic(rt, names, topic, case)?;
     }
-}
-
-fn print_case(
-    rt: &(impl Files + Print + AllocGlobal),
-    names: &[Named],
-    case: &Case<'_>,
-) -> io::Result<()> {
-    let mut text = String::new(rt.alloc());
-    println!(rt; "== {}", case.name)?;
-    match answer::answer(rt, names, case, &mut text) {
-        Ok(()) => println!(rt; "{text}"),
-        Err(error) => println!(rt; "no answer: {}", error.words()),
-    }
+    Ok(())
 }

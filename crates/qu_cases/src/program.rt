@@ -1,8 +1,7 @@
 //! What the programs write, over sources and sinks in memory.
 
-use super::case::Case;
-use super::no_answer::NoAnswer;
 use qu_base::List;
+use qu_case_forms::{Case, NoAnswer, repeated, set_off, words_of};
 use qu_cli::{qu, qu_letters};
 use qu_io::{MemSink, MemSource};
 use std::alloc::{AllocError, Global};
@@ -38,24 +37,6 @@ pub fn write(
     )
 }
 
-/// The words from a place on; `_` is a space in a word.
-fn words_of(alloc: Global, words: &str, first: usize) -> Result<Vec<String>, AllocError> {
-    let mut all = Vec::new(alloc);
-    for word in words.split_whitespace().skip(first) {
-        let word = spaced(alloc, word)?;
-        all.push(word)?;
-    }
-    Ok(all)
-}
-
-fn spaced(alloc: Global, word: &str) -> Result<String, AllocError> {
-    let mut text = String::new(alloc);
-    for letter in word.chars() {
-        text.push(if letter == '_' { ' ' } else { letter })?;
-    }
-    Ok(text)
-}
-
 fn run(
     alloc: Global,
     program: Program,
@@ -89,8 +70,9 @@ fn put_text(alloc: Global, text: &[u8], out: &mut String) -> Result<(), AllocErr
     out.push_str(text.as_str())
 }
 
-/// `pieces MOST READ MOST WRITE WORDS`: the same where a read gives so many bytes at most and this read
-/// fails, and the same of writes; and whether there is a trace, the calls, and how many bytes are not read.
+/// `pieces MOST READ MOST WRITE WORDS`: what `qu` writes where a read gives so many bytes at most and this read
+/// fails, and a write takes so many and that write fails; and whether there is a trace, the calls, and how many bytes
+/// are not read.
 pub fn pieces(alloc: Global, case: &Case<'_>, out: &mut String) -> Result<(), NoAnswer> {
     let source = source_of(alloc, case)?;
     let sink = sink_of(alloc, case)?;
@@ -101,50 +83,17 @@ pub fn pieces(alloc: Global, case: &Case<'_>, out: &mut String) -> Result<(), No
 fn source_of(alloc: Global, case: &Case<'_>) -> Result<MemSource, NoAnswer> {
     let most = usize::from(case.short(0)?);
     let failing = List::one(alloc, case.number(1)?)?;
-    let script = script_of(alloc, case.lines)?;
+    let script = repeated(alloc, case.lines)?;
     if most == 0 {
         return Err(NoAnswer::Number);
     }
-    Ok(MemSource::new(script, most, failing))
+    Ok(MemSource::new(List::from(script), most, failing))
 }
 
 fn sink_of(alloc: Global, case: &Case<'_>) -> Result<MemSink, NoAnswer> {
     let most = usize::from(case.short(2)?);
     let failing = List::one(alloc, case.number(3)?)?;
     Ok(MemSink::new(alloc, most, failing))
-}
-
-/// A script where a word `WORD*N` is the word N times.
-fn script_of(alloc: Global, lines: &str) -> Result<List<u8>, NoAnswer> {
-    let mut script = Vec::new(alloc);
-    for line in lines.lines() {
-        put_line(line, &mut script)?;
-    }
-    Ok(List::from(script))
-}
-
-fn put_line(line: &str, out: &mut Vec<u8>) -> Result<(), NoAnswer> {
-    for word in line.split(' ') {
-        put_word(word, out)?;
-    }
-    // In the place of the last space.
-    out.pop();
-    Ok(out.push(b'\n')?)
-}
-
-/// The word each time that it stands, and a space behind it.
-fn put_word(word: &str, out: &mut Vec<u8>) -> Result<(), NoAnswer> {
-    let (word, count) = word.split_once('*').unwrap_or((word, "1"));
-    let count = count.parse::<u64>()?;
-    Ok(put_times(word.as_bytes(), count, out)?)
-}
-
-fn put_times(word: &[u8], count: u64, out: &mut Vec<u8>) -> Result<(), AllocError> {
-    for _ in 0..count {
-        out.extend_from_slice(word)?;
-        out.push(b' ')?;
-    }
-    Ok(())
 }
 
 fn run_pieces(
@@ -215,17 +164,6 @@ pub fn page(
         &mut told,
     )?;
     Ok(put_shown(told.as_str(), shown.as_str(), out)?)
-}
-
-/// The lines that are set off, without the spaces before them.
-fn set_off(alloc: Global, page: &str) -> Result<String, AllocError> {
-    let mut lines = String::new(alloc);
-    for line in page.lines() {
-        if let Some(line) = line.strip_prefix("    ") {
-            write!(lines, "{line}\n")?;
-        }
-    }
-    Ok(lines)
 }
 
 fn put_shown(told: &str, shown: &str, out: &mut String) -> Result<(), AllocError> {

@@ -4,10 +4,10 @@ use Rattle.std.proofs.lemmas.Bool.{and_parts, and_from, cases_eq}
 use Rattle.qu_base.specs.declared.party.ObjectId.{ObjectId}
 use Rattle.qu_stamp.specs.declared.candidate.Candidate.{Candidate}
 use Rattle.qu_stamp.specs.Candidate.{opening}
-use Rattle.qu_chain.specs.Count.{count}
-use Rattle.qu_chain.specs.Setting.{Setting, acceptors, IsAccepted, IsEstablished, IsAttested, IsAncestor}
+use Rattle.qu_claims.specs.Count.{count}
+use Rattle.qu_claims.specs.Setting.{Setting, acceptors, IsAccepted, IsEstablished, IsAttested, IsAncestor}
 use Rattle.qu_chain.specs.Laws.{Sizes, Laws}
-use Rattle.qu_chain.specs.Decided.{IsDecided}
+use Rattle.qu_claims.specs.Decided.{IsDecided}
 use Rattle.qu_chain.proofs.Counting.{count-more, count-some, count-not, Passing, passing}
 
 -- a correct replica that accepted the candidate

@@ -4,7 +4,7 @@ use Rattle.std.specs.Prelude.{count_by, Some}
 use Rattle.std.specs.List.{slice_get}
 use Rattle.std.proofs.lemmas.Bool.{false≢true, cases_Bool, and_parts, cases_eq, cases_lt}
 use Rattle.std.proofs.lemmas.List.Sums.{sum_by-cons}
-use Rattle.qu_chain.specs.Count.{count, passes, test_at}
+use Rattle.qu_claims.specs.Count.{count, passes, test_at}
 
 -- what one number adds to a count
 abbrev pub bit : Bool → ℕ

@@ -5,9 +5,9 @@ use Rattle.qu_base.specs.declared.party.ObjectId.{ObjectId}
 use Rattle.qu_stamp.specs.declared.candidate.Candidate.{Candidate}
 use Rattle.qu_stamp.specs.Stamp.{is_below, same_stamp}
 use Rattle.qu_stamp.proofs.Order.{is_below-self, equal_by_same_stamp}
-use Rattle.qu_chain.specs.Setting.{Setting, IsAccepted, IsEstablished, IsAttested, IsAncestor}
+use Rattle.qu_claims.specs.Setting.{Setting, IsAccepted, IsEstablished, IsAttested, IsAncestor}
 use Rattle.qu_chain.specs.Laws.{Laws}
-use Rattle.qu_chain.specs.Decided.{IsDecided}
+use Rattle.qu_claims.specs.Decided.{IsDecided}
 use Rattle.qu_chain.specs.Joint.{Joint}
 use Rattle.qu_chain.proofs.Ancestry.{accepted_by_attested, attested_by_established, attested-later, accepted_by_decided, ancestor-chain, some-later}
 use Rattle.qu_chain.proofs.Established.{established_comparable}

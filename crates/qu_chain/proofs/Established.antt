@@ -6,8 +6,8 @@ use Rattle.qu_stamp.specs.declared.candidate.Candidate.{Candidate}
 use Rattle.qu_stamp.specs.Stamp.{is_below, same_stamp}
 use Rattle.qu_stamp.specs.Candidate.{opening}
 use Rattle.qu_stamp.proofs.Order.{is_below-self, is_below-not_back, is_below-other, is_below-opening, equal_by_same_stamp}
-use Rattle.qu_chain.specs.Count.{count}
-use Rattle.qu_chain.specs.Setting.{Setting, IsEstablished, IsAttested, IsAncestor, ChainHolds, IsNew}
+use Rattle.qu_claims.specs.Count.{count}
+use Rattle.qu_claims.specs.Setting.{Setting, IsEstablished, IsAttested, IsAncestor, ChainHolds, IsNew}
 use Rattle.qu_chain.specs.Laws.{Sizes, Laws, IsLinked}
 use Rattle.qu_chain.proofs.Counting.{count-not, Shared, shared}
 use Rattle.qu_chain.proofs.Arrival.{Turn, turn_between}

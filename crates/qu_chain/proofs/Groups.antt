@@ -4,10 +4,11 @@ use Rattle.std.proofs.lemmas.Bool.{false≢true, cases_Bool, and_from}
 use Rattle.qu_base.specs.declared.party.ObjectId.{ObjectId}
 use Rattle.qu_stamp.specs.declared.stamp.Stamp.{Stamp}
 use Rattle.qu_stamp.specs.declared.candidate.Candidate.{Candidate}
-use Rattle.qu_chain.specs.Setting.{Setting, Apart, acceptors, IsAccepted, IsEstablished, IsNew}
+use Rattle.qu_claims.specs.Setting.{Setting, Apart, acceptors, IsAccepted, IsEstablished, IsNew}
 use Rattle.qu_chain.specs.Laws.{Laws}
-use Rattle.qu_chain.specs.Decided.{IsDecided, IsDecidedBy}
-use Rattle.qu_chain.specs.Joint.{HasCompanion, HasDecided, IsCopied, Joint}
+use Rattle.qu_claims.specs.Decided.{IsDecided, IsDecidedBy}
+use Rattle.qu_chain.specs.Joint.{HasCompanion, IsCopied, Joint}
+use Rattle.qu_claims.specs.Groups.{HasDecided}
 use Rattle.qu_chain.proofs.Counting.{count-more}
 use Rattle.qu_chain.proofs.Ancestry.{Acceptor, acceptor, accepted_by, accepts, accepts-parts, accepted_by_attested, attested_by_established, accepted_by_decided, established-later, decided-later, some-later}
 use Rattle.qu_chain.proofs.Parents.{First, RestsOn, rests, nobody_attests, one_candidate}

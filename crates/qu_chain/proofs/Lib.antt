@@ -9,4 +9,5 @@ pub mod Groups
 pub mod Turns
 pub mod Values
 pub mod Updates
+pub mod ExampleSteps
 pub mod ExampleRun

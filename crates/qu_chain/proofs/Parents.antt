@@ -8,7 +8,7 @@ use Rattle.qu_stamp.specs.declared.candidate.Candidate.{Candidate}
 use Rattle.qu_stamp.specs.Stamp.{is_below}
 use Rattle.qu_stamp.specs.Candidate.{opening}
 use Rattle.qu_stamp.proofs.Order.{is_below-not_back, is_below-opening, is_below-not_chain}
-use Rattle.qu_chain.specs.Setting.{Setting, acceptors, IsAccepted, IsEstablished, IsAttested, IsAncestor, IsNew}
+use Rattle.qu_claims.specs.Setting.{Setting, acceptors, IsAccepted, IsEstablished, IsAttested, IsAncestor, IsNew}
 use Rattle.qu_chain.specs.Laws.{Sizes, Laws, IsLinked}
 use Rattle.qu_chain.specs.Joint.{Joint}
 use Rattle.qu_chain.proofs.Counting.{Gained, count-gained}

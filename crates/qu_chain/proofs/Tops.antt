@@ -7,9 +7,9 @@ use Rattle.qu_stamp.specs.declared.candidate.Candidate.{Candidate}
 use Rattle.qu_stamp.specs.Stamp.{is_below, same_stamp}
 use Rattle.qu_stamp.specs.Candidate.{opening}
 use Rattle.qu_stamp.proofs.Order.{is_below-self, is_below-chain, is_below-not_chain, is_below-other, equal_by_same_stamp}
-use Rattle.qu_chain.specs.Setting.{Setting, acceptors, IsEstablished, IsAncestor, IsNew}
+use Rattle.qu_claims.specs.Setting.{Setting, acceptors, IsEstablished, IsAncestor, IsNew}
 use Rattle.qu_chain.specs.Laws.{Laws, Given}
-use Rattle.qu_chain.specs.Decided.{IsDecided, IsTop}
+use Rattle.qu_claims.specs.Decided.{IsDecided, IsTop}
 use Rattle.qu_chain.specs.Joint.{Joint}
 use Rattle.qu_chain.proofs.Ancestry.{Acceptor, acceptor, accepted_by_decided, established-later, opening_established, decided-later, some-later, ancestor-chain}
 use Rattle.qu_chain.proofs.Parents.{Step, grown, one_candidate, ancestor-not_above}

@@ -7,10 +7,11 @@ use Rattle.qu_stamp.specs.declared.candidate.Candidate.{Candidate}
 use Rattle.qu_stamp.specs.Stamp.{is_below}
 use Rattle.qu_stamp.specs.Candidate.{opening}
 use Rattle.qu_stamp.proofs.Order.{is_below-self}
-use Rattle.qu_chain.specs.Setting.{Setting, Apart, IsAccepted, IsEstablished, IsAncestor}
+use Rattle.qu_claims.specs.Setting.{Setting, Apart, IsAccepted, IsEstablished, IsAncestor}
 use Rattle.qu_chain.specs.Laws.{Laws}
-use Rattle.qu_chain.specs.Decided.{IsDecided, IsDecidedBy, UponTop}
-use Rattle.qu_chain.specs.Joint.{IsOneAct, Joint}
+use Rattle.qu_claims.specs.Decided.{IsDecided, IsDecidedBy, UponTop}
+use Rattle.qu_claims.specs.Groups.{IsOneAct}
+use Rattle.qu_chain.specs.Joint.{Joint}
 use Rattle.qu_chain.proofs.Ancestry.{accepted_by_decided, accepted_by_attested, established-later, decided-later, some-later, ancestor-later}
 use Rattle.qu_chain.proofs.Parents.{parent, rests, opening_from_first, ancestor-not_above}
 use Rattle.qu_chain.proofs.Deciding.{decided_plain, decided_prior, decided_down, decided_under, OnPath, decided_path}

@@ -3,10 +3,11 @@ use Rattle.std.proofs.Common.{◌≡◌, ◌⊎◌, ℕ, ◌<◌, true, sym, ap,
 use Rattle.qu_base.specs.declared.party.ObjectId.{ObjectId}
 use Rattle.qu_stamp.specs.declared.stamp.Stamp.{Stamp}
 use Rattle.qu_stamp.specs.declared.candidate.Candidate.{Candidate}
-use Rattle.qu_chain.specs.Setting.{Setting, Apart, IsAccepted, IsAncestor}
+use Rattle.qu_claims.specs.Setting.{Setting, Apart, IsAccepted, IsAncestor}
 use Rattle.qu_chain.specs.Laws.{Laws}
-use Rattle.qu_chain.specs.Decided.{IsDecided, IsDecidedBy}
-use Rattle.qu_chain.specs.Joint.{HasDecided, HasMember, IsOneAct, Joint}
+use Rattle.qu_claims.specs.Decided.{IsDecided, IsDecidedBy}
+use Rattle.qu_claims.specs.Groups.{HasDecided, IsOneAct}
+use Rattle.qu_chain.specs.Joint.{HasMember, Joint}
 use Rattle.qu_chain.proofs.Ancestry.{accepted_by_decided, decided-later}
 use Rattle.qu_chain.proofs.Deciding.{OnPath, decided_path}
 use Rattle.qu_chain.proofs.Groups.{decided_joint, decided_back}

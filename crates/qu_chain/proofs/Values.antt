@@ -6,9 +6,9 @@ use Rattle.qu_stamp.specs.declared.candidate.Candidate.{Candidate}
 use Rattle.qu_stamp.specs.Stamp.{is_below}
 use Rattle.qu_stamp.specs.Candidate.{same}
 use Rattle.qu_stamp.proofs.Order.{same-self, equal_by_same}
-use Rattle.qu_chain.specs.Setting.{Setting, IsAccepted, IsAncestor}
+use Rattle.qu_claims.specs.Setting.{Setting, IsAccepted, IsAncestor}
 use Rattle.qu_chain.specs.Laws.{Laws}
-use Rattle.qu_chain.specs.Decided.{IsDecided, IsTop, IsDecidedBy, UponTop}
+use Rattle.qu_claims.specs.Decided.{IsDecided, IsTop, IsDecidedBy, UponTop}
 use Rattle.qu_chain.specs.Joint.{Joint}
 use Rattle.qu_chain.proofs.Ancestry.{accepted_by_decided, accepted_by_attested, decided-later, some-later}
 use Rattle.qu_chain.proofs.Parents.{ancestor-not_above}

@@ -4,8 +4,8 @@ use Rattle.std.specs.Prelude.{◌≡◌, ℕ, true, false, ◌<◌, suc, ◌⊎�
 use Rattle.qu_base.specs.declared.party.ObjectId.{ObjectId}
 use Rattle.qu_stamp.specs.declared.stamp.Stamp.{Stamp}
 use Rattle.qu_stamp.specs.declared.candidate.Candidate.{Candidate}
-use Rattle.qu_chain.specs.Setting.{Setting, Apart, IsAttested, IsNew}
-use Rattle.qu_chain.specs.Decided.{IsDecided}
+use Rattle.qu_claims.specs.Setting.{Setting, Apart, IsAttested, IsNew}
+use Rattle.qu_claims.specs.Groups.{HasDecided}
 
 -- a replica that accepted the candidate accepted this member of its group too, on the other object
 pub record HasCompanion (setting : Setting) (time : ℕ) (object : ObjectId) (replica : ℕ) (candidate : Candidate)
@@ -16,12 +16,6 @@ pub record HasCompanion (setting : Setting) (time : ℕ) (object : ObjectId) (re
   pub back : setting.member companion object ≡ Some candidate.stamp
   pub plain_too : setting.plain companion ≡ setting.plain candidate
   pub act_too : setting.is_act companion ≡ setting.is_act candidate
-
--- a candidate of this stamp is decided
-pub record HasDecided (setting : Setting) (time : ℕ) (object : ObjectId) (stamp : Stamp) : Type 0 where
-  pub candidate : Candidate
-  pub stamp_is : candidate.stamp ≡ stamp
-  pub decided : IsDecided setting time object candidate
 
 -- the candidate copies its base (Query/Update), with its group; that the base has no
 -- barrier follows from its link
@@ -45,16 +39,6 @@ pub record IsCopied (setting : Setting) (time : ℕ) (object : ObjectId) (replic
 abbrev pub HasMember : Setting → ObjectId → Candidate → ObjectId → Type 0
 HasMember setting object candidate other =
     Apart object other × ((stamp : Stamp) × (setting.member candidate other ≡ Some stamp))
-
--- two candidates on two objects of one group
-pub record InGroup (setting : Setting) (object other : ObjectId) (candidate companion : Candidate) : Type 0 where
-  pub apart : Apart object other
-  pub is_member : setting.member candidate other ≡ Some companion.stamp
-
--- the same candidate, or two of one group
-abbrev pub IsOneAct : Setting → ObjectId → ObjectId → Candidate → Candidate → Type 0
-IsOneAct setting object other candidate companion =
-    ((object ≡ other) × (candidate ≡ companion)) ⊎ InGroup setting object other candidate companion
 
 -- what is asked of a run for all objects together
 pub record Joint (setting : Setting) : Type 0 where

@@ -5,8 +5,8 @@ use Rattle.qu_base.specs.declared.party.ObjectId.{ObjectId}
 use Rattle.qu_stamp.specs.declared.candidate.Candidate.{Candidate}
 use Rattle.qu_stamp.specs.Stamp.{is_below}
 use Rattle.qu_stamp.specs.Candidate.{opening}
-use Rattle.qu_chain.specs.Count.{count}
-use Rattle.qu_chain.specs.Setting.{Setting, IsEstablished, IsAttested, ChainHolds, IsNew}
+use Rattle.qu_claims.specs.Count.{count}
+use Rattle.qu_claims.specs.Setting.{Setting, IsEstablished, IsAttested, ChainHolds, IsNew}
 
 -- what is asked of the numbers (Query/Update's constraints on n, b, quorums and repair, those that safety uses)
 pub record Sizes (setting : Setting) : Type 0 where

@@ -1,5 +1,2 @@
-pub mod Count
-pub mod Setting
 pub mod Laws
-pub mod Decided
 pub mod Joint

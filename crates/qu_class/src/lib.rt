@@ -8,8 +8,3 @@ mod repairable;
 pub use class::{Class, classify, method_at};
 pub use plan::{CopyPlan, evidence, plan_copy};
 pub use repairable::base_of;
-
-#[cfg(test)]
-mod random_tests;
-#[cfg(test)]
-mod tests;

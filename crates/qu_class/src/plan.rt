@@ -18,6 +18,17 @@ pub struct CopyPlan {
     pub joint: List<(ObjectId, Candidate)>,
 }
 
+impl CopyPlan {
+    /// An equal plan.
+    pub fn copy(&self, alloc: Global) -> Result<CopyPlan, NoMemory>
+        ensures { IfOk result (λ plan. plan ≡ self.now) }
+    {
+        Ok(CopyPlan {
+            joint: self.joint.copy(alloc)?,
+        })
+    }
+}
+
 /// The versions on which the plan of a copy rests, as object and stamp: none, since a candidate is of one object.
 pub fn evidence(
     alloc: Global,

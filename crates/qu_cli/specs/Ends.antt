@@ -9,10 +9,10 @@ use Rattle.qu_trace.specs.declared.premises.Premises.{Premises}
 use Rattle.qu_trace.specs.declared.trace.Trace.{Trace}
 use Rattle.qu_trace.specs.Operation.{operations_of}
 use Rattle.qu_world.specs.Run.{IsRun}
-use Rattle.qu_runs.specs.Premises.{MeetsPremises}
+use Rattle.qu_claims.specs.Premises.{MeetsPremises}
 use Rattle.qu_premise.specs.Answer.{IsAnswer}
-use Rattle.qu_grounds.specs.Chained.{IsChained}
-use Rattle.qu_points.specs.Order.{IsPrintedOrder}
+use Rattle.qu_claims.specs.Chained.{IsChained}
+use Rattle.qu_claims.specs.Order.{IsPrintedOrder}
 use Rattle.qu_print.specs.Report.{report_of}
 use Rattle.qu_listing.specs.Digests.{digests_of}
 use Rattle.qu_listing.specs.Events.{events_of}
@@ -33,7 +33,7 @@ pub record Reports (trace : Trace) (text : List ℕ) : Type 0 where
   pub order : List Point
   pub audited : IsAnswer trace premises
   pub ordered : IsPrintedOrder trace order
-  pub serial : MeetsPremises trace → IsSerial trace.setup.kinds (operations_of trace.entries) order
+  pub serial : MeetsPremises trace → IsSerial trace.setup.kinds (operations_of trace) order
   pub chained : MeetsPremises trace → IsChained trace
   pub tells : text ≡ report_of trace premises order
 
@@ -45,7 +45,7 @@ pub record HasOneHistory (trace : Trace) : Type 0 where
   pub order : List Point
   pub is_run : IsRun trace
   pub printed : IsPrintedOrder trace order
-  pub serial : MeetsPremises trace → IsSerial trace.setup.kinds (operations_of trace.entries) order
+  pub serial : MeetsPremises trace → IsSerial trace.setup.kinds (operations_of trace) order
   pub chained : MeetsPremises trace → IsChained trace
 
 -- the text is what the command tells of a run

@@ -19,6 +19,3 @@ pub use letters::qu_letters;
 pub use limits::{PIECE, limits_are_these};
 pub use report::{End, Report};
 pub use top::qu;
-
-#[cfg(test)]
-mod tests;

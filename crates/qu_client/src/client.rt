@@ -16,7 +16,7 @@ use std::marker::Model;
 /// Why an operation is not begun. The client is as before.
 #[derive(Clone, Copy, Debug, PartialEq, Eq)]
 pub enum InvokeFail {
-    /// An operation is under way.
+    /// Number 28: an operation is under way.
     Busy,
     NoMemory,
 }
@@ -262,6 +262,3 @@ impl Client {
         }
     }
 }
-
-#[cfg(test)]
-mod tests;

@@ -106,6 +106,3 @@ fn is_name_of(held: &Kept, pair: &(ObjectId, ReplicaId)) -> bool
     let history = &held.sealed.history;
     pair.0.0 == history.object().0 && pair.1.0 == history.replica().0
 }
-
-#[cfg(test)]
-mod tests;

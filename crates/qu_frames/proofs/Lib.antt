@@ -1,3 +1,4 @@
+pub mod VerdictForms
 pub mod Forms
 pub mod Decoded
 pub mod Pieces

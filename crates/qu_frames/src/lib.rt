@@ -24,6 +24,3 @@ pub use reading::Reading;
 pub use refusal_number::refusal_numbers_are_these;
 pub use signing::{before_mac, receive, text_digest, with_mac};
 pub use verdict::{ClassCode, Refusal, Verdict};
-
-#[cfg(test)]
-mod tests;

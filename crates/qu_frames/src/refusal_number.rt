@@ -9,10 +9,10 @@ pub const HISTORY_FULL: u8 = 11;
 /// Too few entries of the object are shown.
 pub const THIN: u8 = 13;
 
-/// The object is needed too.
+/// More of the object has to be shown.
 pub const NEEDS: u8 = 15;
 
-/// A later version knows of another candidate of the object.
+/// The object's version has a greater link to the target than a copy may have.
 pub const STALE: u8 = 16;
 
 /// A later candidate of the object was accepted.

@@ -38,7 +38,8 @@ impl Frame {
         keys.verifies(self.sender(), to, &text_digest(text), self.mac())
     }
 
-    fn mac(&self) -> &[u8; 32]
+    /// The HMAC at its end.
+    pub fn mac(&self) -> &[u8; 32]
         ensures { result.now ≡ mac_of self.now }
     {
         match self {

@@ -16,28 +16,29 @@ pub enum ClassCode {
     Needs,
 }
 
-/// Why a replica refuses a request. Nothing changed at it.
+/// Why a replica refuses a request, by numbers that stand in bytes. Nothing changed at it.
 #[derive(Clone, Copy, Debug, PartialEq, Eq)]
 pub enum Refusal {
-    /// The history of this object is full.
+    /// Number 11: the history of this object is full.
     HistoryFull(ObjectId),
-    /// The sets have fewer entries of this object than a quorum.
+    /// Number 13: the sets have fewer entries of this object than a quorum.
     Thin(ObjectId),
-    /// An operation upon this object needs more than the sets show.
+    /// Number 15: more of this object has to be shown.
     Needs(ObjectId),
-    /// The histories of this object are older than those that the replica knows of.
+    /// Number 16: the version of this object has a greater link to the target than the stamp that the candidate to be
+    /// copied names for this object.
     Stale(ObjectId),
-    /// The replica has a later candidate of this object, whose stamp is told.
+    /// Number 22: the replica has a later candidate of this object, whose stamp is told.
     NotCurrent(ObjectId, Stamp),
-    /// An operation may not rest upon this object, which is of the class told.
+    /// Number 23: an operation may not rest upon this object, which is of the class told.
     NotMethod(ObjectId, ClassCode),
-    /// The client's operation with this number, told, or a later one was performed upon this object.
+    /// Number 24: the client's operation with this number, told, or a later one was performed upon this object.
     Spent(ObjectId, u64),
-    /// The time of this object is spent.
+    /// Number 25: the time of this object is spent.
     TimeSpent(ObjectId),
-    /// The replica does not have this object.
+    /// Number 26: the replica does not have this object.
     UnknownObject(ObjectId),
-    /// The sets are sound for this object: there is nothing to mend.
+    /// Number 27: the sets are sound for this object, and there is nothing to mend.
     Sound(ObjectId),
 }
 

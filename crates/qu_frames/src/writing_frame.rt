@@ -105,8 +105,8 @@ fn append_version(
     stamp: &Stamp,
     out: &mut Outbytes,
 ) -> Result<(), NoMemory>
-    ensures { OnOk result
-        (out.new ≡ out.old ++ (to_be_bytes w8 replica.0 ++ (to_be_bytes w16 object.0 ++ plain_stamp_form.spell stamp.now))) }
+    ensures { OnOk result (out.new ≡ out.old
+        ++ (to_be_bytes w8 replica.0 ++ (to_be_bytes w16 object.0 ++ plain_stamp_form.spell stamp.now))) }
 {
     out.u8(replica.0)?;
     out.u16(object.0)?;

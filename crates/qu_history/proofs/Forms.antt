@@ -10,7 +10,8 @@ use Rattle.qu_base.specs.declared.party.ReplicaId.{ReplicaId}
 use Rattle.qu_base.specs.Cursor.{Front}
 use Rattle.qu_base.specs.Format.{IsPrefixCode, Format, IsExact, AreBytes, FitsFrom, number, bytes, tested, object_form, replica_form}
 use Rattle.qu_base.specs.Reading.{Gives, IsGiven}
-use Rattle.qu_base.proofs.Formats.{prefix_code, wide8, wide16, number-exact, bytes-exact, both-exact, tested-exact, fields-exact, counted-exact, object-exact, replica-exact}
+use Rattle.qu_base.proofs.Formats.{wide8, wide16, number-exact, bytes-exact, both-exact, tested-exact, fields-exact, counted-exact, object-exact, replica-exact}
+use Rattle.qu_base.proofs.PrefixCodes.{prefix_code}
 use Rattle.qu_base.proofs.Reading.{given_exactly}
 use Rattle.qu_base.specs.Bounds.{is_replica_count}
 use Rattle.qu_stamp.specs.declared.stamp.Stamp.{Stamp}

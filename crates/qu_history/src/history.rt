@@ -16,9 +16,9 @@ use std::marker::Model;
 /// Why a candidate is not added to a history, which stays as it is.
 #[derive(Clone, Copy, Debug, PartialEq, Eq)]
 pub enum AddFail {
-    /// The candidate's stamp is not above the latest, which is told.
+    /// Number 10: the candidate's stamp is not above the latest, which is told.
     NotLater(Stamp),
-    /// The history holds as many candidates as it may.
+    /// Number 11: the history holds as many candidates as it may.
     HistoryFull,
     NoMemory,
 }

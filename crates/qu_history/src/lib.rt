@@ -28,6 +28,3 @@ pub use reading_sets::{read_sets, read_shown};
 pub use sealed::Sealed;
 pub use sets::{SetOf, Sets};
 pub use writing_sets::{write_sets, write_shown};
-
-#[cfg(test)]
-mod tests;

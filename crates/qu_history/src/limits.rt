@@ -6,7 +6,7 @@ pub const HISTORY_LIMIT: usize = 1024;
 /// The most objects in one set of histories.
 pub const OBJECTS_LIMIT: usize = 8;
 
-/// The most objects that the sets of a request have in a text so far; operations have one part yet.
+/// The most objects that the sets of a request have in a text: as many as an operation has parts.
 pub const SETS_YET: u8 = 1;
 
 /// The limits of this crate, by their numbers.

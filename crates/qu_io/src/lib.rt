@@ -25,6 +25,3 @@ pub use std_sink::StdSink;
 pub use std_source::StdSource;
 pub use sure_sink::SureSink;
 pub use sure_source::SureSource;
-
-#[cfg(test)]
-mod tests;

@@ -9,6 +9,3 @@ mod rows;
 pub use performing::{Performed, perform};
 pub use repeats::{Standing, standing_of};
 pub use rows::{row_of, with_row};
-
-#[cfg(test)]
-mod tests;

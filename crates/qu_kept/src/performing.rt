@@ -20,6 +20,18 @@ pub struct Performed {
     pub answer: Answer,
 }
 
+impl Performed {
+    /// Equal states and an equal answer.
+    pub fn copy(&self, alloc: Global) -> Result<Performed, NoMemory>
+        ensures { IfOk result (λ performed. performed ≡ self.now) }
+    {
+        Ok(Performed {
+            states: ObjState::copy_all(alloc, self.states.as_slice())?,
+            answer: self.answer.copy(alloc)?,
+        })
+    }
+}
+
 /// Performs an act of a client, which is its operation with this number, counted from 1, on the versions of the
 /// act's objects. Those and the stamps of the new versions are given in the order of the act's parts.
 ///

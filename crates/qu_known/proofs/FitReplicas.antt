@@ -10,7 +10,7 @@ use Rattle.qu_base.specs.Bounds.{replicas}
 use Rattle.qu_base.specs.Format.{AreBytes}
 use Rattle.qu_base.proofs.ThresholdFacts.{replicas_are_few, replicas_are_count}
 use Rattle.qu_frames.specs.declared.frame.Letter.{Letter}
-use Rattle.qu_replica.specs.State.{ReplicaState}
+use Rattle.qu_rows.specs.State.{ReplicaState}
 use Rattle.qu_replica.specs.Step.{replica_step}
 use Rattle.qu_replica.specs.Fits.{StateFits}
 use Rattle.qu_replica.proofs.FitState.{opening-fits}
@@ -24,8 +24,8 @@ use Rattle.qu_world.specs.Run.{IsRun}
 use Rattle.qu_world.specs.State.{WorldState, kinds_at, letter_of, ring_of}
 use Rattle.qu_world.specs.Step.{world_step}
 use Rattle.qu_world.proofs.Each.{each_append, each_at, each_numbered, set_cases}
-use Rattle.qu_runs.specs.Carried.{offered}
-use Rattle.qu_runs.specs.Times.{world_after}
+use Rattle.qu_claims.specs.Carried.{offered}
+use Rattle.qu_claims.specs.Times.{world_after}
 use Rattle.qu_runs.proofs.Handing.{hand}
 use Rattle.qu_runs.proofs.Objects.{few_kinds}
 use Rattle.qu_runs.proofs.OpeningReplicas.{all_replicas, opening_at}

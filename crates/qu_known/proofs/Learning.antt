@@ -8,7 +8,7 @@ use Rattle.qu_base.specs.declared.party.Party.TheVariants as party
 use Rattle.qu_stamp.specs.declared.candidate.Candidate.{Candidate}
 use Rattle.qu_history.specs.History.{holds}
 use Rattle.qu_frames.specs.declared.frame.Letter.{Letter}
-use Rattle.qu_replica.specs.State.{ReplicaState}
+use Rattle.qu_rows.specs.State.{ReplicaState}
 use Rattle.qu_replica.specs.Step.{replica_step}
 use Rattle.qu_replica.specs.Fits.{StateFits}
 use Rattle.qu_replica.proofs.FitSteps.{step-fits}
@@ -18,9 +18,9 @@ use Rattle.qu_trace.specs.declared.trace.Trace.{Trace}
 use Rattle.qu_world.specs.Run.{IsRun}
 use Rattle.qu_world.specs.State.{WorldState}
 use Rattle.qu_world.specs.Step.{world_step}
-use Rattle.qu_runs.specs.Accepted.{accepts}
-use Rattle.qu_runs.specs.Carried.{offered}
-use Rattle.qu_runs.specs.Times.{world_after}
+use Rattle.qu_claims.specs.Accepted.{accepts}
+use Rattle.qu_claims.specs.Carried.{offered}
+use Rattle.qu_claims.specs.Times.{world_after}
 use Rattle.qu_runs.proofs.Entries.{entry_recorded}
 use Rattle.qu_runs.proofs.OpeningReplicas.{me_is}
 use Rattle.qu_runs.proofs.WorldGrowth.{world_after-next}

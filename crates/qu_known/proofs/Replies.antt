@@ -1,6 +1,6 @@
 -- What a replica answers shows all that its step added to its histories: a reply shows the history of the one object
 -- that may have changed, and a replica that sends none stays as it was.
-use Rattle.std.proofs.Common.{◌≡◌, ◌⊎◌, ℕ, List, [], ◌∷◌, map, Option, None, Some, inl, inr, refl, sym, ap, subst, ◌∙◌, arith, true, false, ◌==◌, ◌||◌, ◌≤◌, zero, suc}
+use Rattle.std.proofs.Common.{◌≡◌, ◌⊎◌, ℕ, List, [], ◌∷◌, map, Option, None, Some, inl, inr, refl, sym, ap, subst, ◌∙◌, arith, true, false, ◌==◌, ◌||◌}
 use Rattle.std.proofs.lemmas.Bool.{false≢true, or_cases, eqb-true}
 use Rattle.qu_base.specs.declared.party.ClientId.{ClientId}
 use Rattle.qu_base.specs.declared.party.ObjectId.{ObjectId}
@@ -22,24 +22,24 @@ use Rattle.qu_frames.specs.Decoding.{decoded}
 use Rattle.qu_frames.specs.Signing.{brought, signature, with_mac}
 use Rattle.qu_frames.proofs.Decoded.{decoded_is_spelled, spelled_is_decoded}
 use Rattle.qu_frames.proofs.Signed.{brought_is_decoded, signed_is_spelled}
-use Rattle.qu_replica.specs.declared.decision.Decision.{Decision}
-use Rattle.qu_replica.specs.declared.decision.Decision.TheVariants.{Answers, Waits}
-use Rattle.qu_replica.specs.State.{ReplicaState, own_candidates, accept_all}
-use Rattle.qu_replica.specs.Rows.{asked_at, decision_on}
+use Rattle.qu_rows.specs.declared.decision.Decision.{Decision}
+use Rattle.qu_rows.specs.declared.decision.Decision.TheVariants.{Answers, Waits}
+use Rattle.qu_rows.specs.State.{ReplicaState, own_candidates}
+use Rattle.qu_replica.specs.State.{accept_all}
+use Rattle.qu_rows.specs.Rows.{asked_at, decision_on}
 use Rattle.qu_replica.specs.Step.{shown, named, answer_frame, reply, carried_out, on_frame, on_received, replica_step}
 use Rattle.qu_replica.specs.Fits.{StateFits}
 use Rattle.qu_replica.proofs.FitSteps.{request-fits}
 use Rattle.qu_runs.proofs.FitParts.{fits_parts}
 use Rattle.qu_runs.proofs.Fitting.{answers_fit}
-use Rattle.qu_grounds.specs.Parts.{Names}
-use Rattle.qu_grounds.proofs.Acceptance.{step_moves}
-use Rattle.qu_grounds.proofs.Parts.{one_named}
-use Rattle.qu_known.specs.Known.{shown_in}
+use Rattle.qu_claims.specs.Parts.{Names}
+use Rattle.qu_accepts.proofs.Acceptance.{step_moves}
+use Rattle.qu_accepts.proofs.Parts.{one_named}
+use Rattle.qu_claims.specs.Handled.{shown_in}
 use Rattle.qu_known.proofs.Lengths.{reply-short}
-use Rattle.qu_grounds.specs.Grounds.{AddsTo}
-use Rattle.qu_grounds.proofs.Happenings.{formed_by}
-use Rattle.qu_base.proofs.ThresholdFacts.{are_thresholds}
-use Rattle.qu_base.specs.Bounds.{is_replica_count, replicas}
+use Rattle.qu_claims.specs.Grounds.{AddsTo}
+use Rattle.qu_accepts.proofs.Happenings.{formed_by}
+use Rattle.qu_base.proofs.ThresholdFacts.{are_thresholds, count_has_faults}
 
 -- the replica stays as it is, and sends nothing
 pub record IsSilent (old : ReplicaState) (made : ReplicaState × List Letter) : Type 0 where
@@ -85,14 +85,6 @@ added_in_set set (body.Mend target) fits object is =
       | inl same ↦ ap (λ (it : ObjectId). it.0) (sym is) ∙ sym (eqb-true _ _ same)
       | inr never ↦ absurd (false≢true never)
     ]
-
--- ---- thresholds
-
--- a number of replicas that some number of faults wants is that of one fault or more
-some_faults : (bounds : ℕ) → is_replica_count (replicas bounds) ≡ true → 1 ≤ bounds
-unfolding is_replica_count replicas
-some_faults zero is = absurd (false≢true is)
-some_faults (suc bounds) is = omega arith
 
 -- ---- a reply
 
@@ -143,7 +135,7 @@ module _ (old : ReplicaState) (fits : StateFits old) where
   others_stay client number round set asks mac within object apart =
       let asked : Frame = frame.Request client number round (set ∷ []) asks mac in
       elim (step_moves old asked (fits_parts asked within)
-      (formed_by old asked (are_thresholds old.keys.bounds (some_faults old.keys.bounds fits.bounds)) within)) [
+      (formed_by old asked (are_thresholds old.keys.bounds (count_has_faults old.keys.bounds fits.bounds)) within)) [
         | inl same ↦ ap (λ (it : ReplicaState). own_candidates it object) same
         | inr accepts ↦ (accepts.others object
             (λ adds. apart (of_set accepts.client accepts.number accepts.round accepts.sent accepts.asks

@@ -17,13 +17,13 @@ use Rattle.qu_history.specs.declared.sets.SetOf.{SetOf}
 use Rattle.qu_history.specs.History.{ObjectHistory, holds}
 use Rattle.qu_history.specs.Sealing.{sealed_by}
 use Rattle.qu_frames.specs.declared.frame.Letter.{Letter}
-use Rattle.qu_replica.specs.State.{ReplicaState, candidates_in, own_candidates}
+use Rattle.qu_rows.specs.State.{ReplicaState, candidates_in, own_candidates}
 use Rattle.qu_replica.specs.Step.{shown, replica_step}
 use Rattle.qu_replica.specs.Growth.{Grows}
 use Rattle.qu_replica.specs.Fits.{StateFits}
 use Rattle.qu_replica.proofs.Growth.{step-grows}
-use Rattle.qu_replica.proofs.Own.{IsOwn, own_history}
-use Rattle.qu_runs.specs.Accepted.{accepts}
+use Rattle.qu_rows.proofs.Own.{IsOwn, own_history}
+use Rattle.qu_claims.specs.Accepted.{accepts}
 use Rattle.qu_runs.proofs.WorldGrowth.{AcceptsMore}
 use Rattle.qu_known.specs.declared.tracked.Tracked.{Tracked}
 use Rattle.qu_known.specs.Tracked.{is_tracked, undecided}

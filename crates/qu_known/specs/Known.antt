@@ -1,7 +1,6 @@
 -- What is known of the replicas of a run, by what their replies show of their histories.
-use Rattle.std.specs.Prelude.{◌≡◌, ℕ, zero, suc, ◌+◌, ◌≤◌, Bool, true, ◌||◌, List, [], ◌∷◌, ◌++◌, length, map, drop, slice_get, slice_set, slice_index_or, Option, None, Some, Result, Ok}
+use Rattle.std.specs.Prelude.{◌≡◌, ℕ, zero, suc, ◌+◌, ◌≤◌, Bool, true, ◌||◌, List, [], ◌∷◌, ◌++◌, length, map, drop, slice_get, slice_set, slice_index_or, Option, None, Some}
 use Rattle.std.specs.List.{AllZip, AllByRecursion, list_any, flat_map}
-use Rattle.qu_base.specs.declared.bad_text.BadText.{BadText}
 use Rattle.qu_base.specs.declared.party.ObjectId.{ObjectId}
 use Rattle.qu_base.specs.declared.party.Party.{Party}
 use Rattle.qu_base.specs.declared.party.Party.TheVariants as party
@@ -12,15 +11,14 @@ use Rattle.qu_stamp.specs.Candidate.{opening}
 use Rattle.qu_history.specs.declared.sealed.Sealed.{Sealed}
 use Rattle.qu_history.specs.History.{ObjectHistory, holds}
 use Rattle.qu_objects.specs.declared.kind.KindName.{KindName}
-use Rattle.qu_frames.specs.declared.frame.Frame.{Frame}
-use Rattle.qu_frames.specs.declared.frame.Frame.TheVariants as frame
 use Rattle.qu_frames.specs.declared.frame.Letter.{Letter}
 use Rattle.qu_frames.specs.Decoding.{decoded}
-use Rattle.qu_replica.specs.State.{ReplicaState, own_candidates}
+use Rattle.qu_rows.specs.State.{ReplicaState, own_candidates}
 use Rattle.qu_trace.specs.declared.event.Event.{Event}
 use Rattle.qu_trace.specs.declared.event.Event.TheVariants.{Invoke, Deliver, Tick, Inject}
 use Rattle.qu_trace.specs.declared.trace.Entry.{Entry}
-use Rattle.qu_runs.specs.Accepted.{accepts}
+use Rattle.qu_claims.specs.Accepted.{accepts}
+use Rattle.qu_claims.specs.Handled.{shown_in}
 use Rattle.qu_known.specs.declared.tracked.Tracked.{Tracked}
 use Rattle.qu_known.specs.Tracked.{undecided, is_tracked}
 
@@ -69,11 +67,6 @@ see_history me history seen = with_row me history seen (slice_get seen.0 me.0)
 unfoldable pub see_shown : ReplicaId → List Sealed → Seen → Seen
 see_shown me [] seen = seen
 see_shown me (sealed ∷ later) seen = see_shown me later (see_history me sealed.history seen)
-
--- what a reply shows
-abbrev pub shown_in : Result Frame BadText → List Sealed
-shown_in (Ok (frame.Reply replica client number round verdict culled shown mac)) = shown
-shown_in _ = []
 
 -- replies of a replica alone tell something
 abbrev pub see_from : Party → List ℕ → Seen → Seen

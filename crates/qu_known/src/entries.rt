@@ -3,7 +3,7 @@ ghost use Rattle.std.specs.Prelude.{◌≡◌, ◌<◌, ◌+◌, length, slice_g
 ghost use Rattle.qu_base.specs.Format.{AreBytes};
 ghost use Rattle.qu_trace.specs.declared.trace.Entry.{Entry as AnEntry};
 ghost use Rattle.qu_world.specs.Run.{IsRun};
-ghost use Rattle.qu_runs.specs.Times.{world_after};
+ghost use Rattle.qu_claims.specs.Times.{world_after};
 ghost use Rattle.qu_known.specs.Answers.{answered_at};
 ghost use Rattle.qu_known.specs.Known.{AreKnown, Learned, HasBytes, HaveBytes, IsOfBytes, AreOfBytes};
 

@@ -6,7 +6,8 @@ ghost use Rattle.qu_frames.specs.Decoding.{decoded};
 ghost use Rattle.qu_world.specs.State.{kinds_at};
 ghost use Rattle.qu_known.specs.Tracked.{undecided};
 ghost use Rattle.qu_known.specs.Answers.{answered, letter_told, rounds_told};
-ghost use Rattle.qu_known.specs.Known.{beyond, known_on, knows, opening_row, opening_rows, row_tracked, rows_tracked, see_in, see_history, see_shown, see_from, see_letters, shown_in};
+ghost use Rattle.qu_claims.specs.Handled.{shown_in};
+ghost use Rattle.qu_known.specs.Known.{beyond, known_on, knows, opening_row, opening_rows, row_tracked, rows_tracked, see_in, see_history, see_shown, see_from, see_letters};
 
 use super::answers::{Answered, answered_by};
 use super::tracked::Tracked;

@@ -14,6 +14,3 @@ mod verdicts;
 
 pub use digests::digests_text;
 pub use events::events_text;
-
-#[cfg(test)]
-mod tests;

@@ -16,6 +16,3 @@ pub use judgeable::is_judgeable;
 pub use judging::judge;
 pub use machine::Machine;
 pub use record::{OpRecord, Point};
-
-#[cfg(test)]
-mod tests;

@@ -6,7 +6,7 @@ use Rattle.qu_base.specs.declared.limits.TheConstants.{OBJECT_IDS}
 use Rattle.qu_base.specs.declared.party.ObjectId.{ObjectId}
 use Rattle.qu_base.specs.Cursor.{Front}
 use Rattle.qu_base.specs.Format.{IsPrefixCode, object_form, Format, AreBytes}
-use Rattle.qu_base.proofs.Formats.{prefix_code}
+use Rattle.qu_base.proofs.PrefixCodes.{prefix_code}
 use Rattle.qu_base.proofs.Reading.{given_exactly}
 use Rattle.qu_objects.specs.declared.act.Method.{Method}
 use Rattle.qu_objects.specs.declared.query.Ask.{Ask}

@@ -7,7 +7,8 @@ use Rattle.qu_base.specs.declared.bad_text.Why.TheVariants.{Order}
 use Rattle.qu_base.specs.declared.party.ClientId.{ClientId}
 use Rattle.qu_base.specs.declared.party.ObjectId.{ObjectId}
 use Rattle.qu_base.specs.Format.{IsPrefixCode, IsExact, number, made, object_form, client_form}
-use Rattle.qu_base.proofs.Formats.{both-exact, tested-exact, made-exact, fields-exact, counted-exact, tagged-exact, digest-exact, object-exact, client-exact, prefix_code}
+use Rattle.qu_base.proofs.Formats.{both-exact, tested-exact, made-exact, fields-exact, counted-exact, tagged-exact, digest-exact, object-exact, client-exact}
+use Rattle.qu_base.proofs.PrefixCodes.{prefix_code}
 use Rattle.qu_base.proofs.Reading.{given_exactly}
 use Rattle.qu_stamp.proofs.Forms.{stamp_with-exact}
 use Rattle.qu_objects.specs.declared.kind.Value.{Value}

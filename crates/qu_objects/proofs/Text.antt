@@ -7,7 +7,8 @@ use Rattle.qu_base.specs.declared.limits.TheConstants.{OBJECT_IDS}
 use Rattle.qu_base.specs.declared.party.ClientId.{ClientId}
 use Rattle.qu_base.specs.declared.party.ObjectId.{ObjectId}
 use Rattle.qu_base.specs.Format.{object_form, number, both, IsExact}
-use Rattle.qu_base.proofs.Formats.{some_is, wide16, number-exact, both-exact, made-exact, one_spelling}
+use Rattle.qu_base.proofs.Formats.{some_is, wide16, number-exact, both-exact, made-exact}
+use Rattle.qu_base.proofs.PrefixCodes.{one_spelling}
 use Rattle.qu_objects.specs.declared.act.Method.{Method}
 use Rattle.qu_objects.specs.declared.act.Method.TheVariants.{Add, Take}
 use Rattle.qu_objects.specs.Parts.{are_parts}

@@ -14,7 +14,7 @@ pub enum Item {
 #[derive(Debug, Drop, PartialEq, Eq)]
 pub enum Answer {
     Ok(List<Item>),
-    /// The position of the part, from 0, and the number of the refusal.
+    /// The position of the part, from 0, and the number of the refusal: 3 to 9 or 12, as `OVER` and those behind it.
     Refused { at: u8, why: u8 },
 }
 

@@ -36,7 +36,9 @@ pub use query::{Ask, Query};
 pub use reading_answer::read_answer;
 pub use reading_parts::{read_act, read_query};
 pub use reading_state::read_state;
-pub use refusal_number::{OVER, UNDER, refusal_numbers_are_these};
+pub use refusal_number::{
+    BAD_NAME, EXISTS, FULL, MISSING, OVER, TOO_LONG, UNDER, WRONG_KIND, refusal_numbers_are_these,
+};
 pub use state::{KeptRow, Link, ObjState};
 pub use writing::{write_ask, write_method};
 pub use writing_answer::write_answer;

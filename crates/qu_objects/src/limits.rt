@@ -1,6 +1,6 @@
 ghost use Rattle.std.specs.Prelude.{◌≡◌};
 
-/// The most parts of an operation so far.
+/// The most parts of an operation.
 pub const MOST_PARTS: u8 = 1;
 
 /// The most parts of which an answer has room to tell.

@@ -68,4 +68,15 @@ impl ObjState {
             links: self.links.copy(alloc)?,
         })
     }
+
+    /// Equal states.
+    pub fn copy_all(alloc: Global, states: &[ObjState]) -> Result<List<ObjState>, NoMemory>
+        ensures { IfOk result (λ copies. copies ≡ states.now) }
+    {
+        let mut copies = List::new(alloc);
+        for state in states {
+            copies.push(state.copy(alloc)?)?;
+        }
+        Ok(copies)
+    }
 }

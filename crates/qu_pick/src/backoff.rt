@@ -5,6 +5,7 @@ use super::{LONGEST_WAIT, MOST_DOUBLINGS};
 use qu_base::ClientId;
 use rand_core::utils::NextWord;
 use rand_pcg::Lcg64Xsh32;
+use std::alloc::AllocError;
 use std::fmt;
 use std::marker::Model;
 
@@ -43,6 +44,16 @@ impl Backoff {
         ensures never_longer { result ≤ LONGEST_WAIT }
     {
         1 + self.words.next_word() % longest(round)
+    }
+}
+
+/// The clone draws the same waits.
+impl Clone for Backoff {
+    ghost is_clone = { λ backoff copied. copied ≡ backoff };
+
+    fn clone(&self) -> Result<Backoff, AllocError> {
+        let words = self.words.clone()?;
+        Ok(Backoff { words })
     }
 }
 

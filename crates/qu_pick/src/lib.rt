@@ -8,6 +8,3 @@ mod picking;
 pub use backoff::Backoff;
 pub use limits::{LONGEST_WAIT, MOST_DOUBLINGS, limits_are_these};
 pub use picking::preferred;
-
-#[cfg(test)]
-mod tests;

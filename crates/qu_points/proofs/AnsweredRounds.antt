@@ -1,17 +1,15 @@
 -- The first answer to a round is found among the rounds that the letters of each entry answer.
-use Rattle.std.proofs.Common.{◌≡◌, ℕ, ◌+◌, ◌<◌, Bool, not, cond, ◌||◌, List, [], ◌∷◌, ◌++◌, length, take, get_or, arith, sym, Option, None, Some, Result, Ok, refl, ap, ◌∙◌}
-use Rattle.std.specs.Prelude.{nat_lt, map, position, option_map, slice_get}
+use Rattle.std.proofs.Common.{◌≡◌, ℕ, ◌+◌, Bool, not, cond, ◌||◌, List, [], ◌∷◌, length, Option, None, Some, Result, Ok, refl, ap, ◌∙◌}
+use Rattle.std.specs.Prelude.{nat_lt, map, position, option_map}
 use Rattle.std.specs.List.{list_any, filter_map, cons_option, position_or_len}
-use Rattle.std.proofs.lemmas.List.{length-map, map-append, take_more}
-use Rattle.std.proofs.lemmas.Option.{slice_get-get_or}
-use Rattle.qu_runs.proofs.Small.{some_entry}
+use Rattle.std.proofs.lemmas.List.{length-map}
 use Rattle.qu_base.specs.declared.bad_text.BadText.{BadText}
 use Rattle.qu_frames.specs.declared.frame.Frame.{Frame}
 use Rattle.qu_frames.specs.declared.frame.Frame.TheVariants as frame
 use Rattle.qu_frames.specs.declared.frame.Letter.{Letter}
 use Rattle.qu_frames.specs.Decoding.{decoded}
 use Rattle.qu_trace.specs.declared.trace.Entry.{Entry}
-use Rattle.qu_runs.specs.Answers.{is_answer, answers, round_in}
+use Rattle.qu_claims.specs.Answers.{is_answer, answers, round_in}
 use Rattle.qu_known.specs.declared.answers.Answered.{Answered}
 use Rattle.qu_known.specs.Answers.{answered, letter_answered, answered_at}
 use Rattle.qu_points.specs.Points.{answers_in, has_answered, first_answer}
@@ -60,17 +58,3 @@ first_answered asked entries =
     let size : length (map answered_at entries) ≡ length entries = length-map entries answered_at in
     ap (λ (it : Option ℕ). option_map (λ index. index + 1) it)
     (λ i. cond (nat_lt (place i) (size i)) (Some (place i)) None)
-
--- one entry more
-pub answers_more : (entries : List Entry) (index : ℕ) (rounds : List Answered) (found new : List (List Answered))
-    → index < length entries
-    → ((entry : Entry) → slice_get entries index ≡ Some entry → rounds ≡ answered_at entry)
-    → found ≡ map answered_at (take index entries) → new ≡ found ++ rounds ∷ []
-    → new ≡ map answered_at (take (index + 1) entries)
-answers_more entries index rounds found new below is before after =
-    let default : Entry = some_entry entries (omega arith) in
-    let here : Entry = get_or entries index default in
-    let these : rounds ≡ answered_at here = is here (slice_get-get_or entries index default below) in
-    after ∙ (λ i. before i ++ these i ∷ [])
-    ∙ sym (ap (map answered_at) (take_more entries index default below)
-    ∙ map-append answered_at (take index entries) (here ∷ []))

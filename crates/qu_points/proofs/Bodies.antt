@@ -1,16 +1,19 @@
--- Acts of other parts are asked for by other bytes.
-use Rattle.std.proofs.Common.{◌≡◌, ℕ, List, ◌++◌, drop, refl, sym, ap, ◌∙◌, arith}
+-- Acts of other parts, and queries, are asked for by other bytes.
+use Rattle.std.proofs.Common.{◌≡◌, ℕ, true, List, [], ◌∷◌, ◌++◌, drop, take, get_or, refl, sym, ap, ◌∙◌, arith}
+use Rattle.std.proofs.lemmas.Bool.{false≢true}
 use Rattle.std.specs.Int.{w16, w64, to_be_bytes}
 use Rattle.qu_base.specs.declared.party.ClientId.{ClientId}
 use Rattle.qu_base.specs.declared.party.ObjectId.{ObjectId}
 use Rattle.qu_objects.specs.declared.act.Method.{Method}
+use Rattle.qu_objects.specs.declared.query.Ask.{Ask}
+use Rattle.qu_objects.specs.declared.op.Op.{Op}
 use Rattle.qu_objects.specs.declared.op.Op.TheVariants as op
 use Rattle.qu_objects.specs.Digesting.{any_object, act_text_form, act_text}
 use Rattle.qu_objects.specs.Formats.{act_form}
 use Rattle.qu_objects.proofs.Text.{act_text-one}
 use Rattle.qu_frames.specs.Formats.{body_form}
-use Rattle.qu_points.specs.Order.{body_text}
-use Rattle.qu_points.specs.Points.{NamedAct, ActFits}
+use Rattle.qu_claims.specs.Order.{body_text}
+use Rattle.qu_points.specs.Points.{NamedAct, ActFits, asks}
 
 -- the bytes of the parts stand behind one byte
 body_rest : (parts : List (ObjectId × Method)) → drop 1 (body_text (op.Act parts)) ≡ (act_form any_object).spell parts
@@ -34,3 +37,19 @@ one_body first second fits others same =
     fits.0 others.0 fits.1 others.1
     (text_is first.2
     ∙ ap (λ (it : List ℕ). to_be_bytes w16 0 ++ (to_be_bytes w64 0 ++ it)) spelled ∙ sym (text_is second.2))).2
+
+act_head : (parts : List (ObjectId × Method)) → get_or (body_text (op.Act parts)) 0 0 ≡ 1
+unfolding body_form
+act_head parts = refl
+
+query_head : (parts : List (ObjectId × Ask)) → get_or (body_text (op.Query parts)) 0 0 ≡ 2
+unfolding body_form
+query_head parts = refl
+
+-- a query is asked for by other bytes than an act
+pub no_query : (what : Op) (parts : List (ObjectId × Method)) → asks what ≡ true
+    → body_text what ≡ body_text (op.Act parts) → ⊥
+no_query (op.Act act) parts query same = false≢true query
+no_query (op.Query asked) parts query same =
+    let heads : ◌≡◌ {A = ℕ} 2 1 = sym (query_head asked) ∙ ap (λ (it : List ℕ). get_or it 0 0) same ∙ act_head parts in
+    omega arith

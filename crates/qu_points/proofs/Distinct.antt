@@ -1,15 +1,19 @@
 -- The operations of a trace differ in client or number.
-use Rattle.std.proofs.Common.{◌≡◌, ℕ, zero, suc, ◌+◌, ◌<◌, ◌≤◌, Bool, cond, List, [], ◌∷◌, ◌++◌, refl, ap, ◌∙◌, arith}
+use Rattle.std.proofs.Common.{◌≡◌, ℕ, zero, suc, ◌+◌, ◌<◌, ◌≤◌, Bool, true, false, cond, List, [], ◌∷◌, ◌++◌, refl, ap, ◌∙◌, arith}
 use Rattle.std.specs.List.{All, AllPairs}
 use Rattle.std.proofs.lemmas.Bool.{eq-eqb}
 use Rattle.std.proofs.lemmas.List.Elements.{All-nil, All-cons, All-weaker}
 use Rattle.std.proofs.lemmas.List.Sums.{sum_by_push}
 use Rattle.qu_base.specs.declared.party.ClientId.{ClientId}
+use Rattle.qu_base.specs.declared.party.Party.TheVariants as party
 use Rattle.qu_objects.specs.declared.op.Op.{Op}
 use Rattle.qu_machine.specs.declared.record.OpRecord.{OpRecord}
 use Rattle.qu_trace.specs.declared.event.Event.{Event}
 use Rattle.qu_trace.specs.declared.event.Event.TheVariants.{Invoke, Deliver, Tick, Inject}
 use Rattle.qu_trace.specs.declared.trace.Entry.{Entry}
+use Rattle.qu_trace.specs.declared.trace.Setup.{Setup}
+use Rattle.qu_trace.specs.declared.trace.Trace.{Trace}
+use Rattle.qu_trace.specs.Faulty.{is_faulty}
 use Rattle.qu_trace.specs.Operation.{invokes, begun_by, record_of, begins_at, operations_from, operations_of}
 use Rattle.qu_points.specs.Points.{AreApart, AreDistinct}
 use Rattle.qu_machine.proofs.Equalities.{client_is}
@@ -73,10 +77,10 @@ operations_next earlier entry operations are = record {
   apart = are.apart;
 }
 
-operations_begin : (earlier later : List Entry) (entry : Entry) (at : ℕ) (event : Event)
-    (operations : List OpRecord) → entry.event ≡ event → AreOperations (earlier ++ entry ∷ []) operations
-    → AreOperations earlier (begins_at event at earlier later ++ operations)
-operations_begin earlier later entry at (Invoke client op) operations is are = record {
+operation_begins : (earlier later : List Entry) (entry : Entry) (at : ℕ) (client : ClientId) (op : Op)
+    (operations : List OpRecord) → entry.event ≡ Invoke client op → AreOperations (earlier ++ entry ∷ []) operations
+    → AreOperations earlier (record_of client op at earlier later ∷ operations)
+operation_begins earlier later entry at client op operations is are = record {
   later = All-cons (IsLater earlier) (record_of client op at earlier later) operations (omega arith)
       (All-weaker (IsLater (earlier ++ entry ∷ [])) (IsLater earlier) (later_still earlier entry) operations are.later);
   apart = pairs_cons AreApart (record_of client op at earlier later) operations
@@ -84,25 +88,37 @@ operations_begin earlier later entry at (Invoke client op) operations is are = r
       (apart_by_later client op at earlier later entry is) operations are.later)
       are.apart;
 }
-operations_begin earlier later entry at (Deliver letter) operations is are =
+
+operations_begin : (setup : Setup) (earlier later : List Entry) (entry : Entry) (at : ℕ) (event : Event)
+    (operations : List OpRecord) → entry.event ≡ event → AreOperations (earlier ++ entry ∷ []) operations
+    → AreOperations earlier (begins_at setup event at earlier later ++ operations)
+operations_begin setup earlier later entry at (Invoke client op) operations is are =
+    by (is_faulty setup (party.Client client))
+  where
+    by : (faulty : Bool)
+        → AreOperations earlier (cond faulty [] (record_of client op at earlier later ∷ []) ++ operations)
+    by true = operations_next earlier entry operations are
+    by false = operation_begins earlier later entry at client op operations is are
+operations_begin setup earlier later entry at (Deliver letter) operations is are =
     operations_next earlier entry operations are
-operations_begin earlier later entry at (Tick client) operations is are = operations_next earlier entry operations are
-operations_begin earlier later entry at (Inject to text) operations is are =
+operations_begin setup earlier later entry at (Tick client) operations is are =
+    operations_next earlier entry operations are
+operations_begin setup earlier later entry at (Inject to text) operations is are =
     operations_next earlier entry operations are
 
-are_operations : (earlier : List Entry) (at : ℕ) (later : List Entry)
-    → AreOperations earlier (operations_from earlier at later)
+are_operations : (setup : Setup) (earlier : List Entry) (at : ℕ) (later : List Entry)
+    → AreOperations earlier (operations_from setup earlier at later)
 unfolding operations_from
-are_operations earlier at [] =
+are_operations setup earlier at [] =
     record { later = All-nil (IsLater earlier); apart = λ i j default order below. absurd (omega arith) }
-are_operations earlier at (entry ∷ later) =
-    operations_begin earlier (entry ∷ later) entry at entry.event
-    (operations_from (earlier ++ entry ∷ []) (at + 1) later) refl
-    (are_operations (earlier ++ entry ∷ []) (at + 1) later)
+are_operations setup earlier at (entry ∷ later) =
+    operations_begin setup earlier (entry ∷ later) entry at entry.event
+    (operations_from setup (earlier ++ entry ∷ []) (at + 1) later) refl
+    (are_operations setup (earlier ++ entry ∷ []) (at + 1) later)
 
-pub operations_apart : (entries : List Entry) → AllPairs AreApart (operations_of entries)
-operations_apart entries = (are_operations [] 1 entries).apart
+pub operations_apart : (trace : Trace) → AllPairs AreApart (operations_of trace)
+operations_apart trace = (are_operations trace.setup [] 1 trace.entries).apart
 
-pub operations_distinct : (entries : List Entry) → AllPairs AreDistinct (operations_of entries)
-operations_distinct entries i j default order below clients numbers bodies =
-    operations_apart entries i j default order below clients numbers
+pub operations_distinct : (trace : Trace) → AllPairs AreDistinct (operations_of trace)
+operations_distinct trace i j default order below clients numbers bodies =
+    operations_apart trace i j default order below clients numbers

@@ -1,26 +1,16 @@
 -- The first mark of an update.
-use Rattle.std.proofs.Common.{◌≡◌, ◌⊎◌, ℕ, ◌+◌, ◌<◌, ◌≤◌, Bool, true, cond, List, [], ◌∷◌, length, get_or, drop, min, Option, None, Some, refl, sym, ap, ◌∙◌, arith, inl, inr, zero, suc}
-use Rattle.std.proofs.lemmas.Bool.{cases_Bool, cases_lt}
-use Rattle.std.proofs.lemmas.Option.{none-some, same_Some}
+use Rattle.std.proofs.Common.{◌≡◌, ℕ, ◌+◌, ◌<◌, ◌≤◌, Bool, true, cond, List, [], ◌∷◌, length, get_or, drop, Option, None, Some, refl, sym, ap, ◌∙◌, arith, inl, inr, zero, suc}
+use Rattle.std.proofs.lemmas.Bool.{cases_Bool}
+use Rattle.std.proofs.lemmas.Option.{none-some}
 use Rattle.std.proofs.lemmas.List.{drop_more, drop_all}
 use Rattle.qu_base.specs.declared.party.ClientId.{ClientId}
 use Rattle.qu_base.specs.declared.party.Digest.{Digest}
 use Rattle.qu_base.specs.declared.party.ObjectId.{ObjectId}
 use Rattle.qu_objects.specs.declared.act.Method.{Method}
+use Rattle.qu_trace.specs.Earliest.{earlier_of, IsUpTo}
+use Rattle.qu_trace.proofs.EarliestLaws.{earlier_cases, earlier_assoc, earlier_none, earlier_left, earlier_right}
 use Rattle.qu_known.specs.declared.tracked.Tracked.{Tracked}
-use Rattle.qu_points.specs.Points.{is_of_update, mark_of, earlier_of, first_mark}
-
-earlier_assoc : (a b c : Option ℕ) → earlier_of (earlier_of a b) c ≡ earlier_of a (earlier_of b c)
-earlier_assoc None b c = refl
-earlier_assoc (Some a) None c = refl
-earlier_assoc (Some a) (Some b) None = refl
-earlier_assoc (Some a) (Some b) (Some c) =
-    let same : min (min a b) c ≡ min a (min b c) = omega arith in
-    ap (λ (it : ℕ). Some it) same
-
-earlier_none : (a : Option ℕ) → earlier_of a None ≡ a
-earlier_none None = refl
-earlier_none (Some a) = refl
+use Rattle.qu_points.specs.Points.{is_of_update, mark_of, first_mark}
 
 -- one candidate more
 pub first_mark_more : (client : ClientId) (parts : List (ObjectId × Method)) (act : Digest) (all : List Tracked)
@@ -65,20 +55,6 @@ mark_of_some client parts act tracked event mark =
       | inr other ↦ absurd (none-some event (sym (ap (λ (test : Bool). cond test tracked.decided None) other) ∙ mark))
     ]
 
-earlier_cases : (first second : Option ℕ) (event : ℕ) → earlier_of first second ≡ Some event
-    → (first ≡ Some event) ⊎ (second ≡ Some event)
-earlier_cases None second event is = inr is
-earlier_cases (Some a) None event is = inl is
-earlier_cases (Some a) (Some b) event is =
-    elim (cases_lt b a) [
-      | inl later ↦
-          let least : min a b ≡ b = omega arith in
-          inr (ap (λ (it : ℕ). Some it) (sym least) ∙ is)
-      | inr order ↦
-          let least : min a b ≡ a = omega arith in
-          inl (ap (λ (it : ℕ). Some it) (sym least) ∙ is)
-    ]
-
 has_mark-later : (client : ClientId) (parts : List (ObjectId × Method)) (act : Digest) (first : Tracked)
     (later : List Tracked) (event : ℕ)
     → HasMark client parts act later event → HasMark client parts act (first ∷ later) event
@@ -105,26 +81,6 @@ first_mark_found client parts act (tracked ∷ later) event is =
       | inr there ↦ has_mark-later client parts act tracked later event (first_mark_found client parts act later event
           there)
     ]
-
--- there is a first mark, and it is not after this one
-abbrev pub IsUpTo : Option ℕ → ℕ → Type 0
-IsUpTo first event = (at : ℕ) × (first ≡ Some at) × (at ≤ event)
-
-earlier_left : (first second : Option ℕ) (event : ℕ) → IsUpTo first event → IsUpTo (earlier_of first second) event
-earlier_left None second event up_to = absurd (none-some up_to.0 up_to.1)
-earlier_left (Some a) None event up_to = up_to
-earlier_left (Some a) (Some b) event up_to =
-    let same : a ≡ up_to.0 = same_Some a up_to.0 up_to.1 in
-    let order : up_to.0 ≤ event = up_to.2 in
-    (min a b, refl, omega arith)
-
-earlier_right : (first second : Option ℕ) (event : ℕ) → IsUpTo second event → IsUpTo (earlier_of first second) event
-earlier_right None second event up_to = up_to
-earlier_right (Some a) None event up_to = absurd (none-some up_to.0 up_to.1)
-earlier_right (Some a) (Some b) event up_to =
-    let same : b ≡ up_to.0 = same_Some b up_to.0 up_to.1 in
-    let order : up_to.0 ≤ event = up_to.2 in
-    (min a b, refl, omega arith)
 
 pub first_mark_least : (client : ClientId) (parts : List (ObjectId × Method)) (act : Digest) (all : List Tracked)
     (place : ℕ) (found : Tracked)

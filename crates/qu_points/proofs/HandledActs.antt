@@ -15,7 +15,7 @@ use Rattle.qu_machine.proofs.Equalities.{Passes, passes_from_any, decides_op, cl
 use Rattle.qu_frames.specs.declared.frame.Body.{Body}
 use Rattle.qu_frames.specs.declared.frame.Body.TheVariants as body
 use Rattle.qu_trace.specs.declared.trace.Trace.{Trace}
-use Rattle.qu_runs.specs.Digested.{Request, handled_by, IsHandled}
+use Rattle.qu_claims.specs.Handled.{Request, handled_by, IsHandled}
 use Rattle.qu_points.specs.Points.{NamedAct, act_asked, act_in, act_at, handled_acts, is_act}
 use Rattle.qu_runs.proofs.Small.{only_one}
 

@@ -1,14 +1,9 @@
-pub mod DecidedWorlds
-pub mod Places
-pub mod Settling
-pub mod Beyond
-pub mod Known
-pub mod Marking
 pub mod Firsts
 pub mod AnsweredRounds
 pub mod Taking
 pub mod Sorted
 pub mod Distinct
+pub mod Filtering
 pub mod Printed
 pub mod Recorded
 pub mod Rising
@@ -16,6 +11,6 @@ pub mod HandledActs
 pub mod Folding
 pub mod Correct
 pub mod Bodies
-pub mod FaultyActs
+pub mod AddedActs
 pub mod Compared
 pub mod SignedActs

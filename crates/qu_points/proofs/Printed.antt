@@ -1,18 +1,24 @@
--- The points of the operations of a trace, one operation after another.
+-- The points of operations, one operation after another, and that they are those of the printed order.
 use Rattle.std.proofs.Common.{◌≡◌, ℕ, ◌+◌, ◌<◌, ◌≤◌, true, false, List, [], ◌∷◌, ◌++◌, length, get_or, take, refl, sym, ap, subst, ◌∙◌, arith, inl, inr, get_or-take}
 use Rattle.std.specs.Prelude.{Contains}
-use Rattle.std.specs.List.{All, AllPairs}
+use Rattle.std.specs.List.{All, AllPairs, filter}
+use Rattle.std.proofs.lemmas.Bool.{false≢true}
 use Rattle.std.proofs.lemmas.List.{take_more, take_all, length-take-le, get_or_default}
 use Rattle.std.proofs.lemmas.List.Elements.{All-contains, Contains-append_left, Contains-push, Contains-push_cases}
 use Rattle.qu_base.specs.declared.party.ClientId.{ClientId}
 use Rattle.qu_base.specs.declared.party.Party.TheVariants as party
+use Rattle.qu_base.specs.declared.party.ObjectId.{ObjectId}
+use Rattle.qu_objects.specs.declared.query.Ask.{Ask}
+use Rattle.qu_objects.specs.declared.op.Op.{Op}
+use Rattle.qu_objects.specs.declared.op.Op.TheVariants as op
 use Rattle.qu_machine.specs.declared.record.OpRecord.{OpRecord}
 use Rattle.qu_machine.specs.declared.record.Point.{Point}
 use Rattle.qu_trace.specs.declared.trace.Trace.{Trace}
 use Rattle.qu_trace.specs.Faulty.{is_faulty}
 use Rattle.qu_trace.specs.Operation.{operations_of}
-use Rattle.qu_points.specs.Order.{DecidesAt, effect_of, body_text, is_earlier, are_in_order, IsOperationPoint, IsFaultyPoint, IsPoint, IsPrintedOrder}
-use Rattle.qu_points.specs.Points.{NamedAct, as_operation, handled_acts, AreDistinct, IsOfCorrect, IsFaultyAct, AddsFaultyActs, point_at, IsPointOf, ArePointsOf, AddsPoint, with_point}
+use Rattle.qu_claims.specs.Order.{DecidesAt, body_text, is_earlier, are_in_order, IsUpdatePoint, IsQueryPoint, IsPoint, IsPrintedOrder}
+use Rattle.qu_points.specs.Points.{NamedAct, effect_of, asks, is_query, as_operation, handled_acts, AreDistinct, IsOfCorrect, IsActOf, AddsActs, point_at, IsPointOf, ArePointsOf, AddsPoint, with_point}
+use Rattle.qu_points.proofs.Filtering.{in_filter, from_filter, passes_filter}
 use Rattle.qu_points.proofs.HandledActs.{handled_listed}
 use Rattle.qu_points.proofs.Taking.{effect_once}
 use Rattle.qu_points.proofs.Sorted.{is_earlier-other, contains_with_point, with_point_contains, with_point_keeps, in_order-with_point}
@@ -167,20 +173,33 @@ adds_none trace operation old new none same = inr (none, same)
 
 -- ---- the printed order
 
+-- the parts of a query
+record IsAsked (what : Op) : Type 0 where
+  parts : List (ObjectId × Ask)
+  is : what ≡ op.Query parts
+
+asked : (what : Op) → asks what ≡ true → IsAsked what
+asked (op.Act parts) query = absurd (false≢true query)
+asked (op.Query parts) query = record { parts = parts; is = refl }
+
 module _ (trace : Trace) (acts : List NamedAct) (operations : List OpRecord) (acts_are : acts ≡ handled_acts trace)
-    (correct : All (IsOfCorrect trace.setup) (operations_of trace.entries))
-    (adds : AddsFaultyActs trace.setup acts (operations_of trace.entries) operations) where
+    (correct : All (IsOfCorrect trace.setup) (operations_of trace))
+    (adds : AddsActs acts (filter is_query (operations_of trace)) operations) where
   marked : (point : Point) (operation : OpRecord) → point ≡ point_at trace.setup operation point.event
       → is_faulty trace.setup (party.Client operation.client) ≡ point.faulty
   marked point operation is = sym (ap (λ (it : Point). it.faulty) is)
 
-  -- a point of a correct client
-  operation_point : (point : Point) (is : IsPointOf trace operations point)
-      → Contains (operations_of trace.entries) is.operation → IsOperationPoint trace point
-  operation_point point is among =
+  -- a point of a query
+  query_point : (point : Point) (is : IsPointOf trace operations point)
+      → Contains (filter is_query (operations_of trace)) is.operation → IsQueryPoint trace point
+  query_point point is kept =
       let operation : OpRecord = is.operation in
+      let among : Contains (operations_of trace) operation =
+      from_filter is_query (operations_of trace) operation kept in
+      let query : IsAsked operation.op =
+      asked operation.op (passes_filter is_query (operations_of trace) operation kept) in
       let own : IsOfCorrect trace.setup operation =
-      All-contains (IsOfCorrect trace.setup) (operations_of trace.entries) operation correct among in
+      All-contains (IsOfCorrect trace.setup) (operations_of trace) operation correct among in
       let client : operation.client ≡ point.client = sym (ap (λ (it : Point). it.client) is.is_point) in
       record {
         operation = operation;
@@ -188,15 +207,17 @@ module _ (trace : Trace) (acts : List NamedAct) (operations : List OpRecord) (ac
         client = client;
         number = sym (ap (λ (it : Point). it.number) is.is_point);
         op = sym (ap (λ (it : Point). it.op) is.is_point);
+        parts = query.parts;
+        is_query = query.is;
         correct = ap (λ (it : ClientId). is_faulty trace.setup (party.Client it)) (sym client) ∙ own;
         mark = sym (marked point operation is.is_point) ∙ own;
-        effect = is.effect;
+        effect = subst (λ (it : Op). effect_of trace operation point.event it) query.is is.effect;
       }
 
-  -- a point of a faulty client
-  faulty_point : (point : Point) (is : IsPointOf trace operations point)
-      → IsFaultyAct trace.setup acts is.operation → IsFaultyPoint trace point
-  faulty_point point is it =
+  -- a point of an update
+  update_point : (point : Point) (is : IsPointOf trace operations point) → IsActOf acts is.operation
+      → IsUpdatePoint trace point
+  update_point point is it =
       let same : point ≡ point_at trace.setup (as_operation it.act) point.event =
       is.is_point ∙ ap (λ (one : OpRecord). point_at trace.setup one point.event) it.is in
       let client : (it.act).0 ≡ point.client = sym (ap (λ (one : Point). one.client) same) in
@@ -204,8 +225,8 @@ module _ (trace : Trace) (acts : List NamedAct) (operations : List OpRecord) (ac
       record {
         parts = (it.act).2;
         op = ap (λ (one : Point). one.op) same;
-        declared = ap (λ (one : ClientId). is_faulty trace.setup (party.Client one)) (sym client) ∙ it.declared;
-        mark = ap (λ (one : Point). one.faulty) same ∙ it.declared;
+        mark = ap (λ (one : Point). one.faulty) same
+            ∙ ap (λ (one : ClientId). is_faulty trace.setup (party.Client one)) client;
         effect = subst (λ (one : ClientId). DecidesAt trace one point.number (it.act).2 point.event) client
             (subst (λ (one : ℕ). DecidesAt trace (it.act).0 one (it.act).2 point.event) number
             (effect_along trace is.operation (as_operation it.act) point.event it.is is.effect));
@@ -214,39 +235,39 @@ module _ (trace : Trace) (acts : List NamedAct) (operations : List OpRecord) (ac
   point_found : (point : Point) → IsPointOf trace operations point → IsPoint trace point
   point_found point is =
       elim (adds.sound is.operation is.of_list) [
-        | inl among ↦ inl (operation_point point is among)
-        | inr act ↦ inr (faulty_point point is act)
+        | inl among ↦ inr (query_point point is among)
+        | inr act ↦ inl (update_point point is act)
       ]
 
-  of_operation : (point : Point) → IsOperationPoint trace point → IsPointOf trace operations point
-  of_operation point is = record {
+  of_query : (point : Point) → IsQueryPoint trace point → IsPointOf trace operations point
+  of_query point is = record {
     operation = is.operation;
-    of_list = adds.kept is.operation is.of_trace;
+    of_list = adds.kept is.operation
+        (in_filter is_query (operations_of trace) is.operation is.of_trace (ap asks is.is_query));
     is_point = same_point point (point_at trace.setup is.operation point.event) refl (sym is.client) (sym is.number)
         (sym is.op)
         (is.mark ∙ sym is.correct
         ∙ ap (λ (it : ClientId). is_faulty trace.setup (party.Client it)) (sym is.client));
-    effect = is.effect;
+    effect = subst (λ (it : Op). effect_of trace is.operation point.event it) (sym is.is_query) is.effect;
   }
 
-  of_faulty : (point : Point) → IsFaultyPoint trace point → IsPointOf trace operations point
-  of_faulty point is =
+  of_update : (point : Point) → IsUpdatePoint trace point → IsPointOf trace operations point
+  of_update point is =
       let act : NamedAct = (point.client, point.number, is.parts) in
       record {
         operation = as_operation act;
         of_list = adds.complete act
             (subst (λ (all : List NamedAct). Contains all act) (sym acts_are)
-            (handled_listed trace point.client point.number is.parts (is.effect).handled)) is.declared;
-        is_point = same_point point (point_at trace.setup (as_operation act) point.event) refl refl refl is.op
-            (is.mark ∙ sym is.declared);
+            (handled_listed trace point.client point.number is.parts (is.effect).handled));
+        is_point = same_point point (point_at trace.setup (as_operation act) point.event) refl refl refl is.op is.mark;
         effect = is.effect;
       }
 
-  -- the points of all operations of a trace and of the acts of faulty clients are its printed order
+  -- the points of the queries of a trace and of the acts that replicas handled are its printed order
   pub printed : (points : List Point) → ArePointsOf trace operations points → IsPrintedOrder trace points
   printed points are = record {
     in_order = are.in_order;
     sound = λ point held. point_found point (are.sound point held);
     complete = λ point it. are.complete point
-        (elim it [ inl operation ↦ of_operation point operation | inr faulty ↦ of_faulty point faulty ]);
+        (elim it [ inl update ↦ of_update point update | inr query ↦ of_query point query ]);
   }

@@ -38,9 +38,9 @@ recorded_in operations first second apart one two same_client same_number =
     ]
 
 -- two operations of a trace with one client and one number are the same
-pub recorded_op : (trace : Trace) (first second : OpRecord) → Contains (operations_of trace.entries) first
-    → Contains (operations_of trace.entries) second → (first.client).0 ≡ (second.client).0
+pub recorded_op : (trace : Trace) (first second : OpRecord) → Contains (operations_of trace) first
+    → Contains (operations_of trace) second → (first.client).0 ≡ (second.client).0
     → first.number ≡ second.number → first ≡ second
 recorded_op trace first second one two same_client same_number =
-    recorded_in (operations_of trace.entries) first second (operations_apart trace.entries) one two same_client
+    recorded_in (operations_of trace) first second (operations_apart trace) one two same_client
     same_number

@@ -7,7 +7,7 @@ use Rattle.std.proofs.lemmas.Bool.{false≢true, cases_lt, and_parts}
 use Rattle.std.proofs.lemmas.Bool.Decides.{nat_tests}
 use Rattle.qu_machine.specs.declared.record.Point.{Point}
 use Rattle.qu_machine.specs.Serial.{IsRising}
-use Rattle.qu_points.specs.Order.{is_earlier, are_in_order}
+use Rattle.qu_claims.specs.Order.{is_earlier, are_in_order}
 use Rattle.qu_points.proofs.Sorted.{contains_first, contains_later, is_earlier-self}
 
 not_after : (first second : ℕ) (later : Ordering) → is_lt (ordering_then (nat_cmp first second) later) ≡ true

@@ -11,7 +11,7 @@ use Rattle.qu_seal.specs.Keys.{Ring}
 use Rattle.qu_frames.specs.declared.frame.Frame.{Frame}
 use Rattle.qu_frames.specs.Signing.{is_signed, if_signed}
 use Rattle.qu_trace.specs.declared.trace.Setup.{Setup}
-use Rattle.qu_runs.specs.Digested.{request_in, request_brought}
+use Rattle.qu_claims.specs.Handled.{request_in, request_brought}
 use Rattle.qu_points.specs.Points.{NamedAct, act_in}
 
 -- the act of a frame whose HMAC is right, or is not

@@ -13,7 +13,7 @@ use Rattle.std.proofs.lemmas.Cmp.{nat_cmp_total, nat_list_cmp_total, on_total, t
 use Rattle.std.proofs.lemmas.Map.Lookups.{exact_unsigned, exact_bytes}
 use Rattle.std.proofs.lemmas.List.Elements.{All-nil, All-cons}
 use Rattle.qu_machine.specs.declared.record.Point.{Point}
-use Rattle.qu_points.specs.Order.{body_text, point_cmp, is_earlier, are_in_order}
+use Rattle.qu_claims.specs.Order.{body_text, point_cmp, is_earlier, are_in_order}
 use Rattle.qu_points.specs.Points.{with_point}
 
 -- ---- the order of two points

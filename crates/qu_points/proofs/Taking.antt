@@ -17,6 +17,7 @@ use Rattle.qu_objects.specs.declared.op.Outcome.{Outcome}
 use Rattle.qu_objects.specs.declared.op.Outcome.TheVariants as outcome
 use Rattle.qu_machine.specs.declared.record.OpRecord.{OpRecord}
 use Rattle.qu_trace.specs.declared.trace.Entry.{Entry}
+use Rattle.qu_trace.specs.Earliest.{IsUpTo}
 use Rattle.qu_trace.specs.declared.trace.Trace.{Trace}
 use Rattle.qu_world.specs.State.{numbered}
 use Rattle.qu_base.specs.declared.party.Digest.{Digest}
@@ -24,23 +25,23 @@ use Rattle.qu_objects.specs.Digesting.{act_digest}
 use Rattle.qu_stamp.specs.Stamp.{same_digest}
 use Rattle.qu_stamp.proofs.Order.{same_act-self, equal_by_same_act}
 use Rattle.std.specs.List.{list_any}
-use Rattle.qu_runs.specs.Digested.{IsHandled}
-use Rattle.qu_runs.specs.Accepted.{is_accepted}
-use Rattle.qu_runs.specs.Decided.{is_on, TookEffect}
-use Rattle.qu_runs.specs.Times.{world_after}
-use Rattle.qu_runs.specs.Answers.{delivered_round, sends_answer, answers_at}
+use Rattle.qu_claims.specs.Handled.{IsHandled}
+use Rattle.qu_claims.specs.Accepted.{is_accepted}
+use Rattle.qu_claims.specs.Effects.{is_on, TookEffect}
+use Rattle.qu_claims.specs.Times.{world_after}
+use Rattle.qu_claims.specs.Answers.{delivered_round, sends_answer, answers_at}
 use Rattle.qu_runs.proofs.WorldGrowth.{has_more, world_after-grows, is_accepted-more}
-use Rattle.qu_runs.specs.Setting.{setting}
-use Rattle.qu_chain.specs.Decided.{IsDecided}
+use Rattle.qu_claims.specs.RunSetting.{setting}
+use Rattle.qu_claims.specs.Decided.{IsDecided}
 use Rattle.qu_known.specs.declared.tracked.Tracked.{Tracked}
 use Rattle.qu_points.proofs.HandledActs.{handled_among, among_handled}
-use Rattle.qu_points.specs.Tracker.{TellsFirst, TellsOf, Tracks}
-use Rattle.qu_points.specs.Order.{DecidesAt, AnswersFirst, completed_effect, query_effect, effect_of}
-use Rattle.qu_points.specs.Points.{NamedAct, act_mark, handled_acts, is_act, is_of_update, first_mark, answers_in}
-use Rattle.qu_points.proofs.DecidedWorlds.{decided_is_accepted}
-use Rattle.qu_points.proofs.Settling.{IsTrackedAt, stands_in}
-use Rattle.qu_points.proofs.Places.{position_none}
-use Rattle.qu_points.proofs.Firsts.{HasMark, IsUpTo, first_mark_found, first_mark_least}
+use Rattle.qu_marks.specs.Tracker.{TellsFirst, TellsOf, Tracks}
+use Rattle.qu_claims.specs.Order.{DecidesAt, AnswersFirst, completed_effect, query_effect}
+use Rattle.qu_points.specs.Points.{NamedAct, act_mark, handled_acts, is_act, is_of_update, first_mark, answers_in, effect_of}
+use Rattle.qu_marks.proofs.DecidedWorlds.{decided_is_accepted}
+use Rattle.qu_marks.proofs.Settling.{IsTrackedAt, stands_in}
+use Rattle.qu_marks.proofs.Places.{position_none}
+use Rattle.qu_points.proofs.Firsts.{HasMark, first_mark_found, first_mark_least}
 
 -- ---- updates
 

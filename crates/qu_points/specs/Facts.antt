@@ -4,7 +4,7 @@ use Rattle.qu_trace.specs.declared.trace.Trace.{Trace}
 use Rattle.qu_known.specs.Answers.{answered_at}
 use Rattle.qu_points.specs.declared.facts.Facts.{Facts}
 use Rattle.qu_points.specs.Points.{handled_acts}
-use Rattle.qu_points.specs.Tracker.{Tracks}
+use Rattle.qu_marks.specs.Tracker.{Tracks}
 
 pub record AreFacts (trace : Trace) (facts : Facts) : Type 0 where
   -- which candidates were accepted, and when they were decided

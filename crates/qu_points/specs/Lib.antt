@@ -1,4 +1,2 @@
-pub mod Order
 pub mod Points
 pub mod Facts
-pub mod Tracker

@@ -1,5 +1,5 @@
 -- The points of some operations of a trace, in their order.
-use Rattle.std.specs.Prelude.{◌≡◌, ℕ, Bool, true, false, not, ◌==◌, ◌&&◌, ◌+◌, if◌then◌else◌, List, [], ◌∷◌, min, position, Option, None, Some, option_map, IsTrue, Contains, ◌⊎◌}
+use Rattle.std.specs.Prelude.{◌≡◌, ℕ, Bool, true, false, not, ◌==◌, ◌&&◌, ◌+◌, if◌then◌else◌, List, [], ◌∷◌, position, Option, None, Some, option_map, IsTrue, Contains, ◌⊎◌}
 use Rattle.std.specs.List.{AllPairs, list_any, filter_map}
 use Rattle.std.specs.Option.{option_eq}
 use Rattle.qu_base.specs.declared.party.ClientId.{ClientId}
@@ -8,6 +8,7 @@ use Rattle.qu_base.specs.declared.party.ObjectId.{ObjectId}
 use Rattle.qu_base.specs.declared.party.Party.TheVariants as party
 use Rattle.qu_stamp.specs.Stamp.{same_digest}
 use Rattle.qu_objects.specs.declared.act.Method.{Method}
+use Rattle.qu_objects.specs.declared.op.Op.{Op}
 use Rattle.qu_objects.specs.declared.op.Op.TheVariants as op
 use Rattle.qu_objects.specs.Digesting.{act_digest, PartsFit}
 use Rattle.qu_objects.specs.Parts.{are_parts}
@@ -20,12 +21,13 @@ use Rattle.qu_trace.specs.declared.trace.Entry.{Entry}
 use Rattle.qu_trace.specs.declared.trace.Setup.{Setup}
 use Rattle.qu_trace.specs.declared.trace.Trace.{Trace}
 use Rattle.qu_trace.specs.Faulty.{is_faulty}
-use Rattle.qu_runs.specs.Digested.{Request, handled_by}
-use Rattle.qu_runs.specs.Answers.{answers}
-use Rattle.qu_runs.specs.Decided.{is_on}
+use Rattle.qu_trace.specs.Earliest.{earlier_of}
+use Rattle.qu_claims.specs.Handled.{Request, handled_by}
+use Rattle.qu_claims.specs.Answers.{answers}
+use Rattle.qu_claims.specs.Effects.{is_on}
 use Rattle.qu_known.specs.declared.answers.Answered.{Answered}
 use Rattle.qu_known.specs.declared.tracked.Tracked.{Tracked}
-use Rattle.qu_points.specs.Order.{effect_of, body_text, is_earlier, are_in_order}
+use Rattle.qu_claims.specs.Order.{DecidesAt, query_effect, body_text, is_earlier, are_in_order}
 
 -- ---- updates
 
@@ -66,12 +68,6 @@ is_of_update client parts act tracked =
 abbrev pub mark_of : ClientId → List (ObjectId × Method) → Digest → Tracked → Option ℕ
 mark_of client parts act tracked = if is_of_update client parts act tracked then tracked.decided else None
 
--- the earlier of two events, where there are two
-abbrev pub earlier_of : Option ℕ → Option ℕ → Option ℕ
-earlier_of None second = second
-earlier_of (Some first) None = Some first
-earlier_of (Some first) (Some second) = Some (min first second)
-
 -- the first event after which a candidate of this update was decided
 unfoldable pub first_mark : ClientId → List (ObjectId × Method) → Digest → List Tracked → Option ℕ
 first_mark client parts act [] = None
@@ -105,7 +101,19 @@ first_answer asked answers = option_map (λ index. index + 1) (position (has_ans
 
 -- ---- what may have a point
 
--- an act of a faulty client, as an operation that began before the first event and did not end
+-- where an operation took effect
+abbrev pub effect_of : Trace → OpRecord → ℕ → Op → Type 0
+effect_of trace operation event (op.Act parts) = DecidesAt trace operation.client operation.number parts event
+effect_of trace operation event (op.Query query) = query_effect trace operation event operation.reply
+
+abbrev pub asks : Op → Bool
+asks (op.Act parts) = false
+asks (op.Query query) = true
+
+abbrev pub is_query : OpRecord → Bool
+is_query operation = asks operation.op
+
+-- a handled act, as an operation that began before the first event and did not end
 abbrev pub as_operation : NamedAct → OpRecord
 as_operation act = record { client = act.0; number = act.1; op = op.Act act.2; invoked = 0; reply = None }
 
@@ -122,28 +130,22 @@ AreDistinct first second = (first.client).0 ≡ (second.client).0 → first.numb
 abbrev pub IsOfCorrect : Setup → OpRecord → Type 0
 IsOfCorrect setup operation = is_faulty setup (party.Client operation.client) ≡ false
 
--- it is an act of a faulty client, among these
-pub record IsFaultyAct (setup : Setup) (acts : List NamedAct) (operation : OpRecord) : Type 0 where
+-- it is one of these acts
+pub record IsActOf (acts : List NamedAct) (operation : OpRecord) : Type 0 where
   pub act : NamedAct
   pub of_list : Contains acts act
-  pub declared : is_faulty setup (party.Client act.0) ≡ true
   pub is : operation ≡ as_operation act
 
--- the operations, and besides them the acts of faulty clients among these, each once
-pub record AddsFaultyActs (setup : Setup) (acts : List NamedAct) (old new : List OpRecord) : Type 0 where
+-- the operations, and besides them these acts, each once
+pub record AddsActs (acts : List NamedAct) (old new : List OpRecord) : Type 0 where
   pub distinct : AllPairs AreDistinct new
-  pub sound : (operation : OpRecord) → Contains new operation
-      → Contains old operation ⊎ IsFaultyAct setup acts operation
+  pub sound : (operation : OpRecord) → Contains new operation → Contains old operation ⊎ IsActOf acts operation
   pub kept : (operation : OpRecord) → Contains old operation → Contains new operation
-  pub complete : (act : NamedAct) → Contains acts act → is_faulty setup (party.Client act.0) ≡ true
-      → Contains new (as_operation act)
+  pub complete : (act : NamedAct) → Contains acts act → Contains new (as_operation act)
 
--- an act of a faulty client that is none of the earlier ones, as an operation
-abbrev pub new_act : Setup → List NamedAct → NamedAct → List OpRecord
-new_act setup earlier act =
-    if is_faulty setup (party.Client act.0) && not (list_any (is_act act.0 act.1 act.2) earlier)
-    then as_operation act ∷ []
-    else []
+-- an act that is none of the earlier ones, as an operation
+abbrev pub new_act : List NamedAct → NamedAct → List OpRecord
+new_act earlier act = if list_any (is_act act.0 act.1 act.2) earlier then [] else as_operation act ∷ []
 
 -- the numbers of an act fit their bytes
 abbrev pub ActFits : NamedAct → Type 0

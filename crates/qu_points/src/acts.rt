@@ -5,7 +5,7 @@ ghost use Rattle.qu_base.specs.declared.party.ReplicaId.{ReplicaId};
 ghost use Rattle.qu_frames.specs.Signing.{brought};
 ghost use Rattle.qu_world.specs.State.{ring_of};
 ghost use Rattle.qu_world.specs.Run.{IsSetup};
-ghost use Rattle.qu_runs.specs.Digested.{is_known, request_in, request_brought, request_to, handled_by};
+ghost use Rattle.qu_claims.specs.Handled.{is_known, request_in, request_brought, request_to, handled_by};
 ghost use Rattle.qu_objects.specs.declared.op.Op.TheVariants as op;
 ghost use Rattle.qu_machine.specs.PointTests.{same_op};
 ghost use Rattle.qu_points.specs.Points.{act_in, handled_acts, is_act};

@@ -2,7 +2,7 @@
 ghost use Rattle.std.specs.Prelude.{◌≡◌, ℕ, IfOk};
 ghost use Rattle.std.specs.Ordering.{nat_cmp, ordering_then, is_lt};
 ghost use Rattle.std.specs.Cmp.Lexicographic.{slice_cmp};
-ghost use Rattle.qu_points.specs.Order.{body_text, is_earlier};
+ghost use Rattle.qu_claims.specs.Order.{body_text, is_earlier};
 
 use qu_base::{List, NoMemory, Outbytes};
 use qu_machine::Point;

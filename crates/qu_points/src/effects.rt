@@ -2,12 +2,12 @@ ghost use Rattle.std.specs.Prelude.{◌≡◌, ℕ, map, Some, IfOk, MatchOption
 ghost use Rattle.std.specs.Option.{option_copied};
 ghost use Rattle.qu_frames.specs.Decoding.{decoded};
 ghost use Rattle.qu_world.specs.State.{numbered};
-ghost use Rattle.qu_runs.specs.Answers.{delivered_round, round_in};
-ghost use Rattle.qu_runs.specs.Decided.{is_on};
+ghost use Rattle.qu_claims.specs.Answers.{delivered_round, round_in};
+ghost use Rattle.qu_claims.specs.Effects.{is_on};
 ghost use Rattle.qu_known.specs.Answers.{answered_at};
-ghost use Rattle.qu_points.specs.Order.{query_effect, effect_of, AnswersFirst};
+ghost use Rattle.qu_claims.specs.Order.{query_effect, AnswersFirst};
 ghost use Rattle.qu_points.specs.Facts.{AreFacts};
-ghost use Rattle.qu_points.specs.Points.{mark_of, earlier_of, first_mark, act_mark};
+ghost use Rattle.qu_points.specs.Points.{effect_of, mark_of, first_mark, act_mark};
 
 use super::acts::is_handled;
 use super::answers::first_answer;
@@ -16,7 +16,7 @@ use qu_base::{ClientId, Digest, List, NoMemory, ObjectId};
 use qu_known::{Answered, Tracked, round_answered};
 use qu_machine::OpRecord;
 use qu_objects::{Act, Op, Outcome, act_digest};
-use qu_trace::{Entry, Event, Trace};
+use qu_trace::{Entry, Event, Trace, earlier};
 use qu_world::letter_at;
 use std::alloc::Global;
 
@@ -49,17 +49,6 @@ fn is_on(object: ObjectId, act: &Act) -> bool
     ensures { result ≡ is_on object act.now }
 {
     act.parts().iter().any(|part| part.0 == object)
-}
-
-/// The earlier of two events, where there are two.
-fn earlier(first: Option<u64>, second: Option<u64>) -> Option<u64>
-    ensures { result ≡ earlier_of first second }
-{
-    match (first, second) {
-        (Some(first), Some(second)) => Some(first.min(second)),
-        (Some(first), None) => Some(first),
-        (None, second) => second,
-    }
 }
 
 /// The event at which an operation of a run took effect, None where it took none.

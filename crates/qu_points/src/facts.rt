@@ -3,10 +3,9 @@ ghost use Rattle.qu_world.specs.Run.{IsRun};
 ghost use Rattle.qu_points.specs.Facts.{AreFacts};
 
 use super::acts::handled_acts;
-use super::findings::{Findings, find};
-use super::tracker::Tracker;
 use qu_base::{ClientId, List, NoMemory};
 use qu_known::Answered;
+use qu_marks::{Findings, Tracker, find};
 use qu_objects::Act;
 use qu_trace::Trace;
 use std::alloc::Global;

@@ -6,14 +6,9 @@ mod answers;
 mod before;
 mod effects;
 mod facts;
-mod faulty;
-mod findings;
 mod order;
-mod tracker;
+mod updates;
 mod verifier;
 
-pub use faulty::parts_fit;
 pub use order::printed_order;
-
-#[cfg(test)]
-mod tests;
+pub use updates::parts_fit;

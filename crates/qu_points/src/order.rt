@@ -1,30 +1,56 @@
 ghost use Rattle.std.specs.Prelude.{◌≡◌, ◌≤◌, not, length, AllPairs, IfOk, OnOk};
-ghost use Rattle.std.specs.List.{position_or_len};
+ghost use Rattle.std.specs.List.{filter, position_or_len};
 ghost use Rattle.qu_world.specs.Run.{IsRun};
 ghost use Rattle.qu_points.specs.Facts.{AreFacts};
-ghost use Rattle.qu_points.specs.Order.{is_earlier, IsPrintedOrder};
-ghost use Rattle.qu_points.specs.Points.{AreDistinct, AddsPoint, ArePointsOf, with_point};
+ghost use Rattle.qu_claims.specs.Order.{is_earlier, IsPrintedOrder};
+ghost use Rattle.qu_points.specs.Points.{AreDistinct, AddsPoint, ArePointsOf, asks, is_query, with_point};
 
 use super::before::is_earlier;
 use super::effects::effect;
 use super::facts::Facts;
-use super::faulty::add_faulty_acts;
+use super::updates::add_acts;
 use qu_base::{List, NoMemory, Party};
 use qu_machine::{OpRecord, Point};
+use qu_objects::Op;
 use qu_trace::{Trace, operations};
 use std::alloc::Global;
 
-/// The points of a run, in their order: where each update and each completed query took effect. Those of faulty
-/// clients have a mark.
+/// The points of a run, in their order: where each update that a replica handled and each completed query took effect.
+/// Those of faulty clients have a mark.
 pub fn printed_order(alloc: Global, trace: &Trace) -> Result<List<Point>, NoMemory>
     requires { IsRun trace.now }
     ensures { IfOk result (λ order. IsPrintedOrder trace.now order) }
 {
     let facts = Facts::of(alloc, trace)?;
-    let mut operations = operations(alloc, trace)?;
-    add_faulty_acts(alloc, &trace.setup, facts.acts.as_slice(), &mut operations)?;
+    let all = operations(alloc, trace)?;
+    let mut operations = queries(alloc, all.as_slice())?;
+    add_acts(alloc, facts.acts.as_slice(), &mut operations)?;
     let points = points(alloc, trace, &facts, operations.as_slice())?;
     Ok(List::from(points))
+}
+
+/// The queries among these operations.
+#[tactic(auto, using(std::proofs::lemmas::List::Elements::filter_more))]
+fn queries(alloc: Global, operations: &[OpRecord]) -> Result<List<OpRecord>, NoMemory>
+    ensures { IfOk result (λ queries. queries ≡ filter is_query operations.now) }
+{
+    let mut queries = List::new(alloc);
+    for operation in operations {
+        if asks(&operation.op) {
+            queries.push(operation.copy(alloc)?)?;
+        }
+    }
+    Ok(queries)
+}
+
+/// Whether the operation is a query.
+fn asks(op: &Op) -> bool
+    ensures { result ≡ asks op.now }
+{
+    match op {
+        Op::Act(_) => false,
+        Op::Query(_) => true,
+    }
 }
 
 /// The points of these operations, in their order.

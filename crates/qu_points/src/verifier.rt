@@ -1,7 +1,7 @@
 ghost use Rattle.std.specs.Prelude.{◌≡◌, IfOk, IfSome};
 ghost use Rattle.qu_seal.specs.declared.constants.TheConstants.{FRAME_TAG};
 ghost use Rattle.qu_seal.specs.Digesting.{digest_of};
-ghost use Rattle.qu_frames.specs.Signing.{is_signed, mac_of, text_digest};
+ghost use Rattle.qu_frames.specs.Signing.{is_signed, text_digest};
 
 use qu_base::{Digest, List, NoMemory, Party};
 use qu_frames::{Frame, before_mac, text_digest};
@@ -64,10 +64,7 @@ impl Verifier {
         ensures value { IfOk result (λ signed. signed ≡ is_signed self.old to text.now frame.now) }
     {
         let digest = self.digest_of(alloc, text)?;
-        Ok(
-            self.keys
-                .verifies(frame.sender(), to, &digest, mac_of(frame)),
-        )
+        Ok(self.keys.verifies(frame.sender(), to, &digest, frame.mac()))
     }
 
     /// The digest of the bytes before the HMAC.
@@ -106,17 +103,5 @@ impl Known {
         } else {
             None
         }
-    }
-}
-
-/// The HMAC of a frame.
-fn mac_of(frame: &Frame) -> &[u8; 32]
-    ensures { result.now ≡ mac_of frame.now }
-{
-    match frame {
-        Frame::Request { mac, .. }
-        | Frame::Reply { mac, .. }
-        | Frame::Fetch { mac, .. }
-        | Frame::Fetched { mac, .. } => mac,
     }
 }

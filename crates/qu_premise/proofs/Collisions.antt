@@ -1,5 +1,5 @@
 -- What is seen of the digests of a run, event by event, and the first two texts that collide.
-use Rattle.std.proofs.Common.{◌≡◌, ℕ, ◌+◌, ◌<◌, ◌≤◌, Bool, true, false, cond, List, [], ◌∷◌, length, get_or, drop, min, Option, None, Some, refl, sym, ap, subst, ◌∙◌, inl, inr, arith}
+use Rattle.std.proofs.Common.{◌≡◌, ℕ, ◌+◌, ◌<◌, ◌≤◌, Bool, true, false, cond, List, [], ◌∷◌, length, get_or, drop, Option, None, Some, refl, sym, ap, subst, ◌∙◌, inl, inr, arith}
 use Rattle.std.specs.Prelude.{◌⊎◌, is_some, Contains}
 use Rattle.std.proofs.lemmas.Bool.{false≢true, cases_Bool, cases_lt}
 use Rattle.std.proofs.lemmas.List.{drop_more, drop_all}
@@ -8,43 +8,19 @@ use Rattle.std.proofs.lemmas.Option.{none-some, same_Some}
 use Rattle.qu_base.specs.declared.party.Digest.{Digest}
 use Rattle.qu_seal.specs.Digesting.{digest_of}
 use Rattle.qu_trace.specs.declared.trace.Trace.{Trace}
-use Rattle.qu_runs.specs.Digested.{Text}
+use Rattle.qu_trace.specs.Earliest.{earlier_of, IsUpTo}
+use Rattle.qu_trace.proofs.EarliestLaws.{earlier_cases, earlier_assoc, earlier_none, earlier_left, earlier_right}
+use Rattle.qu_claims.specs.Digested.{Text}
 use Rattle.qu_runs.proofs.Small.{only_one}
 use Rattle.qu_premise.specs.declared.digests.Digests.{Digests}
 use Rattle.qu_premise.specs.declared.digests.Seen.{Seen}
 use Rattle.qu_premise.specs.Answer.{texts_by, DoCollide, NoneCollideBefore, IsFirstCollision, UnforgedBefore}
 use Rattle.qu_premise.specs.Digesting.{digest_of_text, same_text}
-use Rattle.qu_premise.specs.Digests.{look, Notes, clash_with, clash, earlier_of, first_clash}
+use Rattle.qu_premise.specs.Digests.{look, Notes, clash_with, clash, first_clash}
 use Rattle.qu_premise.specs.Past.{WasSeen, Knows}
 use Rattle.qu_premise.proofs.Equalities.{decides_text}
 
 -- ---- the earliest of some events
-
-earlier_cases : (first second : Option ℕ) (event : ℕ) → earlier_of first second ≡ Some event
-    → (first ≡ Some event) ⊎ (second ≡ Some event)
-earlier_cases None second event is = inr is
-earlier_cases (Some a) None event is = inl is
-earlier_cases (Some a) (Some b) event is =
-    elim (cases_lt b a) [
-      | inl later ↦
-          let least : min a b ≡ b = omega arith in
-          inr (ap (λ (it : ℕ). Some it) (sym least) ∙ is)
-      | inr order ↦
-          let least : min a b ≡ a = omega arith in
-          inl (ap (λ (it : ℕ). Some it) (sym least) ∙ is)
-    ]
-
-earlier_assoc : (a b c : Option ℕ) → earlier_of (earlier_of a b) c ≡ earlier_of a (earlier_of b c)
-earlier_assoc None b c = refl
-earlier_assoc (Some a) None c = refl
-earlier_assoc (Some a) (Some b) None = refl
-earlier_assoc (Some a) (Some b) (Some c) =
-    let same : min (min a b) c ≡ min a (min b c) = omega arith in
-    ap (λ (it : ℕ). Some it) same
-
-earlier_none : (a : Option ℕ) → earlier_of a None ≡ a
-earlier_none None = refl
-earlier_none (Some a) = refl
 
 -- one text more
 pub first_clash_more : (seen : Digest → Option Seen) (all : List Text) (index : ℕ) (default : Text)
@@ -61,26 +37,6 @@ pub first_clash_end : (seen : Digest → Option Seen) (all : List Text) (index :
 unfolding first_clash
 first_clash_end seen all index so_far past =
     ap (λ (it : List Text). earlier_of so_far (first_clash seen it)) (drop_all index all past) ∙ earlier_none so_far
-
--- there is an event, which is not after this one
-abbrev IsUpTo : Option ℕ → ℕ → Type 0
-IsUpTo first event = (at : ℕ) × (first ≡ Some at) × (at ≤ event)
-
-earlier_left : (first second : Option ℕ) (event : ℕ) → IsUpTo first event → IsUpTo (earlier_of first second) event
-earlier_left None second event up_to = absurd (none-some up_to.0 up_to.1)
-earlier_left (Some a) None event up_to = up_to
-earlier_left (Some a) (Some b) event up_to =
-    let same : a ≡ up_to.0 = same_Some a up_to.0 up_to.1 in
-    let order : up_to.0 ≤ event = up_to.2 in
-    (min a b, refl, omega arith)
-
-earlier_right : (first second : Option ℕ) (event : ℕ) → IsUpTo second event → IsUpTo (earlier_of first second) event
-earlier_right None second event up_to = up_to
-earlier_right (Some a) None event up_to = absurd (none-some up_to.0 up_to.1)
-earlier_right (Some a) (Some b) event up_to =
-    let same : b ≡ up_to.0 = same_Some b up_to.0 up_to.1 in
-    let order : up_to.0 ≤ event = up_to.2 in
-    (min a b, refl, omega arith)
 
 -- a text that clashes
 record HasClash (seen : Digest → Option Seen) (texts : List Text) (event : ℕ) : Type 0 where

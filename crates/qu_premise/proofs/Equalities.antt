@@ -17,7 +17,7 @@ use Rattle.qu_stamp.specs.Stamp.{same_digest}
 use Rattle.qu_stamp.proofs.Order.{same-self, equal_by_same}
 use Rattle.qu_history.specs.History.{ObjectHistory}
 use Rattle.qu_trace.specs.Faulty.{is_same}
-use Rattle.qu_runs.specs.Digested.{Text}
+use Rattle.qu_claims.specs.Digested.{Text}
 use Rattle.qu_premise.specs.Digesting.{digest_of_text, same_text}
 use Rattle.qu_premise.specs.Forging.{same_history, same_mac}
 

@@ -20,8 +20,8 @@ use Rattle.qu_trace.specs.declared.trace.Setup.{Setup}
 use Rattle.qu_trace.specs.Faulty.{is_same, is_faulty}
 use Rattle.qu_trace.specs.Letters.{letters_of}
 use Rattle.qu_world.specs.State.{WorldState, ring_of, numbered}
-use Rattle.qu_runs.specs.Digested.{is_known, is_handler, shown_by, entries_in, entries_brought, entries_to}
-use Rattle.qu_runs.specs.Premises.{HasSent, WasShown, AreUnforged}
+use Rattle.qu_claims.specs.Handled.{is_known, is_handler, shown_by, entries_in, entries_brought, entries_to}
+use Rattle.qu_claims.specs.Premises.{HasSent, WasShown, AreUnforged}
 use Rattle.qu_premise.specs.declared.shown.Shown.{Shown}
 use Rattle.qu_premise.specs.Forging.{is_letter, was_sent, is_unsent, shown_of, shown_in_all, is_like, is_showing, was_shown, is_unshown, has_unshown, asks_unshown, shows_unshown, is_forged_frame, is_forged_text}
 use Rattle.qu_premise.proofs.Lists.{Passing, passing, any_at, any_flat, any_mapped, any_contained, contained}
@@ -58,6 +58,16 @@ any_numbered : (test : Letter → Bool) (letters : List Letter) (number : ℕ) (
     → numbered letters number ≡ Some letter → test letter ≡ true → list_any test letters ≡ true
 any_numbered test letters zero letter is passes = absurd (none-some letter is)
 any_numbered test letters (suc place) letter is passes = any_at test letters place letter is passes
+
+-- a letter that has a number was sent
+pub letter_sent : (entries : List Entry) (number : ℕ) (letter : Letter)
+    → numbered (letters_of entries) number ≡ Some letter
+    → was_sent entries letter.from letter.to letter.text ≡ true
+letter_sent entries number letter is =
+    in_letters entries letter.from letter.to letter.text
+    ∙ any_numbered (is_letter letter.from letter.to letter.text) (letters_of entries) number letter is
+    (and_from _ _ ((decides_party letter.from letter.from).1 refl)
+    (and_from _ _ ((decides_party letter.to letter.to).1 refl) ((bytes_decides letter.text letter.text).1 refl)))
 
 sent_is : (world : WorldState) (from to : Party) (text : List ℕ) → HasSent world from to text
     → was_sent world.entries from to text ≡ true

@@ -7,7 +7,7 @@ use Rattle.std.proofs.lemmas.List.Elements.{Contains-append_left, Contains-appen
 use Rattle.std.proofs.lemmas.Option.{same_Some}
 use Rattle.qu_base.specs.declared.party.Digest.{Digest}
 use Rattle.qu_stamp.specs.Stamp.{same_digest}
-use Rattle.qu_runs.specs.Digested.{Text}
+use Rattle.qu_claims.specs.Digested.{Text}
 use Rattle.qu_runs.proofs.Small.{only_one}
 use Rattle.qu_premise.specs.declared.digests.Seen.{Seen}
 use Rattle.qu_premise.specs.Digesting.{digest_of_text}

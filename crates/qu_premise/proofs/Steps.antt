@@ -18,10 +18,10 @@ use Rattle.qu_trace.specs.Letters.{letters_of}
 use Rattle.qu_world.specs.Run.{IsRun}
 use Rattle.qu_world.specs.State.{WorldState}
 use Rattle.qu_world.proofs.LetterLaws.{letters-push}
-use Rattle.qu_runs.specs.Carried.{handed}
-use Rattle.qu_runs.specs.Digested.{Text, texts_at, digested, NoCollision}
-use Rattle.qu_runs.specs.Premises.{AreUnforged, IsUnforgedAt, MeetsPremises}
-use Rattle.qu_runs.specs.Times.{world_after}
+use Rattle.qu_claims.specs.Carried.{handed}
+use Rattle.qu_claims.specs.Digested.{Text, texts_at, digested, NoCollision}
+use Rattle.qu_claims.specs.Premises.{AreUnforged, IsUnforgedAt, MeetsPremises}
+use Rattle.qu_claims.specs.Times.{world_after}
 use Rattle.qu_runs.proofs.Recording.{entries_after}
 use Rattle.qu_runs.proofs.WorldGrowth.{world_after-none, world_after-grows}
 use Rattle.qu_premise.specs.declared.auditing.Past.{Past}

@@ -20,8 +20,9 @@ use Rattle.qu_trace.specs.Faulty.{is_faulty}
 use Rattle.qu_trace.specs.Letters.{letters_of}
 use Rattle.qu_world.specs.State.{ring_of, numbered}
 use Rattle.qu_world.specs.Step.{is_to_faulty}
-use Rattle.qu_runs.specs.Carried.{offered_by, handed_by}
-use Rattle.qu_runs.specs.Digested.{Text, Request, is_handler, request_brought, request_to, request_by, handled_by, entries_brought, frame_text, history_text, texts_of, taken_texts, handed_texts, sent_texts, texts_at}
+use Rattle.qu_claims.specs.Carried.{offered_by, handed_by}
+use Rattle.qu_claims.specs.Digested.{Text, frame_text, history_text, texts_of, taken_texts, handed_texts, sent_texts, texts_at}
+use Rattle.qu_claims.specs.Handled.{Request, is_handler, request_brought, request_to, request_by, handled_by, entries_brought}
 use Rattle.qu_premise.specs.Texts.{frame_texts, decoded_texts, reached_texts}
 
 -- ---- a frame

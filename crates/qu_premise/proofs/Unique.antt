@@ -4,8 +4,8 @@ use Rattle.std.specs.Prelude.{slice_get, Contains}
 use Rattle.std.proofs.lemmas.Bool.{cases_lt}
 use Rattle.qu_trace.specs.declared.trace.Entry.{Entry}
 use Rattle.qu_trace.specs.declared.trace.Trace.{Trace}
-use Rattle.qu_runs.specs.Digested.{Text, texts_at, digested}
-use Rattle.qu_runs.specs.Premises.{MeetsPremises}
+use Rattle.qu_claims.specs.Digested.{Text, texts_at, digested}
+use Rattle.qu_claims.specs.Premises.{MeetsPremises}
 use Rattle.qu_runs.proofs.Small.{contains_mapped}
 use Rattle.qu_trace.specs.declared.premises.Premises.{Premises}
 use Rattle.qu_trace.specs.declared.premises.Premises.TheVariants.{Hold, Forged, Collide}

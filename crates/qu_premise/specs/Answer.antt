@@ -4,9 +4,9 @@ use Rattle.qu_seal.specs.Digesting.{digest_of}
 use Rattle.qu_trace.specs.declared.trace.Entry.{Entry}
 use Rattle.qu_trace.specs.declared.trace.Trace.{Trace}
 use Rattle.qu_world.specs.State.{numbered}
-use Rattle.qu_runs.specs.Digested.{Text, texts_at}
-use Rattle.qu_runs.specs.Premises.{IsUnforgedAt, MeetsPremises}
-use Rattle.qu_runs.specs.Times.{world_after}
+use Rattle.qu_claims.specs.Digested.{Text, texts_at}
+use Rattle.qu_claims.specs.Premises.{IsUnforgedAt, MeetsPremises}
+use Rattle.qu_claims.specs.Times.{world_after}
 use Rattle.qu_trace.specs.declared.premises.Premises.{Premises}
 use Rattle.qu_trace.specs.declared.premises.Premises.TheVariants.{Hold, Forged, Collide}
 

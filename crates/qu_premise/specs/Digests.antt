@@ -1,9 +1,10 @@
 -- What is kept of the texts that were digested: of each digest the text that first had it, and its event.
-use Rattle.std.specs.Prelude.{◌≡◌, ◌⊎◌, ℕ, min, if◌then◌else◌, List, [], ◌∷◌, Option, None, Some, IsSome, Contains}
+use Rattle.std.specs.Prelude.{◌≡◌, ◌⊎◌, ℕ, if◌then◌else◌, List, [], ◌∷◌, Option, None, Some, IsSome, Contains}
 use Rattle.std.specs.HashMap.{get}
 use Rattle.qu_base.specs.declared.party.Digest.{Digest}
 use Rattle.qu_stamp.specs.Stamp.{same_digest}
-use Rattle.qu_runs.specs.Digested.{Text}
+use Rattle.qu_trace.specs.Earliest.{earlier_of}
+use Rattle.qu_claims.specs.Digested.{Text}
 use Rattle.qu_premise.specs.Digesting.{digest_of_text, same_text}
 use Rattle.qu_premise.specs.declared.digests.Digests.{Digests}
 use Rattle.qu_premise.specs.declared.digests.Seen.{Seen}
@@ -26,11 +27,6 @@ clash_with text (Some seen) = if same_text seen.text text then None else Some se
 
 abbrev pub clash : (Digest → Option Seen) → Text → Option ℕ
 clash seen text = clash_with text (seen (digest_of_text text))
-
-abbrev pub earlier_of : Option ℕ → Option ℕ → Option ℕ
-earlier_of None second = second
-earlier_of (Some first) None = Some first
-earlier_of (Some first) (Some second) = Some (min first second)
 
 -- the earliest of these events
 unfoldable pub first_clash : (Digest → Option Seen) → List Text → Option ℕ

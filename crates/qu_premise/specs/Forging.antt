@@ -21,8 +21,8 @@ use Rattle.qu_trace.specs.declared.trace.Setup.{Setup}
 use Rattle.qu_trace.specs.Faulty.{is_same, is_faulty}
 use Rattle.qu_trace.specs.Letters.{letters_of}
 use Rattle.qu_world.specs.State.{ring_of}
-use Rattle.qu_runs.specs.Carried.{handed_by}
-use Rattle.qu_runs.specs.Digested.{is_known, is_handler, shown_by}
+use Rattle.qu_claims.specs.Carried.{handed_by}
+use Rattle.qu_claims.specs.Handled.{is_known, is_handler, shown_by}
 use Rattle.qu_premise.specs.declared.shown.Shown.{Shown}
 
 -- ---- letters

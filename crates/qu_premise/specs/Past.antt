@@ -2,7 +2,7 @@
 use Rattle.std.specs.Prelude.{◌≡◌, ℕ, ◌+◌, ◌≤◌, take, Some, Contains}
 use Rattle.qu_base.specs.declared.party.Digest.{Digest}
 use Rattle.qu_trace.specs.declared.trace.Trace.{Trace}
-use Rattle.qu_runs.specs.Digested.{Text}
+use Rattle.qu_claims.specs.Digested.{Text}
 use Rattle.qu_premise.specs.declared.auditing.Past.{Past}
 use Rattle.qu_premise.specs.declared.digests.Digests.{Digests}
 use Rattle.qu_premise.specs.declared.digests.Seen.{Seen}

@@ -10,7 +10,8 @@ use Rattle.qu_frames.specs.Signing.{is_signed}
 use Rattle.qu_trace.specs.declared.trace.Setup.{Setup}
 use Rattle.qu_trace.specs.Faulty.{is_faulty}
 use Rattle.qu_world.specs.State.{ring_of}
-use Rattle.qu_runs.specs.Digested.{Text, is_handler, request_in, entries_in, frame_text, history_text, texts_of}
+use Rattle.qu_claims.specs.Digested.{Text, frame_text, history_text, texts_of}
+use Rattle.qu_claims.specs.Handled.{is_handler, request_in, entries_in}
 
 -- the replica that handles the frame of these bytes
 abbrev pub handler_of : Setup → Party → List ℕ → Frame → Option ReplicaId

@@ -1,15 +1,16 @@
 ghost use Rattle.std.specs.Prelude.{◌≡◌, [], ◌∷◌, None, OnOk, IfOk, IfSome};
 ghost use Rattle.std.specs.Option.{option_copied};
 ghost use Rattle.qu_base.specs.declared.party.Digest.{Digest as Key};
-ghost use Rattle.qu_runs.specs.Digested.{frame_text, history_text};
+ghost use Rattle.qu_claims.specs.Digested.{frame_text, history_text};
 ghost use Rattle.qu_premise.specs.Digesting.{digest_of_text};
-ghost use Rattle.qu_premise.specs.Digests.{look, Notes, clash_with, clash, earlier_of, first_clash};
+ghost use Rattle.qu_premise.specs.Digests.{look, Notes, clash_with, clash, first_clash};
 
 use super::text::Text;
 use qu_base::{Digest, List, NoMemory};
 use qu_frames::before_mac;
 use qu_history::Sealed;
 use qu_seal::{FRAME_TAG, HISTORY_TAG, digest};
+use qu_trace::earlier;
 use std::alloc::Global;
 use std::collections::HashMap;
 
@@ -124,17 +125,6 @@ impl Digests {
             Some(seen) if !seen.text.is_same(text) => Some(seen.event),
             Some(_) | None => None,
         }
-    }
-}
-
-/// The earlier of two events, where there are two.
-fn earlier(first: Option<u64>, second: Option<u64>) -> Option<u64>
-    ensures { result ≡ earlier_of first second }
-{
-    match (first, second) {
-        (Some(first), Some(second)) => Some(first.min(second)),
-        (Some(first), None) => Some(first),
-        (None, second) => second,
     }
 }
 

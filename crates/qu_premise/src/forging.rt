@@ -1,10 +1,10 @@
-ghost use Rattle.std.specs.Prelude.{◌≡◌, Ok, IfOk};
+ghost use Rattle.std.specs.Prelude.{◌≡◌, Ok, IfOk, IfSome, IsTrue};
 ghost use Rattle.std.specs.List.{list_all, list_any};
 ghost use Rattle.qu_base.specs.declared.party.Party.TheVariants as party;
 ghost use Rattle.qu_frames.specs.Signing.{if_signed};
 ghost use Rattle.qu_world.specs.State.{ring_of};
 ghost use Rattle.qu_world.specs.Run.{IsSetup};
-ghost use Rattle.qu_runs.specs.Digested.{is_known, is_handler};
+ghost use Rattle.qu_claims.specs.Handled.{is_known, is_handler};
 ghost use Rattle.qu_premise.specs.Forging.{is_letter, is_sent_at, was_sent, is_unsent, is_unshown, has_unshown, asks_unshown, shows_unshown, is_forged_frame, is_forged_text, is_forged};
 
 use super::shown::ShownSoFar;
@@ -16,7 +16,15 @@ use qu_trace::{Entry, Event, Setup};
 use qu_world::letter_at;
 use std::alloc::Global;
 
+/// The way of bytes to a party: from the party that sent them as a letter, if they are one.
+#[derive(Clone, Copy)]
+struct Way {
+    from: Option<Party>,
+    to: Party,
+}
+
 /// Whether an event behind these entries hands something forged to a correct party; `shown` is what they show.
+#[tactic(auto, using(crate::proofs::Forgeries::letter_sent))]
 pub fn is_forged(
     alloc: Global,
     setup: &Setup,
@@ -30,19 +38,20 @@ pub fn is_forged(
     match event {
         Event::Deliver(number) => match letter_at(entries, *number) {
             Some(letter) if !setup.is_faulty(letter.to) => {
-                is_forged_text(
-                    alloc,
-                    setup,
-                    entries,
-                    shown,
-                    letter.to,
-                    letter.text.as_slice(),
-                )
+                let way = Way {
+                    from: Some(letter.from),
+                    to: letter.to,
+                };
+                is_forged_text(alloc, setup, entries, shown, way, letter.text.as_slice())
             }
             Some(_) | None => Ok(false),
         },
         Event::Inject(to, text) if !setup.is_faulty(*to) => {
-            is_forged_text(alloc, setup, entries, shown, *to, text.as_slice())
+            let way = Way {
+                from: None,
+                to: *to,
+            };
+            is_forged_text(alloc, setup, entries, shown, way, text.as_slice())
         }
         Event::Invoke(_, _) | Event::Tick(_) | Event::Inject(_, _) => Ok(false),
     }
@@ -55,14 +64,15 @@ fn is_forged_text(
     setup: &Setup,
     entries: &[Entry],
     shown: &ShownSoFar,
-    to: Party,
+    way: Way,
     text: &[u8],
 ) -> Result<bool, NoMemory>
-    requires { IsSetup setup.now }
-    ensures { IfOk result (λ forged. forged ≡ is_forged_text setup.now entries.now shown.now to text.now) }
+    requires setup { IsSetup setup.now }
+    requires sent { IfSome way.from (λ from. IsTrue (was_sent entries.now from way.to text.now)) }
+    ensures { IfOk result (λ forged. forged ≡ is_forged_text setup.now entries.now shown.now way.to text.now) }
 {
     match decode(alloc, text) {
-        Ok(frame) => is_forged_frame(alloc, setup, entries, shown, to, text, &frame),
+        Ok(frame) => is_forged_frame(alloc, setup, entries, shown, way, text, &frame),
         Err(ReadFail::Bad(_)) => Ok(false),
         Err(ReadFail::NoMemory) => Err(NoMemory),
     }
@@ -76,18 +86,19 @@ fn is_forged_frame(
     setup: &Setup,
     entries: &[Entry],
     shown: &ShownSoFar,
-    to: Party,
+    way: Way,
     text: &[u8],
     frame: &Frame,
 ) -> Result<bool, NoMemory>
-    requires { IsSetup setup.now }
-    ensures { IfOk result (λ forged. forged ≡ is_forged_frame setup.now entries.now shown.now to text.now
-        (if_signed (ring_of setup.now) to text.now (Ok frame.now))) }
+    requires setup { IsSetup setup.now }
+    requires sent { IfSome way.from (λ from. IsTrue (was_sent entries.now from way.to text.now)) }
+    ensures { IfOk result (λ forged. forged ≡ is_forged_frame setup.now entries.now shown.now way.to text.now
+        (if_signed (ring_of setup.now) way.to text.now (Ok frame.now))) }
 {
-    if is_unsent(setup, entries, to, text, frame)
-        || shows_unshown(alloc, setup, shown, to, frame)?
+    if is_unsent(setup, entries, way, text, frame)
+        || shows_unshown(alloc, setup, shown, way.to, frame)?
     {
-        return Ok(frame.is_signed(&ring_of(setup), to, text));
+        return Ok(frame.is_signed(&ring_of(setup), way.to, text));
     }
     Ok(false)
 }
@@ -100,12 +111,14 @@ pub fn ring_of(setup: &Setup) -> KeyRing
     KeyRing::derive(setup.seed, &setup.bounds, setup.clients)
 }
 
-/// Whether the frame that these bytes brought is of a correct party that did not send them.
-fn is_unsent(setup: &Setup, entries: &[Entry], to: Party, text: &[u8], frame: &Frame) -> bool
-    ensures { result ≡ is_unsent setup.now entries.now to text.now frame.now }
+/// Whether the frame that these bytes brought is of a correct party that did not send them. Where they are a letter of
+/// this party, no entry is looked at.
+fn is_unsent(setup: &Setup, entries: &[Entry], way: Way, text: &[u8], frame: &Frame) -> bool
+    requires { IfSome way.from (λ from. IsTrue (was_sent entries.now from way.to text.now)) }
+    ensures { result ≡ is_unsent setup.now entries.now way.to text.now frame.now }
 {
     let from = frame.sender();
-    !setup.is_faulty(from) && !was_sent(entries, from, to, text)
+    !setup.is_faulty(from) && way.from != Some(from) && !was_sent(entries, from, way.to, text)
 }
 
 /// Whether the first party sent these bytes to the second at one of these entries. The newest are looked at first.

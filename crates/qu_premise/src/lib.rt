@@ -12,6 +12,3 @@ mod texts;
 
 pub use auditing::audit;
 pub use qu_trace::Premises;
-
-#[cfg(test)]
-mod tests;

@@ -6,26 +6,12 @@ ghost use Rattle.qu_base.specs.Bounds.{replicas};
 ghost use Rattle.qu_history.specs.Culling.{culled, history_digest, is_right, mac_is_right};
 ghost use Rattle.qu_history.specs.Sealing.{are_right};
 ghost use Rattle.qu_history.specs.Text.{sets_text};
-ghost use Rattle.qu_frames.specs.Signing.{mac_of};
 
 use super::digests::Digests;
 use qu_base::{Digest, List, NoMemory, Party, ReplicaId};
-use qu_frames::Frame;
 use qu_history::{Sealed, SetOf, Sets};
 use qu_seal::KeyRing;
 use std::alloc::Global;
-
-/// The HMAC of a frame.
-pub fn mac_of(frame: &Frame) -> &[u8; 32]
-    ensures { result.now ≡ mac_of frame.now }
-{
-    match frame {
-        Frame::Request { mac, .. }
-        | Frame::Reply { mac, .. }
-        | Frame::Fetch { mac, .. }
-        | Frame::Fetched { mac, .. } => mac,
-    }
-}
 
 /// The text of the sets without the entries whose HMAC for this reader is wrong.
 #[tactic(auto, using(qu_history::proofs::RightSeals::culled_whole))]

@@ -2,7 +2,7 @@
 ghost use Rattle.std.specs.Prelude.{◌≡◌, [], ◌++◌, map, IfOk, OnOk};
 ghost use Rattle.std.specs.List.{list_any};
 ghost use Rattle.std.specs.Option.{option_copied};
-ghost use Rattle.qu_runs.specs.Digested.{shown_by};
+ghost use Rattle.qu_claims.specs.Handled.{shown_by};
 ghost use Rattle.qu_premise.specs.Forging.{shown_of, same_history, same_mac, is_like, is_showing, was_shown};
 
 use qu_base::{List, NoMemory, Party, ReadFail, ReplicaId};

@@ -16,7 +16,7 @@ pub struct Text {
 
 impl Model for Text {
     ghost use Rattle.std.specs.Prelude.{◌≡◌};
-    ghost use Rattle.qu_runs.specs.Digested.{Text as Digested};
+    ghost use Rattle.qu_claims.specs.Digested.{Text as Digested};
     ghost use Rattle.qu_premise.specs.Digesting.{digest_of_text};
 
     ghost Value = { Digested };

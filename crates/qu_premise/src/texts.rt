@@ -5,14 +5,15 @@ ghost use Rattle.qu_history.specs.declared.sets.SetOf.{SetOf};
 ghost use Rattle.qu_frames.specs.Decoding.{decoded};
 ghost use Rattle.qu_frames.specs.Signing.{text_digest};
 ghost use Rattle.qu_world.specs.Run.{IsSetup};
-ghost use Rattle.qu_runs.specs.Carried.{offered_by};
-ghost use Rattle.qu_runs.specs.Digested.{texts_at, sent_texts, entries_in, texts_of, request_in, body_texts, frame_text, history_text};
+ghost use Rattle.qu_claims.specs.Carried.{offered_by};
+ghost use Rattle.qu_claims.specs.Digested.{texts_at, sent_texts, texts_of, body_texts, frame_text, history_text};
+ghost use Rattle.qu_claims.specs.Handled.{entries_in, request_in};
 ghost use Rattle.qu_premise.specs.Digesting.{digest_of_text};
 ghost use Rattle.qu_premise.specs.Texts.{handler_of, request_texts, entry_texts, frame_texts, decoded_texts, reached_texts};
 
 use super::digests::Digests;
 use super::forging::{are_known, is_handler, ring_of};
-use super::reading::{culled_text, mac_of};
+use super::reading::culled_text;
 use super::shown::shown_by;
 use super::text::Text;
 use qu_base::{ClientId, Digest, List, NoMemory, Party, ReadFail, ReplicaId};
@@ -131,8 +132,9 @@ fn handler_of(
     let from = frame.sender();
     match to {
         Party::Replica(me)
-            if is_handler(setup, me) && ring_of(setup).verifies(from, to, &digest, mac_of(frame)) =>
-            { Some(me) }
+            if is_handler(setup, me) && ring_of(setup).verifies(from, to, &digest, frame.mac()) => {
+            Some(me)
+        }
         Party::Replica(_) | Party::Client(_) => None,
     }
 }

@@ -16,10 +16,10 @@ halves a b c d = rw append_assoc (lines_text-append (a ++ b) (c ++ d))
 -- what happened, and then how the operations ended
 pub report_parts : (trace : Trace) (premises : Premises) (order : List Point) → report_of trace premises order
     ≡ lines_text (bounds_line trace.setup.bounds ∷ [] ++ timeline trace.entries (told_order premises order))
-    ++ lines_text (open_lines trace.setup.clients (operations_of trace.entries)
-    ++ premises_line premises ∷ end_line (operations_of trace.entries) ∷ [])
+    ++ lines_text (open_lines trace.setup.clients (operations_of trace)
+    ++ premises_line premises ∷ end_line (operations_of trace) ∷ [])
 unfolding report_of
 report_parts trace premises order =
     halves (bounds_line trace.setup.bounds ∷ []) (timeline trace.entries (told_order premises order))
-    (open_lines trace.setup.clients (operations_of trace.entries))
-    (premises_line premises ∷ end_line (operations_of trace.entries) ∷ [])
+    (open_lines trace.setup.clients (operations_of trace))
+    (premises_line premises ∷ end_line (operations_of trace) ∷ [])

@@ -27,8 +27,8 @@ abbrev pub report_lines : Trace → Premises → List Point → List (List ℕ)
 report_lines trace premises order =
     bounds_line trace.setup.bounds ∷ []
     ++ timeline trace.entries (told_order premises order)
-    ++ open_lines trace.setup.clients (operations_of trace.entries)
-    ++ premises_line premises ∷ end_line (operations_of trace.entries) ∷ []
+    ++ open_lines trace.setup.clients (operations_of trace)
+    ++ premises_line premises ∷ end_line (operations_of trace) ∷ []
 
 unfoldable pub report_of : Trace → Premises → List Point → List ℕ
 report_of trace premises order = lines_text (report_lines trace premises order)

@@ -8,7 +8,7 @@ use Rattle.qu_objects.specs.declared.act.Method.{Method}
 use Rattle.qu_objects.specs.declared.act.Method.TheVariants.{Add, Take}
 use Rattle.qu_objects.specs.declared.query.Ask.{Ask}
 use Rattle.qu_objects.specs.declared.query.Ask.TheVariants.{Read}
-use Rattle.qu_objects.specs.declared.refusal_number.TheConstants.{OVER, UNDER}
+use Rattle.qu_objects.specs.declared.refusal_number.TheConstants.{OVER, UNDER, TOO_LONG, EXISTS, MISSING, BAD_NAME, FULL, WRONG_KIND}
 use Rattle.qu_objects.specs.declared.answer.Item.{Item}
 use Rattle.qu_objects.specs.declared.answer.Item.TheVariants.{Number}
 use Rattle.qu_objects.specs.declared.answer.Answer.{Answer}
@@ -45,10 +45,19 @@ op_text (Query query) = join_by query_part_text (codes " + ") query
 abbrev pub item_text : Item → List ℕ
 item_text (Number n) = decimal n
 
--- a machine refuses by OVER or UNDER only; bytes that no replica made may tell another number
+-- why a part is refused: the words of the number. A machine refuses by OVER or UNDER only; bytes that no replica made
+-- may tell the others too, and an answer is read with no number but these
 abbrev pub why_text : ℕ → List ℕ
 why_text why =
-    if why == OVER then codes "over" else (if why == UNDER then codes "under" else codes "refusal " ++ decimal why)
+    if why == OVER then codes "over"
+    else if why == UNDER then codes "under"
+    else if why == TOO_LONG then codes "too long"
+    else if why == EXISTS then codes "exists"
+    else if why == MISSING then codes "missing"
+    else if why == BAD_NAME then codes "bad name"
+    else if why == FULL then codes "full"
+    else if why == WRONG_KIND then codes "wrong kind"
+    else codes "refusal " ++ decimal why
 
 -- the items, with ` + ` between each two, or the first refused part
 unfoldable pub answer_text : Answer → List ℕ

@@ -10,6 +10,3 @@ mod words;
 
 pub use report::report_text;
 pub use words::{put_answer, put_op};
-
-#[cfg(test)]
-mod tests;

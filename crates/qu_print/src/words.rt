@@ -3,7 +3,7 @@ ghost use Rattle.qu_print.specs.Words.{op_text, why_text, answer_text};
 
 use super::piece::put_joined;
 use qu_base::NoMemory;
-use qu_objects::{Answer, OVER, Op, UNDER};
+use qu_objects::{Answer, BAD_NAME, EXISTS, FULL, MISSING, OVER, Op, TOO_LONG, UNDER, WRONG_KIND};
 
 /// Writes what a client asks for.
 #[tactic(auto, unfolding(crate::specs::Words::op_text))]
@@ -31,13 +31,19 @@ pub fn put_answer(text: &mut String, answer: &Answer) -> Result<(), NoMemory>
     Ok(())
 }
 
-/// Writes why an operation is refused.
+/// Writes why an operation is refused: the words of the number, and of a number that no answer in bytes has the number.
 fn put_why(text: &mut String, why: u8) -> Result<(), NoMemory>
     ensures { OnOk result (string_bytes text.new ≡ string_bytes text.old ++ why_text why) }
 {
     match why {
         OVER => text.push_str("over")?,
         UNDER => text.push_str("under")?,
+        TOO_LONG => text.push_str("too long")?,
+        EXISTS => text.push_str("exists")?,
+        MISSING => text.push_str("missing")?,
+        BAD_NAME => text.push_str("bad name")?,
+        FULL => text.push_str("full")?,
+        WRONG_KIND => text.push_str("wrong kind")?,
         _ => write!(text, "refusal {why}")?,
     }
     Ok(())

@@ -6,14 +6,18 @@ use Rattle.std.proofs.lemmas.List.{length_push}
 use Rattle.qu_stamp.specs.declared.candidate.Candidate.{Candidate}
 use Rattle.qu_history.specs.History.{ObjectHistory}
 use Rattle.qu_objects.specs.declared.state.ObjState.{ObjState}
-use Rattle.qu_replica.specs.declared.versions.Stored.{Stored}
-use Rattle.qu_replica.specs.declared.decision.Accepted.{Accepted}
+use Rattle.qu_rows.specs.declared.versions.Stored.{Stored}
+use Rattle.qu_rows.specs.declared.decision.Accepted.{Accepted}
 use Rattle.qu_replica.specs.declared.planned.Gain.{Gain}
-use Rattle.qu_replica.specs.State.{ReplicaState, with_candidate, stored_if, accept, state_after}
-use Rattle.qu_replica.specs.Growth.{AreHistories, MayAccept, MayGain}
+use Rattle.qu_rows.specs.State.{ReplicaState}
+use Rattle.qu_replica.specs.State.{with_candidate, stored_if, accept, state_after}
+use Rattle.qu_rows.specs.State.{AreHistories}
+use Rattle.qu_rows.specs.Allowed.{MayAccept}
+use Rattle.qu_replica.specs.Growth.{MayGain}
 use Rattle.qu_replica.proofs.CulledRequests.{accept_all-named}
 use Rattle.qu_replica.proofs.Growth.{accept_all-me, accept_all-keys, accept_all-bounds}
-use Rattle.qu_replica.proofs.Own.{own_history, accept-histories}
+use Rattle.qu_rows.proofs.Own.{own_history}
+use Rattle.qu_replica.proofs.Own.{accept-histories}
 
 pub other_history : (number place : ℕ) (candidate : Candidate) (histories : List ObjectHistory)
     → (place ≡ number → ⊥) → slice_get (with_candidate number candidate histories) place ≡ slice_get histories place

@@ -11,12 +11,16 @@ use Rattle.qu_history.specs.Culling.{culled_set, culled, left_out}
 use Rattle.qu_frames.specs.declared.frame.Body.{Body}
 use Rattle.qu_frames.specs.declared.frame.Body.TheVariants as body
 use Rattle.qu_frames.specs.declared.verdict.Refusal.TheVariants as refusal
-use Rattle.qu_replica.specs.declared.decision.Accepted.{Accepted}
-use Rattle.qu_replica.specs.declared.decision.Decision.{Decision}
-use Rattle.qu_replica.specs.State.{ReplicaState, accept_all}
-use Rattle.qu_replica.specs.Rows.{Asked, asked_at, refuse, unknown_in, unknown_refused, row_unknown, first_given, decide_act, decide_ask, decide_repair, decision_on}
+use Rattle.qu_rows.specs.declared.decision.Accepted.{Accepted}
+use Rattle.qu_rows.specs.declared.decision.Decision.{Decision}
+use Rattle.qu_rows.specs.State.{ReplicaState}
+use Rattle.qu_replica.specs.State.{accept_all}
+use Rattle.qu_rows.specs.Rows.{Asked, asked_at, refuse, unknown_in, unknown_refused, row_unknown, decide_act, decide_ask, decide_repair, decision_on}
+use Rattle.qu_rows.specs.declared.decision.Decision.TheVariants.{Waits}
+use Rattle.qu_rows.specs.Table.{first_given}
 use Rattle.qu_replica.specs.Step.{named}
-use Rattle.qu_replica.specs.Growth.{Grows, MayDecide}
+use Rattle.qu_replica.specs.Growth.{Grows}
+use Rattle.qu_rows.specs.Allowed.{MayDecide}
 use Rattle.qu_replica.proofs.Growth.{accept_all-grows}
 
 find_culled : (ring : Ring) (me : ReplicaId) (known : ℕ) (sets : List SetOf)
@@ -35,7 +39,7 @@ unfolding culled
 unknown_culled state sets = find_culled state.keys state.me (length state.histories) sets
 
 first_is_given : (decision : Decision) (row : Option Decision) (later : List (Option Decision)) → row ≡ Some decision
-    → first_given (row ∷ later) ≡ decision
+    → first_given Waits (row ∷ later) ≡ decision
 unfolding first_given
 first_is_given decision row later is = rw is refl
 

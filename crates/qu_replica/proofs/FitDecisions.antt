@@ -1,6 +1,6 @@
--- What a replica decides upon a request that fits, fits: its verdict, and the candidates that it accepts.
+-- What a replica decides upon an act or a query that fits, fits: its verdict, and the candidates that it accepts.
 use Rattle.std.proofs.Common.{◌≡◌, ◌-◌, ◌^◌, ℕ, ◌+◌, ◌<◌, ◌≤◌, Bool, true, false, not, ◌&&◌, ◌||◌, cond, List, [], ◌∷◌, length, Option, None, Some, inl, inr, refl, sym, ap, subst, ◌∙◌, arith}
-use Rattle.std.specs.Prelude.{IsTrue, IfSome, ◌==◌, find, is_none, option_map, option_and_then, slice_get}
+use Rattle.std.specs.Prelude.{IsTrue, ◌==◌, find, is_none, option_map, option_and_then, slice_get}
 use Rattle.std.specs.List.{AllByRecursion, cons_option}
 use Rattle.std.proofs.lemmas.Bool.Decides.{nat_tests}
 use Rattle.std.proofs.lemmas.Bool.{cases_Bool, and_parts, false≢true, leb-false}
@@ -42,27 +42,20 @@ use Rattle.qu_frames.specs.declared.verdict.Refusal.TheVariants.{UnknownObject, 
 use Rattle.qu_frames.specs.declared.verdict.Refusal.TheVariants as refusal
 use Rattle.qu_frames.specs.declared.verdict.Verdict.TheVariants.{Refused}
 use Rattle.qu_frames.specs.Formats.{verdict_form}
-use Rattle.qu_mend.specs.declared.mend.Mend.{Mend}
-use Rattle.qu_mend.specs.declared.mending.Mending.{Mending}
-use Rattle.qu_mend.specs.declared.mending.Mending.TheVariants.{Mends, Holds, Refuses}
-use Rattle.qu_mend.specs.declared.mending.Mending.TheVariants as mending
-use Rattle.qu_mend.specs.Remedy.{wanted_by}
-use Rattle.qu_mend.specs.Causes.{Makes, RefusesFor, HasCause}
-use Rattle.qu_mend.proofs.Decided.{decided_has_cause}
-use Rattle.qu_replica.specs.declared.decision.Decision.{Decision}
-use Rattle.qu_replica.specs.declared.decision.Decision.TheVariants.{Answers, Waits}
-use Rattle.qu_replica.specs.State.{ReplicaState, candidates_in, own_candidates, own_latest}
-use Rattle.qu_replica.specs.Rows.{Asked, refuse, base_of, base_version, shown_of, fresh_stamp, fresh_on, fresh_stamps, standing_in, done_again, repeated, row_unknown, row_thin, row_retry, is_held, row_current, row_method, row_version, row_kept, row_time, row_full, row_done, row_told, row_few, class_told, mend_asked, wanted_version, mending_on, decision_by, first_given, decide_act, decide_ask, decide_repair}
-use Rattle.qu_replica.specs.Versions.{version_at}
+use Rattle.qu_rows.specs.declared.decision.Decision.{Decision}
+use Rattle.qu_rows.specs.declared.decision.Decision.TheVariants.{Answers, Waits}
+use Rattle.qu_rows.specs.State.{ReplicaState, candidates_in, own_candidates, own_latest}
+use Rattle.qu_rows.specs.Rows.{Asked, refuse, base_of, base_version, shown_of, fresh_stamp, fresh_on, fresh_stamps, standing_in, done_again, repeated, row_unknown, row_thin, row_retry, is_held, row_current, row_method, row_version, row_kept, row_time, row_full, row_done, row_told, class_told, decide_act, decide_ask}
+use Rattle.qu_rows.specs.Table.{first_given}
+use Rattle.qu_rows.specs.Versions.{version_at}
 use Rattle.qu_replica.specs.Fits.{ValueFits, RowFits, VersionFits, StateFits}
-use Rattle.qu_replica.proofs.Own.{own_history}
-use Rattle.qu_replica.proofs.Held.{is_held_by, own_in_time}
-use Rattle.qu_replica.proofs.Carried.{stamps_one, versions_one, fresh_on-stamp, done_one, told_one}
+use Rattle.qu_rows.proofs.Own.{own_history}
+use Rattle.qu_rows.proofs.Held.{is_held_by, own_in_time}
+use Rattle.qu_rows.proofs.Carried.{stamps_one, versions_one, fresh_on-stamp, done_one, told_one}
 use Rattle.qu_replica.proofs.FitStamps.{CandidateFits, stamp_fits, later_time, not_opening, prior_fits, opening_fits, candidates_fit, shown_fit, base_latest, base_shown}
-use Rattle.qu_replica.proofs.FitVerdicts.{unknown_fits, thin_fits, time_fits, full_fits, method_fits, current_fits, done_fits, told_fits, performed_fits, after_fits, read_fits, already_fits, spent_fits, sound_fits, mended_fits}
-use Rattle.qu_replica.proofs.FitRepairs.{remedy_fits, made_fits, stored_version_fits}
+use Rattle.qu_replica.proofs.FitVerdicts.{unknown_fits, thin_fits, time_fits, full_fits, method_fits, current_fits, done_fits, told_fits, performed_fits, after_fits, read_fits, already_fits, spent_fits}
 use Rattle.qu_replica.proofs.FitState.{AcceptAllFit, version_fits}
-use Rattle.qu_replica.proofs.Allowed.{no_first}
+use Rattle.qu_rows.proofs.Allowed.{no_first}
 
 -- a request whose fields fit
 pub record AskedFits (asked : Asked) : Type 0 where
@@ -79,16 +72,16 @@ DecisionFits Waits = Unit {0}
 
 -- ---- rows one after the other
 
-abbrev Gives : Option Decision → Type 0
+abbrev pub Gives : Option Decision → Type 0
 Gives row = (decision : Decision) → row ≡ Some decision → DecisionFits decision
 
-past : (row : Option Decision) (later : List (Option Decision)) → Gives row
-    → (row ≡ None → DecisionFits (first_given later)) → DecisionFits (first_given (row ∷ later))
+pub past : (row : Option Decision) (later : List (Option Decision)) → Gives row
+    → (row ≡ None → DecisionFits (first_given Waits later)) → DecisionFits (first_given Waits (row ∷ later))
 unfolding first_given
 past None later gives next = next refl
 past (Some decision) later gives next = gives decision refl
 
-no_row : DecisionFits (first_given [])
+pub no_row : DecisionFits (first_given Waits [])
 unfolding first_given
 no_row = tt
 
@@ -194,17 +187,17 @@ module _ (state : ReplicaState) (asked : Asked) (fits : StateFits state) (asks :
       (candidates_fit history.candidates (fits.histories object.0 history is) (last history.candidates)
       (holds_last history.candidates rises)).stamp
 
-  own_fits : stamp_form.Fits (own_latest state object)
+  pub own_fits : stamp_form.Fits (own_latest state object)
   own_fits = latest_in (slice_get state.histories object.0) refl
 
   -- ---- the rows
 
-  unknown : Gives (row_unknown state asked)
+  pub unknown : Gives (row_unknown state asked)
   unfolding row_unknown
   unknown = refusing (λ (set : SetOf). UnknownObject set.object) _
       (λ set found. unknown_fits set.object (set_found _ asked.sets asks.sets set found))
 
-  thin : Gives (row_thin state asked)
+  pub thin : Gives (row_thin state asked)
   unfolding row_thin
   thin = refusing (λ (set : SetOf). Thin set.object) _
       (λ set found. thin_fits set.object (set_found _ asked.sets asks.sets set found))
@@ -452,85 +445,3 @@ module _ (state : ReplicaState) (asked : Asked) (fits : StateFits state) (asks :
       past _ _ unknown
       (λ _. past _ _ thin (λ _. past _ _ current (λ _. past _ _ method (λ _. past _ _ lacking (λ is_version.
       past _ _ (let has = has_version is_version in told part has.0 has.1) (λ _. no_row))))))
-
-  -- ---- a repair
-
-  refused_if : (why : Refusal) (test : Bool) → verdict_form.Fits (Refused why)
-      → Gives (cond test (Some (refuse why)) None)
-  refused_if why false fits decision given = absurd (none-some decision given)
-  refused_if why true fits decision given =
-      subst DecisionFits (same_Some (refuse why) decision given) (fits, tt)
-
-  few : Gives (row_few state asked object)
-  unfolding row_few
-  few = refused_if (Thin object) _ (thin_fits object within)
-
-  abbrev mend : Mend
-  mend = mend_asked state asked object
-
-  added_fits : (candidate : Candidate) → Makes mend mend.remedy candidate → CandidateFits candidate
-  added_fits candidate made =
-      made_fits mend asks.low asks.high asks.set mend.remedy candidate
-      (remedy_fits state.keys.bounds (shown_of asked object) (shown_fit asked.sets asks.sets object)) made
-
-  found_fits : (wanted : Option Stamp)
-      → IfSome (option_and_then (λ (stamp : Stamp). version_at object stamp state.versions) wanted) VersionFits
-  found_fits None = tt
-  found_fits (Some stamp) = by_found (version_at object stamp state.versions) refl
-    where
-      by_found : (found : Option ObjState) → version_at object stamp state.versions ≡ found
-          → IfSome found VersionFits
-      by_found None is = tt
-      by_found (Some version) is = version_fits object stamp state.versions version fits.versions is
-
-  why_fits : (why : Refusal) → RefusesFor mend (own_candidates state object) why → verdict_form.Fits (Refused why)
-  why_fits (NotCurrent on stamp) cause =
-      subst (λ (it : ObjectId). verdict_form.Fits (Refused (NotCurrent it stamp))) (sym cause.0)
-      (current_fits object within stamp (subst (λ (it : Stamp). stamp_form.Fits it) (sym cause.1) own_fits))
-  why_fits (Sound on) cause =
-      subst (λ (it : ObjectId). verdict_form.Fits (Refused (Sound it))) (sym cause.0) (sound_fits object within)
-  why_fits (TimeSpent on) cause =
-      subst (λ (it : ObjectId). verdict_form.Fits (Refused (TimeSpent it))) (sym cause.0) (time_fits object within)
-  why_fits (HistoryFull on) cause =
-      subst (λ (it : ObjectId). verdict_form.Fits (Refused (HistoryFull it))) (sym cause.0) (full_fits object within)
-  why_fits (Thin on) cause = absurd cause
-  why_fits (Needs on) cause = absurd cause
-  why_fits (Stale on) cause = absurd cause
-  why_fits (NotMethod on class) cause = absurd cause
-  why_fits (refusal.Spent on number) cause = absurd cause
-  why_fits (UnknownObject on) cause = absurd cause
-
-  caused_fits : (made : Mending)
-      → HasCause mend (own_candidates state object) (wanted_version state object mend.remedy) made
-      → DecisionFits (decision_by object made)
-  caused_fits (Mends candidate stored) cause =
-      let added : CandidateFits candidate = added_fits candidate cause.0 in (
-        mended_fits object within candidate.stamp added.stamp,
-        (
-          record {
-            stamp = added.stamp;
-            prior = added.prior;
-            version = stored_version_fits mend.remedy (wanted_version state object mend.remedy) stored
-                (found_fits (wanted_by mend.remedy)) cause.2;
-          },
-          tt,
-        ),
-      )
-  caused_fits (Holds stamp) cause = (
-    mended_fits object within stamp
-        (subst (λ (it : Stamp). stamp_form.Fits it) cause.3 (added_fits cause.0 cause.1).stamp),
-    tt,
-  )
-  caused_fits (Refuses why) cause = (why_fits why cause, tt)
-  caused_fits mending.Waits cause = tt
-
-  mended : Gives (Some (decision_by object (mending_on state asked object)))
-  mended decision given =
-      subst DecisionFits (same_Some (decision_by object (mending_on state asked object)) decision given)
-      (caused_fits (mending_on state asked object)
-      (decided_has_cause mend (own_candidates state object) (wanted_version state object mend.remedy)))
-
-  pub mend_decision-fits : DecisionFits (decide_repair state asked object)
-  unfolding decide_repair
-  mend_decision-fits =
-      past _ _ unknown (λ _. past _ _ thin (λ _. past _ _ few (λ _. past _ _ mended (λ _. no_row))))

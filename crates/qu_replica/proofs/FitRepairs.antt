@@ -17,11 +17,11 @@ use Rattle.qu_objects.specs.declared.state.ObjState.{ObjState}
 use Rattle.qu_class.specs.declared.class.Class.TheVariants.{Method, InlineMethod, Copy, InlineBarrier, Barrier}
 use Rattle.qu_class.specs.Repairable.{barrier_candidate, base_of}
 use Rattle.qu_class.specs.Class.{is_latest, is_full, barrier_class, class_of}
-use Rattle.qu_mend.specs.declared.remedy.Remedy.{Remedy}
-use Rattle.qu_mend.specs.declared.remedy.Remedy.TheVariants.{Nothing, Shown, Fresh}
-use Rattle.qu_mend.specs.declared.mend.Mend.{Mend}
-use Rattle.qu_mend.specs.Remedy.{remedy_by, remedy_of, fresh_on}
-use Rattle.qu_mend.specs.Causes.{Makes, HasVersion}
+use Rattle.qu_rows.specs.declared.remedy.Remedy.{Remedy}
+use Rattle.qu_rows.specs.declared.remedy.Remedy.TheVariants.{Nothing, Shown, Fresh}
+use Rattle.qu_rows.specs.declared.mend.Mend.{Mend}
+use Rattle.qu_rows.specs.Remedy.{remedy_by, remedy_of, fresh_on}
+use Rattle.qu_rows.specs.Causes.{Makes, HasVersion}
 use Rattle.qu_replica.specs.Fits.{VersionFits}
 use Rattle.qu_replica.proofs.FitStamps.{CandidateFits, CandidatesFit, opening_candidate_fits, object_candidate_shown, barrier_candidate_shown, actless_stamp_fits, prior_fits, not_opening, later_time}
 

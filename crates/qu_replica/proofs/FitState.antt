@@ -22,14 +22,16 @@ use Rattle.qu_objects.specs.declared.kind.KindName.{KindName}
 use Rattle.qu_objects.specs.declared.kind.KindName.TheVariants as kind
 use Rattle.qu_objects.specs.declared.state.ObjState.{ObjState}
 use Rattle.qu_objects.specs.Kind.{fresh_value}
-use Rattle.qu_replica.specs.declared.decision.Accepted.{Accepted}
-use Rattle.qu_replica.specs.declared.versions.Stored.{Stored}
-use Rattle.qu_replica.specs.State.{ReplicaState, candidates_in, with_candidate, stored_if, accept, accept_all, opening_histories, opening_versions, opening_state}
-use Rattle.qu_replica.specs.Growth.{MayAccept, MayAcceptAll}
-use Rattle.qu_replica.specs.Versions.{is_stored, version_at}
+use Rattle.qu_rows.specs.declared.decision.Accepted.{Accepted}
+use Rattle.qu_rows.specs.declared.versions.Stored.{Stored}
+use Rattle.qu_rows.specs.State.{ReplicaState, candidates_in}
+use Rattle.qu_replica.specs.State.{with_candidate, stored_if, accept, accept_all, opening_histories, opening_versions, opening_state}
+use Rattle.qu_rows.specs.Allowed.{MayAccept, MayAcceptAll}
+use Rattle.qu_rows.specs.Versions.{is_stored, version_at}
 use Rattle.qu_replica.specs.Fits.{ValueFits, VersionFits, VersionsFit, StateFits}
 use Rattle.qu_replica.proofs.Growth.{length-with_candidate}
-use Rattle.qu_replica.proofs.Own.{own_history, accept-histories, opening-histories}
+use Rattle.qu_rows.proofs.Own.{own_history}
+use Rattle.qu_replica.proofs.Own.{accept-histories, opening-histories}
 use Rattle.qu_replica.proofs.FitStamps.{opening_fits, prior_of_opening_fits}
 
 -- ---- one more candidate of a history

@@ -32,19 +32,21 @@ use Rattle.qu_frames.specs.Formats.{objects_in_sets, culled_form, verdict_form, 
 use Rattle.qu_frames.specs.Signing.{with_mac, signature, brought}
 use Rattle.qu_frames.proofs.Signed.{signed_is_spelled, brought_is_decoded}
 use Rattle.qu_frames.proofs.Decoded.{decoded_is_spelled}
-use Rattle.qu_replica.specs.declared.decision.Decision.{Decision}
-use Rattle.qu_replica.specs.declared.decision.Decision.TheVariants.{Answers, Waits}
-use Rattle.qu_replica.specs.State.{ReplicaState, accept_all}
-use Rattle.qu_replica.specs.Rows.{Asked, act_asked, asked_at, unknown_in, decision_on}
+use Rattle.qu_rows.specs.declared.decision.Decision.{Decision}
+use Rattle.qu_rows.specs.declared.decision.Decision.TheVariants.{Answers, Waits}
+use Rattle.qu_rows.specs.State.{ReplicaState}
+use Rattle.qu_replica.specs.State.{accept_all}
+use Rattle.qu_rows.specs.Rows.{Asked, act_asked, asked_at, unknown_in, decision_on}
 use Rattle.qu_replica.specs.Step.{shown, named, answer_frame, carried_out, on_frame, on_received, replica_step}
-use Rattle.qu_replica.specs.Growth.{MayDecide}
+use Rattle.qu_rows.specs.Allowed.{MayDecide}
 use Rattle.qu_replica.specs.Fits.{StateFits, StepFits}
-use Rattle.qu_replica.proofs.Own.{IsOwn, own_history}
-use Rattle.qu_replica.proofs.Allowed.{decision_on-may}
-use Rattle.qu_replica.proofs.Decoded.{body_has_parts}
+use Rattle.qu_rows.proofs.Own.{IsOwn, own_history}
+use Rattle.qu_rows.proofs.Allowed.{decision_on-may}
+use Rattle.qu_rows.proofs.Decoded.{body_has_parts}
 use Rattle.qu_replica.proofs.FitCulled.{seals_fit, culled-fits, left_out-fits, none_named-fit}
 use Rattle.qu_replica.proofs.FitState.{accept_all-fits}
-use Rattle.qu_replica.proofs.FitDecisions.{AskedFits, DecisionFits, act_decision-fits, ask_decision-fits, mend_decision-fits}
+use Rattle.qu_replica.proofs.FitDecisions.{AskedFits, DecisionFits, act_decision-fits, ask_decision-fits}
+use Rattle.qu_replica.proofs.FitMends.{mend_decision-fits}
 
 -- ---- a reply
 

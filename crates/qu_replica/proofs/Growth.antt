@@ -1,14 +1,12 @@
 -- A replica's state only grows.
-use Rattle.std.proofs.Common.{◌≡◌, ℕ, zero, suc, Bool, true, false, ◌&&◌, cond, List, [], ◌∷◌, ◌++◌, length, Option, None, Some, refl, sym, ap, ◌∙◌, append_assoc}
-use Rattle.std.specs.Prelude.{◌==◌, slice_get}
+use Rattle.std.proofs.Common.{◌≡◌, ℕ, zero, suc, List, [], ◌∷◌, ◌++◌, length, Option, None, Some, refl, sym, ap, ◌∙◌, append_assoc}
+use Rattle.std.specs.Prelude.{slice_get}
 use Rattle.std.proofs.lemmas.List.{append-nil}
-use Rattle.std.proofs.lemmas.Option.{none-some}
 use Rattle.qu_base.specs.declared.party.Party.TheVariants as party
 use Rattle.qu_base.specs.declared.party.ClientId.{ClientId}
 use Rattle.qu_base.specs.declared.party.ObjectId.{ObjectId}
 use Rattle.qu_stamp.specs.declared.stamp.Stamp.{Stamp}
 use Rattle.qu_stamp.specs.declared.candidate.Candidate.{Candidate}
-use Rattle.qu_stamp.specs.Stamp.{same_stamp}
 use Rattle.qu_seal.specs.Keys.{Ring}
 use Rattle.qu_history.specs.declared.sets.SetOf.{SetOf}
 use Rattle.qu_history.specs.History.{ObjectHistory}
@@ -16,15 +14,17 @@ use Rattle.qu_objects.specs.declared.state.ObjState.{ObjState}
 use Rattle.qu_frames.specs.declared.frame.Frame.{Frame}
 use Rattle.qu_frames.specs.Signing.{brought}
 use Rattle.qu_frames.specs.declared.frame.Frame.TheVariants as frame
-use Rattle.qu_replica.specs.declared.versions.Stored.{Stored}
-use Rattle.qu_replica.specs.declared.decision.Accepted.{Accepted}
-use Rattle.qu_replica.specs.declared.decision.Decision.{Decision}
-use Rattle.qu_replica.specs.declared.decision.Decision.TheVariants.{Answers, Waits}
-use Rattle.qu_replica.specs.State.{ReplicaState, candidates_in, own_candidates, with_candidate, stored_if, accept, accept_all}
-use Rattle.qu_replica.specs.Rows.{asked_at, decision_on}
+use Rattle.qu_rows.specs.declared.versions.Stored.{Stored}
+use Rattle.qu_rows.specs.declared.decision.Accepted.{Accepted}
+use Rattle.qu_rows.specs.declared.decision.Decision.{Decision}
+use Rattle.qu_rows.specs.declared.decision.Decision.TheVariants.{Answers, Waits}
+use Rattle.qu_rows.specs.State.{ReplicaState, candidates_in, own_candidates}
+use Rattle.qu_replica.specs.State.{with_candidate, stored_if, accept, accept_all}
+use Rattle.qu_rows.specs.Rows.{asked_at, decision_on}
 use Rattle.qu_replica.specs.Step.{carried_out, on_frame, on_received, replica_step}
-use Rattle.qu_replica.specs.Versions.{version_at}
+use Rattle.qu_rows.specs.Versions.{version_at}
 use Rattle.qu_replica.specs.Growth.{Grows}
+use Rattle.qu_rows.proofs.Finding.{version_at-append}
 
 pub length-with_candidate : (number : ℕ) (candidate : Candidate) (histories : List ObjectHistory)
     → length (with_candidate number candidate histories) ≡ length histories
@@ -120,18 +120,6 @@ pub step-grows : (state : ReplicaState) (text : List ℕ) → Grows state (repli
 step-grows state text = on_received-grows state (brought state.keys (party.Replica state.me) text)
 
 -- a version stays
-pub version_at-append : (object : ObjectId) (stamp : Stamp) (versions more : List Stored) (state : ObjState)
-    → version_at object stamp versions ≡ Some state → version_at object stamp (versions ++ more) ≡ Some state
-unfolding version_at
-version_at-append object stamp [] more state found = absurd (none-some state found)
-version_at-append object stamp (held ∷ later) more state found =
-    let is_it : Bool = (held.object).0 == object.0 && same_stamp held.stamp stamp in
-    elim is_it as (λ (test : Bool). cond test (Some held.state) (version_at object stamp later) ≡ Some state
-    → cond test (Some held.state) (version_at object stamp (later ++ more)) ≡ Some state) [
-      | true ↦ λ here. here
-      | false ↦ λ there. version_at-append object stamp later more state there
-    ] found
-
 pub version_at-grows : (old new : ReplicaState) → Grows old new → (object : ObjectId) (stamp : Stamp)
     (version : ObjState) → version_at object stamp old.versions ≡ Some version
     → version_at object stamp new.versions ≡ Some version

@@ -5,7 +5,7 @@ use Rattle.qu_stamp.specs.Stamp.{opening_stamp}
 use Rattle.qu_stamp.specs.Candidate.{opening}
 use Rattle.qu_history.specs.History.{ObjectHistory}
 use Rattle.qu_objects.specs.declared.kind.KindName.{KindName}
-use Rattle.qu_replica.specs.declared.versions.Stored.{Stored}
+use Rattle.qu_rows.specs.declared.versions.Stored.{Stored}
 use Rattle.qu_replica.specs.State.{opening_histories, opening_version, opening_versions}
 
 histories_from : (me : ReplicaId) (first place : ℕ) (kinds : List KindName) → place < length kinds

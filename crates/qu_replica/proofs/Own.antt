@@ -1,8 +1,7 @@
 -- The histories of a replica are its own, and they stay so when it accepts a candidate.
-use Rattle.std.proofs.Common.{◌≡◌, ℕ, zero, suc, ◌+◌, ◌≤◌, Bool, true, ◌&&◌, cond, IsTrue, List, [], ◌∷◌, ◌++◌, Some, refl, sym, ap, ◌∙◌, arith, add-zero, zero-add}
+use Rattle.std.proofs.Common.{◌≡◌, ℕ, zero, suc, ◌+◌, ◌≤◌, Bool, true, ◌&&◌, cond, List, [], ◌∷◌, ◌++◌, refl, ap, ◌∙◌}
 use Rattle.std.specs.Prelude.{◌==◌, nat_le, slice_get}
-use Rattle.std.proofs.lemmas.Bool.{and_parts, and_from, le-leb, leb-true, eqb-true, eq-eqb}
-use Rattle.std.proofs.lemmas.Option.{none-some, same_Some}
+use Rattle.std.proofs.lemmas.Bool.{and_parts, and_from, le-leb, eq-eqb}
 use Rattle.qu_base.specs.declared.party.ReplicaId.{ReplicaId}
 use Rattle.qu_seal.specs.Keys.{Ring}
 use Rattle.qu_stamp.specs.declared.stamp.Stamp.{Stamp}
@@ -14,32 +13,17 @@ use Rattle.qu_stamp.proofs.Order.{is_below-self}
 use Rattle.qu_history.specs.History.{ObjectHistory, is_history, latest, greatest_stamp}
 use Rattle.qu_history.proofs.Rising.{is_history_opening, is_history_push, latest_push}
 use Rattle.qu_objects.specs.declared.kind.KindName.{KindName}
-use Rattle.qu_replica.specs.declared.decision.Accepted.{Accepted}
-use Rattle.qu_replica.specs.State.{ReplicaState, candidates_in, with_candidate, opening_histories, opening_state, accept, accept_all}
-use Rattle.qu_replica.specs.Growth.{is_own, are_own, AreHistories, MayAccept, MayAcceptAll}
-
-pub record IsOwn (me : ReplicaId) (number : ℕ) (history : ObjectHistory) : Type 0 where
-  pub object : (history.object).0 ≡ number
-  pub replica : (history.replica).0 ≡ me.0
-  pub rises : IsTrue (is_history history.candidates)
-  pub in_time : (latest history.candidates).time ≤ LAST_TIME
-
-pub IsOwn_from : (me : ReplicaId) (number : ℕ) (history : ObjectHistory) → is_own me number history ≡ true
-    → IsOwn me number history
-unfolding is_own
-IsOwn_from me number history own =
-    let last : (((history.object).0 == number && (history.replica).0 == me.0 && is_history history.candidates)
-    ≡ true) × (nat_le (latest history.candidates).time LAST_TIME ≡ true) = and_parts _ _ own in
-    let third : (((history.object).0 == number && (history.replica).0 == me.0) ≡ true)
-    × (is_history history.candidates ≡ true) = and_parts _ _ last.0 in
-    let second : (((history.object).0 == number) ≡ true) × (((history.replica).0 == me.0) ≡ true) =
-    and_parts _ _ third.0 in
-    record {
-      object = eqb-true _ _ second.0;
-      replica = eqb-true _ _ second.1;
-      rises = third.1;
-      in_time = leb-true _ _ last.1;
-    }
+use Rattle.qu_base.specs.declared.party.ClientId.{ClientId}
+use Rattle.qu_history.specs.declared.sets.SetOf.{SetOf}
+use Rattle.qu_rows.specs.declared.decision.Decision.{Decision}
+use Rattle.qu_rows.specs.declared.decision.Decision.TheVariants.{Answers, Waits}
+use Rattle.qu_rows.specs.Allowed.{MayDecide}
+use Rattle.qu_replica.specs.Step.{carried_out}
+use Rattle.qu_rows.specs.declared.decision.Accepted.{Accepted}
+use Rattle.qu_rows.specs.State.{ReplicaState, candidates_in}
+use Rattle.qu_replica.specs.State.{with_candidate, opening_histories, opening_state, accept, accept_all}
+use Rattle.qu_rows.specs.State.{is_own, are_own, AreHistories}
+use Rattle.qu_rows.specs.Allowed.{MayAccept, MayAcceptAll}
 
 -- a history stays its replica's own where a later candidate in time follows
 is_own_push : (me : ReplicaId) (number : ℕ) (history : ObjectHistory) (candidate : Candidate)
@@ -83,25 +67,6 @@ accept_all-histories state [] own may = own
 accept_all-histories state (first ∷ []) own may = accept-histories state first own may
 accept_all-histories state (first ∷ second ∷ later) own may = absurd may
 
-are_own-at : (me : ReplicaId) (first place : ℕ) (histories : List ObjectHistory) (history : ObjectHistory)
-    → are_own me first histories ≡ true → slice_get histories place ≡ Some history → IsOwn me (first + place) history
-unfolding are_own
-are_own-at me first place [] history own found = absurd (none-some history found)
-are_own-at me first zero (here ∷ histories) history own found =
-    let parts : (is_own me first here ≡ true) × (are_own me (first + 1) histories ≡ true) = and_parts _ _ own in
-    rw add-zero (IsOwn_from me first history
-    (ap (λ (it : ObjectHistory). is_own me first it) (sym (same_Some here history found)) ∙ parts.0))
-are_own-at me first (suc place) (here ∷ histories) history own found =
-    let parts : (is_own me first here ≡ true) × (are_own me (first + 1) histories ≡ true) = and_parts _ _ own in
-    let count : (first + 1) + place ≡ first + suc place = omega arith in
-    rw (← count) (are_own-at me (first + 1) place histories history parts.1 found)
-
--- the history of an object, where every history is the replica's own
-pub own_history : (state : ReplicaState) (place : ℕ) (history : ObjectHistory) → AreHistories state
-    → slice_get state.histories place ≡ Some history → IsOwn state.me place history
-own_history state place history own found =
-    rw zero-add at (are_own-at state.me 0 place state.histories history own found)
-
 is_own-opening : (me : ReplicaId) (number : ℕ)
     → is_own me number (record { object = record { 0 = number }; replica = me; candidates = opening ∷ [] }) ≡ true
 unfolding is_own greatest_stamp
@@ -119,3 +84,10 @@ are_own_opening me first (kind ∷ kinds) = and_from _ _ (is_own-opening me firs
 pub opening-histories : (me : ReplicaId) (keys : Ring) (kinds : List KindName)
     → AreHistories (opening_state me keys kinds)
 opening-histories me keys kinds = are_own_opening me 0 kinds
+
+pub carried_out-histories : (state : ReplicaState) (client : ClientId) (number round : ℕ) (sets : List SetOf)
+    (decision : Decision) → AreHistories state → MayDecide state decision
+    → AreHistories (carried_out state client number round sets decision).0
+carried_out-histories state client number round sets (Answers verdict accepted) own may =
+    accept_all-histories state accepted own may
+carried_out-histories state client number round sets Waits own may = own

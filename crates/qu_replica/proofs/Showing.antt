@@ -7,7 +7,7 @@ use Rattle.qu_history.specs.declared.sets.SetOf.{SetOf}
 use Rattle.qu_history.specs.History.{ObjectHistory}
 use Rattle.qu_history.specs.Sealing.{sealed_by}
 use Rattle.qu_seal.specs.Keys.{Ring}
-use Rattle.qu_replica.specs.State.{ReplicaState}
+use Rattle.qu_rows.specs.State.{ReplicaState}
 use Rattle.qu_replica.specs.Step.{shown}
 
 abbrev after : Option ObjectHistory → List ObjectHistory → List ObjectHistory

@@ -8,7 +8,7 @@ use Rattle.qu_frames.specs.declared.frame.Frame.TheVariants.{Request, Reply, Fet
 use Rattle.qu_frames.specs.Decoding.{decoded}
 use Rattle.qu_frames.specs.Signing.{is_signed, if_signed, brought}
 use Rattle.qu_frames.specs.Reading.{is_request}
-use Rattle.qu_replica.specs.State.{ReplicaState}
+use Rattle.qu_rows.specs.State.{ReplicaState}
 use Rattle.qu_replica.specs.Step.{on_frame, on_received, replica_step}
 
 -- a text that brings a frame is handled as the frame

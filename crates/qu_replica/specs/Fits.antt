@@ -13,9 +13,9 @@ use Rattle.qu_objects.specs.Formats.{answer_form}
 use Rattle.qu_frames.specs.declared.frame.Frame.{Frame}
 use Rattle.qu_frames.specs.declared.frame.Letter.{Letter}
 use Rattle.qu_frames.specs.Formats.{frame_form}
-use Rattle.qu_replica.specs.declared.versions.Stored.{Stored}
-use Rattle.qu_replica.specs.State.{ReplicaState}
-use Rattle.qu_replica.specs.Growth.{AreHistories}
+use Rattle.qu_rows.specs.declared.versions.Stored.{Stored}
+use Rattle.qu_rows.specs.State.{ReplicaState}
+use Rattle.qu_rows.specs.State.{AreHistories}
 
 -- a counter is below 2^64
 abbrev pub ValueFits : Value → Type 0

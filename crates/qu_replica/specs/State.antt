@@ -1,5 +1,5 @@
 -- What a replica holds: for each of its objects a history, and versions.
-use Rattle.std.specs.Prelude.{ℕ, zero, suc, ◌+◌, List, [], ◌∷◌, ◌++◌, slice_get, set, Option, None, Some}
+use Rattle.std.specs.Prelude.{ℕ, zero, suc, ◌+◌, List, [], ◌∷◌, ◌++◌, set, Option, None, Some}
 use Rattle.qu_base.specs.declared.party.ObjectId.{ObjectId}
 use Rattle.qu_base.specs.declared.party.ReplicaId.{ReplicaId}
 use Rattle.qu_seal.specs.Keys.{Ring}
@@ -7,32 +7,14 @@ use Rattle.qu_stamp.specs.declared.stamp.Stamp.{Stamp}
 use Rattle.qu_stamp.specs.declared.candidate.Candidate.{Candidate}
 use Rattle.qu_stamp.specs.Stamp.{opening_stamp}
 use Rattle.qu_stamp.specs.Candidate.{opening}
-use Rattle.qu_history.specs.History.{ObjectHistory, latest}
+use Rattle.qu_history.specs.History.{ObjectHistory}
 use Rattle.qu_objects.specs.declared.kind.KindName.{KindName}
 use Rattle.qu_objects.specs.declared.state.ObjState.{ObjState}
 use Rattle.qu_objects.specs.Kind.{fresh_value}
-use Rattle.qu_replica.specs.declared.versions.Stored.{Stored}
-use Rattle.qu_replica.specs.declared.decision.Accepted.{Accepted}
+use Rattle.qu_rows.specs.declared.versions.Stored.{Stored}
+use Rattle.qu_rows.specs.declared.decision.Accepted.{Accepted}
+use Rattle.qu_rows.specs.State.{ReplicaState}
 use Rattle.qu_replica.specs.declared.planned.Gain.{Gain}
-
-pub record ReplicaState : Type 0 where
-  pub me : ReplicaId
-  pub keys : Ring
-  -- the histories of objects 0, 1, 2, ..
-  pub histories : List ObjectHistory
-  pub versions : List Stored
-
--- the candidates of an object, none where the replica does not have it
-abbrev pub candidates_in : Option ObjectHistory → List Candidate
-candidates_in None = []
-candidates_in (Some history) = history.candidates
-
-abbrev pub own_candidates : ReplicaState → ObjectId → List Candidate
-own_candidates state object = candidates_in (slice_get state.histories object.0)
-
--- the latest stamp that the replica accepted on an object
-abbrev pub own_latest : ReplicaState → ObjectId → Stamp
-own_latest state object = latest (own_candidates state object)
 
 -- the histories with a candidate at the end of that of the object with this number
 unfoldable pub with_candidate : ℕ → Candidate → List ObjectHistory → List ObjectHistory

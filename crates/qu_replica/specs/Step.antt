@@ -15,10 +15,11 @@ use Rattle.qu_frames.specs.declared.frame.Letter.{Letter}
 use Rattle.qu_frames.specs.declared.verdict.Verdict.{Verdict}
 use Rattle.qu_frames.specs.Blank.{blank_mac}
 use Rattle.qu_frames.specs.Signing.{signed, brought}
-use Rattle.qu_replica.specs.declared.decision.Decision.{Decision}
-use Rattle.qu_replica.specs.declared.decision.Decision.TheVariants.{Answers, Waits}
-use Rattle.qu_replica.specs.State.{ReplicaState, accept_all}
-use Rattle.qu_replica.specs.Rows.{asked_at, unknown_in, decision_on}
+use Rattle.qu_rows.specs.declared.decision.Decision.{Decision}
+use Rattle.qu_rows.specs.declared.decision.Decision.TheVariants.{Answers, Waits}
+use Rattle.qu_rows.specs.State.{ReplicaState}
+use Rattle.qu_replica.specs.State.{accept_all}
+use Rattle.qu_rows.specs.Rows.{asked_at, unknown_in, decision_on}
 
 -- the histories of those objects of the sets that the replica has, as they stand
 unfoldable pub shown : ReplicaState → List SetOf → List ObjectHistory

@@ -1,13 +1,11 @@
 //! A replica: it answers requests from its histories and versions, and accepts candidates.
 #![tactic(auto)]
 
-mod asked;
-mod decision;
+mod limits;
 mod planned;
 mod replica;
 mod versions;
 
-pub use decision::{Accepted, Decision};
+pub use limits::{MOST_VERSIONS, limits_are_these};
 pub use planned::{Gain, Planned};
 pub use replica::Replica;
-pub use versions::Stored;

@@ -1,9 +1,9 @@
 ghost use Rattle.std.specs.Prelude.{◌≡◌, [], None};
 
-use crate::versions::Stored;
 use qu_base::List;
 use qu_frames::Letter;
 use qu_history::History;
+use qu_rows::Stored;
 use std::alloc::Global;
 use std::collections::LinkedList;
 

@@ -3,30 +3,29 @@ ghost use Rattle.std.specs.Option.{option_copied};
 ghost use Rattle.std.specs.List.{AllByRecursion};
 ghost use Rattle.qu_base.specs.Format.{AreBytes};
 ghost use Rattle.qu_base.specs.declared.limits.TheConstants.{OBJECT_IDS, REPLICA_IDS};
+ghost use Rattle.qu_rows.specs.State.{AreHistories};
+ghost use Rattle.qu_rows.specs.Versions.{version_at};
+ghost use Rattle.qu_rows.specs.Rows.{asked_at, unknown_in, unknown_refused, decision_on};
+ghost use Rattle.qu_rows.specs.Allowed.{MayDecide};
 ghost use Rattle.qu_replica.specs.State.{opening_state, state_after};
-ghost use Rattle.qu_replica.specs.Versions.{version_at};
 ghost use Rattle.qu_history.specs.Culling.{culled};
 ghost use Rattle.qu_history.specs.Text.{sets_digest};
 ghost use Rattle.qu_frames.specs.Signing.{before_mac};
-ghost use Rattle.qu_replica.specs.Rows.{asked_at, unknown_in, unknown_refused, decision_on};
 ghost use Rattle.qu_replica.specs.Step.{named, replica_step};
-ghost use Rattle.qu_replica.specs.Growth.{AreHistories, Grows, MayDecide, MayGain};
+ghost use Rattle.qu_replica.specs.Growth.{Grows, MayGain};
 ghost use Rattle.qu_replica.specs.Fits.{StateFits, LetterFits};
 
 mod opening;
 mod reply;
-mod rows;
 
-use crate::asked::Asked;
-use crate::decision::Decision;
 use crate::planned::{Gain, Planned};
-use crate::versions::{self, Stored};
 use qu_base::{Bounds, Digest, List, NoMemory, ObjectId, Party, ReplicaId};
 #[cfg(test)]
 use qu_frames::Frame;
 use qu_frames::{Letter, Reading};
 use qu_history::{Culled, History, Sets};
 use qu_objects::{KindName, ObjState};
+use qu_rows::{Asked, Decision, Rows, Stored, version_at};
 use qu_seal::KeyRing;
 use qu_stamp::Stamp;
 use std::alloc::Global;
@@ -45,8 +44,7 @@ pub struct Replica {
 
 impl Model for Replica {
     ghost use Rattle.std.specs.Prelude.{IsTrue};
-    ghost use Rattle.qu_replica.specs.State.{ReplicaState};
-    ghost use Rattle.qu_replica.specs.Growth.{are_own};
+    ghost use Rattle.qu_rows.specs.State.{ReplicaState, are_own};
 
     ghost Value = { ReplicaState };
 
@@ -107,11 +105,12 @@ impl Replica {
         self.histories.as_slice().get(usize::from(object.0))
     }
 
-    /// The version of an object under a stamp, None exactly where it did not accept such a candidate.
+    /// The version of an object under a stamp, None exactly where it stores none: where it accepted no such candidate,
+    /// or a barrier, which has no version.
     pub fn version(&self, object: ObjectId, stamp: &Stamp) -> Option<&ObjState>
         ensures { option_copied result ≡ version_at object stamp.now self.now.versions }
     {
-        versions::version_at(&self.versions, object, stamp)
+        version_at(&self.versions, object, stamp)
     }
 
     /// Handles a text, and gives the letters that answer it: one to a request that it decides, none
@@ -210,6 +209,23 @@ impl Replica {
         }
     }
 
+    /// What its rows look at: what it holds, and no version more.
+    #[tactic(auto, using(crate::proofs::Viewed::none_behind))]
+    fn rows(&self) -> Rows<'_>
+        ensures value { result ≡ self.now }
+        ensures histories { AreHistories self.now }
+    {
+        let histories = self.histories.as_slice();
+        Rows::new(
+            self.alloc,
+            self.me,
+            &self.keys,
+            histories,
+            &self.versions,
+            None,
+        )
+    }
+
     /// What the replica makes of a request. Objects that it does not have are asked for before the sets are
     /// culled, and sets whose entries are all right are decided upon as they came.
     #[tactic(auto, using(crate::proofs::CulledRequests::handling))]
@@ -223,7 +239,7 @@ impl Replica {
     {
         let digested = reading.sets();
         let whole = digested.sets();
-        if let Some(refusal) = self.row_unknown(whole) {
+        if let Some(refusal) = self.rows().row_unknown(whole) {
             return Ok(Handled {
                 named: List::new(self.alloc),
                 decision: refusal,
@@ -255,7 +271,7 @@ impl Replica {
         ensures may { IfOk result (λ decision. MayDecide self.now decision) }
     {
         let asked = Asked::new(self.alloc, reading, sets, set)?;
-        self.decide(&asked, reading.body())
+        self.rows().decide(&asked, reading.body())
     }
 }
 

@@ -1,39 +1,29 @@
-ghost use Rattle.std.specs.Prelude.{◌≡◌, find, [], ◌∷◌, IfOk};
-ghost use Rattle.std.specs.Option.{option_copied};
-ghost use Rattle.qu_replica.specs.Versions.{is_stored, version_at};
+ghost use Rattle.std.specs.Prelude.{◌≡◌, [], ◌∷◌, IfOk};
+ghost use Rattle.qu_replica.specs.State.{stored_if};
 
-use qu_base::{NoMemory, ObjectId};
-use qu_objects::ObjState;
-use qu_stamp::Stamp;
+use qu_base::NoMemory;
+use qu_rows::{Accepted, Stored};
 use std::alloc::Global;
 use std::collections::LinkedList;
 
-/// How many versions a replica stores before it says that memory is wanting: one fewer than a list holds.
-pub(crate) const MOST_VERSIONS: usize = 0x7fff_ffff_ffff_fffe;
-
-/// A version of an object, under the stamp of its candidate.
-#[derive(Debug, Drop)]
-pub struct Stored {
-    pub object: ObjectId,
-    pub stamp: Stamp,
-    pub state: ObjState,
-}
-
-impl Stored {
-    /// An equal version under the same stamp.
-    pub fn copy(&self, alloc: Global) -> Result<Stored, NoMemory>
-        ensures { IfOk result (λ stored. stored ≡ self.now) }
-    {
-        Ok(Stored {
-            object: self.object,
-            stamp: self.stamp,
-            state: self.state.copy(alloc)?,
-        })
-    }
+/// What is stored of an accepted candidate: its version, if it has one.
+pub(crate) fn stored(alloc: Global, accepted: &Accepted) -> Result<LinkedList<Stored>, NoMemory>
+    ensures { IfOk result (λ versions. versions
+        ≡ stored_if accepted.now.object accepted.now.candidate.stamp accepted.now.state) }
+{
+    let Some(state) = &accepted.state else {
+        return Ok(LinkedList::new(alloc));
+    };
+    let stored = Stored {
+        object: accepted.object,
+        stamp: accepted.candidate.stamp,
+        state: state.copy(alloc)?,
+    };
+    one(alloc, stored)
 }
 
 /// The list of one version.
-pub(crate) fn one(alloc: Global, stored: Stored) -> Result<LinkedList<Stored>, NoMemory>
+fn one(alloc: Global, stored: Stored) -> Result<LinkedList<Stored>, NoMemory>
     ensures { IfOk result (λ versions. versions ≡ stored ∷ []) }
 {
     let mut versions = LinkedList::new(alloc);
@@ -41,33 +31,4 @@ pub(crate) fn one(alloc: Global, stored: Stored) -> Result<LinkedList<Stored>, N
         Ok(()) => Ok(versions),
         Err(_) => Err(NoMemory),
     }
-}
-
-/// The version of an object under this stamp.
-#[tactic(auto, using(crate::proofs::Finding::finds))]
-pub(crate) fn version_at<'a>(
-    versions: &'a LinkedList<Stored>,
-    object: ObjectId,
-    stamp: &Stamp,
-) -> Option<&'a ObjState>
-    ensures { option_copied result ≡ version_at object stamp.now versions.now }
-{
-    match first_stored(versions, object, stamp) {
-        Some(held) => Some(&held.state),
-        None => None,
-    }
-}
-
-/// The first entry of an object under this stamp.
-#[tactic(auto, unfolding(qu_stamp::specs::Stamp::same_stamp))]
-fn first_stored<'a>(
-    versions: &'a LinkedList<Stored>,
-    object: ObjectId,
-    stamp: &Stamp,
-) -> Option<&'a Stored>
-    ensures { option_copied result ≡ find (is_stored object stamp.now) versions.now }
-{
-    versions
-        .iter()
-        .find(|held| held.object == object && held.stamp == *stamp)
 }

@@ -15,16 +15,17 @@ use Rattle.qu_frames.specs.declared.frame.Letter.{Letter}
 use Rattle.qu_frames.specs.Body.{body_of}
 use Rattle.qu_frames.specs.Formats.{frame_form}
 use Rattle.qu_frames.specs.Signing.{brought, signed, signature, with_mac}
-use Rattle.qu_replica.specs.declared.decision.Decision.{Decision}
-use Rattle.qu_replica.specs.declared.decision.Decision.TheVariants.{Answers, Waits}
-use Rattle.qu_replica.specs.State.{ReplicaState, accept_all}
-use Rattle.qu_replica.specs.Rows.{asked_at, decision_on}
+use Rattle.qu_rows.specs.declared.decision.Decision.{Decision}
+use Rattle.qu_rows.specs.declared.decision.Decision.TheVariants.{Answers, Waits}
+use Rattle.qu_rows.specs.State.{ReplicaState}
+use Rattle.qu_replica.specs.State.{accept_all}
+use Rattle.qu_rows.specs.Rows.{asked_at, decision_on}
 use Rattle.qu_replica.specs.Step.{shown, named, reply, carried_out, replica_step, answer_frame}
 use Rattle.qu_replica.specs.Step as replica
 use Rattle.qu_replica.proofs.FitSteps.{blank_sized}
 use Rattle.qu_client.specs.declared.work.Work.{Work}
 use Rattle.qu_client.specs.Rounds.{request_of, requests_from}
-use Rattle.qu_runs.specs.Carried.{Carries, Asks}
+use Rattle.qu_claims.specs.Carried.{Carries, Asks}
 use Rattle.qu_runs.proofs.Carrying.{no_request, signed_spelled, signed_carries}
 
 -- ---- replicas

@@ -1,5 +1,5 @@
 -- A completed operation was answered by a quorum.
-use Rattle.qu_runs.specs.Carried.{offered}
+use Rattle.qu_claims.specs.Carried.{offered}
 use Rattle.qu_runs.proofs.Handing.{handed_offers}
 use Rattle.std.proofs.Common.{◌≡◌, ◌≢◌, ℕ, suc, ◌+◌, ◌-◌, ◌<◌, ◌≤◌, Bool, true, eqb, List, [], ◌∷◌, length, map, filter, get_or, None, Some, refl, sym, ap, subst, ◌∙◌, arith, slice_get, All, AllPairs, Contains, Ok, Option, not, cond, inl, inr, false, ◌==◌}
 use Rattle.std.proofs.lemmas.Bool.{and_parts, eqb-true, cond_both, or_cases, false≢true}
@@ -32,13 +32,13 @@ use Rattle.qu_trace.specs.declared.trace.Trace.{Trace}
 use Rattle.qu_trace.specs.Operation.{outcome_in, operations_of}
 use Rattle.qu_world.specs.State.{numbered, letter_of}
 use Rattle.qu_world.specs.Run.{IsRun}
-use Rattle.qu_runs.specs.Times.{world_after}
-use Rattle.qu_runs.specs.Answers.{round_in, round_of, delivered_round}
-use Rattle.qu_rounds.specs.Completions.{Replied, IsCompleted}
+use Rattle.qu_claims.specs.Times.{world_after}
+use Rattle.qu_claims.specs.Answers.{round_in, round_of, delivered_round}
+use Rattle.qu_claims.specs.Completions.{Replied, IsCompleted}
 use Rattle.qu_runs.proofs.Recording.{entry_cases, letter_stays}
 use Rattle.qu_rounds.proofs.Counted.{WasAnswered, AreDifferent, Counts, counts_world, work_answered, with_answered, different_more, WasTold, answers_from}
 use Rattle.qu_rounds.proofs.Endings.{TextCompletes, EndsAt, operation_ends, EndedBy, ended_so, ReplyCompletes, completes}
-use Rattle.qu_runs.specs.Carried.{handed}
+use Rattle.qu_claims.specs.Carried.{handed}
 use Rattle.qu_runs.specs.Plain.{ArePlain, IsFrom}
 use Rattle.qu_client.proofs.Laws.{sound_work}
 use Rattle.qu_machine.proofs.Equalities.{client_is}
@@ -52,7 +52,7 @@ use Rattle.qu_trace.specs.Letters.{letters_of}
 use Rattle.qu_runs.proofs.Handing.{hand}
 use Rattle.qu_trace.specs.Faulty.{is_good}
 use Rattle.qu_rounds.proofs.Members.{is_among, members_count}
-use Rattle.qu_chain.specs.Count.{count}
+use Rattle.qu_claims.specs.Count.{count}
 use Rattle.qu_chain.proofs.Counting.{count-more}
 use Rattle.qu_runs.proofs.FewFaults.{few_faulty}
 
@@ -61,7 +61,7 @@ use Rattle.qu_runs.proofs.FewFaults.{few_faulty}
 -- an operation of the trace is the one that a client has under way
 pub record RecordedWork (trace : Trace) (client : ClientId) (work : Work) : Type 0 where
   pub operation : OpRecord
-  pub of_trace : Contains (operations_of trace.entries) operation
+  pub of_trace : Contains (operations_of trace) operation
   pub of_client : operation.client ≡ client
   pub of_number : operation.number ≡ work.number
   pub of_op : operation.op ≡ work.op
@@ -76,8 +76,8 @@ WorkIsRecorded trace =
 -- a client and a number belong to one operation of the trace
 abbrev pub IsOneRecord : Trace → Type 0
 IsOneRecord trace =
-    (first second : OpRecord) → Contains (operations_of trace.entries) first
-    → Contains (operations_of trace.entries) second → first.client ≡ second.client
+    (first second : OpRecord) → Contains (operations_of trace) first
+    → Contains (operations_of trace) second → first.client ≡ second.client
     → first.number ≡ second.number → first ≡ second
 
 -- ---- the replicas with one verdict
@@ -252,7 +252,7 @@ round_handed trace is index within entry to text given =
 
 -- the text at this event completed the operation that its client had under way
 by_text : (trace : Trace) → IsRun trace → ArePlain trace → WorkIsRecorded trace → IsOneRecord trace
-    → (operation : OpRecord) → Contains (operations_of trace.entries) operation → (index : ℕ) (answer : Answer)
+    → (operation : OpRecord) → Contains (operations_of trace) operation → (index : ℕ) (answer : Answer)
     → (text : List ℕ) (client : ClientId) (state : ClientState) (made : Entry)
     → IsFrom (world_after trace index) (party.Client client) text
     → handed (world_after trace index) made.event ≡ Some (party.Client client, text)
@@ -343,7 +343,7 @@ no_end_of_invocation state op = invoke_cases state op (λ stepped. stepped.ended
 
 -- the entry that records the end was made by a text
 by_entry : (trace : Trace) → IsRun trace → ArePlain trace → WorkIsRecorded trace → IsOneRecord trace
-    → (operation : OpRecord) → Contains (operations_of trace.entries) operation → (index : ℕ) (answer : Answer)
+    → (operation : OpRecord) → Contains (operations_of trace) operation → (index : ℕ) (answer : Answer)
     (entry : Entry) → slice_get trace.entries index ≡ Some entry → outcome_in operation.client operation.number
     entry.ended ≡ Some (outcome.Done answer) → IsCompleted trace operation (suc index) answer
 by_entry trace is have recorded one operation among index answer entry is_entry =
@@ -376,11 +376,11 @@ by_entry trace is have recorded one operation among index answer entry is_entry 
 
 -- a completed operation was answered by so many different correct replicas with one verdict, in one round
 pub completed : (trace : Trace) → IsRun trace → ArePlain trace → WorkIsRecorded trace → IsOneRecord trace
-    → (operation : OpRecord) → Contains (operations_of trace.entries) operation → (event : ℕ) (answer : Answer)
+    → (operation : OpRecord) → Contains (operations_of trace) operation → (event : ℕ) (answer : Answer)
     → operation.reply ≡ Some (event, outcome.Done answer) → IsCompleted trace operation event answer
 completed trace is have recorded one operation among event answer replied =
     let ends : EndsAt trace.entries 1 operation.client operation.number event (outcome.Done answer) =
-    operation_ends trace.entries operation among event (outcome.Done answer) replied in
+    operation_ends trace operation among event (outcome.Done answer) replied in
     let at : event ≡ 1 + ends.index = ends.is_at in
     let place : suc ends.index ≡ event = omega arith in
     subst (λ (it : ℕ). IsCompleted trace operation it answer) place

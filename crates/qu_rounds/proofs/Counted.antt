@@ -28,14 +28,14 @@ use Rattle.qu_trace.specs.declared.trace.Trace.{Trace}
 use Rattle.qu_world.specs.State.{WorldState, opening_world, numbered, with_numbered, ring_of}
 use Rattle.qu_world.specs.Step.{world_step}
 use Rattle.qu_world.specs.Run.{IsRun}
-use Rattle.qu_runs.specs.Times.{world_after}
+use Rattle.qu_claims.specs.Times.{world_after}
 use Rattle.qu_runs.proofs.WorldGrowth.{world_after-none, world_after-next}
 use Rattle.qu_runs.proofs.Recording.{world_cases}
 use Rattle.qu_rounds.proofs.Replies.{RepliesWithin, replies_within, SentBefore, sent_before}
 use Rattle.qu_runs.proofs.Keyed.{opening_client}
 use Rattle.qu_runs.proofs.Small.{some_entry}
 use Rattle.qu_world.proofs.Each.{with_cases}
-use Rattle.qu_runs.specs.Carried.{Tells}
+use Rattle.qu_claims.specs.Carried.{Tells}
 use Rattle.qu_runs.specs.Plain.{IsPlain, ArePlain, IsFrom, IsOfFaulty}
 use Rattle.qu_history.specs.declared.sealed.Sealed.{Sealed}
 use Rattle.qu_machine.proofs.Equalities.{client_is}

@@ -22,6 +22,9 @@ use Rattle.qu_machine.specs.declared.record.OpRecord.{OpRecord}
 use Rattle.qu_trace.specs.declared.event.Event.{Event}
 use Rattle.qu_trace.specs.declared.event.Event.TheVariants.{Invoke, Deliver, Tick, Inject}
 use Rattle.qu_trace.specs.declared.trace.Entry.{Entry}
+use Rattle.qu_trace.specs.declared.trace.Setup.{Setup}
+use Rattle.qu_trace.specs.declared.trace.Trace.{Trace}
+use Rattle.qu_trace.specs.Faulty.{is_faulty}
 use Rattle.qu_trace.specs.Operation.{outcome_in, first_end, end_from, begins_at, begun_by, operations_from, operations_of}
 use Rattle.qu_world.specs.Step.{ended_by}
 use Rattle.qu_history.specs.declared.sealed.Sealed.{Sealed}
@@ -82,35 +85,38 @@ Ends entries at operation =
     (event : ℕ) (how : Outcome) → operation.reply ≡ Some (event, how)
     → EndsAt entries at operation.client operation.number event how
 
-begins_end : (event : Event) (at : ℕ) (earlier entries : List Entry)
-    → All (Ends entries at) (begins_at event at earlier entries)
-begins_end (Invoke client op) at earlier entries =
-    All-cons (Ends entries at) _ [] (λ event how is. end_at client (begun_by client earlier + 1) at entries event
-    how is) (All-nil (Ends entries at))
-begins_end (Deliver letter) at earlier entries = All-nil (Ends entries at)
-begins_end (Tick client) at earlier entries = All-nil (Ends entries at)
-begins_end (Inject to text) at earlier entries = All-nil (Ends entries at)
+begins_end : (setup : Setup) (event : Event) (at : ℕ) (earlier entries : List Entry)
+    → All (Ends entries at) (begins_at setup event at earlier entries)
+begins_end setup (Invoke client op) at earlier entries =
+    cond_both (is_faulty setup (party.Client client)) [] _ (All (Ends entries at))
+    (λ faulty. All-nil (Ends entries at))
+    (λ correct. All-cons (Ends entries at) _ [] (λ event how is. end_at client (begun_by client earlier + 1) at entries
+    event how is) (All-nil (Ends entries at)))
+begins_end setup (Deliver letter) at earlier entries = All-nil (Ends entries at)
+begins_end setup (Tick client) at earlier entries = All-nil (Ends entries at)
+begins_end setup (Inject to text) at earlier entries = All-nil (Ends entries at)
 
-operations_end : (earlier : List Entry) (at : ℕ) (entries : List Entry)
-    → All (Ends entries at) (operations_from earlier at entries)
+operations_end : (setup : Setup) (earlier : List Entry) (at : ℕ) (entries : List Entry)
+    → All (Ends entries at) (operations_from setup earlier at entries)
 unfolding operations_from
-operations_end earlier at [] = All-nil (Ends [] at)
-operations_end earlier at (entry ∷ later) =
-    All-append (Ends (entry ∷ later) at) (begins_at entry.event at earlier (entry ∷ later))
-    (operations_from (earlier ++ entry ∷ []) (at + 1) later)
-    (begins_end entry.event at earlier (entry ∷ later))
+operations_end setup earlier at [] = All-nil (Ends [] at)
+operations_end setup earlier at (entry ∷ later) =
+    All-append (Ends (entry ∷ later) at) (begins_at setup entry.event at earlier (entry ∷ later))
+    (operations_from setup (earlier ++ entry ∷ []) (at + 1) later)
+    (begins_end setup entry.event at earlier (entry ∷ later))
     (All-weaker (Ends later (at + 1)) (Ends (entry ∷ later) at)
     (λ operation ends event how is. ends_later entry later at operation.client operation.number event how
     (ends event how is))
-    (operations_from (earlier ++ entry ∷ []) (at + 1) later)
-    (operations_end (earlier ++ entry ∷ []) (at + 1) later))
+    (operations_from setup (earlier ++ entry ∷ []) (at + 1) later)
+    (operations_end setup (earlier ++ entry ∷ []) (at + 1) later))
 
 -- the end of an operation of a trace is that of an entry
-pub operation_ends : (entries : List Entry) (operation : OpRecord) → Contains (operations_of entries) operation
+pub operation_ends : (trace : Trace) (operation : OpRecord) → Contains (operations_of trace) operation
     → (event : ℕ) (how : Outcome) → operation.reply ≡ Some (event, how)
-    → EndsAt entries 1 operation.client operation.number event how
-operation_ends entries operation among event how is =
-    All-contains (Ends entries 1) (operations_of entries) operation (operations_end [] 1 entries) among event how is
+    → EndsAt trace.entries 1 operation.client operation.number event how
+operation_ends trace operation among event how is =
+    All-contains (Ends trace.entries 1) (operations_of trace) operation
+    (operations_end trace.setup [] 1 trace.entries) among event how is
 
 -- ---- what ended
 

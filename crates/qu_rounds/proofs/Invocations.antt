@@ -1,10 +1,10 @@
 -- Each request of a run is one of an operation that the trace shows, and that began before.
-use Rattle.qu_world.proofs.Steps.{step_cases, step_moved, is_invoked}
-use Rattle.qu_world.specs.Step.{moved}
-use Rattle.std.proofs.Common.{◌≡◌, ℕ, zero, suc, ◌+◌, ◌<◌, ◌≤◌, ◌≢◌, List, [], ◌∷◌, ◌++◌, length, take, drop, get_or, Option, None, Some, refl, sym, ap, subst, ◌∙◌, add-one, arith, inl, inr}
+use Rattle.qu_world.proofs.Steps.{step_cases, step_moved}
+use Rattle.qu_world.specs.Step.{unchanged, moved}
+use Rattle.std.proofs.Common.{◌≡◌, Bool, true, false, cond, ℕ, zero, suc, ◌+◌, ◌<◌, ◌≤◌, ◌≢◌, List, [], ◌∷◌, ◌++◌, length, take, drop, get_or, Option, None, Some, refl, sym, ap, subst, ◌∙◌, add-one, arith, inl, inr}
 use Rattle.std.specs.Prelude.{slice_get}
 use Rattle.std.specs.List.{All}
-use Rattle.std.proofs.lemmas.Bool.{ne_eqb}
+use Rattle.std.proofs.lemmas.Bool.{ne_eqb, cases_Bool, cases_eq}
 use Rattle.std.proofs.lemmas.List.Elements.{All-nil, All-append, All-weaker}
 use Rattle.std.proofs.lemmas.Option.{same_Some, slice_get_within, get_or_from_slice_get}
 use Rattle.qu_base.specs.declared.party.ClientId.{ClientId}
@@ -18,7 +18,7 @@ use Rattle.qu_frames.specs.declared.frame.Body.{Body}
 use Rattle.qu_frames.specs.declared.frame.Frame.TheVariants as frame
 use Rattle.qu_frames.specs.declared.frame.Letter.{Letter}
 use Rattle.qu_frames.specs.Body.{body_of}
-use Rattle.qu_replica.specs.State.{ReplicaState}
+use Rattle.qu_rows.specs.State.{ReplicaState}
 use Rattle.qu_replica.specs.Step.{replica_step}
 use Rattle.qu_client.specs.declared.state.ClientState.{ClientState}
 use Rattle.qu_client.specs.declared.state.Stepped.{Stepped}
@@ -29,21 +29,23 @@ use Rattle.qu_client.specs.Sound.{last_number}
 use Rattle.qu_trace.specs.declared.event.Event.{Event}
 use Rattle.qu_trace.specs.declared.event.Event.TheVariants.{Invoke, Deliver, Tick, Inject}
 use Rattle.qu_trace.specs.declared.trace.Entry.{Entry}
+use Rattle.qu_trace.specs.declared.trace.Setup.{Setup}
 use Rattle.qu_trace.specs.declared.trace.Trace.{Trace}
+use Rattle.qu_trace.specs.Faulty.{is_faulty}
 use Rattle.qu_trace.specs.Letters.{letters_of}
 use Rattle.qu_trace.specs.Operation.{invokes, begun_by, record_of}
 use Rattle.qu_world.specs.State.{WorldState, opening_world, opening_clients, numbered, with_numbered, letter_of, ring_of}
 use Rattle.qu_world.specs.Step.{world_step, at_client, at_replica, received, delivered, ended_by}
-use Rattle.qu_world.specs.Refusals.{cause_of}
-use Rattle.qu_world.specs.Run.{IsRun}
-use Rattle.qu_runs.specs.Times.{world_after}
+use Rattle.qu_world.specs.Run.{bar_of, IsRun}
+use Rattle.qu_runs.proofs.Plain.{setup_after}
+use Rattle.qu_claims.specs.Times.{world_after}
 use Rattle.qu_rounds.specs.Invocations.{IsRequestOf}
 use Rattle.qu_runs.proofs.WorldGrowth.{world_after-next, world_after-none}
 use Rattle.qu_runs.proofs.Beginning.{operation_begun, begun_one, begun_same, happens, IsFree, may_invoke}
 use Rattle.qu_rounds.proofs.Requesting.{IsAsked, asked_later, replica_asked, IsUnderWay, IsAtWork, IsClientAt, client_later, client_steps, client_step-asked, client_begins, client_begins-asked}
 use Rattle.qu_runs.proofs.Small.{some_entry}
 use Rattle.qu_world.proofs.Each.{with_cases}
-use Rattle.qu_runs.specs.Carried.{Asks}
+use Rattle.qu_claims.specs.Carried.{Asks}
 use Rattle.qu_runs.specs.Plain.{IsPlain, ArePlain}
 use Rattle.qu_runs.proofs.Carrying.{AsksFit, IsFitStep, numbered_here}
 use Rattle.qu_runs.proofs.Fitting.{fit_step}
@@ -65,10 +67,30 @@ letters_next trace count entries entry old new =
 
 -- ---- worlds
 
--- how many operations the client with this number began in so many events
+-- how many operations the client with this number began in so many events, none where it is faulty
 abbrev begun_at : Trace → ℕ → ℕ → ℕ
 begun_at trace count number =
-    let client : ClientId = record { 0 = number } in begun_by client (take count trace.entries)
+    let client : ClientId = record { 0 = number } in
+    cond (is_faulty trace.setup (party.Client client)) 0 (begun_by client (take count trace.entries))
+
+still_begun : (trace : Trace) (count : ℕ) (number : ℕ)
+    → begun_by (record { 0 = number }) (take (count + 1) trace.entries)
+    ≡ begun_by (record { 0 = number }) (take count trace.entries)
+    → begun_at trace (count + 1) number ≡ begun_at trace count number
+still_begun trace count number same =
+    ap (λ (many : ℕ). cond (is_faulty trace.setup (party.Client (record { 0 = number }))) 0 many) same
+
+none_begun : (trace : Trace) (count other : ℕ) (client : ClientId) → is_faulty trace.setup (party.Client client) ≡ true
+    → begun_at trace count client.0 ≡ begun_at trace other client.0
+none_begun trace count other client faulty =
+    ap (λ (it : Bool). cond it 0 (begun_by client (take count trace.entries))) faulty
+    ∙ sym (ap (λ (it : Bool). cond it 0 (begun_by client (take other trace.entries))) faulty)
+
+begun_if_correct : (trace : Trace) (count : ℕ) (client : ClientId)
+    → is_faulty trace.setup (party.Client client) ≡ false
+    → begun_at trace count client.0 ≡ begun_by client (take count trace.entries)
+begun_if_correct trace count client correct =
+    ap (λ (it : Bool). cond it 0 (begun_by client (take count trace.entries))) correct
 
 -- clients and letters are as the first events of the trace show
 record IsShown (trace : Trace) (count : ℕ) (world : WorldState) : Type 0 where
@@ -211,42 +233,82 @@ module _ (trace : Trace) (count : ℕ) (world : WorldState) (shown : IsShown tra
 
   -- the next event of the trace
   module _ (default : Entry) (below : count < length trace.entries) where
-    event_shown : (event : Event) → (get_or trace.entries count default).event ≡ event
-        → cause_of world event ≡ None → IsPlain world event → IsFitStep world (world_step world event)
-        → IsShown trace (count + 1) (world_step world event)
-    event_shown (Invoke client what) is may plain fits =
+    quiet_by : (event : Event) → (get_or trace.entries count default).event ≡ event → (number : ℕ)
+        → invokes (record { 0 = number }) event ≡ false → begun_at trace (count + 1) number ≡ begun_at trace count number
+    quiet_by event is number other =
+        still_begun trace count number
+        (begun_same trace.entries count default (record { 0 = number }) below
+        (ap (invokes (record { 0 = number })) is ∙ other))
+
+    -- an invocation at a faulty client makes nothing
+    idle_invoked : (client : ClientId) (what : Op) → (get_or trace.entries count default).event ≡ Invoke client what
+        → is_faulty trace.setup (party.Client client) ≡ true → world.setup ≡ trace.setup
+        → IsShown trace (count + 1) (world_step world (Invoke client what))
+    idle_invoked client what is faulty same =
+        subst (IsShown trace (count + 1))
+        (sym (ap (λ (it : Bool). cond it (unchanged world (Invoke client what)) (moved world (Invoke client what)))
+        (ap (λ (setup : Setup). is_faulty setup (party.Client client)) same ∙ faulty)))
+        (idle_shown (Invoke client what) quiet)
+      where
+        quiet : (number : ℕ) → begun_at trace (count + 1) number ≡ begun_at trace count number
+        quiet number =
+            elim (cases_eq number client.0) [
+              | inl one ↦ subst (λ (it : ℕ). begun_at trace (count + 1) it ≡ begun_at trace count it) (sym one)
+                  (none_begun trace (count + 1) count client faulty)
+              | inr other ↦ quiet_by (Invoke client what) is number (ne_eqb number client.0 other)
+            ]
+
+    -- an invocation at a correct one begins an operation
+    begins_shown : (client : ClientId) (what : Op) → (get_or trace.entries count default).event ≡ Invoke client what
+        → bar_of world (Invoke client what) ≡ None → is_faulty trace.setup (party.Client client) ≡ false
+        → world.setup ≡ trace.setup → IsFitStep world (world_step world (Invoke client what))
+        → IsShown trace (count + 1) (world_step world (Invoke client what))
+    begins_shown client what is may correct same fits =
+        let here : is_faulty world.setup (party.Client client) ≡ false =
+        ap (λ (setup : Setup). is_faulty setup (party.Client client)) same ∙ correct in
+        let begun : begun_at trace count client.0 ≡ begun_by client (take count trace.entries) =
+        begun_if_correct trace count client correct in
         subst (λ (made : WorldState). IsFitStep world made → IsShown trace (count + 1) made)
-        (sym (step_moved world (Invoke client what) (is_invoked world client what may).correct))
-        (invoked_shown client what (may_invoke world client what may)
-        (λ number other. begun_same trace.entries count default (record { 0 = number }) below
-        (ap (invokes (record { 0 = number })) is ∙ ne_eqb number client.0 other))
-        (begun_one trace.entries count default client what below is)
+        (sym (step_moved world (Invoke client what) here))
+        (invoked_shown client what (may_invoke world client what may here)
+        (λ number other. quiet_by (Invoke client what) is number (ne_eqb number client.0 other))
+        (begun_if_correct trace (count + 1) client correct
+        ∙ begun_one trace.entries count default client what below is ∙ sym (ap (λ (many : ℕ). many + 1) begun))
         (record {
           operation = record_of client what (count + 1) (take count trace.entries) (drop count trace.entries);
-          of_trace = operation_begun trace.entries count default client what below is;
+          of_trace = operation_begun trace count default client what correct below is;
           of_client = refl;
-          of_number = refl;
+          of_number = sym (ap (λ (many : ℕ). many + 1) begun);
           asks = refl;
           begun = omega arith;
         })) fits
-    event_shown (Deliver number) is may plain fits =
+
+    event_shown : (event : Event) → (get_or trace.entries count default).event ≡ event → world.setup ≡ trace.setup
+        → bar_of world event ≡ None → IsPlain world event → IsFitStep world (world_step world event)
+        → IsShown trace (count + 1) (world_step world event)
+    event_shown (Invoke client what) is same may plain fits =
+        elim (cases_Bool (is_faulty trace.setup (party.Client client))) [
+          | inl faulty ↦ idle_invoked client what is faulty same
+          | inr correct ↦ begins_shown client what is may correct same fits
+        ]
+    event_shown (Deliver number) is same may plain fits =
         let quiet : (number : ℕ) → begun_at trace (count + 1) number ≡ begun_at trace count number =
-        λ it. begun_same trace.entries count default (record { 0 = it }) below (ap (invokes (record { 0 = it })) is) in
+        λ it. quiet_by (Deliver number) is it refl in
         step_cases (λ (made : WorldState). IsFitStep world made → IsShown trace (count + 1) made) world
         (Deliver number) (λ fit. idle_shown (Deliver number) quiet)
         (λ correct. delivered_shown (Deliver number) quiet (letter_of world number)) fits
-    event_shown (Inject to text) is may plain fits =
+    event_shown (Inject to text) is same may plain fits =
         let quiet : (number : ℕ) → begun_at trace (count + 1) number ≡ begun_at trace count number =
-        λ it. begun_same trace.entries count default (record { 0 = it }) below (ap (invokes (record { 0 = it })) is) in
+        λ it. quiet_by (Inject to text) is it refl in
         injected_cases world to text (λ (event : Event) (new : WorldState). IsFitStep world new
         → IsShown trace (count + 1) new)
         (λ fit. idle_shown (Inject to text) quiet)
         (λ number letter sent hands fit. received_shown (Inject letter.to letter.text) quiet letter.to letter.text fit)
         (λ made hands fit. received_shown (Inject to text) quiet to text fit)
         plain fits
-    event_shown (Tick client) is may plain fits =
+    event_shown (Tick client) is same may plain fits =
         let quiet : (number : ℕ) → begun_at trace (count + 1) number ≡ begun_at trace count number =
-        λ it. begun_same trace.entries count default (record { 0 = it }) below (ap (invokes (record { 0 = it })) is) in
+        λ it. quiet_by (Tick client) is it refl in
         step_cases (λ (made : WorldState). IsFitStep world made → IsShown trace (count + 1) made) world
         (Tick client) (λ fit. idle_shown (Tick client) quiet) (λ correct. ticked_shown (Tick client) quiet client) fits
 
@@ -263,14 +325,22 @@ opening_from trace first (suc many) keys zero number state at found =
 opening_from trace first (suc many) keys (suc index) number state at found =
     opening_from trace (first + 1) many keys index number state (omega arith) found
 
+begun_first : (trace : Trace) (number : ℕ) → begun_at trace 0 number ≡ 0
+unfolding begun_by
+begun_first trace number = by (is_faulty trace.setup (party.Client (record { 0 = number })))
+  where
+    by : (faulty : Bool) → ◌≡◌ {A = ℕ} (cond faulty 0 0) 0
+    by true = refl
+    by false = refl
+
 opening_client : (trace : Trace) (number : ℕ) (state : ClientState)
     → numbered (opening_clients 1 trace.setup.clients (ring_of trace.setup)) number ≡ Some
     state → IsClientAt trace 0 (begun_at trace 0 number) number state
-unfolding begun_by
 opening_client trace zero state found = absurd cc
 opening_client trace (suc index) state found =
-    opening_from trace 1 trace.setup.clients (ring_of trace.setup) index (suc index) state
-    (omega arith) found
+    subst (λ (begun : ℕ). IsClientAt trace 0 begun (suc index) state) (sym (begun_first trace (suc index)))
+    (opening_from trace 1 trace.setup.clients (ring_of trace.setup) index (suc index) state
+    (omega arith) found)
 
 opening_shown : (trace : Trace) → IsShown trace 0 (opening_world trace.setup)
 unfolding letters_of
@@ -285,7 +355,8 @@ world_shown trace is have (suc count) within =
     let after : IsShown trace (count + 1)
     (world_step (world_after trace count) (get_or trace.entries count default).event) =
     event_shown trace count (world_after trace count) before default (omega arith)
-    (get_or trace.entries count default).event refl (happens trace is count default (omega arith))
+    (get_or trace.entries count default).event refl (setup_after trace count)
+    (happens trace is count default (omega arith))
     (have.plain_at count default (omega arith))
     (subst (IsFitStep (world_after trace count)) (world_after-next trace count default (omega arith))
     (fit_step trace is have count (omega arith))) in

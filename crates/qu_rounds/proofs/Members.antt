@@ -6,7 +6,7 @@ use Rattle.std.proofs.lemmas.Bool.{and_parts, or_left, or_right, eqb-true, eq-eq
 use Rattle.std.proofs.lemmas.List.{get_or_default}
 use Rattle.std.proofs.lemmas.List.Elements.{All-head, All-tail}
 use Rattle.std.proofs.lemmas.List.Folds.{Any-from_list_any}
-use Rattle.qu_chain.specs.Count.{count}
+use Rattle.qu_claims.specs.Count.{count}
 use Rattle.qu_chain.proofs.Counting.{bit, count-both, Passing, passing}
 
 -- the number is one of these

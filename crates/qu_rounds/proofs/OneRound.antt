@@ -24,9 +24,9 @@ use Rattle.qu_world.specs.Step.{world_step, at_client}
 use Rattle.qu_world.specs.Run.{IsRun}
 use Rattle.qu_world.proofs.Each.{with_cases}
 use Rattle.qu_world.proofs.LetterLaws.{letters-push}
-use Rattle.qu_runs.specs.Carried.{Asks}
+use Rattle.qu_claims.specs.Carried.{Asks}
 use Rattle.qu_runs.specs.Plain.{IsPlain, ArePlain}
-use Rattle.qu_runs.specs.Times.{world_after}
+use Rattle.qu_claims.specs.Times.{world_after}
 use Rattle.qu_runs.proofs.Carrying.{AsksFit, numbered_here}
 use Rattle.qu_runs.proofs.Fitting.{fit_step}
 use Rattle.qu_runs.proofs.Recording.{world_cases}

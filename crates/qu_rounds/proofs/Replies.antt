@@ -16,12 +16,13 @@ use Rattle.qu_frames.specs.declared.frame.Frame.TheVariants as frame
 use Rattle.qu_frames.specs.declared.frame.Letter.{Letter}
 use Rattle.qu_frames.specs.declared.verdict.Verdict.{Verdict}
 use Rattle.qu_frames.specs.Body.{body_of}
-use Rattle.qu_replica.specs.declared.decision.Accepted.{Accepted}
-use Rattle.qu_replica.specs.declared.decision.Decision.{Decision}
-use Rattle.qu_replica.specs.declared.decision.Decision.TheVariants.{Answers, Waits}
-use Rattle.qu_replica.specs.State.{ReplicaState, accept_all}
+use Rattle.qu_rows.specs.declared.decision.Accepted.{Accepted}
+use Rattle.qu_rows.specs.declared.decision.Decision.{Decision}
+use Rattle.qu_rows.specs.declared.decision.Decision.TheVariants.{Answers, Waits}
+use Rattle.qu_rows.specs.State.{ReplicaState}
+use Rattle.qu_replica.specs.State.{accept_all}
 use Rattle.qu_replica.specs.Growth.{Grows}
-use Rattle.qu_replica.specs.Rows.{asked_at, decision_on}
+use Rattle.qu_rows.specs.Rows.{asked_at, decision_on}
 use Rattle.qu_replica.specs.Step.{answer_frame, reply, carried_out, on_frame, on_received}
 use Rattle.qu_replica.proofs.Growth.{accept_all-me}
 use Rattle.qu_client.specs.declared.state.ClientState.{ClientState}
@@ -36,10 +37,10 @@ use Rattle.qu_world.specs.State.{WorldState, opening_world, opening_replicas, nu
 use Rattle.qu_world.specs.Growth.{GrowsTo}
 use Rattle.qu_world.specs.Run.{IsRun}
 use Rattle.qu_world.proofs.LetterLaws.{slice_get-append_left, slice_get-append_right}
-use Rattle.qu_runs.specs.Times.{world_after}
+use Rattle.qu_claims.specs.Times.{world_after}
 use Rattle.qu_runs.proofs.WorldGrowth.{world_after-none, world_after-grows}
 use Rattle.qu_runs.proofs.Recording.{entries_after, entry_cases}
-use Rattle.qu_runs.specs.Carried.{Tells}
+use Rattle.qu_claims.specs.Carried.{Tells}
 use Rattle.qu_frames.specs.Formats.{frame_form}
 use Rattle.qu_runs.specs.Plain.{ArePlain}
 use Rattle.qu_history.specs.declared.sealed.Sealed.{Sealed}

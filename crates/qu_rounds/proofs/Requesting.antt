@@ -16,7 +16,7 @@ use Rattle.qu_frames.specs.declared.frame.Frame.TheVariants as frame
 use Rattle.qu_frames.specs.declared.frame.Letter.{Letter}
 use Rattle.qu_frames.specs.declared.verdict.Verdict.{Verdict}
 use Rattle.qu_frames.specs.Body.{body_of}
-use Rattle.qu_replica.specs.State.{ReplicaState}
+use Rattle.qu_rows.specs.State.{ReplicaState}
 use Rattle.qu_replica.specs.Step.{replica_step}
 use Rattle.qu_client.specs.declared.state.Stepped.{Stepped}
 use Rattle.qu_client.specs.declared.work.Work.{Work}
@@ -30,7 +30,7 @@ use Rattle.qu_client.proofs.Laws.{client_step-me, client_invoke-me, IsSound-step
 use Rattle.qu_trace.specs.declared.trace.Trace.{Trace}
 use Rattle.qu_rounds.specs.Invocations.{IsRequestOf}
 use Rattle.qu_rounds.proofs.Asking.{AsksNothing, CarriesOnly, replica_asks, requests_carry}
-use Rattle.qu_runs.specs.Carried.{Carries}
+use Rattle.qu_claims.specs.Carried.{Carries}
 use Rattle.qu_frames.specs.Formats.{frame_form}
 use Rattle.qu_runs.proofs.Carrying.{AsksFit}
 use Rattle.qu_frames.specs.Signing.{brought}

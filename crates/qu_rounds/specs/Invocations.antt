@@ -10,7 +10,7 @@ use Rattle.qu_trace.specs.Operation.{operations_of}
 -- the operation of which a request is one; it began before
 pub record IsRequestOf (trace : Trace) (count : ℕ) (client : ClientId) (number : ℕ) (asked : Body) : Type 0 where
   pub operation : OpRecord
-  pub of_trace : Contains (operations_of trace.entries) operation
+  pub of_trace : Contains (operations_of trace) operation
   pub of_client : operation.client ≡ client
   pub of_number : operation.number ≡ number
   -- act or query, as the operation is

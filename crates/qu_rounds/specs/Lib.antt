@@ -1,2 +1,1 @@
 pub mod Invocations
-pub mod Completions

@@ -3,7 +3,7 @@ use Rattle.std.proofs.Common.{◌≡◌, ℕ, zero, suc, List, [], ◌∷◌, So
 use Rattle.std.specs.Prelude.{slice_get}
 use Rattle.std.specs.List.{AllZip}
 use Rattle.std.proofs.lemmas.Option.{none-some, same_Some}
-use Rattle.qu_replica.specs.State.{ReplicaState}
+use Rattle.qu_rows.specs.State.{ReplicaState}
 use Rattle.qu_replica.specs.Growth.{Grows}
 use Rattle.qu_trace.specs.declared.event.Event.{Event}
 use Rattle.qu_world.specs.State.{WorldState}

@@ -1,5 +1,5 @@
 -- The operation that a client begins at an event is one of the trace, and the client was free to begin it.
-use Rattle.qu_world.proofs.Steps.{is_invoked}
+use Rattle.qu_world.proofs.Steps.{is_invoked, barred_as_refused}
 use Rattle.std.proofs.Common.{◌≡◌, ℕ, zero, suc, ◌+◌, ◌<◌, Bool, false, cond, List, [], ◌∷◌, ◌++◌, length, take, drop, get_or, Option, None, Some, refl, sym, ap, subst, ◌∙◌, append_assoc, arith}
 use Rattle.std.specs.Prelude.{Contains, is_some}
 use Rattle.std.proofs.lemmas.Bool.{eq-eqb}
@@ -7,6 +7,7 @@ use Rattle.std.proofs.lemmas.List.{take_more, append-nil}
 use Rattle.std.proofs.lemmas.List.Sums.{sum_by_push}
 use Rattle.qu_base.specs.declared.party.ClientId.{ClientId}
 use Rattle.qu_base.specs.declared.party.Party.{Party}
+use Rattle.qu_base.specs.declared.party.Party.TheVariants as party
 use Rattle.qu_objects.specs.declared.op.Op.{Op}
 use Rattle.qu_machine.specs.declared.record.OpRecord.{OpRecord}
 use Rattle.qu_client.specs.declared.state.ClientState.{ClientState}
@@ -14,14 +15,16 @@ use Rattle.qu_client.specs.declared.work.Work.{Work}
 use Rattle.qu_trace.specs.declared.event.Event.{Event}
 use Rattle.qu_trace.specs.declared.event.Event.TheVariants.{Invoke}
 use Rattle.qu_trace.specs.declared.trace.Entry.{Entry}
+use Rattle.qu_trace.specs.declared.trace.Setup.{Setup}
 use Rattle.qu_trace.specs.declared.trace.Trace.{Trace}
+use Rattle.qu_trace.specs.Faulty.{is_faulty}
 use Rattle.qu_trace.specs.Operation.{invokes, begun_by, record_of, begins_at, operations_from, operations_of}
 use Rattle.qu_world.specs.declared.fail.WorldFail.TheVariants as fails
 use Rattle.qu_world.specs.State.{WorldState, numbered}
 use Rattle.qu_world.specs.Step.{world_step}
-use Rattle.qu_world.specs.Refusals.{cause_of, refused_invocation}
-use Rattle.qu_world.specs.Run.{run_from, MayHappen, events_of, IsRun}
-use Rattle.qu_runs.specs.Times.{world_after}
+use Rattle.qu_world.specs.Refusals.{refused_invocation}
+use Rattle.qu_world.specs.Run.{bar_of, run_from, MayHappen, events_of, IsRun}
+use Rattle.qu_claims.specs.Times.{world_after}
 
 -- ---- operations of the trace
 
@@ -33,40 +36,46 @@ contains_later (first ∷ front) operations operation held =
     let below : later.0 < length (front ++ operations) = later.1 in
     (suc later.0, omega arith, later.2)
 
-begins_here : (event : Event) (client : ClientId) (op : Op) (at : ℕ) (earlier later : List Entry)
-    (operations : List OpRecord) → event ≡ Invoke client op
-    → Contains (begins_at event at earlier later ++ operations) (record_of client op at earlier later)
-begins_here event client op at earlier later operations is =
-    subst (λ (it : Event). Contains (begins_at it at earlier later ++ operations)
+begins_here : (setup : Setup) (event : Event) (client : ClientId) (op : Op) (at : ℕ) (earlier later : List Entry)
+    (operations : List OpRecord) → event ≡ Invoke client op → is_faulty setup (party.Client client) ≡ false
+    → Contains (begins_at setup event at earlier later ++ operations) (record_of client op at earlier later)
+begins_here setup event client op at earlier later operations is correct =
+    subst (λ (it : Event). Contains (begins_at setup it at earlier later ++ operations)
     (record_of client op at earlier later)) (sym is)
-    (zero, omega arith, refl)
+    (subst (λ (faulty : Bool). Contains (cond faulty [] (record_of client op at earlier later ∷ []) ++ operations)
+    (record_of client op at earlier later)) (sym correct)
+    (zero, omega arith, refl))
 
-operation_from : (earlier : List Entry) (at : ℕ) (later : List Entry) (index : ℕ) (default : Entry)
-    (client : ClientId) (op : Op) (event : ℕ) (before : List Entry)
+operation_from : (setup : Setup) (earlier : List Entry) (at : ℕ) (later : List Entry) (index : ℕ) (default : Entry)
+    (client : ClientId) (op : Op) (event : ℕ) (before : List Entry) → is_faulty setup (party.Client client) ≡ false
     → index < length later → (get_or later index default).event ≡ Invoke client op → event ≡ at + index
     → before ≡ earlier ++ take index later
-    → Contains (operations_from earlier at later) (record_of client op event before (drop index later))
+    → Contains (operations_from setup earlier at later) (record_of client op event before (drop index later))
 unfolding operations_from
-operation_from earlier at [] index default client op event before below is event_is before_is = absurd (omega arith)
-operation_from earlier at (entry ∷ later) zero default client op event before below is event_is before_is =
+operation_from setup earlier at [] index default client op event before correct below is event_is before_is = absurd (omega arith)
+operation_from setup earlier at (entry ∷ later) zero default client op event before correct below is event_is before_is =
     let same_event : event ≡ at = omega arith in
     let same_before : before ≡ earlier = before_is ∙ append-nil earlier in
     rw (same_event, same_before)
-    (begins_here entry.event client op at earlier (entry ∷ later)
-    (operations_from (earlier ++ entry ∷ []) (at + 1) later) is)
-operation_from earlier at (entry ∷ later) (suc index) default client op event before below is event_is before_is =
-    contains_later (begins_at entry.event at earlier (entry ∷ later))
-    (operations_from (earlier ++ entry ∷ []) (at + 1) later) _
-    (operation_from (earlier ++ entry ∷ []) (at + 1) later index default client op event before (omega arith) is
-    (omega arith)
+    (begins_here setup entry.event client op at earlier (entry ∷ later)
+    (operations_from setup (earlier ++ entry ∷ []) (at + 1) later) is correct)
+operation_from setup earlier at (entry ∷ later) (suc index) default client op event before correct below is event_is
+    before_is =
+    contains_later (begins_at setup entry.event at earlier (entry ∷ later))
+    (operations_from setup (earlier ++ entry ∷ []) (at + 1) later) _
+    (operation_from setup (earlier ++ entry ∷ []) (at + 1) later index default client op event before correct
+    (omega arith) is (omega arith)
     (before_is ∙ sym (append_assoc earlier (entry ∷ []) (take index later))))
 
--- an invocation begins an operation of the trace
-pub operation_begun : (entries : List Entry) (index : ℕ) (default : Entry) (client : ClientId) (op : Op)
-    → index < length entries → (get_or entries index default).event ≡ Invoke client op
-    → Contains (operations_of entries) (record_of client op (index + 1) (take index entries) (drop index entries))
-operation_begun entries index default client op below is =
-    operation_from [] 1 entries index default client op (index + 1) (take index entries) below is (omega arith) refl
+-- an invocation of a correct client begins an operation of the trace
+pub operation_begun : (trace : Trace) (index : ℕ) (default : Entry) (client : ClientId) (op : Op)
+    → is_faulty trace.setup (party.Client client) ≡ false
+    → index < length trace.entries → (get_or trace.entries index default).event ≡ Invoke client op
+    → Contains (operations_of trace)
+    (record_of client op (index + 1) (take index trace.entries) (drop index trace.entries))
+operation_begun trace index default client op correct below is =
+    operation_from trace.setup [] 1 trace.entries index default client op (index + 1) (take index trace.entries) correct
+    below is (omega arith) refl
 
 -- ---- how many a client began
 
@@ -107,7 +116,7 @@ begun_same entries index default client below other =
 
 happens_from : (world : WorldState) (entries : List Entry) (count : ℕ) (default : Entry) → count < length entries
     → MayHappen world (events_of entries)
-    → cause_of (run_from world (events_of (take count entries))) (get_or entries count default).event ≡ None
+    → bar_of (run_from world (events_of (take count entries))) (get_or entries count default).event ≡ None
 unfolding run_from MayHappen
 happens_from world [] count default below may = absurd (omega arith)
 happens_from world (entry ∷ later) zero default below may = may.0
@@ -116,7 +125,7 @@ happens_from world (entry ∷ later) (suc count) default below may =
 
 -- each event of a run may happen in the world before it
 pub happens : (trace : Trace) → IsRun trace → (count : ℕ) (default : Entry) → count < length trace.entries
-    → cause_of (world_after trace count) (get_or trace.entries count default).event ≡ None
+    → bar_of (world_after trace count) (get_or trace.entries count default).event ≡ None
 happens trace is count default below = happens_from _ trace.entries count default below is.happened
 
 -- a client of these that has no work
@@ -135,8 +144,9 @@ free_by clients client who None is may = absurd cc
 free_by clients client who (Some state) is may =
     record { state = state; found = is; free = no_work state.work may }
 
--- an invocation that may happen is that of a client without work
-pub may_invoke : (world : WorldState) (client : ClientId) (op : Op) → cause_of world (Invoke client op) ≡ None
-    → IsFree world.clients client
-may_invoke world client op may =
-    free_by world.clients client _ (numbered world.clients client.0) refl (is_invoked world client op may).free
+-- an invocation at a correct client that may happen is that of a client without work
+pub may_invoke : (world : WorldState) (client : ClientId) (op : Op) → bar_of world (Invoke client op) ≡ None
+    → is_faulty world.setup (party.Client client) ≡ false → IsFree world.clients client
+may_invoke world client op may correct =
+    free_by world.clients client _ (numbered world.clients client.0) refl
+    (is_invoked world client op (sym (barred_as_refused world (Invoke client op) correct) ∙ may)).free

@@ -26,16 +26,17 @@ use Rattle.qu_frames.specs.Decoding.{decoded}
 use Rattle.qu_frames.specs.Signing.{mac_of, with_mac, signature, signed}
 use Rattle.qu_frames.proofs.Decoded.{decoded_is_read, one_frame}
 use Rattle.qu_frames.proofs.Signed.{text_with, signed_is_spelled, brought_is_decoded}
-use Rattle.qu_replica.specs.declared.decision.Accepted.{Accepted}
-use Rattle.qu_replica.specs.declared.decision.Decision.TheVariants.{Answers}
-use Rattle.qu_replica.specs.Rows.{asked_at, decision_on}
-use Rattle.qu_replica.specs.State.{ReplicaState, accept_all}
+use Rattle.qu_rows.specs.declared.decision.Accepted.{Accepted}
+use Rattle.qu_rows.specs.declared.decision.Decision.TheVariants.{Answers}
+use Rattle.qu_rows.specs.Rows.{asked_at, decision_on}
+use Rattle.qu_rows.specs.State.{ReplicaState}
+use Rattle.qu_replica.specs.State.{accept_all}
 use Rattle.qu_replica.specs.Step.{answer_frame}
 use Rattle.qu_client.specs.declared.state.ClientState.{ClientState}
 use Rattle.qu_client.specs.declared.work.Work.{Work}
 use Rattle.qu_client.specs.Rounds as rounds
 use Rattle.qu_world.specs.State.{WorldState, numbered, with_numbered, letter_of}
-use Rattle.qu_runs.specs.Carried.{Carries, Brings, Asks, Tells}
+use Rattle.qu_claims.specs.Carried.{Carries, Brings, Asks, Tells}
 use Rattle.qu_world.proofs.Each.{set_here}
 
 -- ---- a letter carries what was sent

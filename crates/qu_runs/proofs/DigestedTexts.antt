@@ -5,8 +5,9 @@ use Rattle.std.specs.List.{flat_map}
 use Rattle.std.proofs.lemmas.List.Elements.{Contains-append_left}
 use Rattle.qu_trace.specs.declared.trace.Entry.{Entry}
 use Rattle.qu_trace.specs.declared.trace.Trace.{Trace}
-use Rattle.qu_runs.specs.Carried.{handed_by}
-use Rattle.qu_runs.specs.Digested.{Request, handled_by, Text, texts_of, handed_texts, sent_texts, texts_at, digested}
+use Rattle.qu_claims.specs.Carried.{handed_by}
+use Rattle.qu_claims.specs.Handled.{Request, handled_by}
+use Rattle.qu_claims.specs.Digested.{Text, texts_of, handed_texts, sent_texts, texts_at, digested}
 use Rattle.qu_runs.proofs.Small.{contains_mapped}
 
 pub request_digested : (trace : Trace) (entry : Entry) (request : Option Request) (text : Text)

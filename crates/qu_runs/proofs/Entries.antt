@@ -11,7 +11,7 @@ use Rattle.qu_world.specs.Step.{world_step}
 use Rattle.qu_world.specs.Run.{run_from, events_of, IsRun}
 use Rattle.qu_world.proofs.LetterLaws.{slice_get-append_right}
 use Rattle.qu_world.proofs.RunLaws.{Records, step_records}
-use Rattle.qu_runs.specs.Times.{world_after}
+use Rattle.qu_claims.specs.Times.{world_after}
 
 -- ---- what a run records
 

@@ -6,7 +6,7 @@ use Rattle.std.proofs.lemmas.Bool.{cases_Bool, eqb-true}
 use Rattle.std.proofs.lemmas.List.Sums.{sum_by-cons}
 use Rattle.qu_base.specs.declared.party.Party.{Party}
 use Rattle.qu_base.specs.declared.party.Party.TheVariants as party
-use Rattle.qu_chain.specs.Count.{count}
+use Rattle.qu_claims.specs.Count.{count}
 use Rattle.qu_chain.proofs.Counting.{count-same}
 use Rattle.qu_trace.specs.declared.trace.Setup.{Setup}
 use Rattle.qu_trace.specs.Faulty.{is_same, is_replica, is_faulty, is_good}

@@ -18,9 +18,10 @@ use Rattle.qu_frames.specs.declared.frame.Letter.{Letter}
 use Rattle.qu_frames.proofs.Decoded.{decoded_is_spelled}
 use Rattle.qu_frames.specs.Formats.{frame_form}
 use Rattle.qu_frames.specs.Decoding.{decoded}
-use Rattle.qu_replica.specs.declared.decision.Decision.{Decision}
+use Rattle.qu_rows.specs.declared.decision.Decision.{Decision}
 use Rattle.qu_replica.specs.Fits.{StateFits, LetterFits, StepFits}
-use Rattle.qu_replica.specs.State.{ReplicaState, accept_all, opening_state}
+use Rattle.qu_rows.specs.State.{ReplicaState}
+use Rattle.qu_replica.specs.State.{accept_all, opening_state}
 use Rattle.qu_replica.specs.Step.{carried_out, replica_step}
 use Rattle.qu_replica.proofs.FitDecisions.{DecisionFits}
 use Rattle.qu_replica.proofs.FitState.{opening-fits}
@@ -38,8 +39,8 @@ use Rattle.qu_runs.proofs.Objects.{few_kinds}
 use Rattle.qu_world.specs.State.{WorldState, opening_world, opening_replicas, numbered, letter_of, kinds_at, ring_of}
 use Rattle.qu_world.specs.Step.{world_step, unchanged, at_replica, at_client, received, delivered}
 use Rattle.qu_world.specs.Run.{IsSetup, IsRun}
-use Rattle.qu_runs.specs.Carried.{Carries, offered, handed}
-use Rattle.qu_runs.specs.Times.{world_after}
+use Rattle.qu_claims.specs.Carried.{Carries, offered, handed}
+use Rattle.qu_claims.specs.Times.{world_after}
 use Rattle.qu_runs.specs.Plain.{IsPlain, ArePlain, HasEventParts, IsFrom}
 use Rattle.qu_runs.proofs.Carrying.{carried_is, AsksFit, AnswersFit, IsFitStep}
 use Rattle.qu_world.proofs.Each.{each_append, each_numbered, set_cases, with_cases, each_at}

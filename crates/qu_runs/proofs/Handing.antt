@@ -14,7 +14,7 @@ use Rattle.qu_trace.specs.declared.event.Event.{Event}
 use Rattle.qu_trace.specs.declared.event.Event.TheVariants.{Invoke, Deliver, Tick, Inject}
 use Rattle.qu_world.specs.State.{WorldState, letter_of}
 use Rattle.qu_world.specs.Step.{world_step, unchanged, received, delivered}
-use Rattle.qu_runs.specs.Carried.{offered, handed}
+use Rattle.qu_claims.specs.Carried.{offered, handed}
 use Rattle.qu_runs.specs.Plain.{IsOfFaulty, IsPlain}
 
 -- the receiver of a letter, and its bytes

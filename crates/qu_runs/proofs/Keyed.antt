@@ -9,7 +9,7 @@ use Rattle.qu_base.specs.declared.party.Party.TheVariants as party
 use Rattle.qu_base.specs.declared.party.ReplicaId.{ReplicaId}
 use Rattle.qu_seal.specs.Keys.{Ring}
 use Rattle.qu_frames.specs.declared.frame.Letter.{Letter}
-use Rattle.qu_replica.specs.State.{ReplicaState}
+use Rattle.qu_rows.specs.State.{ReplicaState}
 use Rattle.qu_client.specs.declared.state.ClientState.{ClientState}
 use Rattle.qu_client.specs.declared.state.Stepped.{Stepped}
 use Rattle.qu_client.specs.Steps.{client_step, client_invoke, client_tick}
@@ -21,7 +21,7 @@ use Rattle.qu_trace.specs.declared.trace.Trace.{Trace}
 use Rattle.qu_world.specs.State.{WorldState, ring_of, numbered, letter_of, opening_clients}
 use Rattle.qu_world.specs.Step.{world_step, at_replica, at_client, received, delivered}
 use Rattle.qu_world.proofs.Each.{with_cases}
-use Rattle.qu_runs.specs.Times.{world_after}
+use Rattle.qu_claims.specs.Times.{world_after}
 use Rattle.qu_runs.proofs.Small.{some_entry}
 use Rattle.qu_runs.proofs.WorldGrowth.{world_after-none, world_after-next}
 use Rattle.std.proofs.lemmas.Option.{none-some, same_Some}

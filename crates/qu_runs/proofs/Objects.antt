@@ -3,7 +3,8 @@ use Rattle.std.proofs.Common.{Bool, false, ◌≡◌, ℕ, zero, suc, ◌+◌, �
 use Rattle.std.specs.List.{AllZip}
 use Rattle.qu_base.specs.Bounds.{replicas}
 use Rattle.qu_objects.specs.declared.kind.KindName.{KindName}
-use Rattle.qu_replica.specs.State.{ReplicaState, opening_histories, candidates_in}
+use Rattle.qu_rows.specs.State.{ReplicaState, candidates_in}
+use Rattle.qu_replica.specs.State.{opening_histories}
 use Rattle.qu_replica.specs.Growth.{Grows}
 use Rattle.qu_trace.specs.declared.trace.Setup.{Setup}
 use Rattle.std.specs.Prelude.{if◌then◌else◌}
@@ -15,14 +16,14 @@ use Rattle.qu_seal.specs.Keys.{Ring}
 use Rattle.std.specs.Prelude.{slice_get}
 use Rattle.std.proofs.lemmas.Option.{none-some, same_Some, slice_get_within}
 use Rattle.qu_trace.specs.declared.trace.Trace.{Trace}
-use Rattle.qu_runs.specs.Times.{world_after}
+use Rattle.qu_claims.specs.Times.{world_after}
 use Rattle.qu_runs.proofs.WorldGrowth.{world_after-grows, world_after-none}
 use Rattle.qu_stamp.specs.declared.candidate.Candidate.{Candidate}
 use Rattle.qu_chain.proofs.Counting.{Found, found_at}
 use Rattle.qu_history.specs.History.{ObjectHistory, holds}
 use Rattle.qu_base.specs.declared.party.ObjectId.{ObjectId}
-use Rattle.qu_runs.specs.Accepted.{accepts}
-use Rattle.qu_chain.specs.Count.{test_at}
+use Rattle.qu_claims.specs.Accepted.{accepts}
+use Rattle.qu_claims.specs.Count.{test_at}
 use Rattle.std.proofs.lemmas.Bool.{false≢true}
 
 abbrev pub EachHas : ℕ → List ReplicaState → Type 0

@@ -17,17 +17,18 @@ use Rattle.qu_stamp.specs.Candidate.{opening, same}
 use Rattle.qu_stamp.proofs.Order.{equal_by_same, same-self}
 use Rattle.qu_history.specs.History.{holds}
 use Rattle.qu_objects.specs.declared.kind.KindName.{KindName}
-use Rattle.qu_replica.specs.State.{ReplicaState, candidates_in, own_candidates, opening_histories, opening_state}
+use Rattle.qu_rows.specs.State.{ReplicaState, candidates_in, own_candidates}
+use Rattle.qu_replica.specs.State.{opening_histories, opening_state}
 use Rattle.qu_trace.specs.declared.trace.Trace.{Trace}
 use Rattle.qu_world.specs.State.{WorldState, kinds_at, opening_replicas, ring_of}
-use Rattle.qu_runs.specs.Times.{world_after}
+use Rattle.qu_claims.specs.Times.{world_after}
 use Rattle.qu_runs.proofs.WorldGrowth.{world_after-none, world_after-grows}
 use Rattle.qu_runs.proofs.Befores.{WasBefore, grown_from}
 use Rattle.qu_seal.specs.Keys.{Ring}
 use Rattle.std.proofs.lemmas.List.Elements.{length_all_zip}
 use Rattle.qu_replica.specs.Growth.{Grows}
-use Rattle.qu_runs.specs.Accepted.{accepts}
-use Rattle.qu_chain.specs.Count.{test_at}
+use Rattle.qu_claims.specs.Accepted.{accepts}
+use Rattle.qu_claims.specs.Count.{test_at}
 
 -- a replica begins with its place as its name
 opening_replica : (number count : ℕ) (keys : Ring) (kinds : ℕ → List KindName) (place : ℕ) (state : ReplicaState)

@@ -15,7 +15,7 @@ use Rattle.qu_base.specs.Bounds.{replicas}
 use Rattle.qu_base.specs.Format.{AreBytes}
 use Rattle.qu_frames.specs.declared.frame.Letter.{Letter}
 use Rattle.qu_frames.specs.Signing.{sender, brought}
-use Rattle.qu_replica.specs.State.{ReplicaState}
+use Rattle.qu_rows.specs.State.{ReplicaState}
 use Rattle.qu_replica.specs.Step as replica
 use Rattle.qu_client.specs.declared.state.ClientState.{ClientState}
 use Rattle.qu_client.specs.declared.state.Stepped.{Stepped}
@@ -28,14 +28,14 @@ use Rattle.qu_trace.specs.declared.trace.Trace.{Trace}
 use Rattle.qu_world.specs.State.{WorldState, ring_of, numbered, with_numbered}
 use Rattle.qu_world.specs.Step.{recorded, unchanged, ended_by, at_replica, at_client, received}
 use Rattle.qu_world.proofs.Each.{each_at}
-use Rattle.qu_runs.specs.Times.{world_after}
+use Rattle.qu_claims.specs.Times.{world_after}
 use Rattle.qu_trace.specs.declared.trace.Setup.{Setup}
 use Rattle.qu_trace.specs.Faulty.{is_faulty}
-use Rattle.qu_runs.specs.Carried.{handed}
-use Rattle.qu_runs.specs.Premises.{HasSent, AreUnforged, IsUnforgedAt, IsUnforged}
+use Rattle.qu_claims.specs.Carried.{handed}
+use Rattle.qu_claims.specs.Premises.{HasSent, AreUnforged, IsUnforgedAt, IsUnforged}
 use Rattle.qu_runs.proofs.Handing.{offered_handed}
 use Rattle.qu_runs.specs.Plain.{HasEventParts, HaveParts, IsIgnored, IsPlain, ArePlain}
-use Rattle.qu_runs.specs.Digested.{is_handler, request_brought, request_to}
+use Rattle.qu_claims.specs.Handled.{is_handler, request_brought, request_to}
 use Rattle.qu_runs.proofs.Keyed.{HasKeys, clients_keyed}
 use Rattle.qu_runs.proofs.OpeningReplicas.{keys_are, me_is}
 use Rattle.qu_runs.proofs.WorldGrowth.{world_after-none, world_after-grows}

@@ -9,7 +9,7 @@ use Rattle.qu_base.specs.declared.party.Party.TheVariants as party
 use Rattle.qu_base.specs.declared.party.ReplicaId.{ReplicaId}
 use Rattle.qu_objects.specs.declared.op.Op.{Op}
 use Rattle.qu_frames.specs.declared.frame.Letter.{Letter}
-use Rattle.qu_replica.specs.State.{ReplicaState}
+use Rattle.qu_rows.specs.State.{ReplicaState}
 use Rattle.qu_replica.specs.Step.{replica_step}
 use Rattle.qu_client.specs.declared.state.ClientState.{ClientState}
 use Rattle.qu_client.specs.Steps.{client_invoke, client_step, client_tick}
@@ -21,9 +21,9 @@ use Rattle.qu_world.specs.State.{WorldState, opening_world, numbered, letter_of}
 use Rattle.qu_world.specs.Step.{world_step, unchanged, at_replica, at_client, received, delivered, ended_by}
 use Rattle.qu_world.specs.Run.{run_from, events_of, IsRun}
 use Rattle.qu_world.proofs.RunLaws.{step_records}
-use Rattle.qu_runs.specs.Times.{world_after}
+use Rattle.qu_claims.specs.Times.{world_after}
 use Rattle.qu_runs.proofs.WorldGrowth.{world_after-next}
-use Rattle.qu_runs.specs.Carried.{handed}
+use Rattle.qu_claims.specs.Carried.{handed}
 use Rattle.qu_runs.specs.Plain.{IsFrom, IsPlain, ArePlain}
 use Rattle.qu_runs.proofs.Handing.{letter_handed, injected_cases}
 use Rattle.qu_trace.specs.Letters.{letters_of}

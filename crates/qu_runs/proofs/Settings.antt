@@ -4,17 +4,17 @@ use Rattle.std.specs.List.{list_any}
 use Rattle.std.proofs.lemmas.Bool.{false≢true, or_cases, or_left, or_right}
 use Rattle.qu_base.specs.declared.party.ObjectId.{ObjectId}
 use Rattle.qu_stamp.specs.declared.candidate.Candidate.{Candidate}
-use Rattle.qu_chain.specs.Count.{test_at, count}
-use Rattle.qu_replica.specs.State.{ReplicaState}
-use Rattle.qu_runs.specs.Accepted.{accepts, is_accepted}
-use Rattle.qu_chain.specs.Setting.{IsAccepted, acceptors}
+use Rattle.qu_claims.specs.Count.{test_at, count}
+use Rattle.qu_rows.specs.State.{ReplicaState}
+use Rattle.qu_claims.specs.Accepted.{accepts, is_accepted}
+use Rattle.qu_claims.specs.Setting.{IsAccepted, acceptors}
 use Rattle.qu_trace.specs.declared.trace.Trace.{Trace}
 use Rattle.qu_runs.proofs.OpeningReplicas.{acceptor_is_good, all_replicas}
 use Rattle.qu_chain.proofs.Counting.{count-same, count-test_at, count-some}
 use Rattle.std.specs.Prelude.{count_by, ◌&&◌}
 use Rattle.qu_trace.specs.Faulty.{is_good}
-use Rattle.qu_runs.specs.Setting.{setting}
-use Rattle.qu_runs.specs.Times.{world_after}
+use Rattle.qu_claims.specs.RunSetting.{setting}
+use Rattle.qu_claims.specs.Times.{world_after}
 use Rattle.qu_chain.proofs.Ancestry.{Acceptor, acceptor}
 use Rattle.qu_base.specs.Bounds.{replicas}
 

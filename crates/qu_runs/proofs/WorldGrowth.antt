@@ -9,7 +9,7 @@ use Rattle.std.proofs.lemmas.List.Sums.{sum_by-cons}
 use Rattle.qu_base.specs.declared.party.ObjectId.{ObjectId}
 use Rattle.qu_stamp.specs.declared.candidate.Candidate.{Candidate}
 use Rattle.qu_history.specs.History.{holds}
-use Rattle.qu_replica.specs.State.{ReplicaState, own_candidates}
+use Rattle.qu_rows.specs.State.{ReplicaState, own_candidates}
 use Rattle.qu_replica.specs.Growth.{Grows}
 use Rattle.qu_trace.specs.declared.event.Event.{Event}
 use Rattle.qu_trace.specs.declared.trace.Entry.{Entry}
@@ -19,8 +19,8 @@ use Rattle.qu_world.specs.Step.{world_step}
 use Rattle.qu_world.specs.Growth.{GrowsTo}
 use Rattle.qu_world.specs.Run.{run_from, run, events_of}
 use Rattle.qu_world.proofs.WorldGrowth.{grows_to-self, run_from-grows}
-use Rattle.qu_runs.specs.Accepted.{accepts, is_accepted}
-use Rattle.qu_runs.specs.Times.{world_after}
+use Rattle.qu_claims.specs.Accepted.{accepts, is_accepted}
+use Rattle.qu_claims.specs.Times.{world_after}
 use Rattle.qu_world.proofs.RunLaws.{run_more}
 
 -- the world after one event more

@@ -1,9 +1,1 @@
-pub mod Times
-pub mod Answers
 pub mod Plain
-pub mod Accepted
-pub mod Setting
-pub mod Decided
-pub mod Digested
-pub mod Carried
-pub mod Premises

@@ -18,9 +18,9 @@ use Rattle.qu_trace.specs.declared.trace.Trace.{Trace}
 use Rattle.qu_world.specs.State.{WorldState, ring_of, letter_of}
 use Rattle.qu_trace.specs.Faulty.{is_faulty}
 use Rattle.qu_world.specs.Step.{world_step, unchanged}
-use Rattle.qu_runs.specs.Digested.{request_to}
-use Rattle.qu_runs.specs.Premises.{IsUnforged}
-use Rattle.qu_runs.specs.Times.{world_after}
+use Rattle.qu_claims.specs.Handled.{request_to}
+use Rattle.qu_claims.specs.Premises.{IsUnforged}
+use Rattle.qu_claims.specs.Times.{world_after}
 
 -- the parts of an operation are those of an act or a query, and the numbers of an act fit their bytes
 abbrev pub HasOpParts : Op → Type 0

@@ -7,7 +7,7 @@ use Rattle.qu_stamp.specs.declared.candidate.Candidate.{Candidate}
 use Rattle.qu_stamp.specs.Stamp.{is_below}
 use Rattle.qu_stamp.specs.Candidate.{opening}
 use Rattle.qu_chain.specs.Laws.{Laws}
-use Rattle.qu_chain.specs.Decided.{IsDecided, IsTop, IsDecidedBy}
+use Rattle.qu_claims.specs.Decided.{IsDecided, IsTop, IsDecidedBy}
 use Rattle.qu_chain.specs.Joint.{Joint}
 use Rattle.qu_chain.proofs.Ancestry.{Acceptor, acceptor, accepted_by_decided, decided-later, some-later}
 use Rattle.qu_chain.proofs.Tops.{top, under_top}
@@ -22,9 +22,9 @@ use Rattle.qu_machine.specs.Machine.{act_values}
 use Rattle.qu_machine.specs.Serial.{Stands}
 use Rattle.qu_trace.specs.declared.trace.Trace.{Trace}
 use Rattle.qu_trace.specs.Operation.{operations_of}
-use Rattle.qu_runs.specs.Decided.{TookEffect}
-use Rattle.qu_runs.specs.Digested.{IsHandled, IsMadeFor}
-use Rattle.qu_runs.specs.Setting.{setting}
+use Rattle.qu_claims.specs.Effects.{TookEffect}
+use Rattle.qu_claims.specs.Handled.{IsHandled, IsMadeFor}
+use Rattle.qu_claims.specs.RunSetting.{setting}
 use Rattle.qu_runs.specs.Plain.{ArePlain}
 use Rattle.qu_rounds.specs.Invocations.{IsRequestOf}
 use Rattle.qu_world.specs.Run.{IsRun}
@@ -32,10 +32,11 @@ use Rattle.qu_trace.specs.Faulty.{is_faulty}
 use Rattle.qu_base.specs.declared.party.ClientId.{ClientId}
 use Rattle.qu_base.specs.declared.party.Party.TheVariants as party
 use Rattle.qu_frames.specs.declared.frame.Body.TheVariants as body
-use Rattle.qu_points.specs.Order.{DecidesAt, effect_of, IsOperationPoint, IsPoint, IsPrintedOrder}
-use Rattle.qu_points.specs.Points.{IsOfCorrect, point_at}
-use Rattle.qu_values.specs.Updates.{Update, IsOf, IsEverAccepted}
-use Rattle.qu_grounds.specs.Parts.{Names}
+use Rattle.qu_claims.specs.Order.{DecidesAt}
+use Rattle.qu_safety.proofs.OwnedPoints.{IsOperationPoint, HasOwner, IsOwnedOrder}
+use Rattle.qu_points.specs.Points.{effect_of, IsOfCorrect, point_at}
+use Rattle.qu_claims.specs.Updates.{Update, IsOf, IsEverAccepted}
+use Rattle.qu_claims.specs.Parts.{Names}
 use Rattle.qu_points.proofs.Folding.{IsQuestion}
 use Rattle.qu_safety.proofs.OwnClients.{on_named}
 use Rattle.qu_values.proofs.MachineValues.{IsValues, object_known, known_object, stay, change}
@@ -213,7 +214,7 @@ module _ (trace : Trace) (laws : Laws (setting trace)) (joint : Joint (setting t
       }
 
   -- the point of an operation at a step that decides its update
-  pub turn_point : (operation : OpRecord) → Contains (operations_of trace.entries) operation
+  pub turn_point : (operation : OpRecord) → Contains (operations_of trace) operation
       → IsOfCorrect trace.setup operation → (parts : List (ObjectId × Method)) → operation.op ≡ op.Act parts
       → (time : ℕ) (object : ObjectId) (candidate : Candidate)
       → IsOf trace (record { client = operation.client; number = operation.number; parts = parts }) object candidate
@@ -233,7 +234,7 @@ module _ (trace : Trace) (laws : Laws (setting trace)) (joint : Joint (setting t
   }
 
   -- an operation of which a candidate is decided before its reply has a point before it
-  pub act_has_point : (operation : OpRecord) → Contains (operations_of trace.entries) operation
+  pub act_has_point : (operation : OpRecord) → Contains (operations_of trace) operation
       → IsOfCorrect trace.setup operation → (parts : List (ObjectId × Method)) → operation.op ≡ op.Act parts
       → (reply : ℕ) → 1 ≤ reply → reply ≤ length trace.entries → (object : ObjectId) (candidate : Candidate)
       → IsOf trace (record { client = operation.client; number = operation.number; parts = parts }) object candidate
@@ -257,7 +258,7 @@ module _ (trace : Trace) (laws : Laws (setting trace)) (joint : Joint (setting t
   -- a point of the run at the event of this step, of the update
   record PointOf (time : ℕ) (update : Update) : Type 0 where
     point : Point
-    is_point : IsPoint trace point
+    is_point : HasOwner trace point
     event : point.event ≡ suc time
     is_act : point.op ≡ op.Act update.parts
 
@@ -317,7 +318,7 @@ module _ (trace : Trace) (laws : Laws (setting trace)) (joint : Joint (setting t
   same_parts : (parts others : List (ObjectId × Method)) → op.Act parts ≡ op.Act others → parts ≡ others
   same_parts parts others same = cc
 
-  pub point_update : (point : Point) (parts : List (ObjectId × Method)) → point.op ≡ op.Act parts → IsPoint trace point
+  pub point_update : (point : Point) (parts : List (ObjectId × Method)) → point.op ≡ op.Act parts → HasOwner trace point
       → UpdateAt point parts
   point_update point parts is (inl it) = record {
     client = (it.operation).client;
@@ -346,7 +347,7 @@ module _ (trace : Trace) (laws : Laws (setting trace)) (joint : Joint (setting t
 
   -- an event without a point of an update leaves the values
   pub quiet_values : IsRun trace → ArePlain trace → ClientFacts trace → (order : List Point)
-      → IsPrintedOrder trace order
+      → IsOwnedOrder trace order
       → (time : ℕ) (values : List Value) → time < length trace.entries → Values time values
       → ((point : Point) → Contains order point → point.event ≡ suc time → IsQuestion point.op)
       → Values (suc time) values
@@ -362,7 +363,7 @@ module _ (trace : Trace) (laws : Laws (setting trace)) (joint : Joint (setting t
       (quiet it.point (printed.complete it.point it.is_point) it.event))
 
   -- one with such a point does what the update does
-  pub loud_values : (order : List Point) → IsPrintedOrder trace order → (time : ℕ) (values : List Value) (point : Point)
+  pub loud_values : (order : List Point) → IsOwnedOrder trace order → (time : ℕ) (values : List Value) (point : Point)
       (parts : List (ObjectId × Method)) → time < length trace.entries → Values time values
       → Contains order point → point.event ≡ suc time → point.op ≡ op.Act parts
       → Values (suc time) (act_values values parts)

@@ -4,7 +4,7 @@ use Rattle.std.specs.Prelude.{Contains}
 use Rattle.std.specs.List.{AllZip}
 use Rattle.std.proofs.lemmas.List.Elements.{All-nil, All-cons, All-head, All-tail, Contains-get_or}
 use Rattle.qu_base.specs.declared.party.ObjectId.{ObjectId}
-use Rattle.qu_grounds.specs.Parts.{Names}
+use Rattle.qu_claims.specs.Parts.{Names}
 
 -- the objects of a list
 abbrev pub objects_in : {X : Type 0} → List (ObjectId × X) → List ObjectId

@@ -17,18 +17,20 @@ use Rattle.qu_objects.specs.declared.query.Ask.{Ask}
 use Rattle.qu_client.specs.Steps.{fitting}
 use Rattle.qu_machine.specs.declared.record.OpRecord.{OpRecord}
 use Rattle.qu_machine.specs.Serial.{Completes}
-use Rattle.qu_replica.specs.State.{own_candidates}
+use Rattle.qu_rows.specs.State.{own_candidates}
 use Rattle.qu_trace.specs.declared.trace.Trace.{Trace}
 use Rattle.qu_trace.specs.Operation.{operations_of}
 use Rattle.qu_world.specs.Run.{IsRun}
 use Rattle.qu_objects.specs.declared.act.Method.{Method}
-use Rattle.qu_values.specs.Replies.{culled_in, HasTold}
-use Rattle.qu_rounds.specs.Completions.{Replied, IsCompleted}
-use Rattle.qu_runs.specs.Setting.{setting}
-use Rattle.qu_safety.specs.Quorums.{ActOfQuorum, ToldFrom, QueryOfQuorum, IsOfQuorum, CompletesByQuorums}
+use Rattle.qu_replies.specs.Replies.{culled_in, HasTold}
+use Rattle.qu_claims.specs.Completions.{Replied, IsCompleted}
+use Rattle.qu_claims.specs.RunSetting.{setting}
+use Rattle.qu_claims.specs.Quorums.{ActOfQuorum, ToldFrom, QueryOfQuorum, IsOfQuorum, CompletesByQuorums}
 use Rattle.qu_runs.specs.Plain.{ArePlain}
-use Rattle.qu_safety.proofs.CompletedActs.{CompletedAct, completed_act}
-use Rattle.qu_safety.proofs.CompletedQueries.{IsTold, told_by_fit, ToldBefore, tells_by_reply, query_asked}
+use Rattle.qu_safety.proofs.ToldParts.{CompletedAct}
+use Rattle.qu_safety.proofs.CompletedActs.{completed_act}
+use Rattle.qu_safety.proofs.ToldAnswers.{IsTold, told_by_fit, ToldBefore, tells_by_reply}
+use Rattle.qu_safety.proofs.CompletedQueries.{query_asked}
 use Rattle.qu_values.proofs.ClientFacts.{ClientFacts}
 use Rattle.qu_safety.proofs.Along.{objects_in, all_beside}
 use Rattle.qu_values.proofs.UpdateFacts.{UpdateFacts}
@@ -57,7 +59,7 @@ module _ (trace : Trace) (is_run : IsRun trace) (have : ArePlain trace) (clients
       Highest told = (held : Candidate) → holds held (own_candidates (tells.reply).old told.0) ≡ true
           → is_below told.1 held.stamp ≡ false
 
-  query_of_quorum : (operation : OpRecord) → Contains (operations_of trace.entries) operation
+  query_of_quorum : (operation : OpRecord) → Contains (operations_of trace) operation
       → (reply : ℕ) (answer : Answer) → IsCompleted trace operation reply answer
       → (query : List (ObjectId × Ask)) → operation.op ≡ op.Query query
       → QueryOfQuorum trace operation query reply answer
@@ -102,7 +104,7 @@ module _ (trace : Trace) (is_run : IsRun trace) (have : ArePlain trace) (clients
       same_act first second same = cc
 
   of_quorum : (operation : OpRecord) (reply : ℕ) (answer : Answer)
-      → Contains (operations_of trace.entries) operation → Completes operation reply answer
+      → Contains (operations_of trace) operation → Completes operation reply answer
       → (done : IsCompleted trace operation reply answer)
       → (what : Op) → operation.op ≡ what → IsOfQuorum trace operation reply done.verdict answer what
   of_quorum operation reply answer among completes done (op.Act act) is =

@@ -2,7 +2,6 @@
 -- candidate's version.
 use Rattle.std.proofs.Common.{◌≡◌, ◌≢◌, ℕ, ◌+◌, ◌-◌, ◌<◌, ◌≤◌, Bool, true, List, [], ◌∷◌, length, Some, refl, sym, ap, subst, ◌∙◌, arith, inl, inr, All, AllPairs}
 use Rattle.std.specs.Prelude.{Contains}
-use Rattle.std.proofs.lemmas.Bool.{false≢true, or_cases, eqb-true}
 use Rattle.std.proofs.lemmas.List.Elements.{All-nil, All-cons, All-head, All-tail, All-weaker, All-contains}
 use Rattle.std.proofs.lemmas.Option.{slice_get_within}
 use Rattle.qu_base.specs.declared.party.ClientId.{ClientId}
@@ -11,10 +10,10 @@ use Rattle.qu_base.specs.declared.party.ObjectId.{ObjectId}
 use Rattle.qu_base.specs.Bounds.{replicas, quorum}
 use Rattle.qu_stamp.specs.declared.stamp.Stamp.{Stamp}
 use Rattle.qu_stamp.specs.declared.candidate.Candidate.{Candidate}
-use Rattle.qu_chain.specs.Count.{count, test_at}
-use Rattle.qu_chain.specs.Setting.{acceptors}
+use Rattle.qu_claims.specs.Count.{count, test_at}
+use Rattle.qu_claims.specs.Setting.{acceptors}
 use Rattle.qu_chain.specs.Laws.{Laws}
-use Rattle.qu_chain.specs.Decided.{IsDecided}
+use Rattle.qu_claims.specs.Decided.{IsDecided}
 use Rattle.qu_chain.specs.Joint.{Joint}
 use Rattle.qu_chain.proofs.Ancestry.{accepted-later, decided-later, established-later}
 use Rattle.qu_chain.proofs.Counting.{count-more, test_at-here}
@@ -23,10 +22,8 @@ use Rattle.qu_objects.specs.declared.answer.Answer.{Answer}
 use Rattle.qu_objects.specs.declared.op.Op.{Op}
 use Rattle.qu_objects.specs.declared.op.Op.TheVariants as op
 use Rattle.qu_objects.specs.declared.op.Outcome.TheVariants as outcome
-use Rattle.qu_objects.specs.declared.state.ObjState.{ObjState}
 use Rattle.qu_frames.specs.declared.verdict.Verdict.{Verdict}
 use Rattle.qu_frames.specs.declared.verdict.Verdict.TheVariants as verdict
-use Rattle.qu_frames.specs.Body.{body_of}
 use Rattle.qu_frames.specs.Verdict.{same_verdict}
 use Rattle.qu_client.specs.Steps.{fitting}
 use Rattle.qu_machine.specs.declared.record.OpRecord.{OpRecord}
@@ -34,145 +31,32 @@ use Rattle.qu_trace.specs.declared.trace.Trace.{Trace}
 use Rattle.qu_trace.specs.Operation.{operations_of}
 use Rattle.qu_world.specs.Run.{IsRun}
 use Rattle.qu_objects.specs.Digesting.{act_digest}
-use Rattle.qu_safety.proofs.Along.{objects_in, all_along, all_contained, Named, first_named}
-use Rattle.qu_values.proofs.OneAct.{act_by}
-use Rattle.qu_runs.specs.Digested.{IsHandled, IsMadeFor}
-use Rattle.qu_rounds.specs.Completions.{RepliedAt, Replied, IsCompleted}
-use Rattle.qu_runs.specs.Accepted.{accepts}
-use Rattle.qu_runs.specs.Setting.{setting}
-use Rattle.qu_rounds.specs.Invocations.{IsRequestOf}
-use Rattle.qu_runs.specs.Times.{world_after}
+use Rattle.qu_safety.proofs.Along.{all_along, all_contained, Named, first_named}
+use Rattle.qu_claims.specs.Handled.{IsHandled}
+use Rattle.qu_claims.specs.Completions.{RepliedAt, Replied, IsCompleted}
+use Rattle.qu_claims.specs.Accepted.{accepts}
+use Rattle.qu_claims.specs.RunSetting.{setting}
+use Rattle.qu_claims.specs.Times.{world_after}
 use Rattle.qu_runs.proofs.Settings.{acceptors_are, acceptors_counted}
-use Rattle.qu_values.specs.Replies.{Keeps, HasDone, TellsDone, HasKept, TellsAlready, IsOfUpdate, IsReplyTo, culled_in}
-use Rattle.qu_safety.specs.Quorums.{PartOfQuorum, ActOfQuorum}
-use Rattle.qu_values.specs.Updates.{IsOf}
-use Rattle.qu_values.specs.Values.{HasVersion}
+use Rattle.qu_replies.specs.Replies.{HasDone, TellsDone, HasKept, TellsAlready, IsReplyTo, culled_in}
+use Rattle.qu_claims.specs.Quorums.{PartOfQuorum}
 use Rattle.qu_runs.specs.Plain.{ArePlain}
 use Rattle.qu_rounds.proofs.Endings.{EndsAt, operation_ends}
 use Rattle.qu_values.proofs.ClientFacts.{ClientFacts}
 use Rattle.qu_values.proofs.Updates.{same_accepted}
 use Rattle.qu_values.proofs.EverAccepted.{place_ever, held_ever}
 use Rattle.qu_rounds.proofs.Members.{is_among, members_count}
-use Rattle.qu_points.proofs.Recorded.{recorded_op}
-use Rattle.qu_values.proofs.RepliesInRuns.{IsActOn, act_of_update, update_handled, done_in_run, already_in_run}
+use Rattle.qu_replies.proofs.RepliesInRuns.{IsActOn, act_of_update, done_in_run, already_in_run}
 use Rattle.qu_safety.proofs.KeptParts.{KeptPart, kept_part}
-use Rattle.qu_grounds.proofs.AskedLetters.{AskedBy}
-use Rattle.qu_safety.proofs.OwnClients.{own_client}
-use Rattle.qu_values.proofs.Replying.{reply_sent, reply_letter}
 use Rattle.qu_values.proofs.StoredValues.{version_is}
 use Rattle.qu_values.proofs.UpdateFacts.{UpdateFacts}
 use Rattle.qu_rounds.proofs.Verdicts.{fits_act, equal_done, equal_already}
 use Rattle.qu_runs.proofs.Small.{some_member, quorum_outnumbers}
-use Rattle.qu_runs.proofs.Carrying.{tells_as}
-
--- what a completed act rests on: a candidate of it, decided in the world before the event of the reply
-pub record CompletedAct (trace : Trace) (operation : OpRecord) (reply : ℕ) (told : Verdict) (answer : Answer)
-    : Type 0 where
-  pub parts : List (ObjectId × Method)
-  pub is_act : operation.op ≡ op.Act parts
-  pub object : ObjectId
-  pub candidate : Candidate
-  pub is_of : IsOf trace (record { client = operation.client; number = operation.number; parts = parts }) object
-      candidate
-  pub version : ObjState
-  pub has : HasVersion trace object candidate version
-  pub keeps : Keeps operation.client operation.number (act_digest operation.client operation.number parts) answer
-      version
-  pub decided : IsDecided (setting trace) (reply - 1) object candidate
-  pub of_quorum : ActOfQuorum trace operation parts reply told
-  pub within : reply ≤ length trace.entries
-  pub begins : 1 ≤ reply
-
--- ---- counts
-
--- what holds of all members holds of each number among them
-among_all : (P : ℕ → Type 0) (members : List ℕ) → All P members → (index : ℕ) → is_among members index ≡ true → P index
-among_all P [] all index among = absurd (false≢true among)
-among_all P (member ∷ members) all index among =
-    elim (or_cases _ (is_among members index) among) [
-      | inl here ↦ subst P (eqb-true member index here) (All-head P member members all)
-      | inr later ↦ among_all P members (All-tail P member members all) index later
-    ]
-
--- ---- members
-
--- on an object of the operation, the replica has a candidate of it after so many events, and its version keeps the
--- answer
-record HasPart (trace : Trace) (operation : OpRecord) (parts : List (ObjectId × Method)) (answer : Answer)
-    (time replica : ℕ) (told : ObjectId × Stamp) : Type 0 where
-  candidate : Candidate
-  is_told : candidate.stamp ≡ told.1
-  made : IsMadeFor trace candidate operation.client operation.number parts
-  accepted : (setting trace).accepted time told.0 replica candidate ≡ true
-  version : ObjState
-  has : HasVersion trace told.0 candidate version
-  keeps : Keeps operation.client operation.number (act_digest operation.client operation.number parts) answer version
-
--- on each of them
-record HasAll (trace : Trace) (operation : OpRecord) (parts : List (ObjectId × Method)) (answer : Answer)
-    (stamps : List (ObjectId × Stamp)) (time replica : ℕ) : Type 0 where
-  some : 1 ≤ length parts
-  of_parts : objects_in stamps ≡ objects_in parts
-  each : All (HasPart trace operation parts answer time replica) stamps
-
-same_acts : (first second : List (ObjectId × Method)) → op.Act first ≡ op.Act second → first ≡ second
-same_acts first second same = cc
-
-module _ (trace : Trace) (is_run : IsRun trace) (have : ArePlain trace) (clients : ClientFacts trace)
-    (operation : OpRecord) (among : Contains (operations_of trace.entries) operation)
-    (parts : List (ObjectId × Method)) (is_act : operation.op ≡ op.Act parts) where
-  -- what is told of an update to this client and number is told of its parts
-  told_parts : (at : ℕ) (below : at < length trace.entries) (replica round : ℕ) (given : Verdict)
-      (of_update : IsOfUpdate given)
-      (reply : IsReplyTo trace at replica operation.client operation.number round given)
-      → (act_of_update trace is_run have at below replica operation.client operation.number round given of_update
-      reply).parts ≡ parts
-  told_parts at below replica round given of_update reply =
-      let client : ClientId = operation.client in
-      let number : ℕ = operation.number in
-      let asks : IsActOn reply.body =
-      act_of_update trace is_run have at below replica client number round given of_update reply in
-      let letter : AskedBy trace at client number round reply.sets reply.body =
-      reply_letter trace is_run have at below replica client number round given reply
-      (own_client trace is_run operation among) in
-      let request : IsRequestOf trace at client number reply.body =
-      clients.asks at letter.asked letter.letter client number round reply.sets reply.body (record {
-        within = omega arith;
-        is_letter = letter.is_letter;
-        is_request = letter.is_request;
-      }) in
-      let same : request.operation ≡ operation =
-      recorded_op trace request.operation operation request.of_trace among
-      (ap (λ (it : ClientId). it.0) request.of_client) request.of_number in
-      same_acts asks.parts parts (sym (act_by asks.parts operation.op
-      (sym asks.is_act ∙ request.asks ∙ ap (λ (it : OpRecord). body_of it.op) same)) ∙ is_act)
-
-  -- and so the replica handled it
-  told_handled : (at : ℕ) (below : at < length trace.entries) (replica round : ℕ) (given : Verdict)
-      (of_update : IsOfUpdate given)
-      → IsReplyTo trace at replica operation.client operation.number round given
-      → IsHandled trace operation.client operation.number parts
-  told_handled at below replica round given of_update reply =
-      subst (IsHandled trace operation.client operation.number)
-      (told_parts at below replica round given of_update reply)
-      (update_handled trace is_run have at below replica operation.client operation.number round given of_update reply)
-
-  -- a reply that was sent with this verdict
-  reply_of : (before round : ℕ) (given : Verdict) (replica : ℕ)
-      (replied : Replied trace before operation.client operation.number round given replica)
-      → (replied.replied).told ≡ given
-      → IsReplyTo trace replied.at replica operation.client operation.number round given
-  reply_of before round given replica replied told =
-      let sent : RepliedAt trace replied.at operation.client operation.number round given replica = replied.replied in
-      reply_sent trace is_run have replied.at (slice_get_within trace.entries replied.at sent.entry sent.is_entry)
-      sent.entry sent.is_entry sent.letter sent.sent (record { 0 = replica })
-      operation.client operation.number round given sent.shown
-      (tells_as sent.letter (record { 0 = replica }) operation.client operation.client operation.number
-      operation.number round round sent.told given sent.shown refl refl refl told sent.is_reply)
+use Rattle.qu_safety.proofs.ToldParts.{CompletedAct, among_all, HasPart, HasAll, told_parts, told_handled, reply_of}
 
 module _ (trace : Trace) (is_run : IsRun trace) (have : ArePlain trace) (clients : ClientFacts trace)
     (laws : Laws (setting trace)) (joint : Joint (setting trace)) (facts : UpdateFacts trace) (operation : OpRecord)
-    (among : Contains (operations_of trace.entries) operation) (parts : List (ObjectId × Method))
+    (among : Contains (operations_of trace) operation) (parts : List (ObjectId × Method))
     (is_act : operation.op ≡ op.Act parts) (answer : Answer) (stamps : List (ObjectId × Stamp))
   where
     abbrev Part : ℕ → ℕ → ObjectId × Stamp → Type 0
@@ -381,7 +265,7 @@ module _ (trace : Trace) (is_run : IsRun trace) (have : ArePlain trace) (clients
 -- an act that was told Already was done before, as each of the replicas says that told it
 module _ (trace : Trace) (is_run : IsRun trace) (have : ArePlain trace) (clients : ClientFacts trace)
     (laws : Laws (setting trace)) (joint : Joint (setting trace)) (facts : UpdateFacts trace) (operation : OpRecord)
-    (among : Contains (operations_of trace.entries) operation) (parts : List (ObjectId × Method))
+    (among : Contains (operations_of trace) operation) (parts : List (ObjectId × Method))
     (is_act : operation.op ≡ op.Act parts) (answer : Answer) where
   abbrev Kept : ℕ → ObjectId → Type 0
   Kept time object = KeptPart trace operation.client operation.number parts answer time object
@@ -488,14 +372,14 @@ module _ (trace : Trace) (is_run : IsRun trace) (have : ArePlain trace) (clients
 -- of every completed act
 pub completed_act : (trace : Trace) → IsRun trace → ArePlain trace → ClientFacts trace → Laws (setting trace)
     → Joint (setting trace) → UpdateFacts trace → (operation : OpRecord)
-    → Contains (operations_of trace.entries) operation
+    → Contains (operations_of trace) operation
     → (reply : ℕ) (answer : Answer) → operation.reply ≡ Some (reply, outcome.Done answer)
     → (done : IsCompleted trace operation reply answer)
     → (act : List (ObjectId × Method)) → operation.op ≡ op.Act act
     → CompletedAct trace operation reply done.verdict answer
 completed_act trace is_run have clients laws joint facts operation among reply answer replied done act is_act =
     let ends : EndsAt trace.entries 1 operation.client operation.number reply (outcome.Done answer) =
-    operation_ends trace.entries operation among reply (outcome.Done answer) replied in
+    operation_ends trace operation among reply (outcome.Done answer) replied in
     let at : reply ≡ 1 + ends.index = ends.is_at in
     let below : ends.index < length trace.entries =
     slice_get_within trace.entries ends.index ends.entry ends.is_entry in

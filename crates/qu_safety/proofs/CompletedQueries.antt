@@ -1,14 +1,12 @@
 -- A completed query answers from the tops of its objects when a replica first answered its round.
-use Rattle.std.proofs.Common.{◌≡◌, ◌≢◌, ℕ, zero, suc, ◌+◌, ◌-◌, ◌<◌, ◌≤◌, Bool, true, false, ◌==◌, List, [], length, Option, None, Some, refl, sym, ap, subst, ◌∙◌, arith, inl, inr, slice_get, All, AllPairs, Contains}
+use Rattle.std.proofs.Common.{◌≡◌, ◌≢◌, ℕ, suc, ◌+◌, ◌-◌, ◌<◌, ◌≤◌, Bool, true, false, ◌==◌, List, length, Some, refl, sym, ap, subst, ◌∙◌, arith, inl, inr, slice_get, All, AllPairs, Contains}
 use Rattle.std.specs.List.{Any, AllZip}
-use Rattle.std.proofs.lemmas.Bool.{false≢true, cases_Bool, cases_lt, and_from, eqb-true, eq-eqb}
+use Rattle.std.proofs.lemmas.Bool.{false≢true, cases_lt, eqb-true}
 use Rattle.std.proofs.lemmas.List.Elements.{All-contains, All-weaker}
-use Rattle.std.proofs.lemmas.List.Folds.{Any-from_list_any, list_any-from_Any}
-use Rattle.std.proofs.lemmas.Option.{none-some, same_Some, slice_get_within}
+use Rattle.std.proofs.lemmas.List.Folds.{Any-from_list_any}
 use Rattle.qu_base.specs.declared.party.ClientId.{ClientId}
 use Rattle.qu_base.specs.declared.party.Party.TheVariants as party
 use Rattle.qu_base.specs.declared.party.ObjectId.{ObjectId}
-use Rattle.qu_base.specs.declared.party.ReplicaId.{ReplicaId}
 use Rattle.qu_base.specs.Bounds.{replicas, quorum, AreThresholds}
 use Rattle.qu_base.proofs.ThresholdFacts.{are_thresholds}
 use Rattle.qu_stamp.specs.declared.stamp.Stamp.{Stamp}
@@ -18,10 +16,10 @@ use Rattle.qu_stamp.proofs.Order.{is_below-not_chain}
 use Rattle.qu_history.specs.declared.sets.SetOf.{SetOf}
 use Rattle.qu_history.specs.History.{ObjectHistory, holds}
 use Rattle.qu_history.specs.Sets.{entries_of, method_at}
-use Rattle.qu_chain.specs.Count.{count, test_at}
-use Rattle.qu_chain.specs.Setting.{acceptors, IsEstablished}
+use Rattle.qu_claims.specs.Count.{count, test_at}
+use Rattle.qu_claims.specs.Setting.{acceptors, IsEstablished}
 use Rattle.qu_chain.specs.Laws.{Laws}
-use Rattle.qu_chain.specs.Decided.{IsTop}
+use Rattle.qu_claims.specs.Decided.{IsTop}
 use Rattle.qu_chain.specs.Joint.{Joint}
 use Rattle.qu_chain.proofs.Ancestry.{Acceptor, acceptor, accepted-later, some-later, accepted_by_attested, attested_by_established}
 use Rattle.qu_chain.proofs.Counting.{count-le, Shared, shared, test_at-here}
@@ -33,49 +31,43 @@ use Rattle.qu_objects.specs.declared.op.Outcome.TheVariants as outcome
 use Rattle.qu_objects.specs.declared.kind.Value.{Value}
 use Rattle.qu_objects.specs.declared.query.Ask.{Ask}
 use Rattle.qu_objects.specs.Performing.{told_answer}
-use Rattle.qu_frames.specs.declared.frame.Body.{Body}
 use Rattle.qu_frames.specs.declared.frame.Body.TheVariants as body
-use Rattle.qu_frames.specs.declared.frame.Letter.{Letter}
-use Rattle.qu_frames.specs.declared.verdict.Verdict.{Verdict}
 use Rattle.qu_frames.specs.declared.verdict.Verdict.TheVariants as verdict
 use Rattle.qu_frames.specs.Body.{body_of}
-use Rattle.qu_frames.specs.Verdict.{same_verdict}
-use Rattle.qu_replica.specs.State.{ReplicaState, own_candidates}
+use Rattle.qu_rows.specs.State.{ReplicaState, own_candidates}
 use Rattle.qu_client.specs.Steps.{fitting}
 use Rattle.qu_machine.specs.declared.record.OpRecord.{OpRecord}
 use Rattle.qu_machine.specs.declared.record.Point.{Point}
 use Rattle.qu_machine.specs.Serial.{Stands}
-use Rattle.qu_trace.specs.declared.trace.Entry.{Entry}
 use Rattle.qu_trace.specs.declared.trace.Trace.{Trace}
 use Rattle.qu_trace.specs.Operation.{operations_of}
 use Rattle.qu_world.specs.Run.{IsRun}
 use Rattle.qu_points.proofs.Recorded.{recorded_op}
-use Rattle.qu_rounds.specs.Completions.{Replied, RepliedAt, IsCompleted}
-use Rattle.qu_runs.specs.Accepted.{accepts}
-use Rattle.qu_runs.specs.Setting.{setting}
+use Rattle.qu_claims.specs.Completions.{Replied, IsCompleted}
+use Rattle.qu_claims.specs.Accepted.{accepts}
+use Rattle.qu_claims.specs.RunSetting.{setting}
 use Rattle.qu_rounds.specs.Invocations.{IsRequestOf}
-use Rattle.qu_runs.specs.Answers.{is_answer, answers, sends_answer, answers_at}
-use Rattle.qu_runs.specs.Times.{world_after}
+use Rattle.qu_claims.specs.Answers.{answers_at}
+use Rattle.qu_claims.specs.Times.{world_after}
 use Rattle.qu_runs.proofs.Settings.{acceptors_counted}
-use Rattle.qu_points.specs.Order.{AnswersFirst, query_effect, effect_of, IsOperationPoint}
+use Rattle.qu_claims.specs.Order.{AnswersFirst, query_effect}
+use Rattle.qu_safety.proofs.OwnedPoints.{IsOperationPoint}
+use Rattle.qu_points.specs.Points.{effect_of, IsOfCorrect, point_at}
 use Rattle.qu_points.proofs.Correct.{operations_correct}
 use Rattle.qu_safety.proofs.OwnClients.{own_client}
-use Rattle.qu_points.specs.Points.{IsOfCorrect, point_at}
-use Rattle.qu_values.specs.Replies.{culled_in, IsReplyTo, HasTold, TellsQuery}
-use Rattle.qu_values.specs.Updates.{IsEverAccepted}
-use Rattle.qu_values.specs.Values.{HasVersion}
+use Rattle.qu_replies.specs.Replies.{culled_in, HasTold}
+use Rattle.qu_claims.specs.Updates.{IsEverAccepted}
+use Rattle.qu_claims.specs.Values.{HasVersion}
 use Rattle.qu_runs.specs.Plain.{ArePlain}
-use Rattle.qu_grounds.specs.Views.{IsOfKept}
-use Rattle.qu_grounds.proofs.Acceptors.{method_is_shown}
-use Rattle.qu_grounds.proofs.HeldInRuns.{held_versions}
-use Rattle.qu_grounds.proofs.HeldVersions.{AreOfHeld, HoldsUnder}
+use Rattle.qu_shown.specs.Views.{IsOfKept}
+use Rattle.qu_laws.proofs.Acceptors.{method_is_shown}
+use Rattle.qu_accepts.proofs.HeldInRuns.{held_versions}
+use Rattle.qu_accepts.proofs.HeldVersions.{AreOfHeld, HoldsUnder}
 use Rattle.qu_runs.proofs.LaterLetters.{letter_later}
 use Rattle.qu_rounds.proofs.Members.{is_among, members_count}
-use Rattle.qu_values.proofs.RepliesInRuns.{IsAskOf, ask_of_told, told_in_run}
-use Rattle.qu_grounds.proofs.AskedLetters.{AskedBy}
+use Rattle.qu_shown.proofs.AskedLetters.{AskedBy}
 use Rattle.qu_trace.specs.Faulty.{is_faulty}
-use Rattle.qu_values.proofs.Replying.{reply_sent, reply_letter}
-use Rattle.qu_rounds.proofs.Verdicts.{equal_told}
+use Rattle.qu_replies.proofs.Replying.{reply_letter}
 use Rattle.qu_safety.proofs.Along.{objects_in, zip_along, zip_weaker, zip_at}
 use Rattle.qu_values.proofs.StoredValues.{version_is}
 use Rattle.qu_values.proofs.UpdateFacts.{HasValue, UpdateFacts}
@@ -84,169 +76,7 @@ use Rattle.qu_values.proofs.Updates.{same_accepted}
 use Rattle.qu_values.proofs.EverAccepted.{held_ever}
 use Rattle.qu_runs.proofs.Small.{some_member, quorum_outnumbers}
 use Rattle.qu_runs.proofs.OpeningReplicas.{bounds_are}
-use Rattle.qu_safety.proofs.PointEvents.{IsReplyIn, reply_in}
-use Rattle.qu_runs.specs.Carried.{Tells}
-use Rattle.qu_history.specs.declared.sealed.Sealed.{Sealed}
-
--- ---- the first number that passes a test
-
-record FirstTrue (test : ℕ → Bool) (most : ℕ) : Type 0 where
-  first : ℕ
-  within : first ≤ most
-  passed : test first ≡ true
-  not_before : (earlier : ℕ) → earlier < first → test earlier ≡ false
-
-none_earlier : (test : ℕ → Bool) (first : ℕ) → test 0 ≡ false →
-    ((earlier : ℕ) → earlier < first → test (suc earlier) ≡ false) → (earlier : ℕ) → earlier < suc first → test earlier
-    ≡ false
-none_earlier test first none later zero below = none
-none_earlier test first none later (suc earlier) below = later earlier (omega arith)
-
-first_later : (test : ℕ → Bool) (most : ℕ) → test 0 ≡ false → FirstTrue (λ (n : ℕ). test (suc n)) most → FirstTrue test
-    (suc most)
-first_later test most none found =
-    let within : found.first ≤ most = found.within in
-    record {
-      first = suc found.first;
-      within = omega arith;
-      passed = found.passed;
-      not_before = none_earlier test found.first none found.not_before;
-    }
-
-first_true : (test : ℕ → Bool) (most : ℕ) → test most ≡ true → FirstTrue test most
-first_true test zero passed = record {
-  first = 0;
-  within = omega arith;
-  passed = passed;
-  not_before = λ earlier below.
-      absurd (omega arith);
-}
-first_true test (suc most) passed =
-    elim (cases_Bool (test 0)) [
-      | inl here ↦ record {
-        first = 0;
-        within = omega arith;
-        passed = here;
-        not_before = λ earlier below. absurd
-            (omega arith);
-      }
-      | inr none ↦ first_later test most none (first_true (λ (n : ℕ). test (suc n)) most passed)
-    ]
-
--- ---- the letters that answer a round
-
--- a reply answers its round
-reply_answers : (client : ClientId) (number round : ℕ) (letter : Letter) (replica : ReplicaId) (told : Verdict)
-    (shown : List Sealed) → Tells letter replica client number round told shown → answers client number round letter ≡
-    true
-reply_answers client number round letter replica told shown is =
-    ap (is_answer client number round) is.carries ∙
-    and_from _ _ (eq-eqb client.0 client.0 refl) (and_from _ _ (eq-eqb number number refl) (eq-eqb round round refl))
-
--- some replica answered the round at the event of this entry
-record IsAnsweredAt (trace : Trace) (client : ClientId) (number round at : ℕ) : Type 0 where
-  below : at < length trace.entries
-  replica : ℕ
-  told : Verdict
-  reply : IsReplyTo trace at replica client number round told
-
-answered_with : (trace : Trace) → IsRun trace → ArePlain trace → (client : ClientId) (number round at : ℕ)
-    (found : Option Entry) → slice_get trace.entries at ≡ found → sends_answer client number round found ≡ true →
-    IsAnsweredAt trace client number round at
-answered_with trace is_run have client number round at None is passed = absurd (false≢true passed)
-answered_with trace is_run have client number round at (Some entry) is passed =
-    let any : Any (λ (letter : Letter). answers client number round letter ≡ true) entry.letters =
-    Any-from_list_any (answers client number round) entry.letters passed in
-    let letter : Letter = any.1 in
-    let answer : IsReplyIn client number round letter = reply_in client number round letter any.4 in
-    let below : at < length trace.entries = slice_get_within trace.entries at entry is in
-    record {
-      below = below;
-      replica = (answer.replica).0;
-      told = answer.verdict;
-      reply = reply_sent trace is_run have at below entry is letter (any.0, any.2, any.3) answer.replica client number
-          round answer.verdict answer.shown answer.is_reply;
-    }
-
-answered_at : (trace : Trace) → IsRun trace → ArePlain trace → (client : ClientId) (number round at : ℕ)
-    → answers_at trace client number round (suc at) ≡ true → IsAnsweredAt trace client number round at
-answered_at trace is_run have client number round at passed =
-    answered_with trace is_run have client number round at (slice_get trace.entries at) refl passed
-
--- nothing is answered at the beginning
-answered_after : (trace : Trace) (client : ClientId) (number round event : ℕ)
-    → answers_at trace client number round event ≡ true → (time : ℕ) × (event ≡ suc time)
-answered_after trace client number round zero passed = absurd (false≢true passed)
-answered_after trace client number round (suc time) passed = (time, refl)
-
--- ---- the replicas that told the answer
-
--- the verdict that fits a query tells its answer
-pub record IsTold (given : Verdict) (answer : Answer) : Type 0 where
-  pub stamps : List (ObjectId × Stamp)
-  pub is_told : given ≡ verdict.Told stamps answer
-
-pub told_by_fit : (query : List (ObjectId × Ask)) (given : Verdict) (answer : Answer) → fitting (op.Query query) given
-    ≡ Some answer → IsTold given answer
-told_by_fit query (verdict.Done stamps other) answer fits = absurd (none-some answer fits)
-told_by_fit query (verdict.Told stamps other) answer fits = record
-    { stamps = stamps; is_told = ap (verdict.Told stamps) (same_Some other answer fits) }
-told_by_fit query (verdict.Already other) answer fits = absurd (none-some answer fits)
-told_by_fit query (verdict.Mended object stamp) answer fits = absurd (none-some answer fits)
-told_by_fit query (verdict.Refused refusal) answer fits = absurd (none-some answer fits)
-
--- the replica told this answer to a query, before an event, from bases with nothing above them
-pub record ToldBefore (trace : Trace) (client : ClientId) (number round before : ℕ) (stamps : List (ObjectId × Stamp))
-    (answer : Answer) (replica : ℕ) : Type 0 where
-  pub at : ℕ
-  pub earlier : at < before
-  pub below : at < length trace.entries
-  pub said : RepliedAt trace at client number round (verdict.Told stamps answer) replica
-  pub answered : answers_at trace client number round (suc at) ≡ true
-  pub reply : IsReplyTo trace at replica client number round (verdict.Told stamps answer)
-  pub query : List (ObjectId × Ask)
-  pub is_ask : reply.body ≡ body.Ask query
-  pub tells : TellsQuery reply.old (culled_in reply.old reply.sets) query stamps answer
-
-pub tells_by_reply : (trace : Trace) → IsRun trace → ArePlain trace → (client : ClientId) (number round before : ℕ)
-    (given : Verdict) (answer : Answer) (told : IsTold given answer) (replica : ℕ) → Replied trace before client number
-    round given replica → ToldBefore trace client number round before told.stamps answer replica
-tells_by_reply trace is_run have client number round before given answer told replica replied =
-    let at : ℕ = replied.at in
-    let it = replied.replied in
-    let letter : Letter = it.letter in
-    let below : at < length trace.entries = slice_get_within trace.entries at it.entry it.is_entry in
-    let is_told : it.told ≡ verdict.Told told.stamps answer =
-    equal_told it.told told.stamps answer (ap (λ (other : Verdict). same_verdict it.told other) (sym told.is_told) ∙
-    it.same) in
-    let me : ReplicaId = record { 0 = replica } in
-    let said : IsReplyTo trace at replica client number round it.told =
-    reply_sent trace is_run have at below it.entry it.is_entry letter it.sent me client number round it.told it.shown
-    it.is_reply in
-    let reply : IsReplyTo trace at replica client number round (verdict.Told told.stamps answer) =
-    subst (IsReplyTo trace at replica client number round) is_told said in
-    let query : IsAskOf reply.body =
-    ask_of_told trace is_run have at below replica client number round told.stamps answer reply in
-    let sent : Contains (it.entry).letters letter = it.sent in
-    record {
-      at = at;
-      earlier = replied.earlier;
-      below = below;
-      said = subst (λ (other : Verdict). RepliedAt trace at client number round other replica) told.is_told it;
-      answered =
-          ap (sends_answer client number round) it.is_entry ∙
-          list_any-from_Any (answers client number round) (it.entry).letters
-          (sent.0, letter, sent.1, sent.2, reply_answers client number round letter me it.told it.shown it.is_reply);
-      reply = reply;
-      query = query.query;
-      is_ask = query.is_ask;
-      tells = told_in_run trace is_run have at below replica client number round told.stamps answer reply;
-    }
-
-abbrev asks_in : Body → List (ObjectId × Ask)
-asks_in (body.Act parts) = []
-asks_in (body.Ask parts) = parts
-asks_in (body.Mend target) = []
+use Rattle.qu_safety.proofs.ToldAnswers.{FirstTrue, first_true, IsAnsweredAt, answered_at, answered_after, IsTold, told_by_fit, ToldBefore, tells_by_reply, asks_in}
 
 -- ---- the point of the query
 
@@ -270,7 +100,7 @@ pub record CompletedQuery (trace : Trace) (operation : OpRecord) (reply : ℕ) (
   pub answer_is : answer ≡ told_answer parts values
 
 -- the point of a completed query is at the event at which it took effect
-pub point_of_query : (trace : Trace) (operation : OpRecord) → Contains (operations_of trace.entries) operation
+pub point_of_query : (trace : Trace) (operation : OpRecord) → Contains (operations_of trace) operation
     → IsOfCorrect trace.setup operation → (reply : ℕ) (answer : Answer) → operation.reply
     ≡ Some (reply, outcome.Done answer)
     → (at : CompletedQuery trace operation reply answer)
@@ -444,7 +274,7 @@ module _ (trace : Trace) (is_run : IsRun trace) (have : ArePlain trace) (clients
         has.of_base
 
     -- what the member was asked is the operation's query
-    pub query_asked : (operation : OpRecord) → Contains (operations_of trace.entries) operation
+    pub query_asked : (operation : OpRecord) → Contains (operations_of trace) operation
         → operation.client ≡ client → operation.number ≡ number → (query : List (ObjectId × Ask))
         → operation.op ≡ op.Query query → (member : ℕ) (tells : Member member)
         → tells.query ≡ query
@@ -539,7 +369,7 @@ module _ (trace : Trace) (is_run : IsRun trace) (have : ArePlain trace) (clients
         }
 
   module _ (operation : OpRecord)
-      (among : Contains (operations_of trace.entries) operation) (reply : ℕ) (answer : Answer)
+      (among : Contains (operations_of trace) operation) (reply : ℕ) (answer : Answer)
       (replied : operation.reply ≡ Some (reply, outcome.Done answer)) (query : List (ObjectId × Ask))
       (is_query : operation.op ≡ op.Query query) where
     pub completed_query : CompletedQuery trace operation reply answer
@@ -625,6 +455,6 @@ module _ (trace : Trace) (is_run : IsRun trace) (have : ArePlain trace) (clients
         let is : IsOperationPoint trace (point_at trace.setup operation at.event)
         × Stands operation (point_at trace.setup operation at.event) =
         point_of_query trace operation among
-        (All-contains (IsOfCorrect trace.setup) (operations_of trace.entries) operation
-        (operations_correct trace is_run) among) reply answer replied at in
+        (All-contains (IsOfCorrect trace.setup) (operations_of trace) operation
+        (operations_correct trace) among) reply answer replied at in
         (point_at trace.setup operation at.event, is.0, is.1, at.before)

@@ -3,8 +3,8 @@ use Rattle.qu_chain.specs.Joint.{Joint}
 use Rattle.qu_chain.specs.Laws.{Laws}
 use Rattle.qu_chain.proofs.Updates.{decided_once, one_update}
 use Rattle.qu_trace.specs.declared.trace.Trace.{Trace}
-use Rattle.qu_runs.specs.Setting.{setting}
-use Rattle.qu_values.specs.Updates.{DecidesOnce, IsOf, Update}
+use Rattle.qu_claims.specs.RunSetting.{setting}
+use Rattle.qu_claims.specs.Updates.{DecidesOnce, IsOf, Update}
 use Rattle.qu_values.proofs.OneAct.{ActsAreOne}
 use Rattle.qu_values.proofs.UpdateFacts.{UpdateFacts, NoneIsRepeated}
 use Rattle.qu_values.proofs.Updates.{one_of, acts}

@@ -10,9 +10,9 @@ use Rattle.qu_base.specs.Bounds.{quorum}
 use Rattle.qu_stamp.specs.declared.candidate.Candidate.{Candidate}
 use Rattle.qu_history.specs.History.{holds}
 use Rattle.qu_history.specs.Sets.{entries_of, method_at}
-use Rattle.qu_chain.specs.Setting.{acceptors, IsEstablished}
+use Rattle.qu_claims.specs.Setting.{acceptors, IsEstablished}
 use Rattle.qu_chain.specs.Laws.{Laws}
-use Rattle.qu_chain.specs.Decided.{IsDecided}
+use Rattle.qu_claims.specs.Decided.{IsDecided}
 use Rattle.qu_chain.specs.Joint.{Joint}
 use Rattle.qu_chain.proofs.Deciding.{decided_down}
 use Rattle.qu_objects.specs.declared.act.Method.{Method}
@@ -23,24 +23,24 @@ use Rattle.qu_objects.specs.Digesting.{act_digest}
 use Rattle.qu_frames.specs.declared.frame.Body.TheVariants as body
 use Rattle.qu_frames.specs.declared.verdict.Verdict.{Verdict}
 use Rattle.qu_frames.specs.declared.verdict.Verdict.TheVariants as verdict
-use Rattle.qu_replica.specs.State.{own_candidates}
+use Rattle.qu_rows.specs.State.{own_candidates}
 use Rattle.qu_trace.specs.declared.trace.Entry.{Entry}
 use Rattle.qu_trace.specs.declared.trace.Trace.{Trace}
 use Rattle.qu_world.specs.Run.{IsRun}
-use Rattle.qu_runs.specs.Carried.{handed}
-use Rattle.qu_runs.specs.Digested.{IsHandled, IsMadeFor}
+use Rattle.qu_claims.specs.Carried.{handed}
+use Rattle.qu_claims.specs.Handled.{IsHandled, IsMadeFor}
 use Rattle.qu_runs.specs.Plain.{ArePlain}
-use Rattle.qu_runs.specs.Setting.{setting}
-use Rattle.qu_runs.specs.Times.{world_after}
+use Rattle.qu_claims.specs.RunSetting.{setting}
+use Rattle.qu_claims.specs.Times.{world_after}
 use Rattle.qu_runs.proofs.OpeningReplicas.{bounds_are}
-use Rattle.qu_grounds.proofs.HeldInRuns.{held_versions}
-use Rattle.qu_grounds.proofs.HeldVersions.{HoldsUnder, AreOfHeld}
-use Rattle.qu_grounds.proofs.KeptEntries.{base_accepted}
-use Rattle.qu_values.specs.Replies.{Keeps, HasKept, IsReplyTo, culled_in}
-use Rattle.qu_values.specs.Updates.{IsEverAccepted}
-use Rattle.qu_values.specs.Values.{HasVersion}
+use Rattle.qu_accepts.proofs.HeldInRuns.{held_versions}
+use Rattle.qu_accepts.proofs.HeldVersions.{HoldsUnder, AreOfHeld}
+use Rattle.qu_laws.proofs.KeptEntries.{base_accepted}
+use Rattle.qu_replies.specs.Replies.{Keeps, HasKept, IsReplyTo, culled_in}
+use Rattle.qu_claims.specs.Updates.{IsEverAccepted}
+use Rattle.qu_claims.specs.Values.{HasVersion}
 use Rattle.qu_values.proofs.EverAccepted.{held_ever, quorum_ever}
-use Rattle.qu_values.proofs.RepliesInRuns.{act_of_update, update_brings, update_had}
+use Rattle.qu_replies.proofs.RepliesInRuns.{act_of_update, update_brings, update_had}
 use Rattle.qu_values.proofs.StoredValues.{version_is}
 use Rattle.qu_values.proofs.UpdateFacts.{IsUpTo, IsWritten, UpdateFacts}
 use Rattle.qu_values.proofs.Updates.{same_accepted}

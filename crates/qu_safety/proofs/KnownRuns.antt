@@ -9,13 +9,13 @@ use Rattle.qu_machine.specs.declared.record.OpRecord.{OpRecord}
 use Rattle.qu_trace.specs.declared.trace.Trace.{Trace}
 use Rattle.qu_trace.specs.Operation.{operations_of}
 use Rattle.qu_world.specs.Run.{IsRun}
-use Rattle.qu_rounds.specs.Completions.{IsCompleted}
+use Rattle.qu_claims.specs.Completions.{IsCompleted}
 use Rattle.qu_rounds.specs.Invocations.{IsRequestOf}
 use Rattle.qu_runs.specs.Plain.{ArePlain}
 use Rattle.qu_rounds.proofs.Completions.{WorkIsRecorded, IsOneRecord, completed}
 use Rattle.qu_rounds.proofs.Invocations.{request_of, work_of, op_of}
 use Rattle.qu_rounds.proofs.OneRound.{one_round_request}
-use Rattle.qu_grounds.proofs.Views.{view_of_request}
+use Rattle.qu_shown.proofs.Views.{view_of_request}
 use Rattle.qu_values.proofs.ClientFacts.{ClientFacts}
 use Rattle.qu_points.proofs.Recorded.{recorded_op}
 
@@ -39,7 +39,7 @@ one_record trace first second one two clients numbers =
 
 -- an operation that completed was answered by a quorum
 completion : (trace : Trace) → IsRun trace → ArePlain trace → (operation : OpRecord) → Contains
-    (operations_of trace.entries) operation → (event : ℕ) (answer : Answer) → operation.reply ≡ Some
+    (operations_of trace) operation → (event : ℕ) (answer : Answer) → operation.reply ≡ Some
     (event, outcome.Done answer) → IsCompleted trace operation event answer
 completion trace is_run have operation among event answer replied =
     completed trace is_run have (work_recorded trace is_run have) (one_record trace) operation among event answer

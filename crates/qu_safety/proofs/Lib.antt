@@ -1,10 +1,14 @@
 pub mod Along
 pub mod OwnClients
+pub mod OwnedPoints
+pub mod EventRequests
 pub mod PointEvents
 pub mod SerialFields
+pub mod ToldAnswers
 pub mod CompletedQueries
 pub mod KnownRuns
 pub mod KeptParts
+pub mod ToldParts
 pub mod CompletedActs
 pub mod ActPoints
 pub mod DecidedOnce

@@ -11,20 +11,20 @@ use Rattle.qu_trace.specs.declared.trace.Trace.{Trace}
 use Rattle.qu_trace.specs.Faulty.{is_faulty}
 use Rattle.qu_trace.specs.Operation.{operations_of}
 use Rattle.qu_world.specs.Run.{IsRun}
-use Rattle.qu_runs.specs.Decided.{is_on}
+use Rattle.qu_claims.specs.Effects.{is_on}
 use Rattle.qu_machine.specs.declared.record.OpRecord.{OpRecord}
-use Rattle.qu_grounds.specs.Parts.{Names}
+use Rattle.qu_claims.specs.Parts.{Names}
 use Rattle.qu_points.specs.Points.{IsOfCorrect}
 use Rattle.qu_points.proofs.Correct.{operations_correct}
 
 -- ---- operations are of correct clients
 
 pub own_client : (trace : Trace) → IsRun trace → (operation : OpRecord)
-    → Contains (operations_of trace.entries) operation
+    → Contains (operations_of trace) operation
     → is_faulty trace.setup (party.Client operation.client) ≡ false
 own_client trace is_run operation among =
-    All-contains (IsOfCorrect trace.setup) (operations_of trace.entries) operation
-    (operations_correct trace is_run) among
+    All-contains (IsOfCorrect trace.setup) (operations_of trace) operation
+    (operations_correct trace) among
 
 -- ---- objects
 

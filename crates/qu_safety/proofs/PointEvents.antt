@@ -1,18 +1,16 @@
 -- Points are at different events, each after its operation began.
-use Rattle.std.proofs.Common.{◌≡◌, ℕ, zero, suc, ◌<◌, ◌≤◌, true, List, length, get_or, Option, None, Some, refl, sym, ap, subst, ◌∙◌, arith, Result, Ok, inl, inr, false}
-use Rattle.std.specs.Prelude.{◌==◌, ◌&&◌, slice_get, Contains}
-use Rattle.std.proofs.lemmas.Bool.{false≢true, and_parts, eqb-true}
-use Rattle.std.proofs.lemmas.Option.{slice_get_within, get_or_from_slice_get, same_Some}
+use Rattle.std.proofs.Common.{◌≡◌, ℕ, zero, suc, ◌<◌, ◌≤◌, true, List, length, Option, None, Some, refl, sym, ap, subst, ◌∙◌, arith, inl, inr, false}
+use Rattle.std.specs.Prelude.{slice_get, Contains}
+use Rattle.std.proofs.lemmas.Bool.{false≢true}
+use Rattle.std.proofs.lemmas.Option.{slice_get_within, get_or_from_slice_get}
 use Rattle.qu_base.specs.declared.party.ClientId.{ClientId}
-use Rattle.qu_base.specs.declared.party.ReplicaId.{ReplicaId}
 use Rattle.qu_base.specs.declared.party.ObjectId.{ObjectId}
 use Rattle.qu_stamp.specs.declared.candidate.Candidate.{Candidate}
-use Rattle.qu_history.specs.declared.sets.SetOf.{SetOf}
 use Rattle.qu_objects.specs.declared.op.Op.{Op}
 use Rattle.qu_objects.specs.declared.op.Op.TheVariants as op
 use Rattle.qu_objects.specs.declared.op.Outcome.{Outcome}
 use Rattle.qu_objects.specs.declared.op.Outcome.TheVariants as outcome
-use Rattle.qu_chain.specs.Setting.{IsNew, IsAccepted}
+use Rattle.qu_claims.specs.Setting.{IsNew, IsAccepted}
 use Rattle.qu_chain.specs.Laws.{Laws}
 use Rattle.qu_chain.specs.Joint.{Joint}
 use Rattle.qu_chain.proofs.Ancestry.{accepted_by_decided, Acceptor, acceptor}
@@ -21,182 +19,50 @@ use Rattle.qu_chain.proofs.Updates.{one_update}
 use Rattle.qu_frames.specs.declared.frame.Body.{Body}
 use Rattle.qu_frames.specs.declared.frame.Body.TheVariants as body
 use Rattle.qu_frames.specs.declared.frame.Frame.{Frame}
-use Rattle.qu_frames.specs.declared.frame.Frame.TheVariants as frame
-use Rattle.qu_frames.specs.declared.frame.Letter.{Letter}
 use Rattle.qu_frames.specs.declared.verdict.Verdict.{Verdict}
 use Rattle.qu_frames.specs.Body.{body_of}
 use Rattle.qu_machine.specs.declared.record.OpRecord.{OpRecord}
 use Rattle.qu_machine.specs.declared.record.Point.{Point}
-use Rattle.qu_machine.proofs.Equalities.{Passes, passes_from_any, client_is}
+use Rattle.qu_machine.proofs.Equalities.{Passes, passes_from_any}
 use Rattle.qu_trace.specs.declared.trace.Entry.{Entry}
 use Rattle.qu_trace.specs.declared.trace.Trace.{Trace}
 use Rattle.qu_trace.specs.Operation.{operations_of}
 use Rattle.qu_world.specs.Run.{IsRun}
 use Rattle.qu_objects.specs.declared.act.Method.{Method}
 use Rattle.qu_objects.specs.declared.query.Ask.{Ask}
-use Rattle.qu_runs.specs.Setting.{setting}
-use Rattle.qu_values.specs.Updates.{Update, IsOf}
+use Rattle.qu_claims.specs.RunSetting.{setting}
+use Rattle.qu_claims.specs.Updates.{Update, IsOf}
 use Rattle.qu_safety.proofs.ActPoints.{IsTurnOf, turn_at}
 use Rattle.qu_values.proofs.Updates.{last_is, acts, one_of, opening_no_act}
 use Rattle.qu_values.proofs.UpdateFacts.{UpdateFacts, NoneIsRepeated}
 use Rattle.qu_values.proofs.OneAct.{ActsAreOne, one_made_for}
-use Rattle.qu_runs.specs.Digested.{IsMadeFor}
-use Rattle.qu_grounds.specs.Grounds.{Accepts, IsDelivered, AddsTo}
+use Rattle.qu_claims.specs.Handled.{IsMadeFor}
+use Rattle.qu_claims.specs.Grounds.{Accepts, IsDelivered, AddsTo}
 use Rattle.qu_rounds.specs.Invocations.{IsRequestOf}
-use Rattle.qu_runs.specs.Times.{world_after}
-use Rattle.qu_points.specs.Order.{AnswersFirst, query_effect, effect_of, IsOperationPoint, IsFaultyPoint, IsPoint}
-use Rattle.qu_runs.specs.Answers.{is_answer, answers, sends_answer}
-use Rattle.qu_values.specs.Replies.{IsReplyTo}
+use Rattle.qu_claims.specs.Times.{world_after}
+use Rattle.qu_claims.specs.Order.{AnswersFirst, query_effect}
+use Rattle.qu_safety.proofs.OwnedPoints.{IsOperationPoint, IsFaultyPoint, HasOwner}
+use Rattle.qu_points.specs.Points.{effect_of}
+use Rattle.qu_claims.specs.Answers.{answers, sends_answer}
+use Rattle.qu_replies.specs.Replies.{IsReplyTo}
 use Rattle.qu_runs.specs.Plain.{ArePlain}
-use Rattle.qu_grounds.proofs.Accepting.{some_entry, Acceptance}
-use Rattle.qu_grounds.proofs.Laws.{acceptance_of}
+use Rattle.qu_accepts.proofs.Accepting.{some_entry, Acceptance}
+use Rattle.qu_laws.proofs.ShownWhenAccepted.{acceptance_of}
 use Rattle.qu_values.proofs.ClientFacts.{ClientFacts}
 use Rattle.qu_points.proofs.Recorded.{recorded_op}
-use Rattle.qu_values.proofs.Replying.{reply_sent}
-use Rattle.qu_grounds.proofs.AskedLetters.{AskedBy, asked_letter}
-use Rattle.qu_grounds.proofs.Views.{one_decoded}
+use Rattle.qu_replies.proofs.Replying.{reply_sent}
+use Rattle.qu_shown.proofs.AskedLetters.{AskedBy}
 use Rattle.qu_safety.proofs.OwnClients.{own_client}
 use Rattle.qu_trace.specs.Faulty.{is_faulty}
-use Rattle.qu_points.proofs.Taking.{effect_once}
-use Rattle.qu_runs.proofs.Carrying.{tells_as, brings_decoded}
 use Rattle.qu_runs.proofs.Small.{same_point}
-use Rattle.qu_runs.specs.Carried.{Brings, Tells, handed}
-use Rattle.qu_frames.specs.Decoding.{decoded}
-use Rattle.qu_history.specs.declared.sealed.Sealed.{Sealed}
-use Rattle.qu_base.specs.declared.bad_text.BadText.{BadText}
-use Rattle.qu_replica.specs.State.{ReplicaState}
-use Rattle.qu_base.specs.declared.party.Party.{Party}
+use Rattle.qu_claims.specs.Carried.{handed}
 use Rattle.qu_base.specs.declared.party.Party.TheVariants as party
-use Rattle.qu_grounds.specs.Origins.{Origin}
-use Rattle.qu_grounds.proofs.Origins.{origin}
+use Rattle.qu_claims.specs.Origins.{Origin}
+use Rattle.qu_laws.proofs.Origins.{origin}
 use Rattle.qu_chain.proofs.Counting.{Found, found_at}
 use Rattle.qu_values.proofs.UpdatesOfRuns.{of_act, made_so}
-use Rattle.qu_runs.specs.Accepted.{accepts}
-
--- ---- answers
-
--- the letter is a reply to this round
-pub record IsReplyIn (client : ClientId) (number round : ℕ) (letter : Letter) : Type 0 where
-  pub replica : ReplicaId
-  pub verdict : Verdict
-  pub shown : List Sealed
-  pub is_reply : Tells letter replica client number round verdict shown
-
-reply_is : (letter : Letter) (replica : ReplicaId) (other client : ClientId) (replied number turn round : ℕ)
-    (verdict : Verdict) (shown : List Sealed)
-    → Tells letter replica other replied turn verdict shown → other ≡ client → replied ≡ number → turn ≡ round →
-    IsReplyIn client number round letter
-reply_is letter replica other client replied number turn round verdict shown is same_client same_number same_round =
-    record {
-      replica = replica;
-      verdict = verdict;
-      shown = shown;
-      is_reply = tells_as letter replica other client
-          replied number turn round verdict verdict shown same_client same_number same_round refl is;
-    }
-
-reply_in_read : (client : ClientId) (number round : ℕ) (letter : Letter) (read : Result Frame BadText)
-    → decoded letter.text ≡ read → is_answer client number round read ≡ true → IsReplyIn client number round letter
-reply_in_read client number round letter (Ok
-    (frame.Reply replica other replied turn verdict culled shown mac)) is answer =
-    let parts : ((other.0 == client.0) ≡ true) × ((replied == number && turn == round) ≡ true) = and_parts _ _ answer in
-    let more : ((replied == number) ≡ true) × ((turn == round) ≡ true) = and_parts _ _ parts.1 in
-    reply_is letter replica other client replied number turn round verdict shown
-    (record { culled = culled; mac = mac; carries = is }) (client_is other client (eqb-true _ _ parts.0))
-    (eqb-true _ _ more.0) (eqb-true _ _ more.1)
-reply_in_read client number round letter _ is answer = absurd (false≢true answer)
-
-pub reply_in : (client : ClientId) (number round : ℕ) (letter : Letter) → answers client number round letter ≡ true
-    → IsReplyIn client number round letter
-reply_in client number round letter answer = reply_in_read client number round letter (decoded letter.text) refl answer
-
--- ---- one point
-
--- an operation has one point
-pub one_point : (trace : Trace) (first second : Point) → IsOperationPoint trace first → IsOperationPoint trace second
-    → first.client
-    ≡ second.client → first.number ≡ second.number → first ≡ second
-one_point trace first second one two same_client same_number =
-    let same : one.operation ≡ two.operation =
-    recorded_op trace one.operation two.operation one.of_trace two.of_trace
-    (ap (λ (it : ClientId). it.0) (one.client ∙ same_client ∙ sym two.client))
-    (one.number ∙ same_number ∙ sym two.number) in
-    let effect : effect_of trace two.operation first.event two.operation.op =
-    subst (λ (it : OpRecord). effect_of trace it first.event it.op) same one.effect in
-    same_point first second
-    (effect_once trace two.operation first.event second.event two.operation.op effect two.effect)
-    same_client same_number
-    (sym one.op ∙ ap (λ (it : OpRecord). it.op) same ∙ two.op)
-    (one.mark ∙ sym two.mark)
-
--- ---- what an event hands over
-
--- the event of the entry with this index hands a replica a request of this client and number
-record IsAskedAt (trace : Trace) (time : ℕ) (client : ClientId) (number : ℕ) : Type 0 where
-  within : time < length trace.entries
-  place : ℕ
-  old : ReplicaState
-  is_old : slice_get (world_after trace time).replicas place ≡ Some old
-  text : List ℕ
-  is_handed : handed (world_after trace time) (get_or trace.entries time some_entry).event ≡ Some
-      (party.Replica (record { 0 = place }), text)
-  round : ℕ
-  sets : List SetOf
-  asks : Body
-  mac : List ℕ
-  brings : Brings old text (frame.Request client number round sets asks mac)
-
-same_frame : (first second : ClientId) (asked number turn round : ℕ) (sets shown : List SetOf) (asks told : Body)
-    (mac seal : List ℕ)
-    → frame.Request first asked turn sets asks mac ≡ frame.Request second number round shown told seal
-    → (first ≡ second) × (asked ≡ number) × (asks ≡ told)
-same_frame first second asked number turn round sets shown asks told mac seal same = (cc, cc, cc)
-
--- one event hands over one text
-one_asked : (trace : Trace) (time : ℕ) (client other : ClientId) (number turn : ℕ)
-    (one : IsAskedAt trace time client number) (two : IsAskedAt trace time other turn)
-    → (client ≡ other) × (number ≡ turn) × (one.asks ≡ two.asks)
-one_asked trace time client other number turn one two =
-    let same : (party.Replica (record { 0 = one.place }), one.text)
-    ≡ (party.Replica (record { 0 = two.place }), two.text) = same_Some _ _ (sym one.is_handed ∙ two.is_handed) in
-    same_frame client other number turn one.round two.round one.sets two.sets one.asks two.asks one.mac two.mac
-    (one_decoded two.text (frame.Request client number one.round one.sets one.asks one.mac)
-    (frame.Request other turn two.round two.sets two.asks two.mac)
-    (ap decoded (sym (ap (λ (it : Party × List ℕ). it.1) same))
-    ∙ brings_decoded one.old one.text (frame.Request client number one.round one.sets one.asks one.mac) one.brings)
-    (brings_decoded two.old two.text (frame.Request other turn two.round two.sets two.asks two.mac) two.brings))
-
--- a correct client sent it
-asked_by_letter : (trace : Trace) → ArePlain trace → (time : ℕ) (client : ClientId) (number : ℕ)
-    (asked : IsAskedAt trace time client number) → is_faulty trace.setup (party.Client client) ≡ false
-    → AskedBy trace time client number asked.round asked.sets asked.asks
-asked_by_letter trace have time client number asked correct =
-    asked_letter trace have time asked.within some_entry asked.place asked.old asked.is_old asked.text asked.is_handed
-    client number asked.round asked.sets asked.asks asked.mac asked.brings correct
-
--- what asks for an operation of the trace asks for what it does, and after it began
-record AsksFor (operation : OpRecord) (time : ℕ) (asks : Body) : Type 0 where
-  same : asks ≡ body_of operation.op
-  begun : operation.invoked ≤ time
-
-asks_for : (trace : Trace) → IsRun trace → ArePlain trace → ClientFacts trace → (time : ℕ) (operation : OpRecord)
-    → Contains (operations_of trace.entries) operation
-    → (asked : IsAskedAt trace time operation.client operation.number) → AsksFor operation time asked.asks
-asks_for trace is_run have clients time operation of_trace asked =
-    let within : time < length trace.entries = asked.within in
-    let letter : AskedBy trace time operation.client operation.number asked.round asked.sets asked.asks =
-    asked_by_letter trace have time operation.client operation.number asked
-    (own_client trace is_run operation of_trace) in
-    let request : IsRequestOf trace time operation.client operation.number asked.asks =
-    clients.asks time letter.asked letter.letter operation.client operation.number asked.round asked.sets asked.asks
-    (record { within = omega arith; is_letter = letter.is_letter; is_request = letter.is_request }) in
-    let same : request.operation ≡ operation =
-    recorded_op trace request.operation operation request.of_trace of_trace
-    (ap (λ (it : ClientId). it.0) request.of_client) request.of_number in
-    record {
-      same = request.asks ∙ ap (λ (it : OpRecord). body_of it.op) same;
-      begun = subst (λ (it : OpRecord). it.invoked ≤ time) same request.begun;
-    }
+use Rattle.qu_claims.specs.Accepted.{accepts}
+use Rattle.qu_safety.proofs.EventRequests.{IsReplyIn, reply_in, one_point, IsAskedAt, one_asked, asked_by_letter, asks_for}
 
 module _ (trace : Trace) (is_run : IsRun trace) (have : ArePlain trace) (clients : ClientFacts trace) where
   -- ---- queries
@@ -352,7 +218,7 @@ module _ (trace : Trace) (is_run : IsRun trace) (have : ArePlain trace) (clients
         ]
 
     -- an update began before the step that decides it: before its candidate was made
-    turn_begun : (time : ℕ) (operation : OpRecord) → Contains (operations_of trace.entries) operation
+    turn_begun : (time : ℕ) (operation : OpRecord) → Contains (operations_of trace) operation
         → (parts : List (ObjectId × Method))
         → IsTurnOf trace laws joint one_act facts once time (update_of operation parts) → operation.invoked ≤ time
     turn_begun time operation among parts it =
@@ -429,7 +295,7 @@ module _ (trace : Trace) (is_run : IsRun trace) (have : ArePlain trace) (clients
     point_takes : (point : Point) → (is : IsOperationPoint trace point) → TakesAt point.event is.operation
     point_takes point is = takes_at is.operation point.event is.operation.op refl is.effect
 
-    begun : (time : ℕ) (operation : OpRecord) → Contains (operations_of trace.entries) operation
+    begun : (time : ℕ) (operation : OpRecord) → Contains (operations_of trace) operation
         → Takes time operation → operation.invoked ≤ time
     begun time operation among (Takes.decided parts turn) = turn_begun time operation among parts turn
     begun time operation among (Takes.answered query is asked) =
@@ -445,7 +311,7 @@ module _ (trace : Trace) (is_run : IsRun trace) (have : ArePlain trace) (clients
 
     -- an event that decides an update answers no query
     not_both : (time : ℕ) (update : Update) → IsTurnOf trace laws joint one_act facts once time update
-        → (operation : OpRecord) → Contains (operations_of trace.entries) operation
+        → (operation : OpRecord) → Contains (operations_of trace) operation
         → (query : List (ObjectId × Ask)) → operation.op ≡ op.Query query
         → IsAskedAt trace time operation.client operation.number → ⊥
     not_both time update turn operation among query is asked =
@@ -454,8 +320,8 @@ module _ (trace : Trace) (is_run : IsRun trace) (have : ArePlain trace) (clients
         ((one_asked trace time upon.client operation.client upon.number operation.number upon.asked asked).2
         ∙ (asks_for trace is_run have clients time operation among asked).same ∙ ap body_of is)
 
-    one_takes : (time : ℕ) (first second : OpRecord) → Contains (operations_of trace.entries) first
-        → Contains (operations_of trace.entries) second → Takes time first → Takes time second
+    one_takes : (time : ℕ) (first second : OpRecord) → Contains (operations_of trace) first
+        → Contains (operations_of trace) second → Takes time first → Takes time second
         → (first.client ≡ second.client) × (first.number ≡ second.number)
     one_takes time first second one two (Takes.decided parts turn) (Takes.decided others other) =
         let same : update_of first parts ≡ update_of second others =
@@ -491,7 +357,7 @@ module _ (trace : Trace) (is_run : IsRun trace) (have : ArePlain trace) (clients
         record { time = it.0; is_after = it.1; within = omega (arith, last_is trace, within); turn = it.2 }
 
     -- a point is at an event of the trace
-    pub point_bounds : (point : Point) → IsPoint trace point → (1 ≤ point.event) × (point.event ≤ length trace.entries)
+    pub point_bounds : (point : Point) → HasOwner trace point → (1 ≤ point.event) × (point.event ≤ length trace.entries)
     point_bounds point (inl is) =
         let it : TakesAt point.event is.operation = point_takes point is in
         let event : point.event ≡ suc it.time = it.is_after in
@@ -506,7 +372,7 @@ module _ (trace : Trace) (is_run : IsRun trace) (have : ArePlain trace) (clients
     -- an event that decides an update of a faulty client is where no operation takes effect
     not_of_both : (time : ℕ) (update : Update) → IsTurnOf trace laws joint one_act facts once time update
         → is_faulty trace.setup (party.Client update.client) ≡ true
-        → (operation : OpRecord) → Contains (operations_of trace.entries) operation → Takes time operation → ⊥
+        → (operation : OpRecord) → Contains (operations_of trace) operation → Takes time operation → ⊥
     not_of_both time update turn declared operation among (Takes.decided parts other) =
         let same : update ≡ update_of operation parts =
         one_update (setting trace) laws joint Update (IsOf trace) (one_of trace one_act) facts.shared
@@ -568,7 +434,7 @@ module _ (trace : Trace) (is_run : IsRun trace) (have : ArePlain trace) (clients
         (sym one.number ∙ fields.1 ∙ two.number)
 
     -- points differ in their events
-    pub points_apart : (first second : Point) → IsPoint trace first → IsPoint trace second
+    pub points_apart : (first second : Point) → HasOwner trace first → HasOwner trace second
         → first.event ≡ second.event → first ≡ second
     points_apart first second (inl one) (inl two) same = operations_apart first second one two same
     points_apart first second (inl one) (inr two) same = absurd (apart_from_faulty first second one two same)

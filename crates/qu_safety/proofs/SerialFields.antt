@@ -14,11 +14,12 @@ use Rattle.qu_trace.specs.Operation.{operations_of}
 use Rattle.qu_world.specs.Run.{IsRun}
 use Rattle.qu_chain.specs.Laws.{Laws}
 use Rattle.qu_chain.specs.Joint.{Joint}
-use Rattle.qu_runs.specs.Setting.{setting}
+use Rattle.qu_claims.specs.RunSetting.{setting}
 use Rattle.qu_values.proofs.UpdateFacts.{UpdateFacts, NoneIsRepeated}
 use Rattle.qu_values.proofs.ClientFacts.{ClientFacts}
 use Rattle.qu_values.proofs.OneAct.{ActsAreOne}
-use Rattle.qu_points.specs.Order.{is_earlier, are_in_order, IsOperationPoint, IsFaultyPoint, IsPoint, IsPrintedOrder, DecidesAt}
+use Rattle.qu_claims.specs.Order.{is_earlier, are_in_order, DecidesAt}
+use Rattle.qu_safety.proofs.OwnedPoints.{IsOperationPoint, IsFaultyPoint, HasOwner, IsOwnedOrder}
 use Rattle.qu_points.specs.Points.{as_operation}
 use Rattle.qu_points.proofs.Taking.{effect_once}
 use Rattle.qu_runs.proofs.Small.{same_point}
@@ -27,7 +28,8 @@ use Rattle.qu_objects.specs.declared.act.Method.{Method}
 use Rattle.qu_objects.specs.declared.op.Op.{Op}
 use Rattle.qu_objects.specs.declared.op.Op.TheVariants as op
 use Rattle.qu_runs.specs.Plain.{ArePlain}
-use Rattle.qu_safety.proofs.PointEvents.{begun_before, one_point}
+use Rattle.qu_safety.proofs.EventRequests.{one_point}
+use Rattle.qu_safety.proofs.PointEvents.{begun_before}
 use Rattle.qu_points.proofs.Recorded.{recorded_op}
 use Rattle.qu_points.proofs.Sorted.{is_earlier-self, is_earlier-chain, in_order_parts, in_order_tail}
 
@@ -72,17 +74,17 @@ one_place points at other point order here there =
 
 -- ---- what an order of operations holds
 
-module _ (trace : Trace) (order : List Point) (is_order : IsPrintedOrder trace order) where
+module _ (trace : Trace) (order : List Point) (is_order : IsOwnedOrder trace order) where
   -- a point without the mark is one of an operation
-  by_operation : (point : Point) → IsPoint trace point → point.faulty ≡ false → IsOperationPoint trace point
+  by_operation : (point : Point) → HasOwner trace point → point.faulty ≡ false → IsOperationPoint trace point
   by_operation point (inl it) correct = it
   by_operation point (inr it) correct = absurd (false≢true (sym correct ∙ it.mark))
 
-  by_faulty : (point : Point) → IsPoint trace point → point.faulty ≡ true → IsFaultyPoint trace point
+  by_faulty : (point : Point) → HasOwner trace point → point.faulty ≡ true → IsFaultyPoint trace point
   by_faulty point (inl it) faulty = absurd (false≢true (sym it.mark ∙ faulty))
   by_faulty point (inr it) faulty = it
 
-  pub is_point_at : (at : ℕ) (point : Point) → slice_get order at ≡ Some point → IsPoint trace point
+  pub is_point_at : (at : ℕ) (point : Point) → slice_get order at ≡ Some point → HasOwner trace point
   is_point_at at point there = is_order.sound point (contains_at order at point there)
 
   pub point_at_place : (operation : OpRecord) (at : ℕ) (point : Point) → StandsAt operation order at point
@@ -92,7 +94,7 @@ module _ (trace : Trace) (order : List Point) (is_order : IsPrintedOrder trace o
 
   -- each point without the mark is one of the operations
   pub points_known : (at : ℕ) (point : Point) → slice_get order at ≡ Some point → point.faulty ≡ false → IsKnown
-      (operations_of trace.entries) point
+      (operations_of trace) point
   points_known at point there correct =
       let is : IsOperationPoint trace point = by_operation point (is_point_at at point there) correct in
       record {
@@ -138,7 +140,7 @@ module _ (trace : Trace) (order : List Point) (is_order : IsPrintedOrder trace o
       }
 
   -- the operation that stands at a place is that of the point
-  pub stands_of : (operation : OpRecord) → Contains (operations_of trace.entries) operation → (point : Point)
+  pub stands_of : (operation : OpRecord) → Contains (operations_of trace) operation → (point : Point)
       → Stands operation point → (is : IsOperationPoint trace point) → is.operation ≡ operation
   stands_of operation of_trace point stands is =
       recorded_op trace is.operation operation is.of_trace of_trace
@@ -157,7 +159,7 @@ module _ (trace : Trace) (order : List Point) (is_order : IsPrintedOrder trace o
       (laws : Laws (setting trace))
       (joint : Joint (setting trace)) (facts : UpdateFacts trace) (once : NoneIsRepeated trace) where
     -- each operation stands at one place at most, after its invocation
-    pub stand_at_most_once : (operation : OpRecord) → Contains (operations_of trace.entries) operation
+    pub stand_at_most_once : (operation : OpRecord) → Contains (operations_of trace) operation
         → StandsAtMostOnce operation order
     stand_at_most_once operation of_trace = record {
       alone = stands_alone operation;

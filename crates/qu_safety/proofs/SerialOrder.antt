@@ -7,8 +7,9 @@ use Rattle.std.proofs.lemmas.Option.{same_Some}
 use Rattle.qu_base.specs.declared.party.ObjectId.{ObjectId}
 use Rattle.qu_stamp.specs.declared.candidate.Candidate.{Candidate}
 use Rattle.qu_chain.specs.Laws.{Laws}
-use Rattle.qu_chain.specs.Decided.{IsDecided}
-use Rattle.qu_chain.specs.Joint.{Joint, IsOneAct}
+use Rattle.qu_claims.specs.Decided.{IsDecided}
+use Rattle.qu_chain.specs.Joint.{Joint}
+use Rattle.qu_claims.specs.Groups.{IsOneAct}
 use Rattle.qu_chain.proofs.Ancestry.{accepted_by_decided, decided-later}
 use Rattle.qu_chain.proofs.Turns.{decided_at_last}
 use Rattle.qu_chain.proofs.Updates.{decided_once}
@@ -33,26 +34,29 @@ use Rattle.qu_trace.specs.declared.trace.Trace.{Trace}
 use Rattle.qu_trace.specs.Operation.{operations_of}
 use Rattle.qu_world.specs.Run.{IsRun}
 use Rattle.qu_runs.specs.Plain.{ArePlain}
-use Rattle.qu_runs.specs.Setting.{setting}
-use Rattle.qu_points.specs.Order.{DecidesAt, effect_of, IsOperationPoint, IsPrintedOrder}
-use Rattle.qu_points.specs.Points.{IsOfCorrect, point_at}
+use Rattle.qu_claims.specs.RunSetting.{setting}
+use Rattle.qu_claims.specs.Order.{DecidesAt}
+use Rattle.qu_safety.proofs.OwnedPoints.{IsOperationPoint, IsOwnedOrder}
+use Rattle.qu_points.specs.Points.{effect_of, IsOfCorrect, point_at}
 use Rattle.qu_points.proofs.Correct.{operations_correct}
 use Rattle.qu_points.proofs.Rising.{rising_from_order}
-use Rattle.qu_values.specs.Replies.{Keeps}
-use Rattle.qu_values.specs.Updates.{Update, IsOf}
-use Rattle.qu_values.specs.Values.{HasVersion}
+use Rattle.qu_replies.specs.Replies.{Keeps}
+use Rattle.qu_claims.specs.Updates.{Update, IsOf}
+use Rattle.qu_claims.specs.Values.{HasVersion}
 use Rattle.qu_safety.proofs.ActPoints.{StandsBefore, IsTurnOf, turn_of, act_has_point, quiet_values, loud_values}
-use Rattle.qu_safety.proofs.CompletedActs.{CompletedAct, completed_act}
+use Rattle.qu_safety.proofs.ToldParts.{CompletedAct}
+use Rattle.qu_safety.proofs.CompletedActs.{completed_act}
 use Rattle.qu_safety.proofs.CompletedQueries.{CompletedQuery, HasTopValue, completed_query, point_of_query, query_has_point}
 use Rattle.qu_points.proofs.Folding.{fold_along}
 use Rattle.qu_values.proofs.ClientFacts.{ClientFacts}
 use Rattle.qu_values.proofs.MachineValues.{IsValues, step_of, first_values, value_of_top, done, Steps, befores_are}
 use Rattle.qu_values.proofs.OneAct.{ActsAreOne}
-use Rattle.qu_safety.proofs.PointEvents.{point_bounds, one_point, points_apart}
+use Rattle.qu_safety.proofs.EventRequests.{one_point}
+use Rattle.qu_safety.proofs.PointEvents.{point_bounds, points_apart}
 use Rattle.qu_safety.proofs.SerialFields.{is_point_at, point_at_place, points_known, points_faulty, stand_at_most_once, stands_of}
 use Rattle.qu_values.proofs.Updates.{last_is, acts, one_of, one_companion}
 use Rattle.qu_values.proofs.UpdateFacts.{befores, IsPerformed, UpdateFacts, NoneIsRepeated}
-use Rattle.qu_rounds.specs.Completions.{IsCompleted}
+use Rattle.qu_claims.specs.Completions.{IsCompleted}
 
 -- a member of a list stands at a place
 record PlaceOf (order : List Point) (point : Point) : Type 0 where
@@ -72,11 +76,11 @@ module _ (trace : Trace) (is_run : IsRun trace) (have : ArePlain trace) (clients
     (one_act : ActsAreOne trace)
     (laws : Laws (setting trace)) (joint : Joint (setting trace)) (facts : UpdateFacts trace)
     (once : NoneIsRepeated trace) (order : List Point)
-    (printed : IsPrintedOrder trace order) where
+    (printed : IsOwnedOrder trace order) where
   -- the client of an operation is correct
-  own : (operation : OpRecord) → Contains (operations_of trace.entries) operation → IsOfCorrect trace.setup operation
+  own : (operation : OpRecord) → Contains (operations_of trace) operation → IsOfCorrect trace.setup operation
   own operation among =
-      All-contains (IsOfCorrect trace.setup) (operations_of trace.entries) operation (operations_correct trace is_run)
+      All-contains (IsOfCorrect trace.setup) (operations_of trace) operation (operations_correct trace)
       among
 
   rising : IsRising order
@@ -117,7 +121,7 @@ module _ (trace : Trace) (is_run : IsRun trace) (have : ArePlain trace) (clients
 
   -- ---- points of completed operations
 
-  stands_before : (operation : OpRecord) → Contains (operations_of trace.entries) operation
+  stands_before : (operation : OpRecord) → Contains (operations_of trace) operation
       → (reply : ℕ) (answer : Answer) → operation.reply ≡ Some (reply, outcome.Done answer)
       → (what : Op) → operation.op ≡ what → StandsBefore trace operation reply
   stands_before operation among reply answer replied (op.Act act) is =
@@ -133,7 +137,7 @@ module _ (trace : Trace) (is_run : IsRun trace) (have : ArePlain trace) (clients
       query_has_point trace is_run have clients laws joint facts operation among reply answer replied query is in
       record { point = found.0; is_point = found.1; stands = found.2; before = found.3 }
 
-  completed : (operation : OpRecord) (reply : ℕ) (answer : Answer) → Contains (operations_of trace.entries) operation
+  completed : (operation : OpRecord) (reply : ℕ) (answer : Answer) → Contains (operations_of trace) operation
       → Completes operation reply answer → StandsOnce operation reply order
   completed operation reply answer among completes =
       let it : StandsBefore trace operation reply =
@@ -198,7 +202,7 @@ module _ (trace : Trace) (is_run : IsRun trace) (have : ArePlain trace) (clients
       (sym (found.1).row_is ∙ ap (λ (it : ObjState). row_of update.client it.kept) versions ∙ keeps))
 
   act_answers : (operation : OpRecord) (reply : ℕ) (answer : Answer)
-      → Contains (operations_of trace.entries) operation → Completes operation reply answer
+      → Contains (operations_of trace) operation → Completes operation reply answer
       → (act : List (ObjectId × Method)) → operation.op ≡ op.Act act → (at : ℕ) (point : Point)
       → StandsAt operation order at point → (time : ℕ) → point.event ≡ suc time
       → answer_at trace.setup.kinds order at point ≡ answer
@@ -229,7 +233,7 @@ module _ (trace : Trace) (is_run : IsRun trace) (have : ArePlain trace) (clients
       done.candidate done.decided) done.version done.has answer done.keeps
 
   query_answers : (operation : OpRecord) (reply : ℕ) (answer : Answer)
-      → Contains (operations_of trace.entries) operation → Completes operation reply answer
+      → Contains (operations_of trace) operation → Completes operation reply answer
       → (query : List (ObjectId × Ask)) → operation.op ≡ op.Query query → (at : ℕ) (point : Point)
       → StandsAt operation order at point → answer_at trace.setup.kinds order at point ≡ answer
   query_answers operation reply answer among completes query is_query at point here =
@@ -256,7 +260,7 @@ module _ (trace : Trace) (is_run : IsRun trace) (have : ArePlain trace) (clients
       ∙ sym done.answer_is
 
   answers_of : (operation : OpRecord) (reply : ℕ) (answer : Answer)
-      → Contains (operations_of trace.entries) operation → Completes operation reply answer
+      → Contains (operations_of trace) operation → Completes operation reply answer
       → (what : Op) → operation.op ≡ what → (at : ℕ) (point : Point) → StandsAt operation order at point
       → answer_at trace.setup.kinds order at point ≡ answer
   answers_of operation reply answer among completes (op.Act act) is at point here =
@@ -268,7 +272,7 @@ module _ (trace : Trace) (is_run : IsRun trace) (have : ArePlain trace) (clients
   answers_of operation reply answer among completes (op.Query query) is at point here =
       query_answers operation reply answer among completes query is at point here
 
-  pub serial : IsSerial trace.setup.kinds (operations_of trace.entries) order
+  pub serial : IsSerial trace.setup.kinds (operations_of trace) order
   serial = record {
     rising = rising;
     completed = completed;

@@ -5,6 +5,3 @@ mod order;
 mod parts;
 
 pub use order::order_of;
-
-#[cfg(test)]
-mod tests;

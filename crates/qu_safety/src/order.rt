@@ -2,13 +2,13 @@ ghost use Rattle.std.specs.Prelude.{IfOk, OnOk};
 ghost use Rattle.qu_machine.specs.Serial.{IsSerial};
 ghost use Rattle.qu_trace.specs.Operation.{operations_of};
 ghost use Rattle.qu_world.specs.Run.{IsRun};
-ghost use Rattle.qu_grounds.specs.Chained.{IsChained};
-ghost use Rattle.qu_runs.specs.Premises.{MeetsPremises};
-ghost use Rattle.qu_grounds.specs.Named.{StampsNameHistories};
-ghost use Rattle.qu_points.specs.Order.{IsPrintedOrder};
-ghost use Rattle.qu_safety.specs.Quorums.{CompletesByQuorums};
-ghost use Rattle.qu_values.specs.Updates.{DecidesOnce, NumbersRise};
-ghost use Rattle.qu_grounds.specs.Turns.{DecidesInTurn, DecidesJointly};
+ghost use Rattle.qu_claims.specs.Chained.{IsChained};
+ghost use Rattle.qu_claims.specs.Premises.{MeetsPremises};
+ghost use Rattle.qu_claims.specs.Named.{StampsNameHistories};
+ghost use Rattle.qu_claims.specs.Order.{IsPrintedOrder};
+ghost use Rattle.qu_claims.specs.Quorums.{CompletesByQuorums};
+ghost use Rattle.qu_claims.specs.Updates.{DecidesOnce, NumbersRise};
+ghost use Rattle.qu_claims.specs.Turns.{DecidesInTurn, DecidesJointly};
 
 use super::parts::have_parts;
 use qu_base::{List, NoMemory};
@@ -27,7 +27,7 @@ pub fn order_of(alloc: Global, trace: &Trace) -> Result<List<Point>, NoMemory>
     requires { IsRun trace.now }
     ensures printed { IfOk result (λ order. IsPrintedOrder trace.now order) }
     ensures serial { IfOk result (λ order. MeetsPremises trace.now
-        → IsSerial trace.now.setup.kinds (operations_of trace.now.entries) order) }
+        → IsSerial trace.now.setup.kinds (operations_of trace.now) order) }
     ensures chained { OnOk result (MeetsPremises trace.now → IsChained trace.now) }
     ensures named { OnOk result (MeetsPremises trace.now → StampsNameHistories trace.now) }
     ensures jointly { OnOk result (MeetsPremises trace.now → DecidesJointly trace.now) }

@@ -11,16 +11,16 @@ pub enum BadKind {
     TooLong,
     /// The line has no known form, or not the form that has to stand in its place.
     UnknownLine,
-    /// In the run, no letter has the number that the line names.
+    /// In the run, no letter has the number that the line names (number 29).
     NoSuchLetter,
-    /// In the run, the client that the line calls has an operation under way.
+    /// In the run, the client that the line calls has an operation under way (number 28).
     Busy,
     /// In the run, the client for which the line makes a reply has sent no request, or the replica that
-    /// the line echoes has sent the client no reply.
+    /// the line echoes has sent the client no reply (number 32).
     NoRequest,
-    /// In the run, the line would make one event more than a run may have.
+    /// In the run, the line would make one event more than a run may have (number 31).
     TooManyEvents,
-    /// In the run, the letters before the line have as many bytes as they may.
+    /// In the run, the letters before the line have as many bytes as they may (number 33).
     TooManyBytes,
 }
 

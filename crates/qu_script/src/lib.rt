@@ -26,6 +26,3 @@ pub use line::{How, Line, Script};
 pub use read::read_script;
 pub use run::run_script;
 pub use setup::SetupLine;
-
-#[cfg(test)]
-mod tests;

@@ -13,6 +13,3 @@ pub use constants::{
 };
 pub use digesting::digest;
 pub use keys::KeyRing;
-
-#[cfg(test)]
-mod tests;

@@ -8,7 +8,8 @@ use Rattle.qu_base.specs.Cursor.{Front}
 use Rattle.qu_base.specs.Reading.{Reads, IsRead}
 use Rattle.qu_base.proofs.Reading.{read_exactly}
 use Rattle.qu_base.specs.Format.{IsPrefixCode, AreBytes, Format, IsExact, digest_form}
-use Rattle.qu_base.proofs.Formats.{prefix_code, wide8, wide16, wide64, number-exact, both-exact, tested-exact, fields-exact, flag-exact, optional-exact, digest-exact}
+use Rattle.qu_base.proofs.Formats.{wide8, wide16, wide64, number-exact, both-exact, tested-exact, fields-exact, flag-exact, optional-exact, digest-exact}
+use Rattle.qu_base.proofs.PrefixCodes.{prefix_code}
 use Rattle.qu_stamp.specs.declared.stamp.Stamp.{Stamp}
 use Rattle.qu_stamp.specs.declared.limits.TheConstants.{LAST_TIME}
 use Rattle.qu_stamp.specs.declared.candidate.Candidate.{Candidate}

@@ -14,6 +14,3 @@ pub use limits::{LAST_TIME, limits_are_these};
 pub use reading::{read_candidate, read_plain_stamp, read_prior, read_stamp};
 pub use stamp::Stamp;
 pub use writing::{write_candidate, write_stamp};
-
-#[cfg(test)]
-mod tests;

@@ -17,6 +17,18 @@ pub enum Fetch {
     Still,
 }
 
+impl Fetch {
+    /// The same with an equal text.
+    pub fn copy(&self, alloc: Global) -> Result<Fetch, NoMemory>
+        ensures { IfOk result (λ fetch. fetch ≡ self.now) }
+    {
+        Ok(match self {
+            Fetch::Found(text) => Fetch::Found(text.copy(alloc)?),
+            Fetch::Still => Fetch::Still,
+        })
+    }
+}
+
 /// A version that is being fetched, and the answers of replicas, of which each is taken once.
 #[derive(Drop)]
 pub struct Fetching {

@@ -7,6 +7,3 @@ mod same;
 
 pub use fetching::{Fetch, Fetching};
 pub use same::same_bytes_are_equal;
-
-#[cfg(test)]
-mod tests;

@@ -1,3 +1,4 @@
+pub mod Earliest
 pub mod Faulty
 pub mod Letters
 pub mod Operation

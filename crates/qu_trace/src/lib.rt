@@ -2,15 +2,14 @@
 //! operations that it shows.
 #![tactic(auto)]
 
+mod earliest;
 mod event;
 mod operation;
 mod premises;
 mod trace;
 
+pub use earliest::earlier;
 pub use event::Event;
 pub use operation::{begun, operations};
 pub use premises::Premises;
 pub use trace::{Entry, Setup, Trace};
-
-#[cfg(test)]
-mod tests;

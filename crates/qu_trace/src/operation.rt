@@ -3,21 +3,24 @@ ghost use Rattle.std.specs.Option.{option_copied};
 ghost use Rattle.qu_trace.specs.Operation.{operations_of, invokes, begun_by, outcome_in, end_from, record_of};
 
 use super::{Entry, Event, Trace};
-use qu_base::{ClientId, List, NoMemory};
+use qu_base::{ClientId, List, NoMemory, Party};
 use qu_machine::OpRecord;
 use qu_objects::{Op, Outcome};
 use std::alloc::Global;
 
-/// The operations that a trace shows, in the order of their invocations.
+/// The operations of correct clients that a trace shows, in the order of their invocations.
 #[tactic(auto, unfolding(crate::specs::Operation::operations_from))]
 pub fn operations(alloc: Global, trace: &Trace) -> Result<List<OpRecord>, NoMemory>
-    ensures { IfOk result (λ operations. operations ≡ operations_of trace.now.entries) }
+    ensures { IfOk result (λ operations. operations ≡ operations_of trace.now) }
 {
     let entries = trace.entries.as_slice();
     let mut operations = List::new(alloc);
     for (index, entry) in entries.iter().enumerate() {
-        if let Event::Invoke(client, op) = &entry.event {
-            operations.push(operation_at(alloc, entries, index, *client, op)?)?;
+        match &entry.event {
+            Event::Invoke(client, op) if !trace.setup.is_faulty(Party::Client(*client)) => {
+                operations.push(operation_at(alloc, entries, index, *client, op)?)?;
+            }
+            Event::Invoke(_, _) | Event::Deliver(_) | Event::Tick(_) | Event::Inject(_, _) => {}
         }
     }
     Ok(operations)
@@ -47,7 +50,7 @@ fn operation_at(
     })
 }
 
-/// How many operations a client began at these events.
+/// How often a client was invoked at these events.
 #[tactic(auto, unfolding(crate::specs::Operation::begun_by))]
 pub fn begun(entries: &[Entry], client: ClientId) -> u64
     ensures value { result ≡ begun_by client entries.now }

@@ -11,10 +11,10 @@ use Rattle.qu_machine.specs.declared.record.OpRecord.{OpRecord}
 use Rattle.qu_trace.specs.declared.trace.Trace.{Trace}
 use Rattle.qu_trace.specs.Operation.{operations_of}
 use Rattle.qu_world.specs.State.{letter_of}
-use Rattle.qu_runs.specs.Carried.{Asks}
-use Rattle.qu_runs.specs.Times.{world_after}
-use Rattle.qu_grounds.specs.Views.{IsOfKept}
-use Rattle.qu_rounds.specs.Completions.{IsCompleted}
+use Rattle.qu_claims.specs.Carried.{Asks}
+use Rattle.qu_claims.specs.Times.{world_after}
+use Rattle.qu_shown.specs.Views.{IsOfKept}
+use Rattle.qu_claims.specs.Completions.{IsCompleted}
 use Rattle.qu_rounds.specs.Invocations.{IsRequestOf}
 
 -- a letter that was sent in the first events asks for this
@@ -37,6 +37,6 @@ pub record ClientFacts (trace : Trace) : Type 0 where
   pub held : (count at : ℕ) (letter : Letter) (client : ClientId) (number round : ℕ) (sets : List SetOf) (body : Body)
       → IsAskedBy trace count at letter client number round sets body → IsOfKept trace count sets body
   -- an operation completes by the first answers to one of its rounds, which are a quorum and agree
-  pub completes : (operation : OpRecord) → Contains (operations_of trace.entries) operation
+  pub completes : (operation : OpRecord) → Contains (operations_of trace) operation
       → (event : ℕ) (answer : Answer) → operation.reply ≡ Some (event, outcome.Done answer)
       → IsCompleted trace operation event answer

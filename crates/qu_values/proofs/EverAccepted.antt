@@ -9,14 +9,14 @@ use Rattle.qu_history.specs.History.{holds}
 use Rattle.qu_chain.specs.Laws.{Laws}
 use Rattle.qu_chain.proofs.Ancestry.{accepted_by, some-later, accepted_by_attested, attested_by_established}
 use Rattle.qu_chain.proofs.Counting.{test_at-here}
-use Rattle.qu_replica.specs.State.{ReplicaState, own_candidates}
+use Rattle.qu_rows.specs.State.{ReplicaState, own_candidates}
 use Rattle.qu_trace.specs.declared.trace.Trace.{Trace}
-use Rattle.qu_runs.specs.Accepted.{accepts}
-use Rattle.qu_runs.specs.Setting.{setting}
-use Rattle.qu_runs.specs.Times.{world_after}
+use Rattle.qu_claims.specs.Accepted.{accepts}
+use Rattle.qu_claims.specs.RunSetting.{setting}
+use Rattle.qu_claims.specs.Times.{world_after}
 use Rattle.qu_runs.proofs.OpeningReplicas.{acceptor_is_good, all_replicas}
-use Rattle.qu_values.specs.Updates.{IsEverAccepted}
-use Rattle.qu_chain.specs.Setting.{acceptors}
+use Rattle.qu_claims.specs.Updates.{IsEverAccepted}
+use Rattle.qu_claims.specs.Setting.{acceptors}
 
 module _ (trace : Trace) (laws : Laws (setting trace)) (time : ℕ) (within : time ≤ length trace.entries) where
   pub place_ever : (place : ℕ) → place < replicas trace.setup.bounds → (object : ObjectId) (candidate : Candidate)

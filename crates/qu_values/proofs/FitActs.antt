@@ -27,9 +27,9 @@ use Rattle.qu_trace.specs.Letters.{letters_of}
 use Rattle.qu_world.specs.State.{numbered, ring_of}
 use Rattle.qu_world.specs.Run.{IsRun}
 use Rattle.qu_world.proofs.Each.{each_at}
-use Rattle.qu_runs.specs.Digested.{Request, handled_by, IsHandled}
+use Rattle.qu_claims.specs.Handled.{Request, handled_by, IsHandled}
 use Rattle.qu_runs.specs.Plain.{HasOpParts, HasEventParts, ArePlain}
-use Rattle.qu_runs.specs.Times.{world_after}
+use Rattle.qu_claims.specs.Times.{world_after}
 use Rattle.qu_runs.proofs.FitParts.{fits_parts}
 use Rattle.qu_runs.proofs.Fitting.{carried_in_run}
 use Rattle.qu_runs.proofs.Recording.{entries_after}

@@ -5,13 +5,10 @@ pub mod OneAct
 pub mod EverAccepted
 pub mod Updates
 pub mod Values
+pub mod BegunVersions
 pub mod StoredValues
 pub mod UpdateFacts
 pub mod RisingNumbers
 pub mod PerformedUpdates
 pub mod UpdatesOfRuns
 pub mod MachineValues
-pub mod KeptActs
-pub mod TrueReplies
-pub mod Replying
-pub mod RepliesInRuns

@@ -10,8 +10,9 @@ use Rattle.qu_base.specs.declared.party.ObjectId.{ObjectId}
 use Rattle.qu_stamp.specs.declared.candidate.Candidate.{Candidate}
 use Rattle.qu_stamp.specs.Candidate.{opening}
 use Rattle.qu_chain.specs.Laws.{Laws}
-use Rattle.qu_chain.specs.Decided.{UponTop, IsTop, IsDecidedBy}
-use Rattle.qu_chain.specs.Joint.{Joint, IsOneAct}
+use Rattle.qu_claims.specs.Decided.{UponTop, IsTop, IsDecidedBy}
+use Rattle.qu_chain.specs.Joint.{Joint}
+use Rattle.qu_claims.specs.Groups.{IsOneAct}
 use Rattle.qu_chain.proofs.Ancestry.{Acceptor, acceptor, accepted_by_decided, some-later}
 use Rattle.qu_chain.proofs.Groups.{whole_turn}
 use Rattle.qu_chain.proofs.Tops.{top, top_decided, one_top}
@@ -30,10 +31,10 @@ use Rattle.qu_machine.specs.Machine.{act_values, with_values, values_at}
 use Rattle.qu_machine.proofs.Equalities.{object_is}
 use Rattle.qu_trace.specs.declared.trace.Trace.{Trace}
 use Rattle.qu_world.proofs.Each.{set_other}
-use Rattle.qu_runs.specs.Setting.{setting}
-use Rattle.qu_values.specs.Updates.{Update, IsOf, IsEverAccepted}
-use Rattle.qu_grounds.specs.Parts.{Names}
-use Rattle.qu_values.specs.Values.{HasVersion}
+use Rattle.qu_claims.specs.RunSetting.{setting}
+use Rattle.qu_claims.specs.Updates.{Update, IsOf, IsEverAccepted}
+use Rattle.qu_claims.specs.Parts.{Names}
+use Rattle.qu_claims.specs.Values.{HasVersion}
 use Rattle.qu_values.proofs.OneAct.{ActsAreOne}
 use Rattle.qu_values.proofs.PerformedUpdates.{performed}
 use Rattle.qu_values.proofs.Updates.{acts, one_of, same_accepted, one_companion}

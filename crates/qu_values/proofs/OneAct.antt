@@ -17,7 +17,8 @@ use Rattle.qu_frames.specs.declared.frame.Body.TheVariants as body
 use Rattle.qu_frames.specs.Body.{body_of}
 use Rattle.qu_trace.specs.declared.trace.Trace.{Trace}
 use Rattle.qu_world.specs.Run.{IsRun}
-use Rattle.qu_runs.specs.Digested.{Request, IsHandled, IsMadeFor, Text, texts_of, digested, NoCollision}
+use Rattle.qu_claims.specs.Handled.{Request, IsHandled, IsMadeFor}
+use Rattle.qu_claims.specs.Digested.{Text, texts_of, digested, NoCollision}
 use Rattle.qu_runs.specs.Plain.{ArePlain}
 use Rattle.qu_values.proofs.FitActs.{IsFit, fit}
 use Rattle.qu_runs.proofs.DigestedTexts.{request_digested}

@@ -5,7 +5,8 @@ use Rattle.std.specs.List.{AllZip}
 use Rattle.qu_base.specs.declared.party.ObjectId.{ObjectId}
 use Rattle.qu_stamp.specs.declared.candidate.Candidate.{Candidate}
 use Rattle.qu_chain.specs.Laws.{Laws}
-use Rattle.qu_chain.specs.Joint.{Joint, IsOneAct}
+use Rattle.qu_chain.specs.Joint.{Joint}
+use Rattle.qu_claims.specs.Groups.{IsOneAct}
 use Rattle.qu_objects.specs.declared.act.Method.{Method}
 use Rattle.qu_objects.specs.declared.kind.Value.{Value}
 use Rattle.qu_objects.specs.declared.state.KeptRow.{KeptRow}
@@ -14,10 +15,10 @@ use Rattle.qu_objects.specs.Performing.{performed_values}
 use Rattle.qu_kept.specs.Performing.{row_by}
 use Rattle.qu_kept.specs.Rows.{row_of}
 use Rattle.qu_trace.specs.declared.trace.Trace.{Trace}
-use Rattle.qu_runs.specs.Setting.{setting}
-use Rattle.qu_values.specs.Updates.{Update, IsOf, IsEverAccepted}
-use Rattle.qu_values.specs.Values.{RestsOn, HasVersion}
-use Rattle.qu_grounds.specs.Parts.{Names, values_of}
+use Rattle.qu_claims.specs.RunSetting.{setting}
+use Rattle.qu_claims.specs.Updates.{Update, IsOf, IsEverAccepted}
+use Rattle.qu_claims.specs.Values.{RestsOn, HasVersion}
+use Rattle.qu_claims.specs.Parts.{Names, values_of}
 use Rattle.qu_values.proofs.OneAct.{ActsAreOne}
 use Rattle.qu_values.proofs.UpdateFacts.{ValueStep, befores, afters, IsStep, IsPerformed, UpdateFacts}
 use Rattle.qu_values.proofs.Updates.{acts, one_of, same_accepted, one_companion, one_act_of}

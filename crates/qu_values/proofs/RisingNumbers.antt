@@ -8,7 +8,7 @@ use Rattle.qu_base.specs.declared.party.ClientId.{ClientId}
 use Rattle.qu_base.specs.declared.party.ObjectId.{ObjectId}
 use Rattle.qu_stamp.specs.declared.candidate.Candidate.{Candidate}
 use Rattle.qu_stamp.specs.Candidate.{opening}
-use Rattle.qu_chain.specs.Setting.{IsAttested, IsAncestor}
+use Rattle.qu_claims.specs.Setting.{IsAttested, IsAncestor}
 use Rattle.qu_chain.specs.Laws.{Laws}
 use Rattle.qu_chain.specs.Joint.{Joint}
 use Rattle.qu_chain.proofs.Ancestry.{accepted_by_attested, attested-later}
@@ -18,9 +18,9 @@ use Rattle.qu_objects.specs.declared.state.ObjState.{ObjState}
 use Rattle.qu_kept.specs.Rows.{row_of}
 use Rattle.qu_kept.specs.Standing.{IsLower}
 use Rattle.qu_trace.specs.declared.trace.Trace.{Trace}
-use Rattle.qu_runs.specs.Setting.{setting}
-use Rattle.qu_values.specs.Updates.{Update, IsOf, IsEverAccepted, NumbersRise}
-use Rattle.qu_values.specs.Values.{RestsOn, HasVersion}
+use Rattle.qu_claims.specs.RunSetting.{setting}
+use Rattle.qu_claims.specs.Updates.{Update, IsOf, IsEverAccepted, NumbersRise}
+use Rattle.qu_claims.specs.Values.{RestsOn, HasVersion}
 use Rattle.qu_values.proofs.OneAct.{ActsAreOne}
 use Rattle.qu_values.proofs.UpdateFacts.{IsUnder, IsUpTo, IsWritten, NoneIsRepeated}
 use Rattle.qu_values.proofs.Updates.{acts, opening_no_act, one_of, same_accepted}

@@ -1,5 +1,5 @@
 -- A request of a correct client that was handled was sent, and belongs to an operation.
-use Rattle.qu_runs.specs.Digested.{is_handler}
+use Rattle.qu_claims.specs.Handled.{is_handler}
 use Rattle.std.proofs.Common.{◌≡◌, ℕ, ◌<◌, ◌≤◌, Bool, true, false, cond, List, length, Option, None, Some, refl, sym, ap, subst, ◌∙◌, arith, inl, inr}
 use Rattle.std.specs.Prelude.{Contains}
 use Rattle.std.specs.List.{list_all}
@@ -27,12 +27,12 @@ use Rattle.qu_trace.specs.declared.trace.Trace.{Trace}
 use Rattle.qu_trace.specs.Letters.{letters_of}
 use Rattle.qu_world.specs.State.{numbered, ring_of}
 use Rattle.qu_world.specs.Run.{IsRun}
-use Rattle.qu_runs.specs.Digested.{Request, is_known, request_in, request_to, request_by, handled_by, IsHandled, IsMadeFor, request_brought}
+use Rattle.qu_claims.specs.Handled.{Request, is_known, request_in, request_to, request_by, handled_by, IsHandled, IsMadeFor, request_brought}
 use Rattle.qu_rounds.specs.Invocations.{IsRequestOf}
-use Rattle.qu_runs.specs.Times.{world_after}
+use Rattle.qu_claims.specs.Times.{world_after}
 use Rattle.qu_values.proofs.ClientFacts.{ClientFacts}
 use Rattle.qu_runs.proofs.Recording.{entries_after, letter_stays}
-use Rattle.qu_runs.specs.Carried.{Asks}
+use Rattle.qu_claims.specs.Carried.{Asks}
 use Rattle.qu_runs.specs.Plain.{IsPlain, ArePlain}
 use Rattle.qu_runs.proofs.Carrying.{asks_so}
 use Rattle.qu_frames.specs.Signing.{brought, sender}

@@ -1,175 +1,72 @@
 -- Every replica that accepted a candidate without barrier stores the version of the candidate with it.
-use Rattle.std.proofs.Common.{◌≡◌, ℕ, zero, suc, ◌+◌, ◌<◌, ◌≤◌, Bool, true, false, ◌&&◌, cond, List, [], ◌∷◌, length, get_or, Some, inl, inr, refl, sym, ap, subst, ◌∙◌, arith, add-one, Option, not, None, ◌++◌, is_some}
-use Rattle.std.specs.Prelude.{◌==◌, slice_get}
-use Rattle.std.proofs.lemmas.Bool.{false≢true, cases_Bool, cases_eq, or_cases, and_from, and_parts, eq-eqb, eqb-true}
+use Rattle.std.proofs.Common.{◌≡◌, ℕ, zero, suc, ◌+◌, ◌<◌, ◌≤◌, true, false, List, length, get_or, Some, inl, inr, refl, sym, ap, subst, ◌∙◌, arith, add-one, Option, not, None, ◌++◌, is_some}
+use Rattle.std.specs.Prelude.{slice_get}
+use Rattle.std.proofs.lemmas.Bool.{false≢true, cases_eq, or_cases}
 use Rattle.std.proofs.lemmas.Option.{none-some, same_Some}
 use Rattle.qu_base.specs.declared.party.ObjectId.{ObjectId}
 use Rattle.qu_base.specs.declared.party.ReplicaId.{ReplicaId}
 use Rattle.qu_seal.specs.Keys.{Ring}
 use Rattle.qu_stamp.specs.declared.candidate.Candidate.{Candidate}
-use Rattle.qu_stamp.specs.Stamp.{is_below, opening_stamp, same_stamp}
+use Rattle.qu_stamp.specs.Stamp.{is_below, opening_stamp}
 use Rattle.qu_stamp.specs.Candidate.{opening, same}
-use Rattle.qu_stamp.proofs.Order.{same_stamp-self, equal_by_same, is_below-self, is_below_by_time}
+use Rattle.qu_stamp.proofs.Order.{equal_by_same, is_below-self, is_below_by_time}
 use Rattle.qu_history.specs.History.{holds, ObjectHistory}
 use Rattle.qu_history.specs.Sets.{entries_of, method_at}
 use Rattle.qu_history.proofs.Rising.{holds_push, holds_pushed}
-use Rattle.qu_objects.specs.declared.kind.KindName.{KindName}
 use Rattle.qu_objects.specs.declared.state.ObjState.{ObjState}
 use Rattle.qu_frames.specs.declared.frame.Body.TheVariants as body
-use Rattle.qu_replica.specs.State.{ReplicaState, candidates_in, own_candidates, opening_histories, opening_version, opening_versions, opening_state, stored_if}
+use Rattle.qu_rows.specs.State.{ReplicaState, own_candidates}
+use Rattle.qu_replica.specs.State.{opening_state, stored_if}
 use Rattle.qu_replica.specs.Growth.{Grows}
-use Rattle.qu_replica.specs.Versions.{version_at}
+use Rattle.qu_rows.specs.Versions.{version_at}
 use Rattle.qu_replica.proofs.Growth.{version_at-grows}
 use Rattle.qu_trace.specs.declared.event.Event.{Event}
 use Rattle.qu_trace.specs.declared.trace.Entry.{Entry}
 use Rattle.qu_trace.specs.declared.trace.Trace.{Trace}
 use Rattle.qu_base.specs.declared.party.Party.TheVariants as party
-use Rattle.std.specs.Prelude.{if◌then◌else◌}
-use Rattle.qu_trace.specs.declared.trace.Setup.{Setup}
-use Rattle.qu_trace.specs.Faulty.{is_faulty}
 use Rattle.qu_world.specs.State.{WorldState, kinds_at, ring_of}
 use Rattle.qu_world.specs.Step.{world_step}
 use Rattle.qu_world.specs.Run.{IsRun}
-use Rattle.qu_replica.specs.Rows.{asked_of, Asked}
+use Rattle.qu_rows.specs.Rows.{asked_of, Asked}
 use Rattle.std.proofs.lemmas.List.Elements.{Contains-get_or}
 use Rattle.qu_chain.specs.Laws.{Laws}
-use Rattle.qu_chain.specs.Setting.{IsNew}
-use Rattle.qu_chain.specs.Joint.{Joint, IsOneAct}
+use Rattle.qu_claims.specs.Setting.{IsNew}
+use Rattle.qu_chain.specs.Joint.{Joint}
+use Rattle.qu_claims.specs.Groups.{IsOneAct}
 use Rattle.qu_stamp.specs.declared.stamp.Stamp.{Stamp}
-use Rattle.qu_grounds.proofs.Handled.{handled, made_for}
-use Rattle.qu_runs.specs.Digested.{IsHandled}
-use Rattle.qu_grounds.specs.Parts.{Names}
-use Rattle.qu_grounds.specs.Grounds.{IsGround, Accepts, IsMoved, Performs, IsRemedy, Reasons, AddsTo, IsDelivered}
-use Rattle.qu_runs.specs.Times.{world_after}
-use Rattle.qu_values.specs.Updates.{IsEverAccepted}
-use Rattle.qu_values.specs.Values.{HasVersion}
-use Rattle.qu_runs.specs.Setting.{setting}
+use Rattle.qu_accepts.proofs.Handled.{handled, made_for}
+use Rattle.qu_claims.specs.Handled.{IsHandled}
+use Rattle.qu_claims.specs.Parts.{Names}
+use Rattle.qu_claims.specs.Grounds.{IsGround, Accepts, IsMoved, Performs, IsRemedy, Reasons, AddsTo, IsDelivered}
+use Rattle.qu_claims.specs.Times.{world_after}
+use Rattle.qu_claims.specs.Updates.{IsEverAccepted}
+use Rattle.qu_claims.specs.Values.{HasVersion}
+use Rattle.qu_claims.specs.RunSetting.{setting}
 use Rattle.qu_runs.specs.Plain.{ArePlain}
-use Rattle.qu_grounds.proofs.Parts.{adds_or_not}
-use Rattle.qu_grounds.proofs.Laws.{new_accepted}
-use Rattle.qu_grounds.proofs.KeptEntries.{base_accepted as accepted_of_base}
-use Rattle.qu_grounds.proofs.KnownObjects.{are_had, delivered_had}
-use Rattle.qu_grounds.proofs.Grounds.{above_base}
+use Rattle.qu_accepts.proofs.Parts.{adds_or_not}
+use Rattle.qu_laws.proofs.Laws.{new_accepted}
+use Rattle.qu_laws.proofs.KeptEntries.{base_accepted as accepted_of_base}
+use Rattle.qu_accepts.proofs.KnownObjects.{are_had, delivered_had}
+use Rattle.qu_accepts.proofs.Grounds.{above_base}
 use Rattle.qu_runs.proofs.Befores.{WasBefore, was_before}
-use Rattle.qu_grounds.proofs.Happenings.{HandsFitting, hands_parts, event_moves}
-use Rattle.qu_grounds.proofs.HeldVersions.{HoldsUnder, AreOfHeld, opening_of_held, still_of_held, none_added}
+use Rattle.qu_accepts.proofs.Happenings.{HandsFitting, hands_parts, event_moves}
+use Rattle.qu_accepts.proofs.HeldVersions.{HoldsUnder, still_of_held, none_added}
 use Rattle.qu_values.proofs.Updates.{same_accepted}
 use Rattle.qu_values.proofs.EverAccepted.{held_ever, quorum_ever}
 use Rattle.qu_history.specs.declared.sets.SetOf.{SetOf}
 use Rattle.qu_runs.proofs.WorldGrowth.{world_after-next}
 use Rattle.qu_runs.proofs.Small.{some_entry}
 use Rattle.qu_runs.proofs.OpeningReplicas.{opening_at}
-use Rattle.qu_runs.specs.Carried.{Brings, handed}
+use Rattle.qu_claims.specs.Carried.{Brings, handed}
 use Rattle.qu_frames.specs.declared.frame.Frame.{Frame}
-use Rattle.qu_grounds.proofs.Performed.{version_of_performed, version_of_mended}
+use Rattle.qu_accepts.proofs.Performed.{version_of_performed, version_of_mended}
 use Rattle.qu_chain.proofs.Parents.{parent}
 use Rattle.qu_history.proofs.Method.{method_at_plain}
 use Rattle.qu_objects.specs.declared.act.Method.{Method}
 use Rattle.qu_chain.proofs.Ancestry.{some-later, accepted_by_attested}
 use Rattle.qu_frames.specs.declared.frame.Body.{Body}
 use Rattle.qu_base.specs.declared.party.Digest.{Digest}
-
--- the replica stores the version of the candidate
-abbrev pub Stores : Trace → ObjectId → ReplicaState → Candidate → Type 0
-Stores trace object state candidate =
-    (version : ObjState) × (version_at object candidate.stamp state.versions ≡ Some version) × HasVersion trace object
-    candidate version
-
--- a replica that stores the versions of all candidates without barrier that it holds, and no others
-record IsVersioned (trace : Trace) (state : ReplicaState) : Type 0 where
-  bounds : state.keys.bounds ≡ trace.setup.bounds
-  of_held : AreOfHeld state
-  stores : (object : ObjectId) (candidate : Candidate) → (setting trace).plain candidate ≡ true
-      → holds candidate (own_candidates state object) ≡ true → Stores trace object state candidate
-
--- ---- at the beginning
-
--- an object begins with the opening candidate and its version
-record IsBegun (first : ℕ) (kinds : List KindName) (object : ObjectId) (place : ℕ)
-    (candidate : Candidate) : Type 0 where
-  kind : KindName
-  is_kind : slice_get kinds place ≡ Some kind
-  alone : opening ≡ candidate
-  fresh : version_at object opening_stamp (opening_versions first kinds) ≡ Some (opening_version kind)
-
-later_begun : (first : ℕ) (kind : KindName) (kinds : List KindName) (object : ObjectId) (place : ℕ)
-    (candidate : Candidate) → object.0 ≡ first + suc place → IsBegun (first + 1) kinds object place candidate → IsBegun
-    first (kind ∷ kinds) object (suc place) candidate
-unfolding version_at opening_versions
-later_begun first kind kinds object place candidate at later =
-    let test : Bool = first == object.0 && same_stamp opening_stamp opening_stamp in
-    elim (cases_Bool test) [
-      | inl here ↦
-          let parts : ((first == object.0) ≡ true) × (same_stamp opening_stamp opening_stamp ≡ true) =
-          and_parts _ _ here in
-          let equal : first ≡ object.0 = eqb-true _ _ parts.0 in
-          absurd (omega arith)
-      | inr there ↦ record {
-        kind = later.kind;
-        is_kind = later.is_kind;
-        alone = later.alone;
-        fresh = ap (λ (b : Bool). cond b (Some (opening_version kind))
-            (version_at object opening_stamp (opening_versions (first + 1) kinds))) there ∙ later.fresh;
-      }
-    ]
-
-only_opening : (candidate : Candidate) → holds candidate (opening ∷ []) ≡ true → opening ≡ candidate
-only_opening candidate held =
-    elim (or_cases (same opening candidate) false held) [
-      | inl is ↦ equal_by_same opening candidate is
-      | inr never ↦ absurd (false≢true never)
-    ]
-
-begun_from : (me : ReplicaId) (first : ℕ) (kinds : List KindName) (object : ObjectId) (place : ℕ)
-    (candidate : Candidate) → object.0 ≡ first + place → holds candidate
-    (candidates_in (slice_get (opening_histories me first kinds) place)) ≡ true → IsBegun first kinds object place
-    candidate
-unfolding opening_histories version_at opening_versions
-begun_from me first [] object place candidate at held = absurd (false≢true held)
-begun_from me first (kind ∷ kinds) object zero candidate at held =
-    let equal : first ≡ object.0 = omega arith in
-    record {
-      kind = kind;
-      is_kind = refl;
-      alone = only_opening candidate held;
-      fresh = ap (λ (b : Bool). cond b (Some (opening_version kind))
-          (version_at object opening_stamp (opening_versions (first + 1) kinds)))
-          (and_from _ _ (eq-eqb first object.0 equal) (same_stamp-self opening_stamp));
-    }
-begun_from me first (kind ∷ kinds) object (suc place) candidate at held =
-    later_begun first kind kinds object place candidate at (begun_from me (first + 1) kinds object place candidate
-    (omega arith) held)
-
--- what a replica keeps are objects of the setup
-kept_kinds : (setup : Setup) (number place : ℕ) (kind : KindName) → slice_get (kinds_at setup number) place ≡ Some kind
-    → slice_get setup.kinds place ≡ Some kind
-kept_kinds setup number place kind is =
-    kept (is_faulty setup (party.Replica (record { 0 = number }))) is
-  where
-    kept : (test : Bool) → slice_get (if test then [] else setup.kinds) place ≡ Some kind
-        → slice_get setup.kinds place ≡ Some kind
-    kept true found = absurd (none-some kind found)
-    kept false found = found
-
-begun_stores : (trace : Trace) (me : ReplicaId) (object : ObjectId) (candidate : Candidate)
-    → IsBegun 0 (kinds_at trace.setup me.0) object object.0 candidate → Stores trace object
-    (opening_state me (ring_of trace.setup) (kinds_at trace.setup me.0)) candidate
-begun_stores trace me object candidate begun =
-    subst (Stores trace object (opening_state me (ring_of trace.setup) (kinds_at trace.setup me.0)))
-    begun.alone (
-      opening_version begun.kind,
-      begun.fresh,
-      HasVersion.of_opening object begun.kind (kept_kinds trace.setup me.0 object.0 begun.kind begun.is_kind),
-    )
-
-opening-versioned : (trace : Trace) (me : ReplicaId) → IsVersioned trace
-    (opening_state me (ring_of trace.setup) (kinds_at trace.setup me.0))
-opening-versioned trace me = record {
-  bounds = refl;
-  of_held = opening_of_held me (ring_of trace.setup) (kinds_at trace.setup me.0);
-  stores = λ object candidate plain held. begun_stores trace me object candidate
-      (begun_from me 0 (kinds_at trace.setup me.0) object object.0 candidate (omega arith) held);
-}
+use Rattle.qu_values.proofs.BegunVersions.{Stores, IsVersioned, opening-versioned}
 
 -- ---- what accepted candidates are made of
 

@@ -4,12 +4,13 @@ use Rattle.std.proofs.Common.{◌≡◌, ◌⊎◌, true, false, List, [], ◌�
 use Rattle.qu_base.specs.declared.party.ClientId.{ClientId}
 use Rattle.qu_objects.specs.Digesting.{act_digest}
 use Rattle.std.specs.List.{AllZip}
-use Rattle.qu_chain.specs.Joint.{IsOneAct, HasMember}
+use Rattle.qu_claims.specs.Groups.{IsOneAct}
+use Rattle.qu_chain.specs.Joint.{HasMember}
 use Rattle.qu_base.specs.declared.party.ObjectId.{ObjectId}
 use Rattle.qu_stamp.specs.declared.candidate.Candidate.{Candidate}
 use Rattle.qu_history.specs.History.{ObjectHistory}
 use Rattle.qu_history.specs.Sets.{method_at}
-use Rattle.qu_chain.specs.Setting.{Apart, IsAncestor}
+use Rattle.qu_claims.specs.Setting.{Apart, IsAncestor}
 use Rattle.qu_objects.specs.declared.act.Method.{Method}
 use Rattle.qu_objects.specs.declared.kind.Value.{Value}
 use Rattle.qu_objects.specs.declared.state.KeptRow.{KeptRow}
@@ -18,9 +19,9 @@ use Rattle.qu_objects.specs.Performing.{performed_values}
 use Rattle.qu_kept.specs.Performing.{row_by}
 use Rattle.qu_kept.specs.Rows.{row_of}
 use Rattle.qu_trace.specs.declared.trace.Trace.{Trace}
-use Rattle.qu_runs.specs.Setting.{setting}
-use Rattle.qu_values.specs.Updates.{Update, IsOf, IsEverAccepted}
-use Rattle.qu_values.specs.Values.{HasVersion}
+use Rattle.qu_claims.specs.RunSetting.{setting}
+use Rattle.qu_claims.specs.Updates.{Update, IsOf, IsEverAccepted}
+use Rattle.qu_claims.specs.Values.{HasVersion}
 
 -- the candidate's version has this value
 pub record HasValue (trace : Trace) (object : ObjectId) (candidate : Candidate) (value : Value) : Type 0 where

@@ -6,12 +6,13 @@ use Rattle.qu_base.specs.declared.party.ObjectId.{ObjectId}
 use Rattle.qu_stamp.specs.declared.candidate.Candidate.{Candidate}
 use Rattle.qu_stamp.specs.Candidate.{opening}
 use Rattle.qu_chain.specs.Laws.{Laws}
-use Rattle.qu_chain.specs.Joint.{Joint, InGroup, IsOneAct}
+use Rattle.qu_chain.specs.Joint.{Joint}
+use Rattle.qu_claims.specs.Groups.{InGroup, IsOneAct}
 use Rattle.qu_chain.proofs.Groups.{companion_is, members_agree}
 use Rattle.qu_chain.proofs.Parents.{First, first_new, one_candidate}
 use Rattle.qu_trace.specs.declared.trace.Trace.{Trace}
-use Rattle.qu_runs.specs.Setting.{setting}
-use Rattle.qu_values.specs.Updates.{Update, IsOf, IsEverAccepted}
+use Rattle.qu_claims.specs.RunSetting.{setting}
+use Rattle.qu_claims.specs.Updates.{Update, IsOf, IsEverAccepted}
 use Rattle.qu_values.proofs.OneAct.{ActsAreOne, one_made_for}
 
 -- the last time is that after all events

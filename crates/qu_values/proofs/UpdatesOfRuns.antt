@@ -8,7 +8,7 @@ use Rattle.qu_stamp.specs.declared.candidate.Candidate.{Candidate}
 use Rattle.qu_stamp.specs.declared.stamp.Stamp.{Stamp}
 use Rattle.qu_stamp.specs.Stamp.{is_below}
 use Rattle.qu_stamp.specs.Candidate.{opening}
-use Rattle.qu_chain.specs.Setting.{Apart}
+use Rattle.qu_claims.specs.Setting.{Apart}
 use Rattle.qu_chain.specs.Laws.{Laws}
 use Rattle.qu_chain.specs.Joint.{Joint}
 use Rattle.qu_chain.proofs.Counting.{Found, found_at}
@@ -18,28 +18,28 @@ use Rattle.qu_frames.specs.declared.frame.Body.TheVariants as body
 use Rattle.qu_trace.specs.declared.trace.Trace.{Trace}
 use Rattle.qu_world.specs.State.{WorldState}
 use Rattle.qu_world.specs.Run.{IsRun}
-use Rattle.qu_runs.specs.Accepted.{accepts, is_accepted}
-use Rattle.qu_runs.specs.Digested.{IsHandled, IsMadeFor}
+use Rattle.qu_claims.specs.Accepted.{accepts, is_accepted}
+use Rattle.qu_claims.specs.Handled.{IsHandled, IsMadeFor}
 use Rattle.qu_runs.specs.Plain.{ArePlain}
-use Rattle.qu_runs.specs.Setting.{setting}
-use Rattle.qu_grounds.specs.Chained.{last_world}
-use Rattle.qu_grounds.specs.Grounds.{Accepts, Performs}
-use Rattle.qu_replica.specs.Rows.{asked_of}
-use Rattle.qu_grounds.specs.Origins.{Origin}
+use Rattle.qu_claims.specs.RunSetting.{setting}
+use Rattle.qu_claims.specs.Chained.{last_world}
+use Rattle.qu_claims.specs.Grounds.{Accepts, Performs}
+use Rattle.qu_rows.specs.Rows.{asked_of}
+use Rattle.qu_claims.specs.Origins.{Origin}
 use Rattle.qu_runs.proofs.Settings.{AcceptedAt, accepted_somewhere, is_accepted_by}
-use Rattle.qu_grounds.proofs.Grounds.{IsOfAct, act_added}
-use Rattle.qu_values.specs.Updates.{Update, IsOf, IsEverAccepted, NumbersRise}
-use Rattle.qu_values.specs.Values.{HasVersion}
-use Rattle.qu_grounds.proofs.Handled.{handled, made_for}
+use Rattle.qu_accepts.proofs.Grounds.{IsOfAct, act_added}
+use Rattle.qu_claims.specs.Updates.{Update, IsOf, IsEverAccepted, NumbersRise}
+use Rattle.qu_claims.specs.Values.{HasVersion}
+use Rattle.qu_accepts.proofs.Handled.{handled, made_for}
 use Rattle.qu_values.proofs.OneAct.{ActsAreOne}
 use Rattle.qu_values.proofs.FitActs.{fit}
-use Rattle.qu_grounds.proofs.Origins.{accepted_from}
+use Rattle.qu_laws.proofs.Origins.{accepted_from}
 use Rattle.qu_values.proofs.RisingNumbers.{numbers_rise as rising, none_repeated, rows_are_true}
 use Rattle.qu_values.proofs.StoredValues.{version_held, plain_of_method}
 use Rattle.qu_values.proofs.Updates.{opening_no_act, same_accepted}
 use Rattle.qu_values.proofs.UpdateFacts.{HasValue, MadeFor, UpdateFacts, NoneIsRepeated}
 use Rattle.qu_values.proofs.Values.{one_version}
-use Rattle.qu_grounds.proofs.Parts.{same_named}
+use Rattle.qu_accepts.proofs.Parts.{same_named}
 use Rattle.qu_machine.proofs.Firsts.{contains_at}
 use Rattle.qu_chain.proofs.Parents.{parent}
 use Rattle.qu_frames.specs.declared.frame.Body.{Body}

@@ -23,10 +23,10 @@ use Rattle.qu_kept.specs.Rows.{client_of, row_of}
 use Rattle.qu_kept.specs.Standing.{IsLower}
 use Rattle.qu_kept.proofs.KeyedLaws.{own_item, other_item}
 use Rattle.qu_trace.specs.declared.trace.Trace.{Trace}
-use Rattle.qu_runs.specs.Setting.{setting}
-use Rattle.qu_values.specs.Updates.{Update, IsOf, IsEverAccepted}
-use Rattle.qu_values.specs.Values.{RestsOn, HasVersion}
-use Rattle.qu_grounds.specs.Parts.{Names, values_of}
+use Rattle.qu_claims.specs.RunSetting.{setting}
+use Rattle.qu_claims.specs.Updates.{Update, IsOf, IsEverAccepted}
+use Rattle.qu_claims.specs.Values.{RestsOn, HasVersion}
+use Rattle.qu_claims.specs.Parts.{Names, values_of}
 use Rattle.qu_values.proofs.OneAct.{ActsAreOne}
 use Rattle.qu_values.proofs.Updates.{one_of, same_accepted, one_companion, acts, opening_no_act}
 

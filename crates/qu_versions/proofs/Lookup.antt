@@ -1,5 +1,5 @@
 -- What is found under a key: in the opening versions, and after one more version was put in.
-use Rattle.std.proofs.Common.{◌≡◌, ℕ, zero, suc, ◌+◌, ◌<◌, ◌==◌, Bool, true, false, ◌&&◌, cond, if◌then◌else◌, List, [], ◌∷◌, ◌++◌, Option, None, Some, is_some, refl, ap, ◌∙◌, arith}
+use Rattle.std.proofs.Common.{◌≡◌, ℕ, zero, suc, ◌+◌, ◌<◌, ◌==◌, Bool, true, false, cond, if◌then◌else◌, List, [], ◌∷◌, ◌++◌, Option, None, Some, is_some, refl, ap, ◌∙◌, arith}
 use Rattle.std.specs.Prelude.{find, option_map, slice_get}
 use Rattle.std.specs.Option.{option_or}
 use Rattle.std.proofs.lemmas.Bool.Decides.{nat_tests}
@@ -9,8 +9,9 @@ use Rattle.qu_stamp.specs.Stamp.{opening_stamp, same_stamp}
 use Rattle.qu_stamp.proofs.Order.{same_stamp-self}
 use Rattle.qu_objects.specs.declared.kind.KindName.{KindName}
 use Rattle.qu_objects.specs.declared.state.ObjState.{ObjState}
-use Rattle.qu_versions.specs.declared.store.Stored.{Stored}
-use Rattle.qu_versions.specs.Versions.{is_same_key, is_stored, state_at, with_state, Grows, fresh_state, opening_versions, opening_at}
+use Rattle.qu_versions.specs.declared.stored.Stored.{Stored}
+use Rattle.qu_objects.specs.Kind.{opening_version}
+use Rattle.qu_versions.specs.Versions.{is_same_key, is_stored, state_at, with_state, Grows, opening_versions, opening_at}
 
 -- ---- the version under a key is that of the first such entry
 
@@ -45,6 +46,30 @@ state_at-push object stamp (held ∷ later) more =
       | true ↦ refl
       | false ↦ state_at-push object stamp later more
     ]
+
+-- ---- versions behind others
+
+pub state_at-append : (object : ObjectId) (stamp : Stamp) (versions more : List Stored)
+    → state_at object stamp (versions ++ more) ≡ option_or (state_at object stamp versions)
+    (state_at object stamp more)
+unfolding state_at
+state_at-append object stamp [] more = refl
+state_at-append object stamp (held ∷ later) more =
+    elim (is_stored object stamp held)
+    as (λ (test : Bool). cond test (Some held.state) (state_at object stamp (later ++ more)) ≡ option_or
+    (cond test (Some held.state) (state_at object stamp later)) (state_at object stamp more)) [
+      | true ↦ refl
+      | false ↦ state_at-append object stamp later more
+    ]
+
+pub append_held : (object : ObjectId) (stamp : Stamp) (versions more new : List Stored) → new ≡ versions ++ more
+    → state_at object stamp new ≡ option_or (state_at object stamp versions) (state_at object stamp more)
+append_held object stamp versions more new is =
+    ap (state_at object stamp) is ∙ state_at-append object stamp versions more
+
+pub append_grows : (versions more new : List Stored) → new ≡ versions ++ more → Grows versions new
+append_grows versions more new is object stamp state found =
+    append_held object stamp versions more new is ∙ (rw found refl)
 
 same_key-self : (object : ObjectId) (stamp : Stamp) → is_same_key object stamp object stamp ≡ true
 same_key-self object stamp = grind (arith, nat_tests, same_stamp-self stamp)
@@ -120,11 +145,11 @@ none_below object stamp first (kind ∷ kinds) below =
 opened_from : (object : ObjectId) (stamp : Stamp) (first place : ℕ) (kinds : List KindName)
     → object.0 ≡ first + place
     → state_at object stamp (opening_versions first kinds) ≡
-    (if same_stamp opening_stamp stamp then option_map fresh_state (slice_get kinds place) else None)
+    (if same_stamp opening_stamp stamp then option_map opening_version (slice_get kinds place) else None)
 unfolding state_at opening_versions
 opened_from object stamp first place [] is =
     elim (same_stamp opening_stamp stamp)
-    as (λ (test : Bool). None ≡ (if test then option_map fresh_state None else None)) [
+    as (λ (test : Bool). None ≡ (if test then option_map opening_version None else None)) [
       | true ↦ refl
       | false ↦ refl
     ]
@@ -132,7 +157,7 @@ opened_from object stamp first zero (kind ∷ kinds) is =
     let same : (first == object.0) ≡ true = grind (arith, nat_tests) in
     let later : Option ObjState = state_at object stamp (opening_versions (first + 1) kinds) in
     rw same (elim (same_stamp opening_stamp stamp)
-    as (λ (test : Bool). cond test (Some (fresh_state kind)) later ≡ (if test then Some (fresh_state kind) else None)) [
+    as (λ (test : Bool). cond test (Some (opening_version kind)) later ≡ (if test then Some (opening_version kind) else None)) [
       | true ↦ refl
       | false ↦ none_below object stamp (first + 1) kinds (omega arith)
     ])

@@ -2,15 +2,16 @@
 use Rattle.std.proofs.Common.{◌≡◌, ℕ, zero, suc, ◌+◌, ◌<◌, List, [], ◌∷◌, ◌++◌, length, take, get_or, refl, ap, arith, zero-add, add-zero, add-one}
 use Rattle.qu_stamp.specs.Stamp.{opening_stamp}
 use Rattle.qu_objects.specs.declared.kind.KindName.{KindName}
-use Rattle.qu_versions.specs.declared.store.Stored.{Stored}
-use Rattle.qu_versions.specs.Versions.{fresh_state, opening_versions}
+use Rattle.qu_versions.specs.declared.stored.Stored.{Stored}
+use Rattle.qu_objects.specs.Kind.{opening_version}
+use Rattle.qu_versions.specs.Versions.{opening_versions}
 
 versions_from : (first place : ℕ) (kinds : List KindName) (default : KindName) → place < length kinds
     → opening_versions first (take (suc place) kinds) ≡ opening_versions first
     (take place kinds) ++ record {
       object = record { 0 = first + place };
       stamp = opening_stamp;
-      state = fresh_state (get_or kinds place default);
+      state = opening_version (get_or kinds place default);
     } ∷ []
 unfolding opening_versions
 versions_from first place [] default within = absurd (omega arith)
@@ -21,7 +22,7 @@ versions_from first (suc place) (kind ∷ kinds) default within =
     rw count (ap (λ (later : List Stored). record {
       object = record { 0 = first };
       stamp = opening_stamp;
-      state = fresh_state kind;
+      state = opening_version kind;
     } ∷ later)
     (versions_from (first + 1) place kinds default inner))
 
@@ -30,7 +31,7 @@ pub versions_step : (place : ℕ) (kinds : List KindName) (default : KindName) �
     (take place kinds) ++ record {
       object = record { 0 = place };
       stamp = opening_stamp;
-      state = fresh_state (get_or kinds place default);
+      state = opening_version (get_or kinds place default);
     } ∷ []
 versions_step place kinds default within = rw add-one (rw zero-add at (versions_from 0 place kinds default within))
 

@@ -5,8 +5,8 @@ use Rattle.qu_stamp.specs.declared.stamp.Stamp.{Stamp}
 use Rattle.qu_stamp.specs.Stamp.{opening_stamp, same_stamp}
 use Rattle.qu_objects.specs.declared.kind.KindName.{KindName}
 use Rattle.qu_objects.specs.declared.state.ObjState.{ObjState}
-use Rattle.qu_objects.specs.Kind.{fresh_value}
-use Rattle.qu_versions.specs.declared.store.Stored.{Stored}
+use Rattle.qu_objects.specs.Kind.{opening_version}
+use Rattle.qu_versions.specs.declared.stored.Stored.{Stored}
 
 -- the same object under the same stamp
 abbrev pub is_same_key : ObjectId → Stamp → ObjectId → Stamp → Bool
@@ -38,18 +38,14 @@ Grows old new = (object : ObjectId) (stamp : Stamp) (state : ObjState) → state
 
 -- ---- how objects begin
 
--- the kind's fresh value, nothing kept and no link
-abbrev pub fresh_state : KindName → ObjState
-fresh_state kind = record { value = fresh_value kind; kept = []; links = [] }
-
 -- the objects from this number on
 unfoldable pub opening_versions : ℕ → List KindName → List Stored
 opening_versions number [] = []
 opening_versions number (kind ∷ kinds) =
-    record { object = record { 0 = number }; stamp = opening_stamp; state = fresh_state kind } ∷ opening_versions
+    record { object = record { 0 = number }; stamp = opening_stamp; state = opening_version kind } ∷ opening_versions
     (number + 1) kinds
 
 -- the version of the object, where it has a kind and the stamp is the opening one
 abbrev pub opening_at : List KindName → ObjectId → Stamp → Option ObjState
 opening_at kinds object stamp =
-    if same_stamp opening_stamp stamp then option_map fresh_state (slice_get kinds object.0) else None
+    if same_stamp opening_stamp stamp then option_map opening_version (slice_get kinds object.0) else None

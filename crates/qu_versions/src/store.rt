@@ -1,34 +1,29 @@
-ghost use Rattle.std.specs.Prelude.{◌≡◌, ◌≤◌, false, not, length, filter, find, Option, Some, IfOk, OnOk, OnErr};
+ghost use Rattle.std.specs.Prelude.{◌≡◌, ◌≤◌, ◌++◌, ◌↔◌, false, not, length, filter, find, Option, Some, IsTrue, IfOk, OnOk, OnErr};
 ghost use Rattle.std.specs.Option.{option_copied, option_or};
 ghost use Rattle.qu_base.specs.declared.limits.TheConstants.{OBJECT_IDS};
 ghost use Rattle.qu_base.specs.declared.party.ObjectId.{ObjectId as Object};
 ghost use Rattle.qu_stamp.specs.declared.stamp.Stamp.{Stamp as AStamp};
+ghost use Rattle.qu_versions.specs.declared.limits.TheConstants.{MOST_VERSIONS};
 ghost use Rattle.qu_versions.specs.Versions.{is_stored, is_same_key, state_at, is_held, with_state, opening_versions, opening_at, Grows};
 
+use super::{MOST_VERSIONS, Prepared, Stored};
 use qu_base::{List, NoMemory, ObjectId};
 use qu_objects::{KindName, ObjState, Value};
 use qu_stamp::Stamp;
 use std::alloc::Global;
+use std::collections::LinkedList;
 use std::marker::Model;
-
-/// A version of an object, under the stamp of its candidate.
-#[derive(Debug, Drop)]
-pub struct Stored {
-    pub object: ObjectId,
-    pub stamp: Stamp,
-    pub state: ObjState,
-}
 
 /// The versions of objects, each under its stamp. It only grows: a version that is held is never replaced.
 #[derive(Drop)]
 pub struct VersionStore {
     alloc: Global,
-    versions: List<Stored>,
+    versions: LinkedList<Stored>,
 }
 
 impl Model for VersionStore {
     ghost use Rattle.std.specs.Prelude.{List as Sequence};
-    ghost use Rattle.qu_versions.specs.declared.store.Stored.{Stored as AVersion};
+    ghost use Rattle.qu_versions.specs.declared.stored.Stored.{Stored as AVersion};
 
     ghost Value = { Sequence AVersion };
 
@@ -63,7 +58,7 @@ impl VersionStore {
         self.hold(object, stamp, state)
     }
 
-    /// The same.
+    /// Puts the version behind the others, where none is held under its key.
     fn hold(&mut self, object: ObjectId, stamp: Stamp, state: ObjState) -> Result<(), NoMemory>
         ensures value { OnOk result (self.new ≡ with_state object stamp state self.old) }
         ensures err { OnErr result (self.new ≡ self.old) }
@@ -71,18 +66,49 @@ impl VersionStore {
         if self.get(object, &stamp).is_some() {
             return Ok(());
         }
-        self.versions.push(Stored {
+        self.versions.push_back(Stored {
             object,
             stamp,
             state,
-        })
+        })?;
+        Ok(())
+    }
+
+    /// Whether there is a place for the versions that were prepared.
+    pub fn has_place(&self, prepared: &Prepared) -> bool
+        ensures { IsTrue result ↔ (length (self.now ++ prepared.now) ≤ MOST_VERSIONS) }
+    {
+        prepared.len() <= MOST_VERSIONS - self.versions.len()
+    }
+
+    /// Holds the versions that were prepared, which takes no memory. Where one is held under the same key already,
+    /// that one is found.
+    pub fn put_prepared(&mut self, prepared: Prepared)
+        requires place { length (self.old ++ prepared) ≤ MOST_VERSIONS }
+        ensures value { self.new ≡ self.old ++ prepared }
+        ensures held { (object : Object) (at : AStamp) → state_at object at self.new
+            ≡ option_or (state_at object at self.old) (state_at object at prepared) }
+        ensures grows { Grows self.old self.new }
+    {
+        self.join(prepared)
+    }
+
+    /// Puts the versions behind the others.
+    fn join(&mut self, prepared: Prepared)
+        requires place { length (self.old ++ prepared) ≤ MOST_VERSIONS }
+        ensures value { self.new ≡ self.old ++ prepared }
+    {
+        let mut versions = prepared.into_list();
+        if self.versions.append(&mut versions).is_err() {
+            unreachable!();
+        }
     }
 
     /// The version of the object under this stamp, None exactly where it is not held.
     pub fn get(&self, object: ObjectId, stamp: &Stamp) -> Option<&ObjState>
         ensures { option_copied result ≡ state_at object stamp.now self.now }
     {
-        state_at(self.versions.as_slice(), object, stamp)
+        state_at(&self.versions, object, stamp)
     }
 
     /// Those of the keys under which no version is held, in their order.
@@ -101,18 +127,18 @@ impl VersionStore {
 
 /// The versions with which the objects of these kinds begin, in their order.
 #[tactic(auto, using(crate::proofs::Opening::opening_laws))]
-fn opening(alloc: Global, kinds: &[KindName]) -> Result<List<Stored>, NoMemory>
+fn opening(alloc: Global, kinds: &[KindName]) -> Result<LinkedList<Stored>, NoMemory>
     requires { length kinds.now ≤ OBJECT_IDS }
     ensures { IfOk result (λ versions. versions ≡ opening_versions 0 kinds.now) }
 {
-    let mut versions = List::new(alloc);
+    let mut versions = LinkedList::new(alloc);
     for (number, kind) in kinds.iter().enumerate() {
         let state = ObjState {
             value: Value::fresh(*kind),
             kept: List::new(alloc),
             links: List::new(alloc),
         };
-        versions.push(Stored {
+        versions.push_back(Stored {
             object: ObjectId(number as u16),
             stamp: Stamp::opening(),
             state,
@@ -123,7 +149,11 @@ fn opening(alloc: Global, kinds: &[KindName]) -> Result<List<Stored>, NoMemory>
 
 /// The version of an object under this stamp.
 #[tactic(auto, using(crate::proofs::Lookup::finds))]
-fn state_at<'a>(versions: &'a [Stored], object: ObjectId, stamp: &Stamp) -> Option<&'a ObjState>
+fn state_at<'a>(
+    versions: &'a LinkedList<Stored>,
+    object: ObjectId,
+    stamp: &Stamp,
+) -> Option<&'a ObjState>
     ensures { option_copied result ≡ state_at object stamp.now versions.now }
 {
     match first_stored(versions, object, stamp) {
@@ -134,7 +164,11 @@ fn state_at<'a>(versions: &'a [Stored], object: ObjectId, stamp: &Stamp) -> Opti
 
 /// The first entry of an object under this stamp.
 #[tactic(auto, unfolding(qu_stamp::specs::Stamp::same_stamp))]
-fn first_stored<'a>(versions: &'a [Stored], object: ObjectId, stamp: &Stamp) -> Option<&'a Stored>
+fn first_stored<'a>(
+    versions: &'a LinkedList<Stored>,
+    object: ObjectId,
+    stamp: &Stamp,
+) -> Option<&'a Stored>
     ensures { option_copied result ≡ find (is_stored object stamp.now) versions.now }
 {
     versions

@@ -8,6 +8,3 @@ mod vote;
 pub use refusal_number::{TWICE, refusal_numbers_are_these};
 pub use tally::{Tally, VoteFail};
 pub use vote::Vote;
-
-#[cfg(test)]
-mod tests;

@@ -2,7 +2,7 @@ ghost use Rattle.std.specs.Prelude.{◌≡◌, None, Some};
 
 use super::VoteFail;
 
-/// The replica was taken before.
+/// The replica was counted before.
 pub const TWICE: u8 = 2;
 
 impl VoteFail {

@@ -12,7 +12,7 @@ use std::marker::Model;
 /// Why an answer is not counted. The tally stays as it is.
 #[derive(Clone, Copy, Debug, PartialEq, Eq)]
 pub enum VoteFail {
-    /// An answer of this replica was counted before.
+    /// Number 2: an answer of this replica was counted before.
     Twice(ReplicaId),
     NoMemory,
 }
@@ -93,7 +93,8 @@ impl<T: Eq> Tally<T> {
         count_in(self.votes.as_slice(), value)
     }
 
-    /// An answer that no other one outnumbers, and how many replicas gave an equal one.
+    /// An answer that no other one outnumbers, and how many replicas gave an equal one. Where several are given by as
+    /// many replicas, it may be any of them.
     #[tactic(auto, using(crate::proofs::Votes::greatest_of_all))]
     pub fn best(&self) -> Option<(&T, u8)>
         ensures none { result ≡ None ↔ (self.now ≡ []) }

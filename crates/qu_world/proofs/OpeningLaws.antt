@@ -3,6 +3,7 @@ use Rattle.std.proofs.Common.{◌≡◌, ℕ, suc, ◌+◌, ◌-◌, ◌<◌, �
 use Rattle.qu_seal.specs.Keys.{Ring}
 use Rattle.qu_objects.specs.declared.kind.KindName.{KindName}
 use Rattle.qu_replica.specs.State as replica
+use Rattle.qu_rows.specs.State.{ReplicaState}
 use Rattle.qu_client.specs.State as client
 use Rattle.qu_client.specs.declared.state.ClientState.{ClientState}
 use Rattle.qu_world.specs.State.{opening_replicas, opening_clients}
@@ -34,7 +35,7 @@ unfolding opening_clients
 clients_none number count at keys none = let e : count - at ≡ 0 = omega arith in rw e refl
 
 -- one more replica was started
-pub replica_started : (started new all : List replica.ReplicaState) (state : replica.ReplicaState)
+pub replica_started : (started new all : List ReplicaState) (state : ReplicaState)
     (number count : ℕ) (keys : Ring) (kinds : ℕ → List KindName) → number < count
     → started ++ opening_replicas number (count - number) keys kinds ≡ all
     → state ≡ replica.opening_state (record { 0 = number }) keys (kinds number) → new ≡ started ++ state ∷ []
@@ -46,7 +47,7 @@ replica_started started new all state number count keys kinds more so_far is new
     ∙ ap (λ rest. started ++ rest) (sym (replicas_more number count number keys kinds more))
     ∙ so_far
 
-pub replicas_started : (started all : List replica.ReplicaState) (number count : ℕ) (keys : Ring)
+pub replicas_started : (started all : List ReplicaState) (number count : ℕ) (keys : Ring)
     (kinds : ℕ → List KindName) → count ≤ number
     → started ++ opening_replicas number (count - number) keys kinds ≡ all → started ≡ all
 replicas_started started all number count keys kinds none so_far =

@@ -11,7 +11,7 @@ use Rattle.qu_base.specs.declared.party.Party.{Party}
 use Rattle.qu_base.specs.declared.party.Party.TheVariants as party
 use Rattle.qu_seal.specs.Keys.{Ring}
 use Rattle.qu_frames.specs.declared.frame.Letter.{Letter}
-use Rattle.qu_replica.specs.State.{ReplicaState}
+use Rattle.qu_rows.specs.State.{ReplicaState}
 use Rattle.qu_client.specs.declared.state.ClientState.{ClientState}
 use Rattle.qu_client.specs.declared.state.Stepped.{Stepped}
 use Rattle.qu_client.specs.Steps.{client_invoke, client_step, client_tick}
@@ -26,11 +26,11 @@ use Rattle.qu_client.specs.declared.work.Work.{Work}
 use Rattle.qu_world.specs.declared.fail.WorldFail.TheVariants as fails
 use Rattle.qu_world.specs.declared.fail.TheConstants.{EVENT_LIMIT, BYTE_LIMIT}
 use Rattle.qu_world.specs.State.{WorldState, ring_of, opening_world, opening_clients, numbered, letter_of}
-use Rattle.qu_world.proofs.Steps.{step_cases, is_invoked}
+use Rattle.qu_world.proofs.Steps.{step_cases, is_invoked, not_barred}
 use Rattle.qu_world.specs.Step.{moved, world_step, at_client, at_replica, received, delivered}
 use Rattle.qu_world.specs.Refusals.{cause_of, limit_at, refused_invocation}
 use Rattle.qu_world.specs.Parties.{MayBegin, CanBegin}
-use Rattle.qu_world.specs.Run.{run_from, run, MayHappen, events_of, IsSetup, IsWorld, IsCounted}
+use Rattle.qu_world.specs.Run.{bar_of, run_from, run, MayHappen, events_of, IsSetup, IsWorld, IsCounted}
 use Rattle.qu_world.proofs.Each.{each_weaker, each_with_numbered, each_numbered}
 
 -- ---- one event more
@@ -42,7 +42,7 @@ run_more world [] event = refl
 run_more world (first ∷ later) event = run_more (world_step world first) later event
 
 happened_more : (world : WorldState) (events : List Event) (event : Event) → MayHappen world events
-    → cause_of (run_from world events) event ≡ None → MayHappen world (events ++ event ∷ [])
+    → bar_of (run_from world events) event ≡ None → MayHappen world (events ++ event ∷ [])
 unfolding run_from MayHappen
 happened_more world [] event happened may = (may, tt)
 happened_more world (first ∷ later) event happened may =
@@ -126,7 +126,7 @@ step_by old new event is made world may =
           subst MayFrom (sym made.setup)
           (subst May (sym events)
           (happened_more (opening_world old.setup) (events_of old.entries) event world.happened
-          (ap (λ at. cause_of at event) before ∙ may)));
+          (ap (λ at. bar_of at event) before ∙ not_barred old event may)));
     }
 
 -- an event that may happen makes a world of a world

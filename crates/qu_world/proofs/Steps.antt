@@ -1,12 +1,14 @@
 -- What an event makes of a world: nothing at a faulty party, and else what the party makes.
-use Rattle.std.proofs.Common.{◌≡◌, Bool, true, false, cond, None, refl, ap}
+use Rattle.std.proofs.Common.{◌≡◌, Bool, true, false, cond, None, refl, sym, ap, ◌∙◌}
+use Rattle.std.proofs.lemmas.Bool.{false≢true}
 use Rattle.qu_base.specs.declared.party.ClientId.{ClientId}
 use Rattle.qu_base.specs.declared.party.Party.TheVariants as party
 use Rattle.qu_objects.specs.declared.op.Op.{Op}
 use Rattle.qu_trace.specs.Faulty.{is_faulty}
 use Rattle.qu_trace.specs.declared.event.Event.{Event}
-use Rattle.qu_trace.specs.declared.event.Event.TheVariants.{Invoke}
-use Rattle.qu_world.specs.Refusals.{cause_of, refused_invocation}
+use Rattle.qu_trace.specs.declared.event.Event.TheVariants.{Invoke, Deliver, Tick, Inject}
+use Rattle.qu_world.specs.Refusals.{cause_of, refused_invocation, refused_tick}
+use Rattle.qu_world.specs.Run.{bar_at_faulty, bar_of}
 use Rattle.qu_world.specs.State.{WorldState, numbered}
 use Rattle.qu_world.specs.Step.{unchanged, moved, at_faulty, world_step}
 
@@ -43,3 +45,34 @@ is_invoked world client op may = by (is_faulty world.setup (party.Client client)
         → IsInvoked world client op
     by true is free = absurd cc
     by false is free = record { correct = is; free = free }
+
+-- ---- what may happen in a run
+
+-- at a correct party an event is barred where it is refused
+pub barred_as_refused : (world : WorldState) (event : Event) → AtCorrect world event
+    → bar_of world event ≡ cause_of world event
+barred_as_refused world event correct =
+    ap (λ (faulty : Bool). cond faulty (bar_at_faulty world event) (cause_of world event)) correct
+
+-- what is not refused at a faulty party is not barred there
+free_at_faulty : (world : WorldState) (event : Event) → at_faulty world.setup world.entries event ≡ true
+    → cause_of world event ≡ None → bar_at_faulty world event ≡ None
+free_at_faulty world (Invoke client op) faulty may =
+    absurd (false≢true (sym (is_invoked world client op may).correct ∙ faulty))
+free_at_faulty world (Deliver number) faulty may = refl
+free_at_faulty world (Tick client) faulty may = by (is_faulty world.setup (party.Client client)) faulty may
+  where
+    by : (it : Bool) → it ≡ true → refused_tick (party.Client client) (cond it None (numbered world.clients client.0))
+        ≡ None → bar_at_faulty world (Tick client) ≡ None
+    by true is free = absurd cc
+    by false is free = absurd (false≢true is)
+free_at_faulty world (Inject who text) faulty may = may
+
+-- what is not refused is not barred
+pub not_barred : (world : WorldState) (event : Event) → cause_of world event ≡ None → bar_of world event ≡ None
+not_barred world event may = by (at_faulty world.setup world.entries event) refl
+  where
+    by : (faulty : Bool) → at_faulty world.setup world.entries event ≡ faulty
+        → cond faulty (bar_at_faulty world event) (cause_of world event) ≡ None
+    by true is = free_at_faulty world event is may
+    by false is = may

@@ -1,16 +1,19 @@
 -- A run: the fold of the steps over a list of events, each of which may happen where it comes. It may have any
 -- number of events and letters; the limits are those of the call that makes a run.
-use Rattle.std.specs.Prelude.{ℕ, ◌≡◌, ◌≤◌, ◌-◌, ◌^◌, min, List, [], ◌∷◌, map, length, None, count_by}
+use Rattle.std.specs.Prelude.{ℕ, ◌≡◌, ◌≤◌, ◌-◌, ◌^◌, if◌then◌else◌, min, List, [], ◌∷◌, map, length, Option, None, count_by}
 use Rattle.qu_base.specs.declared.limits.TheConstants.{LAST_CLIENT, MOST_FAULTS, OBJECT_IDS}
+use Rattle.qu_base.specs.declared.party.Party.TheVariants as party
 use Rattle.qu_trace.specs.declared.event.Event.{Event}
+use Rattle.qu_trace.specs.declared.event.Event.TheVariants.{Invoke, Deliver, Tick, Inject}
 use Rattle.qu_trace.specs.declared.trace.Entry.{Entry}
 use Rattle.qu_trace.specs.declared.trace.Setup.{Setup}
 use Rattle.qu_trace.specs.declared.trace.Trace.{Trace}
 use Rattle.qu_trace.specs.Faulty.{is_replica}
 use Rattle.qu_trace.specs.Letters.{bytes_sent}
 use Rattle.qu_world.specs.State.{WorldState, opening_world}
-use Rattle.qu_world.specs.Step.{world_step}
-use Rattle.qu_world.specs.Refusals.{cause_of}
+use Rattle.qu_world.specs.declared.fail.WorldFail.{WorldFail}
+use Rattle.qu_world.specs.Step.{at_faulty, world_step}
+use Rattle.qu_world.specs.Refusals.{cause_of, is_party, refused_injection}
 
 -- the world after these events
 unfoldable pub run_from : WorldState → List Event → WorldState
@@ -20,10 +23,25 @@ run_from world (event ∷ later) = run_from (world_step world event) later
 abbrev pub run : Setup → List Event → WorldState
 run setup events = run_from (opening_world setup) events
 
--- no event has a cause not to happen in the world in which it comes
+-- what bars an event at a faulty party: that the setup has no such party
+abbrev pub bar_at_faulty : WorldState → Event → Option WorldFail
+bar_at_faulty world (Invoke client op) =
+    refused_injection (party.Client client) (is_party world.replicas world.clients (party.Client client))
+bar_at_faulty world (Deliver number) = None
+bar_at_faulty world (Tick client) =
+    refused_injection (party.Client client) (is_party world.replicas world.clients (party.Client client))
+bar_at_faulty world (Inject who text) = refused_injection who (is_party world.replicas world.clients who)
+
+-- what bars an event from a run: a letter that was not sent, a party that the setup does not have, and at a correct
+-- client an operation that is under way. At a faulty party an event makes nothing; who makes a run need not take it
+abbrev pub bar_of : WorldState → Event → Option WorldFail
+bar_of world event =
+    if at_faulty world.setup world.entries event then bar_at_faulty world event else cause_of world event
+
+-- nothing bars an event in the world in which it comes
 unfoldable pub MayHappen : WorldState → List Event → Type 0
 MayHappen world [] = Unit {0}
-MayHappen world (event ∷ later) = (cause_of world event ≡ None) × MayHappen (world_step world event) later
+MayHappen world (event ∷ later) = (bar_of world event ≡ None) × MayHappen (world_step world event) later
 
 abbrev pub events_of : List Entry → List Event
 events_of entries = map (λ entry. entry.event) entries

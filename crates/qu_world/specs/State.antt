@@ -11,6 +11,7 @@ use Rattle.qu_history.specs.History.{ObjectHistory}
 use Rattle.qu_objects.specs.declared.kind.KindName.{KindName}
 use Rattle.qu_frames.specs.declared.frame.Letter.{Letter}
 use Rattle.qu_replica.specs.State as replica
+use Rattle.qu_rows.specs.State.{ReplicaState}
 use Rattle.qu_client.specs.State as client
 use Rattle.qu_client.specs.declared.state.ClientState.{ClientState}
 use Rattle.qu_trace.specs.declared.trace.Setup.{Setup}
@@ -21,12 +22,12 @@ use Rattle.qu_trace.specs.Letters.{letters_of}
 pub record WorldState : Type 0 where
   pub setup : Setup
   -- replicas 0, 1, 2, ..
-  pub replicas : List replica.ReplicaState
+  pub replicas : List ReplicaState
   -- clients 1, 2, 3, ..
   pub clients : List ClientState
   pub entries : List Entry
 
-abbrev pub world_of : Setup → List replica.ReplicaState → List ClientState → List Entry → WorldState
+abbrev pub world_of : Setup → List ReplicaState → List ClientState → List Entry → WorldState
 world_of setup replicas clients entries =
     record { setup = setup; replicas = replicas; clients = clients; entries = entries }
 
@@ -36,7 +37,7 @@ abbrev pub kinds_at : Setup → ℕ → List KindName
 kinds_at setup number = if is_faulty setup (party.Replica (record { 0 = number })) then [] else setup.kinds
 
 -- so many replicas from this number on, as they begin, each with objects of its kinds
-unfoldable pub opening_replicas : ℕ → ℕ → Ring → (ℕ → List KindName) → List replica.ReplicaState
+unfoldable pub opening_replicas : ℕ → ℕ → Ring → (ℕ → List KindName) → List ReplicaState
 opening_replicas number zero keys kinds = []
 opening_replicas number (suc count) keys kinds =
     replica.opening_state (record { 0 = number }) keys (kinds number) ∷ opening_replicas (number + 1) count keys kinds
@@ -71,7 +72,7 @@ with_numbered items zero item = items
 with_numbered items (suc number) item = slice_set items number item
 
 -- the replica with this number, where it is correct
-abbrev pub correct_replica : WorldState → ReplicaId → Option replica.ReplicaState
+abbrev pub correct_replica : WorldState → ReplicaId → Option ReplicaState
 correct_replica world me =
     if is_faulty world.setup (party.Replica me) then None else slice_get world.replicas me.0
 

@@ -18,15 +18,15 @@ pub fn limits_are_these()
 /// Why an event does not happen. The world is as before.
 #[derive(Clone, Copy, Debug, PartialEq, Eq)]
 pub enum WorldFail {
-    /// No letter has this number.
+    /// Number 29: no letter has this number, which is told.
     NoSuchLetter(u64),
-    /// This party is not of the setup.
+    /// Number 30: this party is not of the setup, or it is a faulty client that is called or ticked.
     NoSuchActor(Party),
-    /// The client has an operation under way.
+    /// Number 28: the client has an operation under way.
     Busy,
-    /// The run has as many events as it may.
+    /// Number 31: the run has as many events as it may.
     TooManyEvents,
-    /// The letters that were sent have as many bytes as they may.
+    /// Number 33: the letters that were sent have as many bytes as they may.
     TooManyBytes,
     NoMemory,
 }

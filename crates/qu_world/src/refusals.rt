@@ -75,6 +75,3 @@ fn is_party(replicas: &[Replica], clients: &[Client], who: Party) -> bool
         Party::Client(me) => client_at(clients, me).is_some(),
     }
 }
-
-#[cfg(test)]
-mod tests;

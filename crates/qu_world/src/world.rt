@@ -6,7 +6,7 @@ ghost use Rattle.qu_trace.specs.Faulty.{is_faulty};
 ghost use Rattle.qu_world.specs.State.{opening_world, correct_client, correct_replica, history_at};
 ghost use Rattle.qu_world.specs.Step.{world_step};
 ghost use Rattle.qu_world.specs.Refusals.{cause_of, limit_of, refusal_of};
-ghost use Rattle.qu_replica.specs.Growth.{AreHistories};
+ghost use Rattle.qu_rows.specs.State.{AreHistories};
 ghost use Rattle.qu_world.specs.Growth.{GrowsTo};
 ghost use Rattle.qu_world.specs.Run.{IsSetup, IsRun, IsWorld, trace_of};
 
@@ -42,7 +42,7 @@ pub struct World {
 
 impl Model for World {
     ghost use Rattle.qu_world.specs.State.{WorldState, world_of};
-    ghost use Rattle.qu_replica.specs.Growth.{AreHistories};
+    ghost use Rattle.qu_rows.specs.State.{AreHistories};
     ghost use Rattle.qu_world.specs.Growth.{GrowsTo};
     ghost use Rattle.qu_world.specs.Run.{IsCounted};
 
@@ -227,6 +227,3 @@ impl World {
 fn are_few(entries: &[Entry])
     ensures { length entries.now < 2 ^ 63 }
 {}
-
-#[cfg(test)]
-mod tests;

@@ -2,10 +2,10 @@ ghost use Rattle.std.specs.Prelude.{◌≡◌, ◌≤◌, length, IfOk};
 ghost use Rattle.qu_base.specs.declared.limits.TheConstants.{OBJECT_IDS};
 ghost use Rattle.qu_replica.specs.State.{opening_histories, opening_versions};
 
-use super::Stored;
 use qu_base::{List, NoMemory, ObjectId, ReplicaId};
 use qu_history::History;
 use qu_objects::{KindName, ObjState, Value};
+use qu_rows::Stored;
 use qu_stamp::Stamp;
 use std::alloc::Global;
 use std::collections::LinkedList;

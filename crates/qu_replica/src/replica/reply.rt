@@ -2,15 +2,17 @@ ghost use Rattle.std.specs.Prelude.{◌≡◌, [], ◌∷◌, map, slice_get, So
 ghost use Rattle.qu_history.specs.Sealing.{sealed_by};
 ghost use Rattle.qu_replica.specs.State.{accept, accept_all, state_after};
 ghost use Rattle.qu_replica.specs.Step.{shown, named, reply, carried_out};
-ghost use Rattle.qu_replica.specs.Growth.{MayAccept, MayAcceptAll, MayDecide, MayGain};
+ghost use Rattle.qu_rows.specs.Allowed.{MayAccept, MayAcceptAll, MayDecide};
+ghost use Rattle.qu_replica.specs.Growth.{MayGain};
 
 use super::Replica;
-use crate::decision::{Accepted, Decision};
+use crate::limits::MOST_VERSIONS;
 use crate::planned::{Gain, Planned};
-use crate::versions::MOST_VERSIONS;
+use crate::versions;
 use qu_base::{List, NoMemory, ObjectId, Party, ReplicaId};
 use qu_frames::{Frame, Letter, Reading, Verdict, blank_mac};
 use qu_history::{AddFail, History, Sealed, Sets};
+use qu_rows::{Accepted, Decision};
 
 impl Replica {
     /// What it will make to carry a decision out.
@@ -174,7 +176,7 @@ impl Replica {
         if MOST_VERSIONS <= self.versions.len() {
             return Err(NoMemory);
         }
-        let versions = accepted.stored(self.alloc)?;
+        let versions = versions::stored(self.alloc, accepted)?;
         Ok(Gain {
             history: self.grown(accepted)?,
             versions,

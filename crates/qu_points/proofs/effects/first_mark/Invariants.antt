@@ -1,5 +1,6 @@
 use Rattle.std.proofs.Common.{◌≡◌, drop}
-use Rattle.qu_points.specs.Points.{earlier_of, first_mark}
+use Rattle.qu_trace.specs.Earliest.{earlier_of}
+use Rattle.qu_points.specs.Points.{first_mark}
 use Rattle.qu_points.proofs.effects.first_mark.Given as goal
 
 abbrev pub invariant-loop-candidate : goal.invariant-loop-candidate

@@ -1,7 +1,7 @@
 use Rattle.std.proofs.Common.{◌≡◌, ℕ, List, ◌∷◌, ◌++◌, take, drop, not, ap, sym, ◌∙◌}
 use Rattle.std.specs.List.{position_or_len}
 use Rattle.qu_machine.specs.declared.record.Point.{Point}
-use Rattle.qu_points.specs.Order.{is_earlier}
+use Rattle.qu_claims.specs.Order.{is_earlier}
 use Rattle.qu_points.proofs.Sorted.{with_point-place}
 use Rattle.qu_points.proofs.order.insert.Goals as goal
 

@@ -1,6 +1,6 @@
 use Rattle.std.proofs.Common.{◌≡◌, ◌+◌, drop, not}
 use Rattle.std.specs.List.{position_or_len}
-use Rattle.qu_points.specs.Order.{is_earlier}
+use Rattle.qu_claims.specs.Order.{is_earlier}
 use Rattle.qu_points.proofs.order.place_of.Given as goal
 
 -- the points so far are before this one

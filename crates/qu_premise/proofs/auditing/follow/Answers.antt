@@ -1,5 +1,5 @@
 use Rattle.std.proofs.Common.{◌≡◌, ◌+◌, true, false, get_or, take, sym, ap, subst, ◌∙◌, Some, None}
-use Rattle.qu_runs.specs.Digested.{texts_at}
+use Rattle.qu_claims.specs.Digested.{texts_at}
 use Rattle.qu_premise.specs.declared.auditing.Past.{Past}
 use Rattle.qu_premise.specs.Digests.{look, Notes, first_clash}
 use Rattle.qu_premise.specs.Forging.{shown_in_all, is_forged}

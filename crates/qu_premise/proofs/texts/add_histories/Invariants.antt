@@ -1,6 +1,6 @@
 use Rattle.std.proofs.Common.{◌≡◌, ◌++◌, take}
 use Rattle.std.specs.Prelude.{map}
-use Rattle.qu_runs.specs.Digested.{history_text}
+use Rattle.qu_claims.specs.Digested.{history_text}
 use Rattle.qu_premise.proofs.texts.add_histories.Given as goal
 
 -- the histories so far are added

@@ -1,6 +1,6 @@
 use Rattle.std.proofs.Common.{◌≡◌, ◌++◌, take}
 use Rattle.std.specs.List.{flat_map}
-use Rattle.qu_runs.specs.Digested.{sent_texts}
+use Rattle.qu_claims.specs.Digested.{sent_texts}
 use Rattle.qu_premise.proofs.texts.add_sent.Given as goal
 
 -- what is digested of the letters so far is added

@@ -2,7 +2,7 @@ use Rattle.std.proofs.Common.{◌≡◌, ◌++◌, take}
 use Rattle.std.specs.Prelude.{map}
 use Rattle.std.specs.List.{flat_map}
 use Rattle.qu_history.specs.declared.sets.SetOf.{SetOf}
-use Rattle.qu_runs.specs.Digested.{history_text}
+use Rattle.qu_claims.specs.Digested.{history_text}
 use Rattle.qu_premise.proofs.texts.add_sets.Given as goal
 
 -- the histories of the sets so far are added

@@ -9,22 +9,23 @@ use Rattle.qu_trace.specs.declared.trace.Trace.{Trace}
 use Rattle.qu_trace.specs.Operation.{operations_of}
 use Rattle.qu_chain.specs.Laws.{Laws}
 use Rattle.qu_chain.specs.Joint.{Joint}
-use Rattle.qu_runs.specs.Setting.{setting}
+use Rattle.qu_claims.specs.RunSetting.{setting}
 use Rattle.qu_runs.specs.Plain.{HaveParts, ArePlain}
-use Rattle.qu_runs.specs.Premises.{IsUnforged, MeetsPremises}
+use Rattle.qu_claims.specs.Premises.{IsUnforged, MeetsPremises}
 use Rattle.qu_runs.proofs.Plain.{plain_from}
-use Rattle.qu_points.specs.Order.{IsPrintedOrder}
-use Rattle.qu_grounds.proofs.Chained.{is_chained, decides_in_turn, decides_jointly}
-use Rattle.qu_grounds.proofs.Laws.{laws}
-use Rattle.qu_grounds.proofs.JointLaws.{joint_laws}
+use Rattle.qu_claims.specs.Order.{IsPrintedOrder}
+use Rattle.qu_laws.proofs.Chained.{is_chained, decides_in_turn, decides_jointly}
+use Rattle.qu_laws.proofs.Laws.{laws}
+use Rattle.qu_laws.proofs.JointLaws.{joint_laws}
 use Rattle.qu_safety.proofs.DecidedOnce.{decides_once}
 use Rattle.qu_safety.proofs.ByQuorums.{completes_by_quorums}
-use Rattle.qu_grounds.proofs.Named.{stamps_name}
+use Rattle.qu_laws.proofs.Named.{stamps_name}
 use Rattle.qu_values.proofs.OneAct.{ActsAreOne, acts_are_one}
-use Rattle.qu_values.specs.Updates.{NumbersRise}
+use Rattle.qu_claims.specs.Updates.{NumbersRise}
 use Rattle.qu_values.proofs.UpdateFacts.{UpdateFacts, NoneIsRepeated}
 use Rattle.qu_values.proofs.UpdatesOfRuns.{update_facts, numbers_rise, none_is_repeated}
 use Rattle.qu_safety.proofs.KnownRuns.{client_facts}
+use Rattle.qu_safety.proofs.OwnedPoints.{owned}
 use Rattle.qu_safety.proofs.SerialOrder.{serial}
 use Rattle.qu_values.proofs.ClientFacts.{ClientFacts}
 use Rattle.qu_safety.proofs.order.order_of.Goals as goal
@@ -72,11 +73,11 @@ pub returns-clause-serial : goal.returns-clause-serial
 returns-clause-serial c =
     IfOk-weaker c.printed_order.result (IsPrintedOrder c.args.trace.now)
     (λ (order : List Point). MeetsPremises c.args.trace.now
-    → IsSerial c.args.trace.now.setup.kinds (operations_of c.args.trace.now.entries) order)
+    → IsSerial c.args.trace.now.setup.kinds (operations_of c.args.trace.now) order)
     (λ order printed premises.
     let it : Grounded c.args.trace.now = grounded c premises in
     serial c.args.trace.now c.requires it.plain it.clients it.one_act it.laws it.joint it.facts it.once order
-    printed)
+    (owned c.args.trace.now c.requires it.plain it.clients order printed))
     c.printed_order.ensures
 
 pub returns-clause-chained : goal.returns-clause-chained

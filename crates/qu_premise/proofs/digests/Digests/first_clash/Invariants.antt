@@ -1,5 +1,6 @@
 use Rattle.std.proofs.Common.{◌≡◌, drop}
-use Rattle.qu_premise.specs.Digests.{look, earlier_of, first_clash}
+use Rattle.qu_trace.specs.Earliest.{earlier_of}
+use Rattle.qu_premise.specs.Digests.{look, first_clash}
 use Rattle.qu_premise.proofs.digests.Digests.first_clash.Given as goal
 
 abbrev pub invariant-loop-text : goal.invariant-loop-text

@@ -1,6 +1,6 @@
 -- The grown history with the version is what accepting the candidate makes, and the replica may take it.
 use Rattle.std.proofs.Common.{rules}
-use Rattle.qu_replica.specs.Growth.{AreHistories}
+use Rattle.qu_rows.specs.State.{AreHistories}
 use Rattle.qu_replica.specs.declared.planned.Gain.{Gain}
 use Rattle.qu_replica.proofs.Accepting.{gain_is_accepted, gain_may}
 use Rattle.qu_replica.proofs.replica.Replica.gain.Goals as goal

@@ -1,7 +1,8 @@
 -- What was planned is what a text makes of what the replica holds and sends.
 use Rattle.std.proofs.Common.{sym, subst, ◌∙◌}
 use Rattle.std.specs.List.{AllByRecursion}
-use Rattle.qu_replica.specs.Growth.{AreHistories, Grows}
+use Rattle.qu_rows.specs.State.{AreHistories}
+use Rattle.qu_replica.specs.Growth.{Grows}
 use Rattle.qu_replica.specs.Fits.{StateFits, LetterFits}
 use Rattle.qu_replica.proofs.Accepting.{after-histories}
 use Rattle.qu_replica.proofs.Growth.{step-grows}

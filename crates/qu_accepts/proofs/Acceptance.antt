@@ -1,0 +1,335 @@
+-- What a replica accepts upon a frame, and why: nothing, or one candidate on each object of an act.
+use Rattle.std.proofs.Common.{◌≡◌, ◌⊎◌, ℕ, Bool, true, false, cond, List, [], ◌∷◌, ◌++◌, length, Option, None, Some, inl, inr, refl, sym, subst, ap, ◌∙◌, arith, IsSome, ltb, ◌+◌, ◌≤◌, ltb-false}
+use Rattle.std.specs.Prelude.{option_and_then}
+use Rattle.std.proofs.lemmas.Bool.{false≢true}
+use Rattle.std.proofs.lemmas.Option.{none-some, same_Some}
+use Rattle.qu_base.specs.declared.party.ClientId.{ClientId}
+use Rattle.qu_base.specs.declared.party.Digest.{Digest}
+use Rattle.qu_base.specs.declared.party.ObjectId.{ObjectId}
+use Rattle.qu_stamp.specs.declared.stamp.Stamp.{Stamp}
+use Rattle.qu_stamp.specs.declared.candidate.Candidate.{Candidate}
+use Rattle.qu_stamp.specs.Stamp.{is_below}
+use Rattle.qu_class.specs.Repairable.{base_of as object_base}
+use Rattle.qu_history.specs.declared.sets.SetOf.{SetOf}
+use Rattle.qu_history.specs.Culling.{culled}
+use Rattle.qu_history.specs.History.{ObjectHistory}
+use Rattle.qu_history.specs.Sets.{latest_of, entries_of, order_of}
+use Rattle.qu_objects.specs.declared.act.Method.{Method}
+use Rattle.qu_objects.specs.declared.query.Ask.{Ask}
+use Rattle.qu_objects.specs.declared.state.ObjState.{ObjState}
+use Rattle.qu_kept.specs.declared.repeats.Standing.TheVariants.{Fresh}
+use Rattle.qu_frames.specs.declared.frame.Body.TheVariants as body
+use Rattle.qu_frames.specs.declared.frame.Frame.{Frame}
+use Rattle.qu_frames.specs.declared.frame.Frame.TheVariants as frame
+use Rattle.qu_frames.specs.declared.verdict.ClassCode.TheVariants.{Barrier}
+use Rattle.qu_frames.specs.declared.verdict.Refusal.{Refusal}
+use Rattle.qu_frames.specs.declared.verdict.Refusal.TheVariants as refusal
+use Rattle.qu_rows.specs.declared.decision.Accepted.{Accepted}
+use Rattle.qu_rows.specs.declared.decision.Decision.{Decision}
+use Rattle.qu_rows.specs.declared.decision.Decision.TheVariants.{Waits}
+use Rattle.qu_rows.specs.State.{ReplicaState, candidates_in, own_candidates, own_latest}
+use Rattle.qu_replica.specs.State.{accept, accept_all}
+use Rattle.qu_rows.specs.Rows.{Asked, asked_at, refuse, shown_of, decision_on, row_few, decide_repair, mend_asked, wanted_version, decision_by, mending_on}
+use Rattle.qu_rows.specs.Table.{first_given}
+use Rattle.qu_replica.specs.Step.{carried_out, on_frame}
+use Rattle.qu_rows.specs.Versions.{version_at}
+use Rattle.qu_rows.specs.Allowed.{HasParts, MayAccept, MayAcceptAll}
+use Rattle.qu_replica.proofs.Accepting.{other_history}
+use Rattle.qu_rows.proofs.Allowed.{decision_on-may}
+use Rattle.qu_claims.specs.Grounds.{Accepts, IsMade, IsRemedy, made_stamp, IsFound}
+use Rattle.qu_rows.specs.declared.mending.Mending.{Mending}
+use Rattle.qu_rows.specs.declared.mending.Mending.TheVariants as mending
+use Rattle.qu_rows.specs.declared.mend.Mend.{Mend}
+use Rattle.qu_rows.specs.declared.remedy.Remedy.{Remedy}
+use Rattle.qu_rows.specs.declared.remedy.Remedy.TheVariants.{Shown, Fresh}
+use Rattle.qu_class.specs.declared.class.Class.{Class}
+use Rattle.qu_class.specs.declared.class.Class.TheVariants as class
+use Rattle.qu_rows.specs.Remedy.{remedy_by, remedy_of, fresh_on as fresh_candidate, wanted_by}
+use Rattle.qu_rows.specs.Causes.{Makes, HasVersion, HasCause}
+use Rattle.qu_class.specs.Rows.{AreWellFormed, IsLatestOfKind, Tells}
+use Rattle.qu_base.specs.Bounds.{quorum, repair}
+use Rattle.qu_class.specs.Class.{class_of}
+use Rattle.qu_class.proofs.ClassRows.{class_tells, prior_of_barrier}
+use Rattle.qu_rows.proofs.Decided.{decided_has_cause}
+use Rattle.qu_accepts.proofs.ActAcceptance.{accepted_in, AcceptsNothing, unknown, thin, current, version, time, full, past, ask_accepts, carried, may_accept, candidates_after, stays, act_moves}
+
+-- ---- a repair
+
+-- what is wanted of a remedy's version is what the replica has under its stamp
+module _ (state : ReplicaState) (asked : Asked) (target : ObjectId) where
+  abbrev entries : List ObjectHistory
+  entries = entries_of target asked.sets
+
+  abbrev bounds : ℕ
+  bounds = state.keys.bounds
+
+  abbrev mend : Mend
+  mend = mend_asked state asked target
+
+  -- the same request, where its remedy is this one
+  abbrev mend_by : Remedy → Mend
+  mend_by remedy = record mend { remedy = remedy }
+
+  found_version : (found : Option ObjState) → IsSome found → (version : ObjState) × (found ≡ Some version)
+  found_version None some = absurd (grind (arith, some))
+  found_version (Some version) some = (version, refl)
+
+  module _ (no_act : asked.act ≡ None) where
+    -- a fresh candidate is made upon the object candidate
+    is_made : (barrier : Bool) (candidate : Candidate)
+        → candidate ≡ fresh_candidate mend barrier (object_base bounds entries).stamp
+        → IsMade bounds asked target candidate
+    is_made barrier candidate is =
+        let stamp : candidate.stamp ≡ made_stamp asked target barrier =
+        ap (λ (it : Candidate). it.stamp) is
+        ∙ ap (λ (act : Option Digest). record {
+          time = (latest_of entries).time + 1;
+          barrier = barrier;
+          client = asked.client;
+          act = act;
+          set = asked.set;
+        }) (sym no_act) in
+        record {
+          stamp = stamp ∙ ap (made_stamp asked target) (sym (ap (λ (it : Stamp). it.barrier) stamp));
+          prior = ap (λ (it : Candidate). it.prior) is;
+        }
+
+    is_fresh_kind : (barrier : Bool) (prior : Stamp) (candidate : Candidate)
+        → candidate ≡ fresh_candidate mend barrier prior
+        → candidate.stamp.barrier ≡ barrier
+    is_fresh_kind barrier prior candidate is = ap (λ (it : Candidate). it.stamp.barrier) is
+
+    copied : (candidate : Candidate) (latest : Candidate) (found stored : Option ObjState)
+        → candidate ≡ fresh_candidate mend false (object_base bounds entries).stamp
+        → IsLatestOfKind bounds entries true latest → quorum bounds ≤ order_of latest entries
+        → version_at target (object_base bounds entries).stamp state.versions ≡ found → IsSome found → stored ≡ found
+        → IsRemedy state asked target candidate stored
+    copied candidate latest found stored is of_kind full found_is some stored_is =
+        let version : (it : ObjState) × (found ≡ Some it) = found_version found some in
+        subst (IsRemedy state asked target candidate) (sym (stored_is ∙ version.1))
+        (IsRemedy.copy latest version.0 (is_fresh_kind false _ candidate is) (is_made false candidate is)
+        ((of_kind.greatest).repairable).kind of_kind.latest full
+        (ap (λ (stamp : Stamp). version_at target stamp state.versions) (ap (λ (it : Candidate). it.prior) is)
+        ∙ found_is ∙ version.1))
+
+    found_so : (barrier : Bool) (candidate shown : Candidate) → candidate ≡ shown
+        → IsLatestOfKind bounds entries barrier shown → IsFound bounds asked target candidate
+    found_so barrier candidate shown is of_kind = record {
+      latest = ap (λ (it : Candidate). it.stamp) is ∙ of_kind.latest;
+      order = subst (λ (it : Candidate). repair bounds ≤ order_of it entries) (sym is)
+          ((of_kind.greatest).repairable).order;
+    }
+
+    shown_kind : (barrier : Bool) (candidate shown : Candidate) → candidate ≡ shown
+        → IsLatestOfKind bounds entries barrier shown → candidate.stamp.barrier ≡ barrier
+    shown_kind barrier candidate shown is of_kind =
+        ap (λ (it : Candidate). it.stamp.barrier) is ∙ ((of_kind.greatest).repairable).kind
+
+    inlined : (candidate shown : Candidate) (found stored : Option ObjState) → candidate ≡ shown
+        → IsLatestOfKind bounds entries false shown
+        → version_at target shown.stamp state.versions ≡ found → IsSome found → stored ≡ None
+        → IsRemedy state asked target candidate stored
+    inlined candidate shown found stored is of_kind found_is some stored_is =
+        let version : (it : ObjState) × (found ≡ Some it) = found_version found some in
+        subst (IsRemedy state asked target candidate) (sym stored_is)
+        (IsRemedy.inline_method version.0 (shown_kind false candidate shown is of_kind)
+        (found_so false candidate shown is of_kind)
+        (ap (λ (it : Candidate). version_at target it.stamp state.versions) is ∙ found_is ∙ version.1))
+
+    -- the version that is wanted of a candidate without barrier
+    wanted_plain : (shown : Candidate) → shown.stamp.barrier ≡ false
+        → wanted_version state target (Shown shown) ≡ version_at target shown.stamp state.versions
+    unfolding wanted_by
+    wanted_plain shown plain =
+        ap (λ (barrier : Bool). option_and_then (λ (stamp : Stamp). version_at target stamp state.versions)
+        (cond barrier None (Some shown.stamp))) plain
+
+    wanted_copied : (prior : Stamp)
+        → wanted_version state target (Fresh false prior) ≡ version_at target prior state.versions
+    unfolding wanted_by
+    wanted_copied prior = refl
+
+    -- what the class makes of the object
+    remedy_is : (class : Class) → class_of bounds entries ≡ class → Tells bounds entries class → (candidate : Candidate)
+        (stored : Option ObjState) → Makes mend (remedy_by (object_base bounds entries).stamp class) candidate
+        → HasVersion (remedy_by (object_base bounds entries).stamp class)
+        (wanted_version state target (remedy_by (object_base bounds entries).stamp class)) stored
+        → IsRemedy state asked target candidate stored
+    unfolding remedy_by
+    remedy_is (class.Method base) is tells candidate stored never has = absurd never
+    remedy_is (class.InlineMethod shown) is tells candidate stored makes has =
+        inlined candidate shown (wanted_version state target (Shown shown)) stored makes.0 tells.0
+        (sym (wanted_plain shown (((tells.0).greatest).repairable).kind))
+        (has.0 (((tells.0).greatest).repairable).kind) has.1
+    remedy_is class.Copy is tells candidate stored makes has =
+        copied candidate tells.0 (wanted_version state target (Fresh false (object_base bounds entries).stamp)) stored makes.0
+        tells.1 tells.2 (sym (wanted_copied (object_base bounds entries).stamp)) has.0 has.1
+    remedy_is (class.InlineBarrier shown) is tells candidate stored makes has =
+        subst (IsRemedy state asked target candidate) (sym has.1)
+        (IsRemedy.inline_barrier (shown_kind true candidate shown makes.0 tells.0)
+        (found_so true candidate shown makes.0 tells.0))
+    remedy_is (class.Barrier prior) is tells candidate stored makes has =
+        let upon : prior ≡ (object_base bounds entries).stamp = prior_of_barrier bounds entries prior is in
+        subst (IsRemedy state asked target candidate) (sym has)
+        (IsRemedy.barrier (is_fresh_kind true prior candidate makes.0)
+        (is_made true candidate (makes.0 ∙ ap (fresh_candidate mend true) upon)))
+
+-- what a replica adds to mend an object
+record AddsOne (state : ReplicaState) (asked : Asked) (target : ObjectId) (accepted : List Accepted) : Type 0 where
+  candidate : Candidate
+  version : Option ObjState
+  current : is_below (latest_of (shown_of asked target)) (own_latest state target) ≡ false
+  above : is_below (own_latest state target) candidate.stamp ≡ true
+  remedy : IsRemedy state asked target candidate version
+  alone : accepted ≡ record { object = target; candidate = candidate; state = version } ∷ []
+
+abbrev AddsAtMostOne : ReplicaState → Asked → ObjectId → List Accepted → Type 0
+AddsAtMostOne state asked target accepted =
+    (accepted ≡ [])
+    ⊎ ((quorum state.keys.bounds ≤ length (shown_of asked target)) × AddsOne state asked target accepted)
+
+mended : (state : ReplicaState) (asked : Asked) (target : ObjectId) → asked.act ≡ None
+    → AreWellFormed state.keys.bounds (shown_of asked target)
+    → quorum state.keys.bounds ≤ length (shown_of asked target)
+    → (made : Mending)
+    → HasCause (mend_asked state asked target) (own_candidates state target)
+    (wanted_version state target (mend_asked state asked target).remedy) made
+    → AddsAtMostOne state asked target (accepted_in (decision_by target made))
+unfolding remedy_of
+mended state asked target no_act formed enough (mending.Mends candidate version) cause =
+    inr (
+      enough,
+      record {
+        candidate = candidate;
+        version = version;
+        current = (cause.1).current;
+        above = (cause.1).above;
+        remedy = remedy_is state asked target no_act (class_of state.keys.bounds (shown_of asked target)) refl
+            (class_tells state.keys.bounds (shown_of asked target) formed enough) candidate version cause.0 cause.2;
+        alone = refl;
+      },
+    )
+mended state asked target no_act formed enough (mending.Holds stamp) cause = inl refl
+mended state asked target no_act formed enough (mending.Refuses why) cause = inl refl
+mended state asked target no_act formed enough mending.Waits cause = inl refl
+
+few : (state : ReplicaState) (asked : Asked) (target : ObjectId) → AcceptsNothing (row_few state asked target)
+unfolding row_few
+few state asked target =
+    refused_if (ltb (length (shown_of asked target)) (quorum state.keys.bounds)) (refusal.Thin target)
+  where
+    refused_if : (test : Bool) (why : Refusal) → AcceptsNothing (cond test (Some (refuse why)) None)
+    refused_if false why decision given = absurd (none-some decision given)
+    refused_if true why decision given = ap accepted_in (sym (same_Some (refuse why) decision given))
+
+not_few : (state : ReplicaState) (asked : Asked) (target : ObjectId) → row_few state asked target ≡ None
+    → quorum state.keys.bounds ≤ length (shown_of asked target)
+unfolding row_few
+not_few state asked target none =
+    ltb-false _ _ (none_if (ltb (length (shown_of asked target)) (quorum state.keys.bounds)) _ none)
+  where
+    none_if : {X : Type 0} (test : Bool) (it : X) → cond test (Some it) None ≡ None → test ≡ false
+    none_if false it none = refl
+    none_if true it none = absurd (none-some it (sym none))
+
+at_last : (P : List Accepted → Type 0) (decision : Decision) → P (accepted_in decision)
+    → P (accepted_in (first_given Waits (Some decision ∷ [])))
+unfolding first_given
+at_last P decision holds_so = holds_so
+
+repair_accepts : (state : ReplicaState) (asked : Asked) (target : ObjectId) → asked.act ≡ None
+    → AreWellFormed state.keys.bounds (shown_of asked target)
+    → AddsAtMostOne state asked target (accepted_in (decide_repair state asked target))
+unfolding decide_repair
+repair_accepts state asked target no_act formed =
+    let most : List Accepted → Type 0 = λ accepted. AddsAtMostOne state asked target accepted in
+    past most _ _ (inl refl) (unknown state asked) (λ _.
+    past most _ _ (inl refl) (thin state asked) (λ _.
+    past most _ _ (inl refl) (few state asked target) (λ enough.
+    at_last most (decision_by target (mending_on state asked target))
+    (mended state asked target no_act formed (not_few state asked target enough) (mending_on state asked target)
+    (decided_has_cause (mend_asked state asked target) (own_candidates state target)
+    (wanted_version state target (mend_asked state asked target).remedy))))))
+
+adds : (state new : ReplicaState) (client : ClientId) (number round : ℕ) (sent : List SetOf) (mac : List ℕ)
+    (target : ObjectId) (accepted : List Accepted) → MayAcceptAll state accepted
+    → quorum state.keys.bounds ≤ length (shown_of (asked_at state client number sent (body.Mend target)) target)
+    → AddsOne state (asked_at state client number sent (body.Mend target)) target accepted
+    → new ≡ accept_all state accepted
+    → Accepts state new (frame.Request client number round sent (body.Mend target) mac)
+unfolding accept_all
+adds state new client number round sent mac target accepted may enough made is_new =
+    let one : Accepted = record { object = target; candidate = made.candidate; state = made.version } in
+    let is_one : new ≡ accept state one = is_new ∙ ap (accept_all state) made.alone in
+    let may_one : MayAccept state one = subst (MayAcceptAll state) made.alone may in
+    record {
+      client = client;
+      number = number;
+      round = round;
+      sent = sent;
+      sets = culled state.keys state.me sent;
+      culls = refl;
+      asks = body.Mend target;
+      mac = mac;
+      is_request = refl;
+      candidates = λ object. made.candidate;
+      added = λ object is. subst
+          (λ (it : ObjectId). own_candidates new it ≡ own_candidates state it ++ made.candidate ∷ []) is
+          (ap (λ (it : ReplicaState). own_candidates it target) is_one
+          ∙ candidates_after target.0 made.candidate state.histories may_one.known);
+      others = λ other apart.
+          ap (λ (it : ReplicaState). own_candidates it other) is_one ∙
+          ap candidates_in (other_history target.0 other.0 made.candidate state.histories
+          (λ same. apart (ap (λ (it : ℕ). record { 0 = it }) (sym same))));
+      reasons = record {
+        enough = enough;
+        current = made.current;
+        above = made.above;
+        version = made.version;
+        remedy = made.remedy;
+        stored = ap (λ (it : ReplicaState). it.versions) is_one;
+      };
+    }
+
+mend_moves : (state : ReplicaState) (client : ClientId) (number round : ℕ) (sets : List SetOf) (mac : List ℕ)
+    (target : ObjectId)
+    → AreWellFormed state.keys.bounds (entries_of target (culled state.keys state.me sets))
+    → ((on_frame state (frame.Request client number round sets (body.Mend target) mac)).0 ≡ state)
+    ⊎ Accepts state (on_frame state (frame.Request client number round sets (body.Mend target) mac)).0
+    (frame.Request client number round sets (body.Mend target) mac)
+mend_moves state client number round sets mac target formed =
+    let asked : Asked = asked_at state client number sets (body.Mend target) in
+    let decision : Decision = decide_repair state asked target in
+    let new : ReplicaState = (carried_out state client number round sets decision).0 in
+    let is_new : new ≡ accept_all state (accepted_in decision) = carried state client number round sets decision in
+    elim (repair_accepts state asked target refl formed) [
+      | inl none ↦ inl (stays state new (accepted_in decision) is_new none)
+      | inr made ↦
+          inr (adds state new client number round sets mac target (accepted_in decision)
+          (may_accept state decision (decision_on-may state asked (body.Mend target) refl)) made.0 made.1 is_new)
+    ]
+
+-- ---- any request
+
+-- a replica can tell the classes of what the frame shows it
+abbrev pub IsFormed : ReplicaState → Frame → Type 0
+IsFormed state (frame.Request client number round sets asks mac) =
+    (object : ObjectId) → AreWellFormed state.keys.bounds (entries_of object (culled state.keys state.me sets))
+IsFormed state _ = Unit {0}
+
+-- a step leaves a replica as it is, or adds candidates for which there are grounds
+pub step_moves : (state : ReplicaState) (received : Frame) → HasParts received → IsFormed state received
+    → ((on_frame state received).0 ≡ state) ⊎ Accepts state (on_frame state received).0 received
+step_moves state (frame.Request client number round sets (body.Act []) mac) parts formed = absurd (false≢true parts)
+step_moves state (frame.Request client number round sets (body.Act (part ∷ [])) mac) parts formed =
+    act_moves state client number round sets mac part parts
+step_moves state (frame.Request client number round sets (body.Act (first ∷ second ∷ later)) mac) parts formed =
+    absurd (false≢true parts)
+step_moves state (frame.Request client number round sets (body.Ask asks) mac) parts formed =
+    let asked : Asked = asked_at state client number sets (body.Ask asks) in
+    let decision : Decision = decision_on state asked (body.Ask asks) in
+    inl (stays state (carried_out state client number round sets decision).0 (accepted_in decision)
+    (carried state client number round sets decision) (ask_accepts state asked asks _))
+step_moves state (frame.Request client number round sets (body.Mend target) mac) parts formed =
+    mend_moves state client number round sets mac target (formed target)
+step_moves state _ parts formed = inl refl

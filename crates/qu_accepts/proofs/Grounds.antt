@@ -1,0 +1,179 @@
+-- Where a candidate with grounds stands: above all that its replica holds, and upon a base that the replica
+-- has nothing above.
+use Rattle.std.proofs.Common.{◌≡◌, ◌≤◌, ℕ, true, false, ◌&&◌, List, Option, None, Some, refl, sym, ap, ◌∙◌, inl, inr, unwrap_or, is_some, ◌⊎◌, subst}
+use Rattle.std.specs.Prelude.{nat_le}
+use Rattle.std.proofs.lemmas.Bool.{false≢true, cases_Bool, and_parts, leb-true}
+use Rattle.std.proofs.lemmas.Option.{none-some, cond_some}
+use Rattle.qu_base.specs.declared.party.ObjectId.{ObjectId}
+use Rattle.qu_base.specs.Bounds.{quorum}
+use Rattle.qu_stamp.specs.declared.stamp.Stamp.{Stamp}
+use Rattle.qu_stamp.specs.declared.candidate.Candidate.{Candidate}
+use Rattle.qu_stamp.specs.Stamp.{is_below, same_stamp}
+use Rattle.qu_stamp.proofs.Order.{is_below-self, is_below-not_chain, equal_by_same_stamp}
+use Rattle.qu_history.specs.History.{ObjectHistory, holds}
+use Rattle.qu_history.specs.Sets.{entries_of, order_of, latest_of, object_candidate, if_method, method_at}
+use Rattle.qu_history.proofs.Stamps.{not_below_latest}
+use Rattle.qu_rows.specs.Rows.{Asked, fresh_stamp, asked_of, act_asked}
+use Rattle.qu_class.specs.Repairable.{base_of}
+use Rattle.qu_rows.specs.State.{ReplicaState, own_candidates, own_latest}
+use Rattle.qu_claims.specs.Grounds.{IsGround, Reasons, AddsTo, IsMade, IsFound, made_stamp, Performs, IsRemedy}
+use Rattle.qu_rows.proofs.Allowed.{fresh_later}
+use Rattle.qu_frames.specs.declared.frame.Body.{Body}
+use Rattle.qu_base.specs.declared.party.ClientId.{ClientId}
+use Rattle.qu_stamp.specs.Candidate.{opening}
+use Rattle.qu_objects.specs.declared.act.Method.{Method}
+use Rattle.qu_history.specs.declared.sets.SetOf.{SetOf}
+use Rattle.qu_frames.specs.declared.frame.Body.TheVariants as body
+use Rattle.qu_claims.specs.Parts.{Names}
+use Rattle.qu_objects.specs.declared.state.ObjState.{ObjState}
+
+-- ---- what a base is
+
+-- a candidate of class METHOD has the latest stamp, and a quorum of the entries hold it
+pub record IsBase (bounds : ℕ) (entries : List ObjectHistory) (base : Candidate) : Type 0 where
+  pub latest : base.stamp ≡ latest_of entries
+  pub of_quorum : quorum bounds ≤ order_of base entries
+
+base_of_found : (bounds : ℕ) (entries : List ObjectHistory) (found : Option Candidate) (base : Candidate)
+    → if_method bounds entries found ≡ Some base → IsBase bounds entries base
+unfolding if_method
+base_of_found bounds entries None base given = absurd (none-some base given)
+base_of_found bounds entries (Some candidate) base given =
+    let passing :
+    ((same_stamp candidate.stamp (latest_of entries) && nat_le (quorum bounds) (order_of candidate entries))
+    ≡ true) × (candidate ≡ base) = cond_some _ candidate base given in
+    let parts : (same_stamp candidate.stamp (latest_of entries) ≡ true)
+    × (nat_le (quorum bounds) (order_of candidate entries) ≡ true) = and_parts _ _ passing.0 in
+    record {
+      latest = ap (λ (it : Candidate). it.stamp) (sym passing.1) ∙ equal_by_same_stamp candidate.stamp
+          (latest_of entries) parts.0;
+      of_quorum = leb-true _ _ (ap (λ (it : Candidate). nat_le (quorum bounds) (order_of it entries))
+          (sym passing.1) ∙ parts.1);
+    }
+
+pub is_base : (bounds : ℕ) (entries : List ObjectHistory) (base : Candidate)
+    → method_at bounds entries ≡ Some base → IsBase bounds entries base
+unfolding method_at
+is_base bounds entries base given = base_of_found bounds entries (object_candidate bounds entries) base given
+
+-- what an operation may rest upon is the object candidate
+found_is : (bounds : ℕ) (entries : List ObjectHistory) (found : Option Candidate) (base : Candidate)
+    → if_method bounds entries found ≡ Some base → found ≡ Some base
+unfolding if_method
+found_is bounds entries None base given = absurd (none-some base given)
+found_is bounds entries (Some candidate) base given = ap (λ (it : Candidate). Some it) (cond_some _ candidate base given).1
+
+pub base_of_method : (bounds : ℕ) (entries : List ObjectHistory) (base : Candidate)
+    → method_at bounds entries ≡ Some base → base_of bounds entries ≡ base
+unfolding method_at base_of
+base_of_method bounds entries base given =
+    ap (λ (found : Option Candidate). unwrap_or found opening)
+    (found_is bounds entries (object_candidate bounds entries) base given)
+
+-- ---- where its replica has it
+
+below_by_latest : (held latest fresh : Stamp) → is_below latest held ≡ false → is_below latest fresh ≡ true
+    → is_below held fresh ≡ true
+below_by_latest held latest fresh not_above later =
+    elim (cases_Bool (is_below held fresh)) [
+      | inl below ↦ below
+      | inr not_below ↦ absurd (false≢true (sym (is_below-not_chain latest held fresh not_above not_below) ∙ later))
+    ]
+
+module _ {state : ReplicaState} {asked : Asked} {object : ObjectId} {candidate base : Candidate}
+    (grounds : IsGround state asked object candidate base) where
+  -- the base is the latest of what is shown
+  pub base_latest : base.stamp ≡ latest_of (entries_of object asked.sets)
+  base_latest = (is_base state.keys.bounds (entries_of object asked.sets) base grounds.method).latest
+
+  -- the candidate comes after its base
+  pub above_base : is_below base.stamp candidate.stamp ≡ true
+  above_base =
+      let latest : Stamp = latest_of (entries_of object asked.sets) in
+      ap (λ (stamp : Stamp). is_below stamp candidate.stamp) base_latest ∙
+      ap (λ (stamp : Stamp). is_below latest stamp) grounds.stamp ∙
+      fresh_later latest latest (fresh_stamp asked object) refl (is_below-self latest)
+
+  -- and after all that the replica holds
+  pub above_own : is_below (own_latest state object) candidate.stamp ≡ true
+  above_own =
+      ap (λ (stamp : Stamp). is_below (own_latest state object) stamp) grounds.stamp ∙
+      fresh_later (latest_of (entries_of object asked.sets)) (own_latest state object) (fresh_stamp asked object)
+      refl grounds.current
+
+  pub above_held : (held : Candidate) → holds held (own_candidates state object) ≡ true
+      → is_below held.stamp candidate.stamp ≡ true
+  above_held held holding =
+      below_by_latest held.stamp (own_latest state object) candidate.stamp
+      (not_below_latest (own_candidates state object) held holding) above_own
+
+  -- the replica holds nothing above the base
+  pub base_not_below : (held : Candidate) → holds held (own_candidates state object) ≡ true
+      → is_below base.stamp held.stamp ≡ false
+  base_not_below held holding =
+      ap (λ (stamp : Stamp). is_below stamp held.stamp) base_latest ∙
+      is_below-not_chain (latest_of (entries_of object asked.sets)) (own_latest state object) held.stamp
+      grounds.current (not_below_latest (own_candidates state object) held holding)
+
+-- ---- what a request makes a replica accept
+
+module _ (old new : ReplicaState) (asked : Asked) (candidates : ObjectId → Candidate) where
+  -- it is above all that the replica has
+  pub above_added : (asks : Body) → Reasons old new asked asks candidates → (object : ObjectId)
+      → AddsTo asks object → is_below (own_latest old object) (candidates object).stamp ≡ true
+  above_added (body.Act parts) reasons object names = above_own (reasons.grounds object names)
+  above_added (body.Ask parts) reasons object never = absurd never
+  above_added (body.Mend target) reasons object is =
+      subst (λ (it : ObjectId). is_below (own_latest old it) (candidates it).stamp ≡ true) is reasons.above
+
+  pub added_above : (asks : Body) → Reasons old new asked asks candidates → (object : ObjectId) → AddsTo asks object
+      → (held : Candidate) → holds held (own_candidates old object) ≡ true
+      → is_below held.stamp (candidates object).stamp ≡ true
+  added_above asks reasons object adds held holding =
+      below_by_latest held.stamp (own_latest old object) (candidates object).stamp
+      (not_below_latest (own_candidates old object) held holding) (above_added asks reasons object adds)
+
+  -- the replica made it, or was shown it
+  pub made_or_found : (asks : Body) → Reasons old new asked asks candidates → (object : ObjectId) → AddsTo asks object
+      → IsMade old.keys.bounds asked object (candidates object)
+      ⊎ IsFound old.keys.bounds asked object (candidates object)
+  made_or_found (body.Act parts) reasons object names =
+      let grounds : IsGround old asked object (candidates object) (reasons.bases object) =
+      reasons.grounds object names in
+      inl (record {
+        stamp = grounds.stamp
+            ∙ ap (made_stamp asked object) (sym (ap (λ (it : Stamp). it.barrier) grounds.stamp));
+        prior = grounds.prior
+            ∙ ap (λ (it : Candidate). it.stamp)
+            (sym (base_of_method old.keys.bounds (entries_of object asked.sets) (reasons.bases object) grounds.method));
+      })
+  made_or_found (body.Ask parts) reasons object never = absurd never
+  made_or_found (body.Mend target) reasons object is =
+      subst (λ (it : ObjectId). IsMade old.keys.bounds asked it (candidates it)
+      ⊎ IsFound old.keys.bounds asked it (candidates it)) is (by_remedy target (candidates target) _ reasons.remedy)
+    where
+      by_remedy : (target : ObjectId) (candidate : Candidate) (version : Option ObjState)
+          → IsRemedy old asked target candidate version
+          → IsMade old.keys.bounds asked target candidate ⊎ IsFound old.keys.bounds asked target candidate
+      by_remedy target candidate version (IsRemedy.inline_barrier barrier found) = inr found
+      by_remedy target candidate version (IsRemedy.inline_method state plain found stored) = inr found
+      by_remedy target candidate version (IsRemedy.barrier barrier made) = inl made
+      by_remedy target candidate version (IsRemedy.copy latest state plain made barrier is_latest full stored) = inl made
+
+-- what has an act's digest was made for an act
+pub record IsOfAct (old new : ReplicaState) (asked : Asked) (asks : Body) (candidates : ObjectId → Candidate)
+    (object : ObjectId) : Type 0 where
+  pub parts : List (ObjectId × Method)
+  pub is_act : asks ≡ body.Act parts
+  pub names : Names parts object
+  pub performs : Performs old new asked parts candidates
+
+pub act_added : (old new : ReplicaState) (client : ClientId) (number : ℕ) (sets : List SetOf) (asks : Body)
+    (candidates : ObjectId → Candidate) (object : ObjectId)
+    → Reasons old new (asked_of client number sets asks) asks candidates → AddsTo asks object
+    → is_some (act_asked client number asks) ≡ true
+    → IsOfAct old new (asked_of client number sets asks) asks candidates object
+act_added old new client number sets (body.Act parts) candidates object reasons names some =
+    record { parts = parts; is_act = refl; names = names; performs = reasons }
+act_added old new client number sets (body.Ask parts) candidates object reasons never some = absurd never
+act_added old new client number sets (body.Mend target) candidates object reasons is none = absurd (false≢true none)

@@ -1,0 +1,248 @@
+-- What an event of a world adds to a replica, and why: nothing, or what a letter to it makes it accept.
+use Rattle.qu_world.proofs.Steps.{AtCorrect, step_cases}
+use Rattle.qu_world.specs.Step.{moved}
+use Rattle.std.proofs.Common.{◌≡◌, ◌⊎◌, ℕ, List, Option, None, Some, inl, inr, refl, sym, subst, ap, ◌∙◌, Ok, get_or, ◌<◌, length}
+use Rattle.std.specs.Prelude.{slice_get, slice_set}
+use Rattle.std.proofs.lemmas.Bool.{cases_eq}
+use Rattle.std.proofs.lemmas.Option.{same_Some}
+use Rattle.qu_base.specs.declared.party.ClientId.{ClientId}
+use Rattle.qu_base.specs.declared.party.ObjectId.{ObjectId}
+use Rattle.qu_base.specs.declared.party.Party.{Party}
+use Rattle.qu_base.specs.declared.party.Party.TheVariants as party
+use Rattle.qu_base.specs.declared.party.ReplicaId.{ReplicaId}
+use Rattle.qu_frames.specs.declared.frame.Frame.{Frame}
+use Rattle.qu_frames.specs.declared.frame.Letter.{Letter}
+use Rattle.qu_rows.specs.State.{ReplicaState, own_candidates}
+use Rattle.qu_rows.specs.Allowed.{HasParts}
+use Rattle.qu_replica.specs.Step.{on_received, replica_step}
+use Rattle.qu_client.specs.declared.state.ClientState.{ClientState}
+use Rattle.qu_client.specs.declared.state.Stepped.{Stepped}
+use Rattle.qu_client.specs.Steps.{client_invoke, client_step, client_tick}
+use Rattle.qu_trace.specs.declared.event.Event.{Event}
+use Rattle.qu_trace.specs.declared.event.Event.TheVariants.{Invoke, Deliver, Tick, Inject}
+use Rattle.qu_world.specs.State.{WorldState, numbered, letter_of}
+use Rattle.qu_world.specs.Step.{world_step, at_replica, at_client, received, delivered}
+use Rattle.qu_claims.specs.Grounds.{Accepts, IsMoved, IsDelivered}
+use Rattle.qu_accepts.proofs.Acceptance.{step_moves, IsFormed}
+use Rattle.qu_accepts.proofs.Parts.{adds_or_not}
+use Rattle.qu_world.proofs.Each.{set_here, set_other}
+use Rattle.qu_claims.specs.Carried.{handed}
+use Rattle.qu_frames.specs.Decoding.{decoded}
+use Rattle.qu_runs.specs.Plain.{ArePlain}
+use Rattle.qu_frames.specs.Signing.{brought}
+use Rattle.qu_frames.proofs.Signed.{brought_is_decoded}
+use Rattle.qu_runs.proofs.Handing.{letter_handed, offered_handed}
+use Rattle.qu_trace.specs.declared.trace.Trace.{Trace}
+use Rattle.qu_trace.specs.declared.trace.Entry.{Entry}
+use Rattle.qu_world.specs.Run.{IsRun}
+use Rattle.qu_claims.specs.Times.{world_after}
+use Rattle.qu_runs.proofs.FitParts.{fits_parts}
+use Rattle.qu_runs.proofs.Fitting.{handed_fits}
+use Rattle.qu_base.specs.Bounds.{AreThresholds}
+use Rattle.qu_runs.proofs.OpeningReplicas.{bounds_are}
+use Rattle.qu_base.proofs.ThresholdFacts.{are_thresholds}
+use Rattle.qu_frames.specs.Formats.{frame_form}
+use Rattle.qu_frames.specs.declared.frame.Frame.TheVariants as frame
+use Rattle.qu_accepts.proofs.Formed.{sets_formed}
+use Rattle.qu_history.specs.Culling.{culled}
+use Rattle.qu_replica.proofs.FitCulled.{culled-fits}
+use Rattle.qu_replica.proofs.FitSteps.{request-fits}
+
+-- ---- a replica before an event
+
+-- ---- a replica whose place nothing was put at
+
+stays : (olds news : List ReplicaState) (place : ℕ) (old new : ReplicaState)
+    → slice_get news place ≡ slice_get olds place → slice_get olds place ≡ Some old
+    → slice_get news place ≡ Some new → new ≡ old
+stays olds news place old new same is_old is_new = same_Some new old (sym is_new ∙ same ∙ is_old)
+
+-- no move of a client changes a replica
+client_leaves : (world : WorldState) (event : Event) (me : ClientId) (move : ClientState → Stepped)
+    (found : Option ClientState) → (at_client world event me move found).replicas ≡ world.replicas
+client_leaves world event me move None = refl
+client_leaves world event me move (Some state) = refl
+
+client_stays : (world : WorldState) (event : Event) (me : ClientId) (move : ClientState → Stepped)
+    (found : Option ClientState) (place : ℕ) (old new : ReplicaState)
+    → slice_get world.replicas place ≡ Some old → slice_get (at_client world event me move found).replicas
+    place ≡ Some new → new ≡ old
+client_stays world event me move found place old new is_old is_new =
+    stays world.replicas (at_client world event me move found).replicas place old new
+    (ap (λ (replicas : List ReplicaState). slice_get replicas place) (client_leaves world event me move found))
+    is_old is_new
+
+-- ---- a letter to a replica
+
+-- the replica at this place is the one that takes the frame, and accepts candidates
+record IsTaken (me : ReplicaId) (text : List ℕ) (place : ℕ) (old new : ReplicaState) : Type 0 where
+  here : me.0 ≡ place
+  frame : Frame
+  is_frame : brought old.keys (party.Replica old.me) text ≡ Some frame
+  accepts : Accepts old new frame
+
+-- what a text makes of a replica that brings it a frame
+record IsAccepted (read : Option Frame) (old new : ReplicaState) : Type 0 where
+  frame : Frame
+  is_frame : read ≡ Some frame
+  accepts : Accepts old new frame
+
+text_moves : (old : ReplicaState) (read : Option Frame) → ((frame : Frame) → read ≡ Some frame → HasParts frame)
+    → ((frame : Frame) → read ≡ Some frame → IsFormed old frame)
+    → ((on_received old read).0 ≡ old) ⊎ IsAccepted read old (on_received old read).0
+text_moves old (Some frame) parts formed =
+    elim (step_moves old frame (parts frame refl) (formed frame refl)) [
+      | inl same ↦ inl same
+      | inr alone ↦ inr (record { frame = frame; is_frame = refl; accepts = alone })
+    ]
+text_moves old None parts formed = inl refl
+
+replica_takes : (world : WorldState) (event : Event) (me : ReplicaId) (text : List ℕ)
+    (found : Option ReplicaState) (place : ℕ) (old new : ReplicaState)
+    → slice_get world.replicas me.0 ≡ found → ((frame : Frame) → decoded text ≡ Ok frame → HasParts frame)
+    → ((frame : Frame) → decoded text ≡ Ok frame → IsFormed old frame)
+    → slice_get world.replicas place ≡ Some old → slice_get (at_replica world event me text found).replicas
+    place ≡ Some new
+    → (new ≡ old) ⊎ IsTaken me text place old new
+replica_takes world event me text None place old new is_found parts formed is_old is_new =
+    inl (stays world.replicas world.replicas place old new refl is_old is_new)
+replica_takes world event me text (Some state) place old new is_found parts formed is_old is_new =
+    let moved : ReplicaState = (replica_step state text).0 in
+    elim (cases_eq place me.0) [
+      | inl here ↦
+          let is_state : state ≡ old =
+          same_Some state old (sym is_found ∙ ap (slice_get world.replicas) (sym here) ∙ is_old) in
+          let is_moved : moved ≡ new =
+          same_Some moved new (sym (set_here world.replicas me.0 state moved is_found)
+          ∙ ap (slice_get (slice_set world.replicas me.0 moved)) (sym here) ∙ is_new) in
+          let is_step : (replica_step old text).0 ≡ new =
+          ap (λ (it : ReplicaState). (replica_step it text).0) (sym is_state) ∙ is_moved in
+          elim (text_moves old (brought old.keys (party.Replica old.me) text)
+          (λ frame brings. parts frame (brought_is_decoded old.keys (party.Replica old.me) text frame brings))
+          (λ frame brings. formed frame (brought_is_decoded old.keys (party.Replica old.me) text frame brings))) [
+            | inl same ↦ inl (sym is_step ∙ same)
+            | inr alone ↦ inr
+                (record {
+                  here = sym here;
+                  frame = alone.frame;
+                  is_frame = alone.is_frame;
+                  accepts = subst (λ (it : ReplicaState). Accepts old it alone.frame) is_step alone.accepts;
+                })
+          ]
+      | inr apart ↦ inl (stays world.replicas (slice_set world.replicas me.0 moved) place old new
+          (set_other world.replicas me.0 place moved apart) is_old is_new)
+    ]
+
+-- each frame that the event hands over has the parts of what it asks for, and shows histories
+pub record HandsFitting (world : WorldState) (event : Event) : Type 0 where
+  pub parts : (to : Party) (text : List ℕ) → handed world event ≡ Some (to, text) → (carried : Frame)
+      → decoded text ≡ Ok carried → HasParts carried
+  pub formed : (place : ℕ) (state : ReplicaState) → slice_get world.replicas place ≡ Some state
+      → (to : Party) (text : List ℕ) → handed world event ≡ Some (to, text) → (carried : Frame)
+      → decoded text ≡ Ok carried → IsFormed state carried
+
+text_taken : (world : WorldState) (event : Event) (to : Party) (text : List ℕ) (place : ℕ) (old new : ReplicaState)
+    → handed world event ≡ Some (to, text) → HandsFitting world event
+    → slice_get world.replicas place ≡ Some old
+    → slice_get (received world event to text).replicas place ≡ Some new
+    → (new ≡ old) ⊎ IsMoved world event place old new
+text_taken world event (party.Client me) text place old new hands parts is_old is_new =
+    inl (client_stays world event me (λ (state : ClientState). client_step state text)
+    (numbered world.clients me.0) place old new is_old is_new)
+text_taken world event (party.Replica me) text place old new hands parts is_old is_new =
+    elim (replica_takes world event me text (slice_get world.replicas me.0) place old new refl
+    (parts.parts (party.Replica me) text hands)
+    (parts.formed place old is_old (party.Replica me) text hands) is_old is_new) [
+      | inl same ↦ inl same
+      | inr taken ↦ inr (record {
+        text = text;
+        is_handed = hands ∙ ap (λ (it : ℕ). Some (party.Replica (record { 0 = it }), text)) taken.here;
+        carried = taken.frame;
+        brings = taken.is_frame;
+        accepts = taken.accepts;
+      })
+    ]
+
+letter_delivered : (world : WorldState) (number : ℕ) → AtCorrect world (Deliver number) → (found : Option Letter)
+    (place : ℕ) (old new : ReplicaState)
+    → letter_of world number ≡ found → HandsFitting world (Deliver number)
+    → slice_get world.replicas place ≡ Some old → slice_get (delivered world (Deliver number) found).replicas
+    place ≡ Some new
+    → (new ≡ old) ⊎ IsMoved world (Deliver number) place old new
+letter_delivered world number correct None place old new is_found parts is_old is_new =
+    inl (stays world.replicas world.replicas place old new refl is_old is_new)
+letter_delivered world number correct (Some letter) place old new is_found parts is_old is_new =
+    text_taken world (Deliver number) letter.to letter.text place old new
+    (letter_handed world number letter correct is_found) parts is_old is_new
+
+-- an event at a faulty party leaves each replica as it is
+moves_cases : (world : WorldState) (event : Event) (place : ℕ) (old new : ReplicaState)
+    → slice_get world.replicas place ≡ Some old
+    → (AtCorrect world event → slice_get (moved world event).replicas place ≡ Some new
+    → (new ≡ old) ⊎ IsMoved world event place old new)
+    → slice_get (world_step world event).replicas place ≡ Some new → (new ≡ old) ⊎ IsMoved world event place old new
+moves_cases world event place old new is_old step =
+    step_cases (λ (made : WorldState). slice_get made.replicas place ≡ Some new
+    → (new ≡ old) ⊎ IsMoved world event place old new) world event
+    (λ is. inl (stays world.replicas world.replicas place old new refl is_old is)) step
+
+-- an event leaves a replica as it is, or hands it what adds candidates
+pub event_moves : (world : WorldState) (event : Event) (place : ℕ) (old new : ReplicaState)
+    → slice_get world.replicas place ≡ Some old → slice_get (world_step world event).replicas place ≡ Some new
+    → HandsFitting world event → (new ≡ old) ⊎ IsMoved world event place old new
+event_moves world (Invoke client op) place old new is_old is_new parts =
+    moves_cases world (Invoke client op) place old new is_old (λ correct is.
+    inl (client_stays world (Invoke client op) client (λ (state : ClientState). client_invoke state op)
+    (numbered world.clients client.0) place old new is_old is)) is_new
+event_moves world (Deliver number) place old new is_old is_new parts =
+    moves_cases world (Deliver number) place old new is_old (λ correct is.
+    letter_delivered world number correct (letter_of world number) place old new refl parts is_old is) is_new
+event_moves world (Inject to text) place old new is_old is_new parts =
+    moves_cases world (Inject to text) place old new is_old (λ correct is.
+    text_taken world (Inject to text) to text place old new
+    (offered_handed world (Inject to text) to text correct refl) parts is_old is) is_new
+event_moves world (Tick client) place old new is_old is_new parts =
+    moves_cases world (Tick client) place old new is_old (λ correct is.
+    inl (client_stays world (Tick client) client client_tick (numbered world.clients client.0) place old new
+    is_old is)) is_new
+
+-- the same of one object
+pub event_accepts : (world : WorldState) (event : Event) (place : ℕ) (old new : ReplicaState)
+    → slice_get world.replicas place ≡ Some old → slice_get (world_step world event).replicas place ≡ Some new
+    → HandsFitting world event → (object : ObjectId) → (own_candidates new object ≡ own_candidates old object)
+    ⊎ IsDelivered world event place old new object
+event_accepts world event place old new is_old is_new parts object =
+    elim (event_moves world event place old new is_old is_new parts) [
+      | inl same ↦ inl (ap (λ (it : ReplicaState). own_candidates it object) same)
+      | inr moved ↦ elim (adds_or_not (moved.accepts).asks object) [
+        | inr not_added ↦ inl ((moved.accepts).others object not_added)
+        | inl adds ↦ inr (record {
+          text = moved.text;
+          is_handed = moved.is_handed;
+          carried = moved.carried;
+          brings = moved.brings;
+          accepts = moved.accepts;
+          adds = adds;
+        })
+      ]
+    ]
+
+pub formed_by : (state : ReplicaState) (carried : Frame) → AreThresholds state.keys.bounds → frame_form.Fits carried
+    → IsFormed state carried
+formed_by state (frame.Request client number round sets asks mac) thresholds fits =
+    sets_formed state.keys.bounds (culled state.keys state.me sets) thresholds
+    (culled-fits state.keys state.me sets (request-fits client number round sets asks mac fits).shown)
+formed_by state _ thresholds fits = tt
+
+-- an event of a run hands over such frames
+pub hands_parts : (trace : Trace) → IsRun trace → ArePlain trace → (at : ℕ) (default : Entry)
+    → at < length trace.entries → HandsFitting (world_after trace at) (get_or trace.entries at default).event
+hands_parts trace is_run have at default below = record {
+  parts = λ to text hands carried is.
+      fits_parts carried (handed_fits trace is_run have at default below to text hands carried is);
+  formed = λ place state is_state to text hands carried is.
+      formed_by state carried
+      (subst AreThresholds (sym (bounds_are trace at place state is_state))
+      (are_thresholds trace.setup.bounds (is_run.setup).some_faults))
+      (handed_fits trace is_run have at default below to text hands carried is);
+}

@@ -1,0 +1,12 @@
+pub mod Parts
+pub mod Formed
+pub mod Grounds
+pub mod ActAcceptance
+pub mod Acceptance
+pub mod Happenings
+pub mod Performed
+pub mod HeldVersions
+pub mod Accepting
+pub mod HeldInRuns
+pub mod KnownObjects
+pub mod Handled

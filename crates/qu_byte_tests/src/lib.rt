@@ -1,0 +1,18 @@
+//! Tests of the lowest crates over their public calls, of what no clause says. A file is named for the crate that it
+//! tests.
+#![tactic(auto)]
+
+#[cfg(test)]
+mod base;
+#[cfg(test)]
+mod io;
+#[cfg(test)]
+mod pick;
+#[cfg(test)]
+mod seal;
+#[cfg(test)]
+mod stamp;
+#[cfg(test)]
+mod sync;
+#[cfg(test)]
+mod vote;

@@ -1,0 +1,6 @@
+//! Tests of the calls that programs make over their public calls, of what no clause says. A file is named for the crate
+//! that it tests.
+#![tactic(auto)]
+
+#[cfg(test)]
+mod cli;

@@ -1,0 +1,76 @@
+use super::no_answer::NoAnswer;
+use qu_base::{ClientId, Party, ReplicaId};
+
+/// A case: what it is called, what is done, the further words of its line, the lines below, and the stored answer.
+#[derive(Clone, Copy)]
+pub struct Case<'a> {
+    pub name: &'a str,
+    pub command: &'a str,
+    pub words: &'a str,
+    pub lines: &'a str,
+    pub answer: &'a str,
+}
+
+impl<'a> Case<'a> {
+    /// The case of a text `NAME COMMAND WORDS`, a line `# REASON`, its lines, a line `----` and its answer. None where
+    /// one of these is missing.
+    pub fn of(text: &'a str) -> Option<Case<'a>> {
+        let (asked, answer) = text.split_once("----\n")?;
+        let (line, below) = asked.split_once('\n')?;
+        let (reason, lines) = below.split_once('\n')?;
+        if !reason.starts_with("# ") {
+            return None;
+        }
+        Some(Case::asked(line, lines, answer.trim_end()))
+    }
+
+    fn asked(line: &'a str, lines: &'a str, answer: &'a str) -> Case<'a> {
+        let (name, rest) = line.split_once(' ').unwrap_or((line, ""));
+        let (command, words) = rest.split_once(' ').unwrap_or((rest, ""));
+        Case {
+            name,
+            command,
+            words,
+            lines,
+            answer,
+        }
+    }
+
+    /// The word at a place behind the command, empty where there is none.
+    pub fn word(&self, place: usize) -> &'a str {
+        self.words.split_whitespace().nth(place).unwrap_or("")
+    }
+
+    pub fn number(&self, place: usize) -> Result<u64, NoAnswer> {
+        Ok(self.word(place).parse::<u64>()?)
+    }
+
+    pub fn short(&self, place: usize) -> Result<u16, NoAnswer> {
+        Ok(self.word(place).parse::<u16>()?)
+    }
+
+    pub fn byte(&self, place: usize) -> Result<u8, NoAnswer> {
+        Ok(self.word(place).parse::<u8>()?)
+    }
+
+    pub fn party(&self, place: usize) -> Result<Party, NoAnswer> {
+        party(self.word(place))
+    }
+
+    /// The lines before the first line `at ..`.
+    pub fn base(&self) -> &'a str {
+        let (base, _) = self.lines.split_once("\nat ").unwrap_or((self.lines, ""));
+        base
+    }
+}
+
+/// The party of a word, as `r0` or `c1`.
+pub fn party(word: &str) -> Result<Party, NoAnswer> {
+    if let Some(number) = word.strip_prefix('r') {
+        return Ok(Party::Replica(ReplicaId(number.parse::<u8>()?)));
+    }
+    match word.strip_prefix('c') {
+        Some(number) => Ok(Party::Client(ClientId(number.parse::<u16>()?))),
+        None => Err(NoAnswer::Word),
+    }
+}

@@ -1,0 +1,76 @@
+//! The points of runs, and what the judge says of their order.
+
+ghost use Rattle.qu_world.specs.Run.{IsRun};
+
+use qu_base::{List, NoMemory};
+use qu_case_forms::{Named, NoAnswer};
+use qu_case_runs::{make_lines, run_text, setup_and_lines, world_with};
+use qu_machine::{Point, is_judgeable, judge};
+use qu_safety::order_of;
+use qu_trace::{Trace, operations};
+use std::alloc::{AllocError, Global};
+
+/// Makes the events of lines behind a setup, and tells what each of them made, and the points at the end.
+pub fn events(
+    alloc: Global,
+    names: &[Named],
+    lines: &str,
+    out: &mut String,
+) -> Result<(), NoAnswer> {
+    let (setup, lines) = setup_and_lines(lines);
+    let trace = make_lines(alloc, names, setup, lines, world_with(alloc, setup)?, out)?;
+    Ok(points(alloc, &trace, out)?)
+}
+
+/// The points of a script's run, and whether they are a serial order of its operations.
+pub fn order(alloc: Global, script: &[u8], out: &mut String) -> Result<(), NoAnswer> {
+    let trace = run_text(alloc, script)?;
+    Ok(points(alloc, &trace, out)?)
+}
+
+/// `order_of` without what it promises, so that the functions that call it know nothing of it, and are proved fast.
+fn printed(alloc: Global, trace: &Trace) -> Result<List<Point>, NoMemory>
+    requires { IsRun trace.now }
+{
+    order_of(alloc, trace)
+}
+
+/// The event, client and number of each point of a run, with a mark where the client is faulty, and what the judge says
+/// of their order.
+pub fn points(alloc: Global, trace: &Trace, out: &mut String) -> Result<(), NoMemory>
+    requires { IsRun trace.now }
+{
+    let order = printed(alloc, trace)?;
+    put_points(order.as_slice(), out)?;
+    put_judged(alloc, trace, order.as_slice(), out)
+}
+
+fn put_points(order: &[Point], out: &mut String) -> Result<(), AllocError> {
+    out.push_str("points")?;
+    for point in order {
+        let mark = if point.faulty { "faulty-" } else { "" };
+        write!(
+            out,
+            " {}:{mark}{}.{}",
+            point.event, point.client.0, point.number
+        )?;
+    }
+    out.push_str("\n")
+}
+
+fn put_judged(
+    alloc: Global,
+    trace: &Trace,
+    order: &[Point],
+    out: &mut String,
+) -> Result<(), NoMemory> {
+    let kinds = trace.setup.kinds.as_slice();
+    if !is_judgeable(kinds, order) {
+        return Ok(out.push_str("not judgeable")?);
+    }
+    let operations = operations(alloc, trace)?;
+    match judge(alloc, kinds, operations.as_slice(), order) {
+        Ok(()) => Ok(out.push_str("serial")?),
+        Err(fault) => Ok(write!(out, "{fault:?}")?),
+    }
+}

@@ -1,0 +1,49 @@
+use super::program::{self, Program};
+use qu_case_forms::{Case, Named, NoAnswer, answer_bytes};
+use qu_case_orders::answer_order;
+use qu_case_runs::answer_run;
+use std::alloc::Global;
+use std::rt::Files;
+
+/// The answer of a case.
+pub fn answer(
+    rt: &(impl Files + AllocGlobal),
+    names: &[Named],
+    case: &Case<'_>,
+    out: &mut String,
+) -> Result<(), NoAnswer> {
+    match case.command {
+        "example" => program::example(rt, case.name, out),
+        "page" => program::page(rt, case, out),
+        _ => answer_here(rt.alloc(), names, case, out),
+    }
+}
+
+/// The answer of a case that reads no file.
+fn answer_here(
+    alloc: Global,
+    names: &[Named],
+    case: &Case<'_>,
+    out: &mut String,
+) -> Result<(), NoAnswer> {
+    match case.command {
+        "sim" => of_program(alloc, Program::Qu, "sim", case, out),
+        "qu" => of_program(alloc, Program::Qu, case.words, case, out),
+        "qu-letters" => of_program(alloc, Program::QuLetters, case.words, case, out),
+        "pieces" => program::pieces(alloc, case, out),
+        "listed" | "letters" | "injected" => answer_run(alloc, names, case, out),
+        "events" | "order" | "audit" | "ordered" => answer_order(alloc, names, case, out),
+        _ => answer_bytes(alloc, names, case, out),
+    }
+}
+
+fn of_program(
+    alloc: Global,
+    program: Program,
+    words: &str,
+    case: &Case<'_>,
+    out: &mut String,
+) -> Result<(), NoAnswer> {
+    program::write(alloc, program, words, case.lines.as_bytes(), out)?;
+    Ok(())
+}

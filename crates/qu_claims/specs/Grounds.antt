@@ -1,0 +1,180 @@
+-- Why a replica accepts a candidate, and what an event of a world adds to a replica.
+use Rattle.std.specs.Prelude.{◌≡◌, ◌+◌, ◌≤◌, ℕ, Bool, true, false, List, [], ◌∷◌, ◌++◌, length, map, Option, None, Some}
+use Rattle.qu_base.specs.declared.party.ClientId.{ClientId}
+use Rattle.qu_base.specs.declared.party.ObjectId.{ObjectId}
+use Rattle.qu_base.specs.declared.party.Party.TheVariants as party
+use Rattle.qu_base.specs.Bounds.{quorum, repair}
+use Rattle.qu_stamp.specs.declared.stamp.Stamp.{Stamp}
+use Rattle.qu_stamp.specs.declared.candidate.Candidate.{Candidate}
+use Rattle.qu_stamp.specs.Stamp.{is_below}
+use Rattle.qu_history.specs.declared.sets.SetOf.{SetOf}
+use Rattle.qu_history.specs.Culling.{culled}
+use Rattle.qu_history.specs.Sets.{entries_of, latest_of, order_of, method_at}
+use Rattle.qu_objects.specs.declared.act.Method.{Method}
+use Rattle.qu_objects.specs.declared.state.ObjState.{ObjState}
+use Rattle.qu_objects.specs.Performing.{performed_values}
+use Rattle.qu_kept.specs.Performing.{row_by, links_to_others, state_after}
+use Rattle.qu_kept.specs.Rows.{row_of}
+use Rattle.qu_kept.specs.Standing.{IsLower}
+use Rattle.qu_class.specs.Repairable.{base_of}
+use Rattle.qu_frames.specs.declared.frame.Body.{Body}
+use Rattle.qu_frames.specs.declared.frame.Body.TheVariants as body
+use Rattle.qu_frames.specs.declared.frame.Frame.{Frame}
+use Rattle.qu_frames.specs.declared.frame.Frame.TheVariants as frame
+use Rattle.qu_rows.specs.declared.versions.Stored.{Stored}
+use Rattle.qu_rows.specs.Rows.{Asked, asked_of, fresh_stamp}
+use Rattle.qu_rows.specs.State.{ReplicaState, own_candidates, own_latest}
+use Rattle.qu_replica.specs.State.{stored_if}
+use Rattle.qu_rows.specs.Versions.{version_at}
+use Rattle.qu_trace.specs.declared.event.Event.{Event}
+use Rattle.qu_world.specs.State.{WorldState}
+use Rattle.qu_claims.specs.Carried.{handed, Brings}
+use Rattle.qu_claims.specs.Parts.{Names, values_of}
+
+-- the stamp of a candidate that is made upon these sets: its time is after the latest
+abbrev pub made_stamp : Asked → ObjectId → Bool → Stamp
+made_stamp asked object barrier =
+    record {
+      time = (latest_of (entries_of object asked.sets)).time + 1;
+      barrier = barrier;
+      client = asked.client;
+      act = asked.act;
+      set = asked.set;
+    }
+
+-- the replica makes the candidate: above all that is shown, upon the object candidate, with the digests of the act, if
+-- one is asked for, and of the sets
+pub record IsMade (bounds : ℕ) (asked : Asked) (object : ObjectId) (candidate : Candidate) : Type 0 where
+  pub stamp : candidate.stamp ≡ made_stamp asked object candidate.stamp.barrier
+  pub prior : candidate.prior ≡ (base_of bounds (entries_of object asked.sets)).stamp
+
+-- it is shown the candidate, by so many that it may be repaired, and nothing later
+pub record IsFound (bounds : ℕ) (asked : Asked) (object : ObjectId) (candidate : Candidate) : Type 0 where
+  pub latest : candidate.stamp ≡ latest_of (entries_of object asked.sets)
+  pub order : repair bounds ≤ order_of candidate (entries_of object asked.sets)
+
+-- ---- an act
+
+-- why a replica in this state accepts a candidate on an object upon a request of an act: the sets show a base that
+-- a quorum holds and that nothing shown is above, and the replica itself has nothing above what is shown
+pub record IsGround (state : ReplicaState) (asked : Asked) (object : ObjectId) (candidate base : Candidate)
+    : Type 0 where
+  pub method : method_at state.keys.bounds (entries_of object asked.sets) ≡ Some base
+  pub prior : candidate.prior ≡ base.stamp
+  pub stamp : candidate.stamp ≡ fresh_stamp asked object
+  pub current : is_below (latest_of (entries_of object asked.sets)) (own_latest state object) ≡ false
+
+-- the versions have the values of the parts, performed upon the versions of the bases, and keep the act with its
+-- answer; of this client those of the bases keep lower numbers alone
+pub record ArePerformed (state : ReplicaState) (client : ClientId) (number : ℕ) (parts : List (ObjectId × Method))
+    (bases candidates : ObjectId → Candidate) (versions : ObjectId → ObjState) : Type 0 where
+  pub befores : ObjectId → ObjState
+  pub of_bases : (object : ObjectId) → Names parts object
+      → version_at object (bases object).stamp state.versions ≡ Some (befores object)
+  pub values : performed_values parts (values_of (λ (object : ObjectId). (befores object).value) parts)
+      ≡ values_of (λ (object : ObjectId). (versions object).value) parts
+  pub lower : (object : ObjectId) → Names parts object → IsLower number (row_of client (befores object).kept)
+  pub afters : (object : ObjectId) → Names parts object → versions object ≡ state_after
+      (row_by client number parts (values_of (λ (it : ObjectId). (befores it).value) parts)) (versions object).value
+      (links_to_others object (candidates object).stamp parts) (befores object)
+
+-- the versions that are stored with the candidates of the parts
+abbrev pub stored_of : (ObjectId → Candidate) → (ObjectId → ObjState) → List (ObjectId × Method) → List Stored
+stored_of candidates versions parts = map (λ (part : ObjectId × Method). record {
+  object = part.0;
+  stamp = (candidates part.0).stamp;
+  state = versions part.0;
+}) parts
+
+-- it accepts one candidate on each object that the act's parts name, with the version that the act makes
+pub record Performs (old new : ReplicaState) (asked : Asked) (parts : List (ObjectId × Method))
+    (candidates : ObjectId → Candidate) : Type 0 where
+  pub bases : ObjectId → Candidate
+  pub grounds : (object : ObjectId) → Names parts object
+      → IsGround old asked object (candidates object) (bases object)
+  pub versions : ObjectId → ObjState
+  pub performed : ArePerformed old asked.client asked.number parts bases candidates versions
+  pub stored : new.versions ≡ old.versions ++ stored_of candidates versions parts
+
+-- ---- a repair (Query/Update: inline repair, barriers and copies)
+
+-- why a replica adds a candidate to an object that is to be mended, and which version it stores with it
+pub data IsRemedy (state : ReplicaState) (asked : Asked) (target : ObjectId) (candidate : Candidate)
+    : Option ObjState → Type 0 where
+  -- it is shown a barrier
+  inline_barrier : candidate.stamp.barrier ≡ true → IsFound state.keys.bounds asked target candidate
+      → IsRemedy state asked target candidate None
+  -- it is shown a candidate without barrier, whose version it has already
+  inline_method : (version : ObjState) → candidate.stamp.barrier ≡ false
+      → IsFound state.keys.bounds asked target candidate
+      → version_at target candidate.stamp state.versions ≡ Some version
+      → IsRemedy state asked target candidate None
+  -- it sets a barrier
+  barrier : candidate.stamp.barrier ≡ true → IsMade state.keys.bounds asked target candidate
+      → IsRemedy state asked target candidate None
+  -- it copies the object candidate, where a quorum holds the latest, a barrier
+  copy : (latest : Candidate) (version : ObjState) → candidate.stamp.barrier ≡ false
+      → IsMade state.keys.bounds asked target candidate
+      → latest.stamp.barrier ≡ true → latest.stamp ≡ latest_of (entries_of target asked.sets)
+      → quorum state.keys.bounds ≤ order_of latest (entries_of target asked.sets)
+      → version_at target candidate.prior state.versions ≡ Some version
+      → IsRemedy state asked target candidate (Some version)
+
+-- it adds a candidate to the target, above all that it has
+pub record Mends (old new : ReplicaState) (asked : Asked) (target : ObjectId) (candidate : Candidate) : Type 0 where
+  -- the sets have a quorum of entries of the target
+  pub enough : quorum old.keys.bounds ≤ length (entries_of target asked.sets)
+  pub current : is_below (latest_of (entries_of target asked.sets)) (own_latest old target) ≡ false
+  pub above : is_below (own_latest old target) candidate.stamp ≡ true
+  pub version : Option ObjState
+  pub remedy : IsRemedy old asked target candidate version
+  pub stored : new.versions ≡ old.versions ++ stored_if target candidate.stamp version
+
+-- ---- what a request makes a replica accept
+
+-- the objects on which candidates are accepted
+abbrev pub AddsTo : Body → ObjectId → Type 0
+AddsTo (body.Act parts) object = Names parts object
+AddsTo (body.Ask parts) object = ⊥
+AddsTo (body.Mend target) object = target ≡ object
+
+abbrev pub Reasons : ReplicaState → ReplicaState → Asked → Body → (ObjectId → Candidate) → Type 0
+Reasons old new asked (body.Act parts) candidates = Performs old new asked parts candidates
+Reasons old new asked (body.Ask parts) candidates = ⊥
+Reasons old new asked (body.Mend target) candidates = Mends old new asked target (candidates target)
+
+-- upon a request, one candidate more on each object to which it adds, and the other objects as they were
+pub record Accepts (old new : ReplicaState) (received : Frame) : Type 0 where
+  pub client : ClientId
+  pub number : ℕ
+  pub round : ℕ
+  -- the sets of the request, and what the replica keeps of them in culling
+  pub sent : List SetOf
+  pub sets : List SetOf
+  pub culls : culled old.keys old.me sent ≡ sets
+  pub asks : Body
+  pub mac : List ℕ
+  pub is_request : received ≡ frame.Request client number round sent asks mac
+  pub candidates : ObjectId → Candidate
+  pub added : (object : ObjectId) → AddsTo asks object
+      → own_candidates new object ≡ own_candidates old object ++ candidates object ∷ []
+  pub others : (object : ObjectId) → (AddsTo asks object → ⊥) → own_candidates new object ≡ own_candidates old object
+  pub reasons : Reasons old new (asked_of client number sets asks) asks candidates
+
+-- the event hands a text to the replica at this place, which accepts candidates
+pub record IsMoved (world : WorldState) (event : Event) (place : ℕ) (old new : ReplicaState) : Type 0 where
+  pub text : List ℕ
+  pub is_handed : handed world event ≡ Some (party.Replica (record { 0 = place }), text)
+  pub carried : Frame
+  pub brings : Brings old text carried
+  pub accepts : Accepts old new carried
+
+-- the same, of an object on which it accepts a candidate
+pub record IsDelivered (world : WorldState) (event : Event) (place : ℕ) (old new : ReplicaState)
+    (object : ObjectId) : Type 0 where
+  pub text : List ℕ
+  pub is_handed : handed world event ≡ Some (party.Replica (record { 0 = place }), text)
+  pub carried : Frame
+  pub brings : Brings old text carried
+  pub accepts : Accepts old new carried
+  pub adds : AddsTo accepts.asks object

@@ -1,0 +1,451 @@
+-- A run of the world meets the laws of the theory of what is decided.
+use Rattle.std.proofs.Common.{◌≡◌, List, Some, ap, arith, false, inl, inr, length, not, refl, subst, suc, sym, true, zero, ℕ, ◌⊎◌, ◌<◌, ◌≤◌, ◌∙◌, [], ◌+◌, Option, None}
+use Rattle.qu_accepts.proofs.Accepting.{some_entry, StepAt, step_at, Acceptance}
+use Rattle.qu_claims.specs.Grounds.{IsGround, Accepts, IsDelivered, AddsTo, Performs, IsFound, Mends, Reasons, IsMade, IsRemedy, made_stamp}
+use Rattle.qu_runs.specs.Plain.{ArePlain}
+use Rattle.qu_base.specs.Bounds.{AreThresholds, quorum, replicas, repair}
+use Rattle.qu_stamp.specs.declared.candidate.Candidate.{Candidate}
+use Rattle.qu_chain.proofs.Counting.{test_at-here}
+use Rattle.qu_frames.specs.declared.frame.Frame.{Frame}
+use Rattle.qu_chain.specs.Laws.{Given, IsLinked, Laws}
+use Rattle.qu_claims.specs.Setting.{IsNew, acceptors, IsAttested}
+use Rattle.qu_world.specs.Run.{IsRun}
+use Rattle.qu_base.specs.declared.party.ObjectId.{ObjectId}
+use Rattle.qu_base.specs.declared.party.Party.{Party}
+use Rattle.qu_rows.specs.State.{ReplicaState, own_candidates, own_latest}
+use Rattle.qu_stamp.specs.declared.stamp.Stamp.{Stamp}
+use Rattle.qu_trace.specs.declared.trace.Trace.{Trace}
+use Rattle.qu_accepts.proofs.Grounds.{above_base, base_not_below, added_above, IsBase, is_base}
+use Rattle.qu_runs.proofs.Objects.{accepted_known}
+use Rattle.qu_claims.specs.Accepted.{accepts}
+use Rattle.qu_runs.proofs.OpeningReplicas.{acceptor_is_good, all_begin, all_replicas}
+use Rattle.qu_base.proofs.ThresholdFacts.{are_thresholds}
+use Rattle.qu_rows.specs.Rows.{asked_of, Asked}
+use Rattle.qu_runs.proofs.Carrying.{brings_decoded}
+use Rattle.std.proofs.lemmas.Bool.{cases_Bool, cases_lt, false≢true, lt-ltb, ltb-true, not-true}
+use Rattle.qu_claims.specs.Count.{test_at}
+use Rattle.std.specs.Prelude.{is_some, slice_get}
+use Rattle.qu_frames.specs.Decoding.{decoded}
+use Rattle.qu_history.specs.Sets.{entries_of, order_of, latest_of, candidates_of}
+use Rattle.qu_history.proofs.Rising.{holds_pushed}
+use Rattle.qu_stamp.specs.Stamp.{is_below, same_stamp}
+use Rattle.qu_stamp.proofs.Order.{is_below-not_chain, is_below-other, is_below-self, equal_by_same_stamp, is_before_by_stamp}
+use Rattle.qu_history.specs.declared.sets.SetOf.{SetOf}
+use Rattle.qu_stamp.specs.Candidate.{is_before}
+use Rattle.qu_history.specs.History.{holds, ObjectHistory}
+use Rattle.qu_claims.specs.Carried.{handed}
+use Rattle.qu_claims.specs.RunSetting.{setting}
+use Rattle.std.proofs.lemmas.Option.{same_Some, slice_get_cases, slice_get_within, none-some}
+use Rattle.qu_shown.proofs.Views.{one_decoded}
+use Rattle.qu_accepts.proofs.Happenings.{hands_parts}
+use Rattle.qu_claims.specs.Parts.{Names}
+use Rattle.qu_accepts.proofs.Parts.{same_added}
+use Rattle.qu_rows.specs.Allowed.{HasParts}
+use Rattle.qu_objects.specs.declared.act.Method.{Method}
+use Rattle.qu_claims.specs.Times.{world_after}
+use Rattle.qu_base.specs.declared.party.Party.TheVariants as party
+use Rattle.qu_frames.specs.declared.frame.Body.TheVariants as body
+use Rattle.qu_class.specs.Rows.{AreWellFormed, IsGreatestOfKind}
+use Rattle.qu_base.specs.declared.party.ClientId.{ClientId}
+use Rattle.qu_frames.specs.declared.frame.Body.{Body}
+use Rattle.qu_chain.specs.Joint.{IsCopied}
+use Rattle.qu_objects.specs.declared.state.ObjState.{ObjState}
+use Rattle.qu_history.proofs.Method.{method_at_plain}
+use Rattle.qu_history.proofs.Stamps.{not_below_latest}
+use Rattle.qu_class.specs.Repairable.{base_of}
+use Rattle.qu_class.proofs.OfKind.{base_is_greatest, held_if_repairable}
+use Rattle.qu_rows.proofs.Allowed.{fresh_later}
+use Rattle.qu_base.specs.declared.party.Digest.{Digest}
+use Rattle.qu_laws.proofs.ShownWhenAccepted.{same_place, asks_in, not_above_shown, sizes, acceptance_of, start, grows, held_before, rising, alone, bounds_then, formed_then, shown_accepted, established_is_shown}
+
+module _ (trace : Trace) (is_run : IsRun trace) (have : ArePlain trace) where
+  -- ---- the base of what is accepted
+
+  -- a candidate that is attested, or rests on such a one
+  abbrev IsBased : ℕ → ObjectId → ℕ → Candidate → Type 0
+  IsBased time object place candidate =
+      IsAttested (setting trace) time object candidate ⊎ IsLinked (setting trace) time object place candidate
+
+  module _ (time : ℕ) (within : time < length trace.entries) (object : ObjectId) (place : ℕ) (candidate : Candidate)
+      (accepted : Acceptance trace time object place candidate) where
+    abbrev upon : Accepts accepted.old accepted.new (accepted.delivered).carried
+    upon = (accepted.delivered).accepts
+
+    abbrev entries : List ObjectHistory
+    entries = entries_of object upon.sets
+
+    abbrev old_bounds : ℕ
+    old_bounds = (accepted.old).keys.bounds
+
+    same_bounds : old_bounds ≡ trace.setup.bounds
+    same_bounds = bounds_then trace is_run have time within object place candidate accepted
+
+    -- an act rests on an established candidate
+    act_linked : (asked : Asked) (parts : List (ObjectId × Method)) → asked.sets ≡ upon.sets
+        → Performs accepted.old accepted.new asked parts upon.candidates → Names parts object
+        → IsLinked (setting trace) time object place (upon.candidates object)
+    unfolding setting
+    act_linked asked parts sets performs names =
+        let base : Candidate = performs.bases object in
+        let why : IsGround accepted.old asked object (upon.candidates object) base = performs.grounds object names in
+        let is : IsBase old_bounds (entries_of object asked.sets) base =
+        is_base old_bounds (entries_of object asked.sets) base why.method in
+        let full : quorum trace.setup.bounds ≤ order_of base entries =
+        subst (λ (bounds : ℕ). quorum bounds ≤ order_of base entries) same_bounds
+        (subst (λ (it : List SetOf). quorum old_bounds ≤ order_of base (entries_of object it)) sets is.of_quorum) in
+        let shown : order_of base entries ≤ acceptors (setting trace) time object base + (setting trace).faults =
+        shown_accepted trace is_run have time within object place candidate accepted base in
+        let few : (setting trace).faults ≤ trace.setup.bounds = (sizes trace is_run have).borne in
+        let thresholds : AreThresholds trace.setup.bounds =
+        are_thresholds trace.setup.bounds (is_run.setup).some_faults in
+        record {
+          base = base;
+          plain_base = ap not (method_at_plain old_bounds (entries_of object asked.sets) base why.method);
+          prior = why.prior;
+          below = above_base why;
+          attested = omega arith;
+          settled = λ is_act. omega (arith, full, shown, few);
+          not_below = λ other plain established before.
+              base_not_below why other (held_before trace is_run have time object place candidate other accepted
+              before);
+        }
+
+    -- what so many show that it may be repaired is attested
+    found_attested : (asked : Asked) (target : ObjectId) (found : Candidate) → asked.sets ≡ upon.sets
+        → target ≡ object → IsFound old_bounds asked target found → IsAttested (setting trace) time object found
+    unfolding setting
+    found_attested asked target found sets is it =
+        let shown : order_of found entries ≤ acceptors (setting trace) time object found + (setting trace).faults =
+        shown_accepted trace is_run have time within object place candidate accepted found in
+        let enough : repair trace.setup.bounds ≤ order_of found entries =
+        subst (λ (bounds : ℕ). repair bounds ≤ order_of found entries) same_bounds
+        (subst (λ (all : List SetOf). repair old_bounds ≤ order_of found (entries_of object all)) sets
+        (subst (λ (on : ObjectId). repair old_bounds ≤ order_of found (entries_of on asked.sets)) is it.order)) in
+        omega (arith, shown, enough)
+
+    -- a copy rests on the object candidate, below which nothing is established
+    copy_linked : (asked : Asked) (latest copy : Candidate) → asked.sets ≡ upon.sets
+        → quorum old_bounds ≤ length (entries_of object asked.sets)
+        → is_below (latest_of (entries_of object asked.sets)) (own_latest accepted.old object) ≡ false
+        → (asked.act ≡ None) → IsMade old_bounds asked object copy
+        → latest.stamp.barrier ≡ true → latest.stamp ≡ latest_of (entries_of object asked.sets)
+        → quorum old_bounds ≤ order_of latest (entries_of object asked.sets)
+        → IsLinked (setting trace) time object place copy
+    unfolding setting
+    copy_linked asked latest copy sets enough current no_act made barrier is_latest full =
+        let formed : AreWellFormed trace.setup.bounds entries =
+        formed_then trace is_run have time within object place candidate accepted in
+        let some : quorum trace.setup.bounds ≤ length entries =
+        subst (λ (bounds : ℕ). quorum bounds ≤ length entries) same_bounds
+        (subst (λ (it : List SetOf). quorum old_bounds ≤ length (entries_of object it)) sets enough) in
+        let base : Candidate = base_of trace.setup.bounds entries in
+        let greatest : IsGreatestOfKind trace.setup.bounds entries false base =
+        base_is_greatest trace.setup.bounds entries formed some in
+        let shown : order_of base entries ≤ acceptors (setting trace) time object base + (setting trace).faults =
+        shown_accepted trace is_run have time within object place candidate accepted base in
+        let enough_show : repair trace.setup.bounds ≤ order_of base entries = (greatest.repairable).order in
+        let held : holds base (candidates_of entries) ≡ true =
+        held_if_repairable trace.setup.bounds entries formed base enough_show in
+        let stamp : copy.stamp ≡ made_stamp asked object copy.stamp.barrier = made.stamp in
+        let latest_is : latest_of (entries_of object asked.sets) ≡ latest_of entries =
+        ap (λ (it : List SetOf). latest_of (entries_of object it)) sets in
+        record {
+          base = base;
+          plain_base = ap not (greatest.repairable).kind;
+          prior = made.prior ∙ ap (λ (it : List SetOf). (base_of old_bounds (entries_of object it)).stamp) sets
+              ∙ ap (λ (bounds : ℕ). (base_of bounds entries).stamp) same_bounds;
+          below = fresh_later (latest_of entries) base.stamp copy.stamp
+              (ap (λ (it : Stamp). it.time) stamp ∙ ap (λ (it : Stamp). it.time + 1) latest_is)
+              (not_above_shown entries base held);
+          attested = omega (arith, shown, enough_show);
+          settled = λ is_act. absurd (false≢true (sym (ap (λ (act : Option Digest). is_some act)
+              (ap (λ (it : Stamp). it.act) stamp ∙ no_act)) ∙ is_act));
+          not_below = λ other plain established before.
+              let not_above : is_below latest.stamp other.stamp ≡ false =
+              ap (λ (it : Stamp). is_below it other.stamp) is_latest
+              ∙ is_below-not_chain (latest_of (entries_of object asked.sets)) (own_latest accepted.old object)
+              other.stamp current
+              (not_below_latest (own_candidates accepted.old object) other
+              (held_before trace is_run have time object place candidate other accepted before)) in
+              let under : is_below other.stamp latest.stamp ≡ true =
+              is_below-other latest.stamp other.stamp not_above (unlike latest other barrier plain) in
+              let so_many : repair trace.setup.bounds ≤ order_of other entries =
+              established_is_shown trace is_run have time within object place candidate accepted latest other
+              (subst (λ (bounds : ℕ). quorum bounds ≤ order_of latest entries) same_bounds
+              (subst (λ (it : List SetOf). quorum old_bounds ≤ order_of latest (entries_of object it)) sets full))
+              established under in
+              not_below_greatest base other
+              (greatest.above other (record { kind = plain_kind other plain; order = so_many }));
+        }
+      where
+        plain_kind : (it : Candidate) → not it.stamp.barrier ≡ true → it.stamp.barrier ≡ false
+        plain_kind it plain = not-true it.stamp.barrier plain
+
+        unlike : (first second : Candidate) → first.stamp.barrier ≡ true → not second.stamp.barrier ≡ true
+            → same_stamp first.stamp second.stamp ≡ false
+        unlike first second is plain =
+            elim (cases_Bool (same_stamp first.stamp second.stamp)) [
+              | inl alike ↦
+                  absurd (false≢true (sym (plain_kind second plain)
+                  ∙ ap (λ (it : Stamp). it.barrier) (sym (equal_by_same_stamp first.stamp second.stamp alike)) ∙ is))
+              | inr differs ↦ differs
+            ]
+
+        not_below_greatest : (best it : Candidate) → is_before best it ≡ false → is_below best.stamp it.stamp ≡ false
+        not_below_greatest best it not_before =
+            elim (cases_Bool (is_below best.stamp it.stamp)) [
+              | inl below ↦ absurd (false≢true (sym not_before ∙ is_before_by_stamp best it below))
+              | inr not_below ↦ not_below
+            ]
+
+    mended_based : (asked : Asked) (target : ObjectId) → asked.sets ≡ upon.sets → asked.act ≡ None
+        → Mends accepted.old accepted.new asked target (upon.candidates target) → target ≡ object
+        → (setting trace).plain (upon.candidates object) ≡ true → IsBased time object place (upon.candidates object)
+    unfolding setting
+    mended_based asked target sets no_act mends is plain =
+        by_remedy (upon.candidates object) _
+        (subst (λ (on : ObjectId). IsRemedy accepted.old asked on (upon.candidates on) mends.version) is mends.remedy)
+        plain
+        (subst (λ (on : ObjectId). quorum old_bounds ≤ length (entries_of on asked.sets)) is mends.enough)
+        (subst (λ (on : ObjectId). is_below (latest_of (entries_of on asked.sets)) (own_latest accepted.old on) ≡ false)
+        is mends.current)
+      where
+        no_barrier : (it : Candidate) → it.stamp.barrier ≡ true → not it.stamp.barrier ≡ true → ⊥
+        no_barrier it barrier plain_it = false≢true (ap not (sym barrier) ∙ plain_it)
+
+        by_remedy : (it : Candidate) (version : Option ObjState) → IsRemedy accepted.old asked object it version
+            → not it.stamp.barrier ≡ true → quorum old_bounds ≤ length (entries_of object asked.sets)
+            → is_below (latest_of (entries_of object asked.sets)) (own_latest accepted.old object) ≡ false
+            → IsBased time object place it
+        by_remedy it version (IsRemedy.inline_barrier barrier found) plain_it enough current =
+            absurd (no_barrier it barrier plain_it)
+        by_remedy it version (IsRemedy.inline_method state kind found stored) plain_it enough current =
+            inl (found_attested asked object it sets refl found)
+        by_remedy it version (IsRemedy.barrier barrier made) plain_it enough current =
+            absurd (no_barrier it barrier plain_it)
+        by_remedy it version (IsRemedy.copy latest state kind made barrier is_latest full stored) plain_it enough current =
+            inr (copy_linked asked latest it sets enough current no_act made barrier is_latest full)
+
+    -- whatever the request asks for
+    based_by : (client : ClientId) (number : ℕ) (asks : Body)
+        → Reasons accepted.old accepted.new (asked_of client number upon.sets asks) asks upon.candidates
+        → AddsTo asks object → (setting trace).plain (upon.candidates object) ≡ true
+        → IsBased time object place (upon.candidates object)
+    based_by client number (body.Act parts) reasons names plain =
+        inr (act_linked (asked_of client number upon.sets (body.Act parts)) parts refl reasons names)
+    based_by client number (body.Ask parts) reasons never plain = absurd never
+    based_by client number (body.Mend target) reasons is plain =
+        mended_based (asked_of client number upon.sets (body.Mend target)) target refl refl reasons is plain
+
+    is_based : (setting trace).plain candidate ≡ true → IsBased time object place candidate
+    is_based plain =
+        subst (IsBased time object place) accepted.candidate_is
+        (based_by upon.client upon.number upon.asks upon.reasons (accepted.delivered).adds
+        (ap (setting trace).plain accepted.candidate_is ∙ plain))
+
+    -- ---- what a copy copies
+
+    copied_by : (client : ClientId) (number : ℕ) (asks : Body)
+        → Reasons accepted.old accepted.new (asked_of client number upon.sets asks) asks upon.candidates
+        → AddsTo asks object → (setting trace).plain (upon.candidates object) ≡ true
+        → (setting trace).is_act (upon.candidates object) ≡ false
+        → IsAttested (setting trace) time object (upon.candidates object)
+        ⊎ IsCopied (setting trace) time object place (upon.candidates object)
+    unfolding setting
+    copied_by client number asks reasons adds plain no_act =
+        elim (based_by client number asks reasons adds plain) [
+          | inl attested ↦ inl attested
+          | inr linked ↦ inr (record {
+            base = linked.base;
+            prior = linked.prior;
+            attested = linked.attested;
+            joined = λ other companion apart is_member also. absurd (none-some companion.stamp is_member);
+            covered = λ other stamp apart is_member none. absurd (none-some stamp is_member);
+          })
+        ]
+
+    pub is_copied : (setting trace).plain candidate ≡ true → (setting trace).is_act candidate ≡ false
+        → IsAttested (setting trace) time object candidate ⊎ IsCopied (setting trace) time object place candidate
+    is_copied plain no_act =
+        subst (λ (it : Candidate). IsAttested (setting trace) time object it
+        ⊎ IsCopied (setting trace) time object place it) accepted.candidate_is
+        (copied_by upon.client upon.number upon.asks upon.reasons (accepted.delivered).adds
+        (ap (setting trace).plain accepted.candidate_is ∙ plain)
+        (ap (setting trace).is_act accepted.candidate_is ∙ no_act))
+
+  linked : (time : ℕ) (object : ObjectId) (place : ℕ) (candidate : Candidate)
+      → (setting trace).plain candidate ≡ true → IsNew (setting trace) time object place candidate
+      → IsBased time object place candidate
+  unfolding setting
+  linked time object place candidate plain new =
+      is_based time new.step object place candidate
+      (acceptance_of trace is_run have time object place candidate new) plain
+
+  pub copies : (time : ℕ) (object : ObjectId) (place : ℕ) (candidate : Candidate)
+      → (setting trace).plain candidate ≡ true → (setting trace).is_act candidate ≡ false
+      → IsNew (setting trace) time object place candidate
+      → IsAttested (setting trace) time object candidate ⊎ IsCopied (setting trace) time object place candidate
+  unfolding setting
+  copies time object place candidate plain no_act new =
+      is_copied time new.step object place candidate
+      (acceptance_of trace is_run have time object place candidate new) plain no_act
+
+  -- ---- who accepts at a step
+
+  -- what a replica accepts is new to it
+  pub new_accepted : (time : ℕ) → time < length trace.entries → (place : ℕ) (old new : ReplicaState)
+      → slice_get (world_after trace time).replicas place ≡ Some old
+      → slice_get (world_after trace (suc time)).replicas place ≡ Some new
+      → (received : Frame) (accepts_so : Accepts old new received) (object : ObjectId)
+      → AddsTo accepts_so.asks object
+      → IsNew (setting trace) time object place (accepts_so.candidates object)
+  unfolding setting
+  new_accepted time within place old new is_old is_new received accepts_so object adds =
+      let candidate : Candidate = accepts_so.candidates object in
+      let among : place < length (world_after trace time).replicas =
+      slice_get_within (world_after trace time).replicas place old is_old in
+      let all : length (world_after trace time).replicas ≡ replicas trace.setup.bounds = all_replicas trace time in
+      let now : test_at (accepts object candidate) (world_after trace (suc time)).replicas place ≡ true =
+      test_at-here (accepts object candidate) (world_after trace (suc time)).replicas place new is_new
+      ∙ ap (holds candidate) (accepts_so.added object adds) ∙ holds_pushed candidate (own_candidates old object) in
+      record {
+        step = within;
+        within = omega (arith, among, all);
+        good = acceptor_is_good trace (suc time) place object candidate now;
+        after = now;
+        before =
+            test_at-here (accepts object candidate) (world_after trace time).replicas place old is_old
+            ∙ elim (cases_Bool (accepts object candidate old)) [
+              | inr not_held ↦ not_held
+              | inl held ↦
+                  absurd (false≢true (sym (is_below-self candidate.stamp)
+                  ∙ added_above old new
+                  (asked_of accepts_so.client accepts_so.number accepts_so.sets accepts_so.asks) accepts_so.candidates
+                  accepts_so.asks accepts_so.reasons object adds candidate held))
+            ];
+      }
+
+  moves_here : (time : ℕ) → time < length trace.entries → (object : ObjectId) (place : ℕ) → place < (setting trace).n
+      → Given (setting trace) time object
+      ⊎ ((candidate : Candidate) → IsNew (setting trace) time object place candidate → ⊥)
+  unfolding setting
+  moves_here time within object place among = elim ((slice_get_cases (world_after trace (suc time)).replicas place).1) [
+    | inr past ↦ absurd
+        (let all : length (world_after trace (suc time)).replicas ≡ replicas trace.setup.bounds = all_replicas
+        trace (suc time) in let beyond = past.0 in omega (arith, all, beyond))
+    | inl found ↦
+        let new : ReplicaState = found.0 in
+        let is_new : slice_get (world_after trace (suc time)).replicas place ≡ Some new = found.2 in
+        let step : StepAt trace time place new object = step_at trace is_run have time within place new is_new object in
+        let olds : List ReplicaState = (world_after trace time).replicas in
+        elim (step.adds) [
+          | inl same ↦
+              inr (λ candidate it.
+              false≢true (sym it.before
+              ∙ test_at-here (accepts object candidate) olds place step.old step.is_old
+              ∙ ap (holds candidate) (sym same)
+              ∙ sym (test_at-here (accepts object candidate) (world_after trace (suc time)).replicas place new is_new)
+              ∙ it.after))
+          | inr delivered ↦
+              inl (record {
+                replica = place;
+                candidate = (delivered.accepts).candidates object;
+                new = new_accepted time within place step.old new step.is_old is_new delivered.carried
+                    delivered.accepts object delivered.adds;
+              })
+        ]
+  ]
+
+  moves_among : (time : ℕ) → time < length trace.entries → (object : ObjectId) (many : ℕ) → many ≤ (setting trace).n
+      → Given (setting trace) time object
+      ⊎ ((place : ℕ) (candidate : Candidate) → place < many → IsNew (setting trace) time object place candidate → ⊥)
+  moves_among time within object zero few = inr (λ place candidate below new. absurd (omega arith))
+  moves_among time within object (suc many) few =
+      elim (moves_among time within object many (omega arith)) [
+        | inl given ↦ inl given
+        | inr none ↦ elim (moves_here time within object many (omega arith)) [
+          | inl given ↦ inl given
+          | inr not_here ↦
+              inr (λ place candidate below new. elim (cases_lt place many) [
+                | inl earlier ↦ none place candidate earlier new
+                | inr not_earlier ↦
+                    let here : place ≡ many = omega arith in
+                    not_here candidate (subst (λ (at : ℕ). IsNew (setting trace) time object at candidate) here new)
+              ])
+        ]
+      ]
+
+  moves : (time : ℕ) (object : ObjectId) → time < (setting trace).last
+      → Given (setting trace) time object
+      ⊎ ((place : ℕ) (candidate : Candidate) → IsNew (setting trace) time object place candidate → ⊥)
+  unfolding setting
+  moves time object within =
+      elim (moves_among time within object (replicas trace.setup.bounds) (omega arith)) [
+        | inl given ↦ inl given
+        | inr none ↦ inr (λ place candidate new. none place candidate new.within new)
+      ]
+
+  -- ---- one event
+
+  -- what is accepted at one event is one candidate, at one replica
+  pub record AreOne (object other : ObjectId) (place elsewhere : ℕ) (first second : Candidate) : Type 0 where
+    pub places : place ≡ elsewhere
+    pub objects : object ≡ other
+    pub candidates : first ≡ second
+
+  pub one_accepted : (time : ℕ) (object other : ObjectId) (place elsewhere : ℕ) (first second : Candidate)
+      → IsNew (setting trace) time object place first → IsNew (setting trace) time other elsewhere second
+      → AreOne object other place elsewhere first second
+  unfolding setting
+  one_accepted time object other place elsewhere first second new again =
+      let one : Acceptance trace time object place first =
+      acceptance_of trace is_run have time object place first new in
+      let two : Acceptance trace time other elsewhere second =
+      acceptance_of trace is_run have time other elsewhere second again in
+      let within : time < length trace.entries = new.step in
+      let here : IsDelivered (world_after trace time) one.event place one.old one.new object = one.delivered in
+      let there : IsDelivered (world_after trace time) two.event elsewhere two.old two.new other = two.delivered in
+      let same : (party.Replica (record { 0 = place }), here.text)
+      ≡ (party.Replica (record { 0 = elsewhere }), there.text) =
+      same_Some _ _ (sym here.is_handed ∙ ap (handed (world_after trace time)) (one.event_is ∙ sym two.event_is)
+      ∙ there.is_handed) in
+      let places : place ≡ elsewhere = same_place place elsewhere (ap (λ (it : Party × List ℕ). it.0) same) in
+      let carried : here.carried ≡ there.carried =
+      one_decoded there.text here.carried there.carried
+      (ap decoded (sym (ap (λ (it : Party × List ℕ). it.1) same))
+      ∙ brings_decoded one.old here.text here.carried here.brings)
+      (brings_decoded two.old there.text there.carried there.brings) in
+      let bodies : (here.accepts).asks ≡ (there.accepts).asks =
+      same_Some _ _ (ap asks_in (sym (here.accepts).is_request ∙ carried ∙ (there.accepts).is_request)) in
+      let some : HasParts here.carried =
+      (hands_parts trace is_run have time some_entry within).parts (party.Replica (record { 0 = place })) here.text
+      (ap (handed (world_after trace time)) (sym one.event_is) ∙ here.is_handed) here.carried
+      (brings_decoded one.old here.text here.carried here.brings) in
+      let objects : object ≡ other =
+      same_added (here.accepts).asks object other (subst HasParts (here.accepts).is_request some) here.adds
+      (subst (λ (it : Body). AddsTo it other) (sym bodies) there.adds) in
+      record {
+        places = places;
+        objects = objects;
+        candidates = alone trace is_run have time object place first second new
+            (subst (λ (it : ObjectId). IsNew (setting trace) time it place second) (sym objects)
+            (subst (λ (it : ℕ). IsNew (setting trace) time other it second) (sym places) again));
+      }
+
+  pub laws : Laws (setting trace)
+  unfolding setting
+  laws = record {
+    sizes = sizes trace is_run have;
+    opens = refl;
+    begins = λ object place known good within. all_begin trace object place (ltb-true _ _ known) good within;
+    start = λ object place candidate good within accepted. start trace is_run have object place candidate accepted;
+    only_known = λ time object place candidate good within accepted.
+        lt-ltb _ _ (accepted_known trace time place object candidate accepted);
+    grows = grows trace is_run have;
+    rising = rising trace is_run have;
+    alone = alone trace is_run have;
+    moves = moves;
+    one_mover = λ time object other place elsewhere candidate second new again.
+        (one_accepted time object other place elsewhere candidate second new again).places;
+    linked = λ time object place candidate holds plain new. linked time object place candidate plain new;
+  }

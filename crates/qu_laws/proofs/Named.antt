@@ -1,0 +1,132 @@
+-- Where no two texts have one digest, a stamp names the histories upon which its candidate was accepted.
+use Rattle.std.proofs.Common.{◌≡◌, ◌<◌, List, length, Some, refl, sym, ap, subst, ◌∙◌, arith}
+use Rattle.std.specs.Prelude.{slice_get, Contains}
+use Rattle.qu_base.specs.declared.party.ObjectId.{ObjectId}
+use Rattle.qu_seal.specs.declared.constants.TheConstants.{SETS_TAG}
+use Rattle.qu_seal.specs.Digesting.{digest_of}
+use Rattle.qu_stamp.specs.declared.stamp.Stamp.{Stamp}
+use Rattle.qu_stamp.specs.declared.candidate.Candidate.{Candidate}
+use Rattle.qu_history.specs.declared.sets.SetOf.{SetOf}
+use Rattle.qu_history.specs.Formats.{sets_form}
+use Rattle.qu_history.specs.Text.{sets_text, sets_digest}
+use Rattle.qu_history.proofs.Unsealed.{entries_of-one}
+use Rattle.qu_frames.specs.declared.frame.Frame.{Frame}
+use Rattle.qu_frames.specs.Formats.{frame_form}
+use Rattle.qu_replica.proofs.FitCulled.{culled-fits}
+use Rattle.qu_replica.proofs.FitSteps.{request-fits}
+use Rattle.qu_trace.specs.declared.trace.Trace.{Trace}
+use Rattle.qu_world.specs.State.{WorldState}
+use Rattle.qu_world.specs.Step.{world_step}
+use Rattle.qu_world.specs.Run.{IsRun}
+use Rattle.qu_claims.specs.Handled.{Request, handled_by}
+use Rattle.qu_claims.specs.Digested.{Text, texts_of, digested, NoCollision}
+use Rattle.qu_claims.specs.Grounds.{Accepts}
+use Rattle.qu_claims.specs.Named.{shown_to, StampsNameHistories}
+use Rattle.qu_claims.specs.Times.{world_after}
+use Rattle.qu_claims.specs.Origins.{Origin}
+use Rattle.qu_runs.specs.Plain.{HasEventParts, ArePlain}
+use Rattle.qu_runs.proofs.Fitting.{offered_fits}
+use Rattle.qu_runs.proofs.Handing.{handed_offers}
+use Rattle.qu_world.proofs.Each.{each_at}
+use Rattle.qu_trace.specs.declared.event.Event.{Event}
+use Rattle.qu_trace.specs.declared.trace.Entry.{Entry}
+use Rattle.qu_base.specs.declared.party.Party.TheVariants as party
+use Rattle.qu_accepts.proofs.Handled.{request_upon, upon_handled}
+use Rattle.qu_runs.proofs.DigestedTexts.{request_digested}
+use Rattle.qu_laws.proofs.Origins.{accepted_from}
+use Rattle.qu_runs.proofs.Carrying.{brings_decoded}
+use Rattle.qu_machine.proofs.Firsts.{contains_at}
+use Rattle.qu_history.specs.History.{ObjectHistory}
+use Rattle.qu_class.specs.Repairable.{base_of}
+
+-- the text of sets
+abbrev text_of : List SetOf → Text
+text_of sets = record { tag = SETS_TAG; bytes = sets_text sets }
+
+module _ (trace : Trace) (is_run : IsRun trace) (plain : ArePlain trace) where
+  -- the culled sets upon which a candidate was accepted
+  abbrev sets_upon : (object : ObjectId) (candidate : Candidate) → Origin trace (length trace.entries) object
+      candidate → List SetOf
+  sets_upon object candidate it = ((it.delivered).accepts).sets
+
+  -- the event of an entry has parts
+  event_parts : (entry : Entry) → Contains trace.entries entry → (event : Event) → event ≡ entry.event
+      → HasEventParts event
+  event_parts entry among event is =
+      subst HasEventParts (ap (λ (it : Entry). it.event) among.2 ∙ sym is)
+      (each_at (λ (it : Entry). HasEventParts it.event) trace.entries among.0 entry plain.parts among.1)
+
+  sets_fit : (object : ObjectId) (candidate : Candidate)
+      (it : Origin trace (length trace.entries) object candidate) → sets_form.Fits (sets_upon object candidate it)
+  sets_fit object candidate it =
+      let earlier : it.past < length trace.entries = it.earlier in
+      let one : Accepts it.old it.new (it.delivered).carried = (it.delivered).accepts in
+      let fits : frame_form.Fits (it.delivered).carried =
+      offered_fits trace is_run plain it.past (omega arith) it.event
+      (event_parts it.entry (contains_at trace.entries it.past it.entry it.is_entry) it.event it.event_is)
+      (party.Replica (record { 0 = it.place })) (it.delivered).text
+      (handed_offers (world_after trace it.past) it.event (party.Replica (record { 0 = it.place })) (it.delivered).text
+      (it.delivered).is_handed) (it.delivered).carried
+      (brings_decoded it.old (it.delivered).text (it.delivered).carried (it.delivered).brings) in
+      subst sets_form.Fits one.culls
+      (culled-fits (it.old).keys (it.old).me one.sent
+      (request-fits one.client one.number one.round one.sent one.asks one.mac
+      (subst (λ (sent : Frame). frame_form.Fits sent) one.is_request fits)).shown)
+
+  sets_digested : (object : ObjectId) (candidate : Candidate)
+      (it : Origin trace (length trace.entries) object candidate) → Contains (digested trace)
+      (text_of (sets_upon object candidate it))
+  sets_digested object candidate it =
+      let sets : List SetOf = sets_upon object candidate it in
+      let request : Request = request_upon it.old it.new (it.delivered).carried (it.delivered).accepts in
+      let is_new : slice_get (world_step (world_after trace it.past) it.event).replicas it.place ≡ Some it.new =
+      ap (λ (world : WorldState). slice_get world.replicas it.place) (sym it.is_step) ∙ it.is_new in
+      let handled : handled_by trace (it.entry).event ≡ Some request =
+      ap (handled_by trace) (sym it.event_is) ∙ upon_handled trace is_run it.past it.earlier it.event it.place
+      it.old it.new it.is_old is_new object it.delivered in
+      let among : Contains (texts_of (Some request)) (text_of sets) = (0, omega arith, refl) in
+      request_digested trace it.entry (Some request) (text_of sets)
+      (contains_at trace.entries it.past it.entry it.is_entry) handled among
+
+  -- the stamp holds the digest of the sets
+  digest_named : (object : ObjectId) (candidate : Candidate)
+      (it : Origin trace (length trace.entries) object candidate) → ((candidate.stamp).set).0 ≡ digest_of SETS_TAG
+      (sets_text (sets_upon object candidate it))
+  unfolding sets_digest
+  digest_named object candidate it = ap (λ (made : Stamp). (made.set).0) (it.made).stamp
+
+  -- ---- what it names
+
+  same_histories : NoCollision trace → (object : ObjectId) (first second : Candidate)
+      (one : Origin trace (length trace.entries) object first)
+      (other : Origin trace (length trace.entries) object second)
+      → first.stamp ≡ second.stamp → shown_to trace (length trace.entries) object first one ≡ shown_to trace
+      (length trace.entries) object second other
+  same_histories no_collision object first second one other same =
+      let sets : List SetOf = sets_upon object first one in
+      let others : List SetOf = sets_upon object second other in
+      let digests : digest_of SETS_TAG (sets_text sets) ≡ digest_of SETS_TAG (sets_text others) =
+      sym (digest_named object first one) ∙ ap (λ (stamp : Stamp). (stamp.set).0) same
+      ∙ digest_named object second other in
+      let texts : text_of sets ≡ text_of others =
+      no_collision (text_of sets) (text_of others) (sets_digested object first one)
+      (sets_digested object second other) digests in
+      entries_of-one sets others (sets_fit object first one) (sets_fit object second other)
+      (ap (λ (it : Text). it.bytes) texts) object
+
+  -- and with them the object candidate, upon which it was made
+  same_prior : NoCollision trace → (object : ObjectId) (first second : Candidate)
+      → Origin trace (length trace.entries) object first → Origin trace (length trace.entries) object second
+      → first.stamp ≡ second.stamp → first.prior ≡ second.prior
+  same_prior no_collision object first second one other same =
+      (one.made).prior
+      ∙ ap (λ (entries : List ObjectHistory). (base_of trace.setup.bounds entries).stamp)
+      (same_histories no_collision object first second one other same)
+      ∙ sym (other.made).prior
+
+  pub stamps_name : NoCollision trace → StampsNameHistories trace
+  stamps_name no_collision = record {
+    origin = accepted_from trace is_run plain;
+    histories = same_histories no_collision;
+    prior = same_prior no_collision;
+  }

@@ -1,3 +1,0 @@
-pub mod Remedy
-pub mod Rows
-pub mod Causes

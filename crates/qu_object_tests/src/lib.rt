@@ -1,0 +1,20 @@
+//! Tests of the crates of objects, histories and frames over their public calls, of what no clause says. A file is
+//! named for the crate that it tests.
+#![tactic(auto)]
+
+#[cfg(test)]
+mod adversary;
+#[cfg(test)]
+mod class;
+#[cfg(test)]
+mod frames;
+#[cfg(test)]
+mod history;
+#[cfg(test)]
+mod kept;
+#[cfg(test)]
+mod machine;
+#[cfg(test)]
+mod random_class;
+#[cfg(test)]
+mod versions;

@@ -1,0 +1,5 @@
+pub mod KeptActs
+pub mod QueryReplies
+pub mod TrueReplies
+pub mod Replying
+pub mod RepliesInRuns

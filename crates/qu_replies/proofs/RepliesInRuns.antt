@@ -1,0 +1,223 @@
+-- What the replies of a run say is true of the replicas that sent them.
+use Rattle.std.proofs.Common.{◌≡◌, ℕ, ◌<◌, ◌≤◌, true, List, [], ◌∷◌, length, IsTrue, refl, sym, subst, ap, ◌∙◌, arith, None, Some}
+use Rattle.std.proofs.lemmas.Bool.{false≢true}
+use Rattle.qu_base.specs.declared.party.ClientId.{ClientId}
+use Rattle.qu_base.specs.declared.party.ObjectId.{ObjectId}
+use Rattle.qu_stamp.specs.declared.stamp.Stamp.{Stamp}
+use Rattle.qu_history.specs.declared.sets.SetOf.{SetOf}
+use Rattle.qu_objects.specs.declared.act.Method.{Method}
+use Rattle.qu_objects.specs.declared.answer.Answer.{Answer}
+use Rattle.qu_objects.specs.declared.query.Ask.{Ask}
+use Rattle.qu_objects.specs.Digesting.{act_digest}
+use Rattle.qu_frames.specs.declared.frame.Body.{Body}
+use Rattle.qu_frames.specs.declared.frame.Body.TheVariants as body
+use Rattle.qu_frames.specs.declared.verdict.Verdict.{Verdict}
+use Rattle.qu_frames.specs.declared.verdict.Verdict.TheVariants as verdict
+use Rattle.qu_rows.specs.declared.decision.Accepted.{Accepted}
+use Rattle.qu_rows.specs.declared.decision.Decision.{Decision}
+use Rattle.qu_rows.specs.declared.decision.Decision.TheVariants.{Answers}
+use Rattle.qu_rows.specs.State.{ReplicaState}
+use Rattle.qu_replica.specs.State.{accept_all}
+use Rattle.qu_rows.specs.Allowed.{has_parts}
+use Rattle.qu_rows.specs.Rows.{Asked, asked_of, asked_at, row_unknown, objects_of, decision_on}
+use Rattle.qu_replica.specs.Step.{on_received, carried_out, replica_step}
+use Rattle.qu_trace.specs.declared.trace.Trace.{Trace}
+use Rattle.qu_world.specs.Run.{IsRun}
+use Rattle.qu_machine.proofs.Firsts.{contains_at}
+use Rattle.qu_replies.proofs.Replying.{reply_parts}
+use Rattle.qu_accepts.proofs.KnownObjects.{are_had, culled_had, not_unknown}
+use Rattle.qu_accepts.proofs.Handled.{handled_upon}
+use Rattle.qu_claims.specs.Handled.{IsHandled}
+use Rattle.qu_replies.specs.Replies.{culled_in, TellsDone, TellsAlready, TellsQuery, IsOfUpdate, IsReplyTo}
+use Rattle.qu_runs.specs.Plain.{ArePlain}
+use Rattle.qu_accepts.proofs.HeldInRuns.{held_versions}
+use Rattle.qu_accepts.proofs.HeldVersions.{AreOfHeld}
+use Rattle.qu_replies.proofs.QueryReplies.{told_is_true, query_is_no_update, mend_is_not_told, mend_is_no_update}
+use Rattle.qu_replies.proofs.TrueReplies.{done_is_true, already_is_true, act_is_not_told, update_is_known}
+use Rattle.qu_claims.specs.Carried.{Brings}
+use Rattle.qu_frames.specs.declared.frame.Frame.TheVariants as frame
+
+-- ---- bodies
+
+-- the body of a request of which an update is told: an act with some parts
+pub record IsActOn (body_is : Body) : Type 0 where
+  pub parts : List (ObjectId × Method)
+  pub is_act : body_is ≡ body.Act parts
+  pub some : 1 ≤ length parts
+
+-- the body of a request to which an answer is told
+pub record IsAskOf (body_is : Body) : Type 0 where
+  pub query : List (ObjectId × Ask)
+  pub is_ask : body_is ≡ body.Ask query
+
+-- what is told of an act or of a query, whatever number of parts a request may have
+module _ (state : ReplicaState) (client : ClientId) (number : ℕ) (sets : List SetOf) (accepted : List Accepted)
+    (are : AreOfHeld state) where
+  abbrev Decides : Body → Verdict → Type 0
+  Decides asks given = decision_on state (asked_of client number sets asks) asks ≡ Answers given accepted
+
+  done_of_act : (stamps : List (ObjectId × Stamp)) (answer : Answer) (parts : List (ObjectId × Method))
+      → IsTrue (has_parts (body.Act parts)) → Decides (body.Act parts) (verdict.Done stamps answer)
+      → TellsDone (accept_all state accepted) client number (act_digest client number parts) parts stamps answer
+  done_of_act stamps answer [] some decided = absurd (false≢true some)
+  done_of_act stamps answer ((object, method) ∷ []) some decided =
+      done_is_true state client number sets object method accepted answer are stamps decided
+  done_of_act stamps answer (first ∷ second ∷ later) some decided = absurd (false≢true some)
+
+  already_of_act : (answer : Answer) (parts : List (ObjectId × Method)) → IsTrue (has_parts (body.Act parts))
+      → Decides (body.Act parts) (verdict.Already answer)
+      → TellsAlready state client number (act_digest client number parts) sets parts answer
+  already_of_act answer [] some decided = absurd (false≢true some)
+  already_of_act answer ((object, method) ∷ []) some decided =
+      already_is_true state client number sets object method accepted answer are decided
+  already_of_act answer (first ∷ second ∷ later) some decided = absurd (false≢true some)
+
+  act_not_told : (stamps : List (ObjectId × Stamp)) (answer : Answer) (parts : List (ObjectId × Method))
+      → IsTrue (has_parts (body.Act parts)) → Decides (body.Act parts) (verdict.Told stamps answer) → ⊥
+  act_not_told stamps answer [] some decided = absurd (false≢true some)
+  act_not_told stamps answer ((object, method) ∷ []) some decided =
+      act_is_not_told state client number sets object method accepted answer are stamps decided
+  act_not_told stamps answer (first ∷ second ∷ later) some decided = absurd (false≢true some)
+
+  told_of_query : (stamps : List (ObjectId × Stamp)) (answer : Answer) (query : List (ObjectId × Ask))
+      → IsTrue (has_parts (body.Ask query)) → Decides (body.Ask query) (verdict.Told stamps answer)
+      → TellsQuery state sets query stamps answer
+  told_of_query stamps answer [] some decided = absurd (false≢true some)
+  told_of_query stamps answer ((object, ask) ∷ []) some decided =
+      told_is_true state client number sets object ask accepted stamps answer decided
+  told_of_query stamps answer (first ∷ second ∷ later) some decided = absurd (false≢true some)
+
+  query_no_update : (given : Verdict) → IsOfUpdate given → (query : List (ObjectId × Ask))
+      → IsTrue (has_parts (body.Ask query)) → Decides (body.Ask query) given → ⊥
+  query_no_update given of_update [] some decided = absurd (false≢true some)
+  query_no_update given of_update ((object, ask) ∷ []) some decided =
+      query_is_no_update state client number sets object ask accepted given of_update decided
+  query_no_update given of_update (first ∷ second ∷ later) some decided = absurd (false≢true some)
+
+  some_parts : (parts : List (ObjectId × Method)) → IsTrue (has_parts (body.Act parts)) → 1 ≤ length parts
+  some_parts [] some = absurd (false≢true some)
+  some_parts (part ∷ later) some = omega arith
+
+  update_to_act : (given : Verdict) → IsOfUpdate given → (asks : Body) → IsTrue (has_parts asks) → Decides asks given
+      → IsActOn asks
+  update_to_act given of_update (body.Act parts) some decided =
+      record { parts = parts; is_act = refl; some = some_parts parts some }
+  update_to_act given of_update (body.Ask query) some decided =
+      absurd (query_no_update given of_update query some decided)
+  update_to_act given of_update (body.Mend target) some decided =
+      absurd (mend_is_no_update state client number sets target accepted given of_update decided)
+
+  told_to_ask : (stamps : List (ObjectId × Stamp)) (answer : Answer) (asks : Body) → IsTrue (has_parts asks)
+      → Decides asks (verdict.Told stamps answer) → IsAskOf asks
+  told_to_ask stamps answer (body.Act parts) some decided = absurd (act_not_told stamps answer parts some decided)
+  told_to_ask stamps answer (body.Ask query) some decided = record { query = query; is_ask = refl }
+  told_to_ask stamps answer (body.Mend target) some decided =
+      absurd (mend_is_not_told state client number sets target accepted stamps answer decided)
+
+-- ---- replies
+
+-- what the replica becomes, where its decision is known
+after_decision : (old new : ReplicaState) (text : List ℕ) (client : ClientId) (number round : ℕ)
+    (sets : List SetOf) (asks : Body) (given : Verdict) (accepted : List Accepted)
+    → new ≡ (replica_step old text).0 → (mac : List ℕ)
+    → Brings old text (frame.Request client number round sets asks mac)
+    → decision_on old (asked_at old client number sets asks) asks ≡ Answers given accepted
+    → new ≡ accept_all old accepted
+after_decision old new text client number round sets asks given accepted step mac brings decided =
+    step ∙ ap (λ it. (on_received old it).0) brings
+    ∙ ap (λ (it : Decision). (carried_out old client number round sets it).0) decided
+
+module _ (trace : Trace) (is_run : IsRun trace) (have : ArePlain trace) (at : ℕ)
+    (below : at < length trace.entries) (replica : ℕ) (client : ClientId) (number round : ℕ) where
+  body_has_parts : (given : Verdict) (reply : IsReplyTo trace at replica client number round given)
+      → IsTrue (has_parts reply.body)
+  body_has_parts given reply = reply_parts trace is_run have at below replica client number round given reply
+
+  old_of_held : (given : Verdict) (reply : IsReplyTo trace at replica client number round given) → AreOfHeld reply.old
+  old_of_held given reply = held_versions trace is_run have at (omega arith) replica reply.old reply.is_old
+
+  module _ (given : Verdict) (of_update : IsOfUpdate given)
+      (reply : IsReplyTo trace at replica client number round given) where
+    -- that an update is done, now or before, is told to an act
+    pub act_of_update : IsActOn reply.body
+    act_of_update =
+        update_to_act reply.old client number (culled_in reply.old reply.sets) reply.accepted
+        (old_of_held given reply) given of_update reply.body (body_has_parts given reply) reply.decided
+
+    decided_act : Decides reply.old client number (culled_in reply.old reply.sets) reply.accepted
+        (old_of_held given reply) (body.Act act_of_update.parts) given
+    decided_act =
+        ap (λ (it : Body). decision_on reply.old (asked_at reply.old client number reply.sets it) it)
+        (sym act_of_update.is_act) ∙ reply.decided
+
+    act_has_parts : IsTrue (has_parts (body.Act act_of_update.parts))
+    act_has_parts = subst (λ (it : Body). IsTrue (has_parts it)) act_of_update.is_act (body_has_parts given reply)
+
+    -- the replica has all objects of the request
+    pub update_had : are_had reply.old reply.sets ≡ true
+    update_had =
+        let parts : List (ObjectId × Method) = act_of_update.parts in
+        let asked : Asked = asked_at reply.old client number reply.sets (body.Act parts) in
+        let known : row_unknown reply.old asked ≡ None =
+        update_is_known reply.old asked parts (objects_of parts) given reply.accepted of_update decided_act in
+        sym (culled_had reply.old (reply.old).keys (reply.old).me reply.sets) ∙ not_unknown reply.old asked known
+
+    pub update_brings : Brings reply.old reply.text
+        (frame.Request client number round reply.sets (body.Act act_of_update.parts) reply.mac)
+    update_brings =
+        reply.brings ∙ ap (λ (it : Body). Some (frame.Request client number round reply.sets it reply.mac))
+        act_of_update.is_act
+
+    -- the replica handled the request
+    pub update_handled : IsHandled trace client number act_of_update.parts
+    update_handled =
+        handled_upon trace is_run at below reply.entry (contains_at trace.entries at reply.entry reply.is_entry)
+        replica reply.old reply.is_old reply.text reply.is_handed client number round reply.sets act_of_update.parts
+        reply.mac update_brings update_had
+
+  module _ (stamps : List (ObjectId × Stamp)) (answer : Answer) where
+    -- where Done is told the replica has the act's candidates afterwards
+    pub done_in_run : (reply : IsReplyTo trace at replica client number round (verdict.Done stamps answer))
+        → TellsDone reply.new client number
+        (act_digest client number (act_of_update (verdict.Done stamps answer) tt reply).parts)
+        (act_of_update (verdict.Done stamps answer) tt reply).parts stamps answer
+    done_in_run reply =
+        let given : Verdict = verdict.Done stamps answer in
+        let act : IsActOn reply.body = act_of_update given tt reply in
+        let is_new : reply.new ≡ accept_all reply.old reply.accepted =
+        after_decision reply.old reply.new reply.text client number round reply.sets reply.body given reply.accepted
+        reply.step reply.mac reply.brings reply.decided in
+        subst (λ (it : ReplicaState).
+        TellsDone it client number (act_digest client number act.parts) act.parts stamps answer) (sym is_new)
+        (done_of_act reply.old client number (culled_in reply.old reply.sets) reply.accepted (old_of_held given reply)
+        stamps answer act.parts (act_has_parts given tt reply) (decided_act given tt reply))
+
+    -- an answer is told to a query, from what the replica has
+    pub ask_of_told : (reply : IsReplyTo trace at replica client number round (verdict.Told stamps answer))
+        → IsAskOf reply.body
+    ask_of_told reply =
+        told_to_ask reply.old client number (culled_in reply.old reply.sets) reply.accepted
+        (old_of_held (verdict.Told stamps answer) reply) stamps answer reply.body
+        (body_has_parts (verdict.Told stamps answer) reply) reply.decided
+
+    pub told_in_run : (reply : IsReplyTo trace at replica client number round (verdict.Told stamps answer))
+        → TellsQuery reply.old (culled_in reply.old reply.sets) (ask_of_told reply).query stamps answer
+    told_in_run reply =
+        let asked : IsAskOf reply.body = ask_of_told reply in
+        told_of_query reply.old client number (culled_in reply.old reply.sets) reply.accepted
+        (old_of_held (verdict.Told stamps answer) reply) stamps answer asked.query
+        (subst (λ (it : Body). IsTrue (has_parts it)) asked.is_ask (body_has_parts (verdict.Told stamps answer) reply))
+        (ap (λ (it : Body). decision_on reply.old (asked_at reply.old client number reply.sets it) it)
+        (sym asked.is_ask)
+        ∙ reply.decided)
+
+  -- where Already is told versions that the replica has keep the act
+  pub already_in_run : (answer : Answer)
+      (reply : IsReplyTo trace at replica client number round (verdict.Already answer))
+      → TellsAlready reply.old client number
+      (act_digest client number (act_of_update (verdict.Already answer) tt reply).parts)
+      (culled_in reply.old reply.sets) (act_of_update (verdict.Already answer) tt reply).parts answer
+  already_in_run answer reply =
+      let given : Verdict = verdict.Already answer in
+      already_of_act reply.old client number (culled_in reply.old reply.sets) reply.accepted (old_of_held given reply)
+      answer (act_of_update given tt reply).parts (act_has_parts given tt reply) (decided_act given tt reply)

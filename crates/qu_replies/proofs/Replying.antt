@@ -1,0 +1,401 @@
+-- Only a replica that is handed a request sends a reply, and the reply's verdict is what it decided.
+use Rattle.qu_world.proofs.Steps as steps
+use Rattle.qu_world.proofs.Steps.{AtCorrect}
+use Rattle.qu_world.specs.Step.{moved}
+use Rattle.std.proofs.Common.{◌≡◌, ℕ, zero, suc, ◌+◌, ◌<◌, List, [], ◌∷◌, ◌++◌, length, get_or, Option, None, Some, refl, sym, subst, ap, ◌∙◌, arith, map, IsTrue, false, Ok}
+use Rattle.std.specs.Prelude.{slice_get, Contains}
+use Rattle.std.specs.List.{AllByRecursion}
+use Rattle.std.proofs.lemmas.Option.{none-some, same_Some, get_or_from_slice_get}
+use Rattle.qu_base.specs.declared.party.ClientId.{ClientId}
+use Rattle.qu_base.specs.declared.party.ObjectId.{ObjectId}
+use Rattle.qu_base.specs.declared.party.Party.{Party}
+use Rattle.qu_base.specs.declared.party.Party.TheVariants as party
+use Rattle.qu_base.specs.declared.party.ReplicaId.{ReplicaId}
+use Rattle.qu_base.specs.Bounds.{replicas}
+use Rattle.qu_history.specs.declared.sets.SetOf.{SetOf}
+use Rattle.qu_objects.specs.declared.op.Op.{Op}
+use Rattle.qu_frames.specs.declared.frame.Body.{Body}
+use Rattle.qu_frames.specs.declared.frame.Frame.{Frame}
+use Rattle.qu_frames.specs.declared.frame.Frame.TheVariants as frame
+use Rattle.qu_frames.specs.declared.frame.Letter.{Letter}
+use Rattle.qu_frames.specs.declared.verdict.Verdict.{Verdict}
+use Rattle.qu_frames.specs.Body.{body_of}
+use Rattle.qu_history.specs.Sealing.{sealed_by}
+use Rattle.qu_rows.specs.declared.decision.Accepted.{Accepted}
+use Rattle.qu_rows.specs.declared.decision.Decision.{Decision}
+use Rattle.qu_rows.specs.declared.decision.Decision.TheVariants.{Answers, Waits}
+use Rattle.qu_rows.specs.State.{ReplicaState}
+use Rattle.qu_replica.specs.State.{accept_all}
+use Rattle.qu_rows.specs.Rows.{asked_at, decision_on}
+use Rattle.qu_replica.specs.Step.{answer_frame, reply, carried_out, on_frame, on_received, replica_step}
+use Rattle.qu_replica.specs.Step as own
+use Rattle.qu_client.specs.declared.state.ClientState.{ClientState}
+use Rattle.qu_client.specs.declared.state.Stepped.{Stepped}
+use Rattle.qu_client.specs.declared.work.Work.{Work}
+use Rattle.qu_client.specs.Rounds.{request_of, requests_from}
+use Rattle.qu_client.specs.Steps.{client_invoke, client_step, client_tick}
+use Rattle.qu_client.proofs.Cases.{step_cases, invoke_cases}
+use Rattle.qu_machine.proofs.Firsts.{at_contains}
+use Rattle.qu_trace.specs.declared.event.Event.{Event}
+use Rattle.qu_trace.specs.declared.event.Event.TheVariants.{Invoke, Deliver, Tick, Inject}
+use Rattle.qu_trace.specs.declared.trace.Entry.{Entry}
+use Rattle.qu_trace.specs.declared.trace.Trace.{Trace}
+use Rattle.qu_world.specs.State.{WorldState, numbered, letter_of}
+use Rattle.qu_world.specs.Step.{world_step, unchanged, at_replica, at_client, received, delivered}
+use Rattle.qu_world.specs.Run.{IsRun}
+use Rattle.qu_claims.specs.Times.{world_after}
+use Rattle.qu_replies.specs.Replies.{IsReplyTo}
+use Rattle.qu_runs.specs.Plain.{ArePlain}
+use Rattle.qu_world.proofs.Each.{each_found, set_here}
+use Rattle.qu_runs.proofs.Entries.{entry_recorded}
+use Rattle.qu_shown.proofs.OwnHistories.{IsInPlace, step-in_place}
+use Rattle.qu_shown.proofs.Views.{true_world}
+use Rattle.qu_runs.proofs.WorldGrowth.{world_after-next}
+use Rattle.qu_claims.specs.Carried.{Tells, Carries, Brings, handed}
+use Rattle.qu_frames.specs.Formats.{frame_form}
+use Rattle.qu_history.specs.declared.sealed.Sealed.{Sealed}
+use Rattle.qu_runs.proofs.Carrying.{AnswersFit, no_reply, signed_spelled, signed_carries, brings_decoded}
+use Rattle.qu_runs.proofs.Fitting.{fit_step, handed_fits}
+use Rattle.qu_frames.specs.Signing.{brought, signed, signature}
+use Rattle.qu_seal.specs.Keys.{Ring}
+use Rattle.qu_replica.proofs.FitSteps.{blank_sized}
+use Rattle.qu_runs.proofs.Handing.{letter_handed, offered_handed}
+use Rattle.qu_runs.proofs.FitParts.{fits_parts}
+use Rattle.qu_rows.specs.Allowed.{has_parts}
+use Rattle.qu_trace.specs.Faulty.{is_faulty}
+use Rattle.qu_shown.proofs.AskedLetters.{AskedBy, asked_letter}
+use Rattle.qu_frames.specs.Decoding.{decoded}
+
+-- ---- clients send requests
+
+-- the letter carries no reply
+abbrev IsNoReply : Letter → Type 0
+IsNoReply letter =
+    (replica : ReplicaId) (client : ClientId) (number round : ℕ) (verdict : Verdict) (shown : List Sealed)
+    → Tells letter replica client number round verdict shown → ⊥
+
+abbrev SendsNoReply : Stepped → Type 0
+SendsNoReply stepped = AllByRecursion IsNoReply stepped.letters
+
+requests : (keys : Ring) (replica count : ℕ) (me : ClientId) (work : Work) (sets : List SetOf)
+    → AllByRecursion IsNoReply (requests_from keys replica count me work sets)
+unfolding requests_from
+requests keys replica zero me work sets = tt
+requests keys replica (suc count) me work sets =
+    let to : Party = party.Replica (record { 0 = replica }) in
+    let sent : Frame = request_of me work sets in (
+      no_reply (record { from = party.Client me; to = to; text = signed keys to sent }) me work.number work.round
+          sets (body_of work.op) (signature keys to sent) (signed_spelled keys to sent blank_sized),
+      requests keys (replica + 1) count me work sets,
+    )
+
+invoke_requests : (state : ClientState) (op : Op) → SendsNoReply (client_invoke state op)
+invoke_requests state op =
+    invoke_cases state op SendsNoReply
+    (λ kept acted marked. requests state.keys 0 (replicas state.keys.bounds) state.me _ _) (λ kept marked. tt)
+
+step_requests : (state : ClientState) (text : List ℕ) → SendsNoReply (client_step state text)
+step_requests state text =
+    step_cases state SendsNoReply tt (λ kept. tt) (λ kept work replica number round verdict culled is counting. tt)
+    (λ kept end. tt)
+    (λ kept work replies acted is asking more. requests state.keys 0 (replicas state.keys.bounds) state.me _ _)
+    (λ kept work replies is asking more. tt) text
+
+-- ---- who sends a reply
+
+-- the letter at this place among those that a step sends is a replica's, upon a text that is handed to it
+record IsAnswer (old new : WorldState) (event : Event) (place : ℕ) (sent : Letter) : Type 0 where
+  text : List ℕ
+  me : ReplicaId
+  is_handed : handed old event ≡ Some (party.Replica me, text)
+  state : ReplicaState
+  is_state : slice_get old.replicas me.0 ≡ Some state
+  is_new : slice_get new.replicas me.0 ≡ Some (replica_step state text).0
+  sent_by : slice_get (replica_step state text).1 place ≡ Some sent
+
+-- what a step records, and whose the replies are
+record Sends (old new : WorldState) (event : Event) : Type 0 where
+  entry : Entry
+  of_event : entry.event ≡ event
+  made : new.entries ≡ old.entries ++ entry ∷ []
+  replies : (place : ℕ) (sent : Letter) → slice_get entry.letters place ≡ Some sent
+      → (replica : ReplicaId) (client : ClientId) (number round : ℕ) (verdict : Verdict) (shown : List Sealed)
+      → Tells sent replica client number round verdict shown → IsAnswer old new event place sent
+
+unchanged_sends : (world : WorldState) (event : Event) → Sends world (unchanged world event) event
+unchanged_sends world event = record {
+  entry = record { event = event; letters = []; ended = None };
+  of_event = refl;
+  made = refl;
+  replies = λ place sent found _ _ _ _ _ _ tells. absurd (none-some sent found);
+}
+
+client_sends : (world : WorldState) (event : Event) (me : ClientId) (move : ClientState → Stepped)
+    (found : Option ClientState) → ((state : ClientState) → SendsNoReply (move state))
+    → Sends world (at_client world event me move found) event
+client_sends world event me move None moves = unchanged_sends world event
+client_sends world event me move (Some state) moves = record {
+  entry = _;
+  of_event = refl;
+  made = refl;
+  replies = λ place sent found replica client number round verdict shown tells. absurd
+      (each_found IsNoReply (move state).letters place sent (moves state) found replica client number round
+      verdict shown tells);
+}
+
+replica_sends : (world : WorldState) (event : Event) (text : List ℕ) (me : ReplicaId)
+    (found : Option ReplicaState) → handed world event ≡ Some (party.Replica me, text)
+    → slice_get world.replicas me.0 ≡ found → Sends world (at_replica world event me text found) event
+replica_sends world event text me None hands is = unchanged_sends world event
+replica_sends world event text me (Some state) hands is = record {
+  entry = _;
+  of_event = refl;
+  made = refl;
+  replies = λ place sent found _ _ _ _ _ _ tells. record {
+    text = text;
+    me = me;
+    is_handed = hands;
+    state = state;
+    is_state = is;
+    is_new = set_here world.replicas me.0 state (replica_step state text).0 is;
+    sent_by = found;
+  };
+}
+
+received_sends : (world : WorldState) (event : Event) (to : Party) (text : List ℕ)
+    → handed world event ≡ Some (to, text) → Sends world (received world event to text) event
+received_sends world event (party.Replica me) text hands =
+    replica_sends world event text me (slice_get world.replicas me.0) hands refl
+received_sends world event (party.Client me) text hands =
+    client_sends world event me (λ (state : ClientState). client_step state text)
+    (numbered world.clients me.0) (λ state. step_requests state text)
+
+delivered_sends : (world : WorldState) (asked : ℕ) → AtCorrect world (Deliver asked) → (found : Option Letter)
+    → letter_of world asked ≡ found → Sends world (delivered world (Deliver asked) found) (Deliver asked)
+delivered_sends world asked correct None is = unchanged_sends world (Deliver asked)
+delivered_sends world asked correct (Some letter) is =
+    received_sends world (Deliver asked) letter.to letter.text (letter_handed world asked letter correct is)
+
+step_sent : (world : WorldState) (event : Event) → (AtCorrect world event → Sends world (moved world event) event)
+    → Sends world (world_step world event) event
+step_sent world event step =
+    steps.step_cases (λ (made : WorldState). Sends world made event) world event (unchanged_sends world event) step
+
+step_sends : (world : WorldState) (event : Event) → Sends world (world_step world event) event
+step_sends world (Invoke client op) =
+    step_sent world (Invoke client op) (λ correct.
+    client_sends world (Invoke client op) client (λ (state : ClientState). client_invoke state op)
+    (numbered world.clients client.0) (λ state. invoke_requests state op))
+step_sends world (Inject to text) =
+    step_sent world (Inject to text) (λ correct.
+    received_sends world (Inject to text) to text (offered_handed world (Inject to text) to text correct refl))
+step_sends world (Deliver asked) =
+    step_sent world (Deliver asked) (λ correct. delivered_sends world asked correct (letter_of world asked) refl)
+step_sends world (Tick client) =
+    step_sent world (Tick client) (λ correct.
+    client_sends world (Tick client) client client_tick (numbered world.clients client.0) (λ state. tt))
+
+-- ---- what a reply is
+
+-- the verdict is what the replica decided upon a request of this client, number and round
+record IsDecidedOn (state : ReplicaState) (taken : Frame) (replica : ReplicaId) (client : ClientId)
+    (number round : ℕ) (verdict : Verdict) : Type 0 where
+  sets : List SetOf
+  body : Body
+  mac : List ℕ
+  is_request : taken ≡ frame.Request client number round sets body mac
+  accepted : List Accepted
+  decided : decision_on state (asked_at state client number sets body) body ≡ Answers verdict accepted
+  from : replica ≡ ((on_frame state taken).0).me
+
+module _ (replica : ReplicaId) (client : ClientId) (number round : ℕ) (verdict : Verdict)
+    (culled : List (ObjectId × ReplicaId)) (shown : List Sealed) (seal : List ℕ) where
+  -- the fields of a reply are those of its request
+  same_reply : (me : ReplicaId) (other : ClientId) (asked turn : ℕ) (given : Verdict)
+      (none : List (ObjectId × ReplicaId)) (histories : List Sealed) (mac : List ℕ)
+      → frame.Reply me other asked turn given none histories mac ≡ frame.Reply replica client number round verdict
+      culled shown seal
+      → (me ≡ replica) × (other ≡ client) × (asked ≡ number) × (turn ≡ round) × (given ≡ verdict)
+  same_reply me other asked turn given none histories mac same = (cc, cc, cc, cc, cc)
+
+  decided_by : (state : ReplicaState) (other : ClientId) (asked turn : ℕ) (sets : List SetOf) (body : Body)
+      (mac : List ℕ) (accepted : List Accepted) (given : Verdict)
+      → decision_on state (asked_at state other asked sets body) body ≡ Answers given accepted
+      → (accept_all state accepted).me ≡ replica → other ≡ client → asked ≡ number → turn ≡ round → given ≡ verdict
+      → ((on_frame state (frame.Request other asked turn sets body mac)).0).me ≡ replica
+      → IsDecidedOn state (frame.Request other asked turn sets body mac) replica client number round verdict
+  decided_by state other asked turn sets body mac accepted given is from is_client is_number is_round is_verdict
+      me = record {
+        sets = sets;
+        body = body;
+        mac = mac;
+        is_request = cc;
+        accepted = accepted;
+        decided =
+            ap (λ (it : ClientId). decision_on state (asked_at state it number sets body) body) (sym is_client) ∙
+            ap (λ (it : ℕ). decision_on state (asked_at state other it sets body) body) (sym is_number) ∙
+            is ∙
+            ap (λ (it : Verdict). Answers it accepted) is_verdict;
+        from = sym me;
+      }
+
+  carried_reply : (state : ReplicaState) (other : ClientId) (asked turn : ℕ) (sets : List SetOf) (body : Body)
+      (mac : List ℕ) (decision : Decision)
+      → ((given : Verdict) (accepted : List Accepted) → decision ≡ Answers given accepted
+      → frame_form.Fits (answer_frame (accept_all state accepted) other asked turn sets given))
+      → decision_on state (asked_at state other asked sets body) body ≡ decision
+      → (place : ℕ) (sent : Letter) → slice_get (carried_out state other asked turn sets decision).1 place ≡ Some
+      sent → Carries sent (frame.Reply replica client number round verdict culled shown seal)
+      → IsDecidedOn state (frame.Request other asked turn sets body mac) replica client number round verdict
+  carried_reply state other asked turn sets body mac Waits fits is place sent found is_reply =
+      absurd (none-some sent found)
+  carried_reply state other asked turn sets body mac (Answers given accepted) fits is (suc place) sent found
+      is_reply = absurd (none-some sent found)
+  carried_reply state other asked turn sets body mac (Answers given accepted) fits is zero sent found is_reply =
+      let new : ReplicaState = accept_all state accepted in
+      let to : Party = party.Client other in
+      let made : Frame = answer_frame new other asked turn sets given in
+      let is_sent : sent.text ≡ signed new.keys to made =
+      ap (λ (it : Letter). it.text) (sym (same_Some (reply new other asked turn sets given) sent found)) in
+      let same = same_reply new.me other asked turn given (own.named new sets)
+      (map (sealed_by new.keys) (own.shown new sets))
+      (signature new.keys to made)
+      (sym (signed_carries sent new.keys to made
+      (frame.Reply replica client number round verdict culled shown seal) (fits given accepted refl) is_sent
+      is_reply)) in
+      decided_by state other asked turn sets body mac accepted given is same.0 same.1 same.2 same.3 same.4
+      (ap (λ (it : Decision). ((carried_out state other asked turn sets it).0).me) is ∙ same.0)
+
+  reply_decided : (state : ReplicaState) (taken : Frame) → AnswersFit state taken → (place : ℕ) (sent : Letter)
+      → slice_get (on_frame state taken).1 place ≡ Some sent
+      → Carries sent (frame.Reply replica client number round verdict culled shown seal)
+      → IsDecidedOn state taken replica client number round verdict
+  reply_decided state (frame.Request other asked turn sets body mac) fits place sent found is_reply =
+      carried_reply state other asked turn sets body mac (decision_on state (asked_at state other asked sets body) body)
+      fits refl place sent found is_reply
+  reply_decided state _ fits place sent found is_reply = absurd (none-some sent found)
+
+-- the same of a text
+record IsDecidedUpon (state : ReplicaState) (text : List ℕ) (replica : ReplicaId) (client : ClientId)
+    (number round : ℕ) (verdict : Verdict) : Type 0 where
+  sets : List SetOf
+  body : Body
+  mac : List ℕ
+  brings : Brings state text (frame.Request client number round sets body mac)
+  accepted : List Accepted
+  decided : decision_on state (asked_at state client number sets body) body ≡ Answers verdict accepted
+  from : replica ≡ ((replica_step state text).0).me
+
+decided_upon : (state : ReplicaState) (text : List ℕ) (replica : ReplicaId) (client : ClientId)
+    (number round : ℕ) (verdict : Verdict) (shown : List Sealed) (read : Option Frame)
+    → brought state.keys (party.Replica state.me) text ≡ read
+    → ((taken : Frame) → decoded text ≡ Ok taken → AnswersFit state taken)
+    → (place : ℕ) (sent : Letter) → slice_get (replica_step state text).1 place ≡ Some sent
+    → Tells sent replica client number round verdict shown → IsDecidedUpon state text replica client number
+    round verdict
+decided_upon state text replica client number round verdict shown None read fits place sent found tells =
+    absurd (none-some sent (ap (λ it. slice_get (on_received state it).1 place) (sym read) ∙ found))
+decided_upon state text replica client number round verdict shown (Some taken) read fits place sent found tells =
+    let made : IsDecidedOn state taken replica client number round verdict =
+    reply_decided replica client number round verdict tells.culled shown tells.mac state taken
+    (fits taken (brings_decoded state text taken read)) place sent
+    (ap (λ it. slice_get (on_received state it).1 place) (sym read) ∙ found) tells.carries in
+    record {
+      sets = made.sets;
+      body = made.body;
+      mac = made.mac;
+      brings = read ∙ ap (λ (it : Frame). Some it) made.is_request;
+      accepted = made.accepted;
+      decided = made.decided;
+      from = made.from ∙ ap (λ it. ((on_received state it).0).me) (sym read);
+    }
+
+-- ---- the replies of a run
+
+-- the replica at a place has its number
+named_here : (me replica : ReplicaId) (state : ReplicaState) → replica ≡ state.me → IsInPlace me.0 state
+    → me.0 ≡ replica.0
+named_here me replica state from in_place = sym (ap (λ (it : ReplicaId). it.0) from ∙ in_place.me)
+
+-- a reply that an entry sends is a replica's to a request that the event of the entry hands over
+pub reply_sent : (trace : Trace) → IsRun trace → ArePlain trace → (at : ℕ) → at < length trace.entries
+    → (entry : Entry) → slice_get trace.entries at ≡ Some entry → (letter : Letter) → Contains entry.letters letter
+    → (replica : ReplicaId) (client : ClientId) (number round : ℕ) (verdict : Verdict) (shown : List Sealed)
+    → Tells letter replica client number round verdict shown
+    → IsReplyTo trace at replica.0 client number round verdict
+reply_sent trace is_run have at below entry is_entry letter holding replica client number round verdict shown is =
+    let old : WorldState = world_after trace at in
+    let new : WorldState = world_after trace (at + 1) in
+    let event_is : (get_or trace.entries at entry).event ≡ entry.event =
+    ap (λ (it : Entry). it.event) (get_or_from_slice_get trace.entries at entry entry is_entry) in
+    let next : world_step old entry.event ≡ new = ap (world_step old) (sym event_is)
+    ∙ sym (world_after-next trace at entry below) in
+    let sends : Sends old new entry.event =
+    subst (λ (it : WorldState). Sends old it entry.event) next
+    (step_sends old entry.event) in
+    let recorded : sends.entry ≡ entry = entry_recorded trace is_run at below entry sends.entry is_entry sends.made in
+    let place : ℕ = holding.0 in
+    let stands : slice_get (sends.entry).letters place ≡ Some letter =
+    ap (λ (it : Entry). slice_get it.letters place) recorded ∙ at_contains entry.letters letter holding in
+    let answer : IsAnswer old new entry.event place letter =
+    sends.replies place letter stands replica client number round verdict shown is in
+    let handed_here : handed old (get_or trace.entries at entry).event ≡ Some (party.Replica answer.me, answer.text) =
+    ap (handed old) event_is ∙ answer.is_handed in
+    let made : IsDecidedUpon answer.state answer.text replica client number round verdict =
+    decided_upon answer.state answer.text replica client number round verdict shown
+    (brought (answer.state).keys (party.Replica (answer.state).me) answer.text) refl
+    (λ taken decodes. (fit_step trace is_run have at below).answers answer.me answer.state answer.is_state taken
+    (handed_fits trace is_run have at entry below (party.Replica answer.me) answer.text handed_here taken decodes))
+    place letter answer.sent_by is in
+    let in_place : IsInPlace (answer.me).0 (replica_step answer.state answer.text).0 =
+    step-in_place (answer.me).0 answer.state answer.text
+    ((true_world trace is_run have at (omega arith)).replicas (answer.me).0 answer.state answer.is_state) in
+    let here : (answer.me).0 ≡ replica.0 =
+    named_here answer.me replica (replica_step answer.state answer.text).0 made.from in_place in
+    subst (λ (it : ℕ). IsReplyTo trace at it client number round verdict) here
+    (record {
+      old = answer.state;
+      is_old = answer.is_state;
+      new = (replica_step answer.state answer.text).0;
+      is_new = answer.is_new;
+      entry = entry;
+      is_entry = is_entry;
+      text = answer.text;
+      is_handed = answer.is_handed;
+      sets = made.sets;
+      body = made.body;
+      mac = made.mac;
+      brings = made.brings;
+      step = refl;
+      accepted = made.accepted;
+      decided = made.decided;
+    })
+
+-- ---- its request
+
+module _ (trace : Trace) (is_run : IsRun trace) (have : ArePlain trace) (at : ℕ) (below : at < length trace.entries)
+    (replica : ℕ) (client : ClientId) (number round : ℕ) (verdict : Verdict)
+    (reply : IsReplyTo trace at replica client number round verdict) where
+  -- the entry's event hands it over
+  pub reply_handed : handed (world_after trace at) (get_or trace.entries at reply.entry).event
+      ≡ Some (party.Replica (record { 0 = replica }), reply.text)
+  reply_handed =
+      ap (λ (it : Entry). handed (world_after trace at) it.event)
+      (get_or_from_slice_get trace.entries at reply.entry reply.entry reply.is_entry) ∙ reply.is_handed
+
+  -- it asks for what an operation may ask for
+  pub reply_parts : IsTrue (has_parts reply.body)
+  reply_parts =
+      fits_parts (frame.Request client number round reply.sets reply.body reply.mac)
+      (handed_fits trace is_run have at reply.entry below (party.Replica (record { 0 = replica })) reply.text
+      reply_handed
+      (frame.Request client number round reply.sets reply.body reply.mac)
+      (brings_decoded reply.old reply.text (frame.Request client number round reply.sets reply.body reply.mac)
+      reply.brings))
+
+  -- a correct client sent it
+  pub reply_letter : is_faulty trace.setup (party.Client client) ≡ false
+      → AskedBy trace at client number round reply.sets reply.body
+  reply_letter correct =
+      asked_letter trace have at below reply.entry replica reply.old reply.is_old reply.text reply_handed client number
+      round reply.sets reply.body reply.mac reply.brings correct

@@ -1,0 +1,354 @@
+-- What a replica decides upon a request with one part, it may accept.
+use Rattle.std.proofs.Common.{◌≡◌, ℕ, zero, suc, ◌+◌, ◌<◌, ◌≤◌, Bool, true, false, cond, IsTrue, List, [], ◌∷◌, length, Option, None, Some, inl, inr, refl, sym, subst, ap, ◌∙◌, arith}
+use Rattle.std.specs.Prelude.{◌==◌, nat_le, find, option_map, slice_get}
+use Rattle.std.proofs.lemmas.Bool.{false≢true, leb-false, ltb-false, cases_Bool, cases_lt, eqb-true}
+use Rattle.std.proofs.lemmas.Option.{none-some, same_Some}
+use Rattle.qu_base.specs.declared.party.ObjectId.{ObjectId}
+use Rattle.qu_base.specs.Bounds.{quorum}
+use Rattle.qu_base.proofs.ThresholdFacts.{some_quorum}
+use Rattle.qu_stamp.specs.declared.stamp.Stamp.{Stamp}
+use Rattle.qu_stamp.specs.declared.limits.TheConstants.{LAST_TIME}
+use Rattle.qu_stamp.specs.declared.candidate.Candidate.{Candidate}
+use Rattle.qu_stamp.specs.Stamp.{is_below}
+use Rattle.qu_stamp.proofs.Order.{is_below_by_time}
+use Rattle.qu_history.specs.declared.sets.SetOf.{SetOf}
+use Rattle.qu_history.specs.declared.limits.TheConstants.{HISTORY_LIMIT}
+use Rattle.qu_history.specs.History.{ObjectHistory, latest}
+use Rattle.qu_history.specs.Sets.{histories, entries_of, latest_of, method_at, if_method, object_candidate, candidates_of, greatest}
+use Rattle.qu_objects.specs.declared.act.Method.{Method}
+use Rattle.qu_objects.specs.declared.query.Ask.{Ask}
+use Rattle.qu_objects.specs.declared.state.ObjState.{ObjState}
+use Rattle.qu_kept.specs.declared.repeats.Standing.{Standing}
+use Rattle.qu_kept.specs.declared.repeats.Standing.TheVariants as standing
+use Rattle.qu_frames.specs.declared.frame.Body.{Body}
+use Rattle.qu_frames.specs.declared.frame.Body.TheVariants as body
+use Rattle.qu_frames.specs.declared.verdict.Refusal.{Refusal}
+use Rattle.qu_frames.specs.declared.verdict.Refusal.TheVariants.{UnknownObject, NotCurrent, TimeSpent, HistoryFull}
+use Rattle.qu_frames.specs.declared.verdict.Refusal.TheVariants as refusal
+use Rattle.qu_frames.specs.declared.verdict.Verdict.TheVariants.{Done}
+use Rattle.qu_frames.specs.declared.verdict.Verdict.TheVariants as verdict
+use Rattle.qu_rows.specs.declared.remedy.Remedy.{Remedy}
+use Rattle.qu_rows.specs.declared.remedy.Remedy.TheVariants.{Nothing, Shown, Fresh}
+use Rattle.qu_rows.specs.declared.mend.Mend.{Mend}
+use Rattle.qu_rows.specs.declared.mending.Mending.{Mending}
+use Rattle.qu_rows.specs.declared.mending.Mending.TheVariants.{Mends, Holds, Refuses}
+use Rattle.qu_rows.specs.declared.mending.Mending.TheVariants as mending
+use Rattle.qu_rows.specs.Causes.{Makes, HasCause}
+use Rattle.qu_rows.proofs.Decided.{decided_has_cause}
+use Rattle.qu_rows.specs.declared.decision.Decision.{Decision}
+use Rattle.qu_rows.specs.declared.decision.Decision.TheVariants.{Answers, Waits}
+use Rattle.qu_rows.specs.State.{ReplicaState, own_candidates, own_latest}
+use Rattle.qu_rows.specs.Rows.{Asked, refuse, base_of, shown_of, fresh_stamp, fresh_on, accepted_by, done_again, repeated, row_unknown, row_thin, row_retry, row_current, row_method, row_version, row_kept, row_time, row_full, row_done, row_told, row_few, mend_asked, wanted_version, mending_on, decision_by, decide_act, decide_ask, decide_repair, decision_on}
+use Rattle.qu_rows.specs.Table.{first_given}
+use Rattle.qu_rows.specs.Allowed.{MayAccept, MayAcceptAll, MayDecide, has_parts}
+
+-- a row that may be carried out, so that what follows it is to be shown
+abbrev MayGive : ReplicaState → Option Decision → Type 0
+MayGive state row = (decision : Decision) → row ≡ Some decision → MayDecide state decision
+
+past : (state : ReplicaState) (row : Option Decision) (later : List (Option Decision)) → MayGive state row
+    → (row ≡ None → MayDecide state (first_given Waits later)) → MayDecide state (first_given Waits (row ∷ later))
+unfolding first_given
+past state None later may next = next refl
+past state (Some decision) later may next = may decision refl
+
+-- a refusal accepts nothing
+refusing : {A : Type 0} (state : ReplicaState) (why : A → Refusal) (refused : Option A)
+    → MayGive state (option_map (λ it. refuse (why it)) refused)
+refusing state why None decision given = absurd (none-some decision given)
+refusing state why (Some it) decision given = subst (MayDecide state) (same_Some (refuse (why it)) decision given) tt
+
+unknown : (state : ReplicaState) (asked : Asked) → MayGive state (row_unknown state asked)
+unfolding row_unknown
+unknown state asked = refusing state _ _
+
+thin : (state : ReplicaState) (asked : Asked) → MayGive state (row_thin state asked)
+unfolding row_thin
+thin state asked = refusing state _ _
+
+current : (state : ReplicaState) (asked : Asked) (objects : List ObjectId)
+    → MayGive state (row_current state asked objects)
+unfolding row_current
+current state asked objects = refusing state _ _
+
+method : (state : ReplicaState) (asked : Asked) (objects : List ObjectId)
+    → MayGive state (row_method state asked objects)
+unfolding row_method
+method state asked objects = refusing state _ _
+
+time : (state : ReplicaState) (asked : Asked) (objects : List ObjectId) → MayGive state (row_time state asked objects)
+unfolding row_time
+time state asked objects = refusing state _ _
+
+full : (state : ReplicaState) (asked : Asked) (objects : List ObjectId) → MayGive state (row_full state asked objects)
+unfolding row_full
+full state asked objects = refusing state _ _
+
+-- no entry, no candidate
+pub method_at_none : (bounds : ℕ) → method_at bounds [] ≡ None
+unfolding method_at if_method object_candidate candidates_of greatest
+method_at_none bounds = refl
+
+pub not_first : {A : Type 0} (test : Bool) (it : A) (later : Option A) → cond test (Some it) later ≡ None
+    → (test ≡ false) × (later ≡ None)
+not_first test it later none =
+    elim test as (λ (t : Bool). cond t (Some it) later ≡ None → (t ≡ false) × (later ≡ None)) [
+      | true ↦ λ found. absurd (none-some it (sym found))
+      | false ↦ λ rest. (refl, rest)
+    ] none
+
+-- no object of the sets is unknown, so one that has entries is known
+known_by_entries : (number : ℕ) (sets : List SetOf) (object : ObjectId)
+    → find (λ (set : SetOf). nat_le number (set.object).0) sets ≡ None → (entries_of object sets ≡ [] → ⊥)
+    → object.0 < number
+unfolding entries_of
+known_by_entries number [] object none some = absurd (some refl)
+known_by_entries number (set ∷ sets) object none some =
+    let bad : Bool = nat_le number (set.object).0 in
+    let later : Option SetOf = find (λ (it : SetOf). nat_le number (it.object).0) sets in
+    let good : (bad ≡ false) × (later ≡ None) = not_first bad set later none in
+    let is_it : Bool = (set.object).0 == object.0 in
+    let rest : List ObjectHistory = entries_of object sets in
+    elim (cases_Bool is_it) [
+      | inl here ↦
+          let equal : (set.object).0 ≡ object.0 = eqb-true _ _ here in
+          rw (← equal) (leb-false _ _ good.0)
+      | inr there ↦
+          known_by_entries number sets object good.1
+          (λ (empty : rest ≡ []). some (ap (λ (test : Bool). cond test (histories set.entries) rest) there ∙ empty))
+    ]
+
+-- a stamp with the time after the latest is above all that the replica accepted
+pub fresh_later : (latest own fresh : Stamp) → fresh.time ≡ latest.time + 1 → is_below latest own ≡ false
+    → is_below own fresh ≡ true
+fresh_later latest own fresh next current =
+    elim (cases_lt latest.time own.time) [
+      | inl above ↦ absurd (false≢true (sym current ∙ is_below_by_time latest own above))
+      | inr within ↦ is_below_by_time own fresh (omega arith)
+    ]
+
+answering : (state : ReplicaState) (test : Bool) (stamps : List (ObjectId × Stamp)) (standing : Standing)
+    → MayGive state (cond test (done_again stamps standing) None)
+answering state false stamps standing decision given = absurd (none-some decision given)
+answering state true stamps standing.Fresh decision given = absurd (none-some decision given)
+answering state true stamps (standing.Spent object number) decision given = absurd (none-some decision given)
+answering state true stamps (standing.Already answer) decision given =
+    subst (MayDecide state) (same_Some (Answers (Done stamps answer) []) decision given) tt
+
+repeating : (state : ReplicaState) (standing : Standing) → MayGive state (repeated standing)
+repeating state standing.Fresh decision given = absurd (none-some decision given)
+repeating state (standing.Spent object number) decision given =
+    subst (MayDecide state) (same_Some (refuse (refusal.Spent object number)) decision given) tt
+repeating state (standing.Already answer) decision given =
+    subst (MayDecide state) (same_Some (Answers (verdict.Already answer) []) decision given) tt
+
+waiting : (state : ReplicaState) (test : Bool) → MayGive state (cond test (Some Waits) None)
+waiting state false decision given = absurd (none-some decision given)
+waiting state true decision given = subst (MayDecide state) (same_Some Waits decision given) tt
+
+retry : (state : ReplicaState) (asked : Asked) (parts : List (ObjectId × Method)) (objects : List ObjectId)
+    → MayGive state (row_retry state asked parts objects)
+unfolding row_retry
+retry state asked parts objects = answering state _ _ _
+
+kept : (state : ReplicaState) (asked : Asked) (parts : List (ObjectId × Method)) (objects : List ObjectId)
+    → MayGive state (row_kept state asked parts objects)
+unfolding row_kept
+kept state asked parts objects = repeating state _
+
+version : (state : ReplicaState) (asked : Asked) (objects : List ObjectId)
+    → MayGive state (row_version state asked objects)
+unfolding row_version
+version state asked objects = waiting state _
+
+told-may : (state : ReplicaState) (asked : Asked) (parts : List (ObjectId × Ask)) (objects : List ObjectId)
+    → MayGive state (row_told state asked parts objects)
+unfolding row_told
+told-may state asked parts objects decision given = subst (MayDecide state) (same_Some _ decision given) tt
+
+made_of : (asked : Asked) (object : ObjectId) (base : Option Candidate) (fresh : Candidate)
+    → option_map (λ (it : Candidate). record { stamp = fresh_stamp asked object; prior = it.stamp }) base ≡ Some
+    fresh → (base ≡ None → ⊥) × (fresh.stamp ≡ fresh_stamp asked object)
+made_of asked object None fresh made = absurd (none-some fresh made)
+made_of asked object (Some it) fresh made =
+    ((λ none. none-some it (sym none)), sym (ap (λ (candidate : Candidate). candidate.stamp) (same_Some _ _ made)))
+
+in_time_of : (latest fresh : Stamp) → fresh.time ≡ latest.time + 1 → latest.time < LAST_TIME → fresh.time ≤ LAST_TIME
+in_time_of latest fresh next spent = omega arith
+
+pub unmapped : {A B : Type 0} (f : A → B) (found : Option A) → option_map f found ≡ None → found ≡ None
+unmapped f None none = refl
+unmapped f (Some it) none = absurd (none-some (f it) (sym none))
+
+-- the fresh candidate of an object that no row refused
+may_accept_fresh : (state : ReplicaState) (asked : Asked) (object : ObjectId)
+    → find (λ (set : SetOf). nat_le (length state.histories) (set.object).0) asked.sets ≡ None
+    → is_below (latest_of (shown_of asked object)) (own_latest state object) ≡ false
+    → nat_le LAST_TIME (latest_of (shown_of asked object)).time ≡ false
+    → nat_le HISTORY_LIMIT (length (own_candidates state object)) ≡ false
+    → (fresh : Candidate) → fresh_on state asked object ≡ Some fresh → (version : ObjState)
+    → MayAccept state (record { object = object; candidate = fresh; state = Some version })
+may_accept_fresh state asked object known current in_time room fresh made version =
+    let parts : (base_of state asked object ≡ None → ⊥) × (fresh.stamp ≡ fresh_stamp asked object) =
+    made_of asked object (base_of state asked object) fresh made in
+    let next : fresh.stamp.time ≡ (latest_of (shown_of asked object)).time + 1 =
+    ap (λ (stamp : Stamp). stamp.time) parts.1 in
+    record {
+      known = known_by_entries (length state.histories) asked.sets object known
+          (λ empty. parts.0 (ap (λ (entries : List ObjectHistory). method_at state.keys.bounds entries) empty
+          ∙ method_at_none state.keys.bounds));
+      later = fresh_later (latest_of (shown_of asked object)) (own_latest state object) fresh.stamp next current;
+      room = leb-false _ _ room;
+      in_time = in_time_of (latest_of (shown_of asked object)) fresh.stamp next (leb-false _ _ in_time);
+    }
+
+may_accept_made : (state : ReplicaState) (asked : Asked) (object : ObjectId) (versions : List ObjState)
+    (made : Option Candidate) → fresh_on state asked object ≡ made
+    → ((fresh : Candidate) → fresh_on state asked object ≡ Some fresh → (version : ObjState)
+    → MayAccept state (record { object = object; candidate = fresh; state = Some version }))
+    → MayAcceptAll state (accepted_by state asked (object ∷ []) versions)
+unfolding accepted_by
+may_accept_made state asked object [] made is_made may = tt
+may_accept_made state asked object (version ∷ versions) None is_made may = rw (is_made, MayAcceptAll) tt
+may_accept_made state asked object (version ∷ versions) (Some fresh) is_made may =
+    rw (is_made, MayAcceptAll) (may fresh is_made version)
+
+pub no_first : (why : ObjectId → Refusal) (bad : Bool) (object : ObjectId)
+    → option_map (λ (it : ObjectId). refuse (why it)) (cond bad (Some object) None) ≡ None → bad ≡ false
+no_first why true object none = absurd (none-some (refuse (why object)) (sym none))
+no_first why false object none = refl
+
+no_unknown : (state : ReplicaState) (asked : Asked) → row_unknown state asked ≡ None
+    → find (λ (set : SetOf). nat_le (length state.histories) (set.object).0) asked.sets ≡ None
+unfolding row_unknown
+no_unknown state asked none = unmapped (λ (set : SetOf). refuse (UnknownObject set.object)) _ none
+
+done : (state : ReplicaState) (asked : Asked) (part : ObjectId × Method) (object : ObjectId)
+    → row_unknown state asked ≡ None → row_current state asked (object ∷ []) ≡ None
+    → row_time state asked (object ∷ []) ≡ None → row_full state asked (object ∷ []) ≡ None
+    → MayGive state (row_done state asked (part ∷ []) (object ∷ []))
+unfolding row_current row_time row_full row_done
+done state asked part object unknown current time full decision given =
+    subst (MayDecide state) (same_Some _ decision given)
+    (may_accept_made state asked object _ _ refl
+    (may_accept_fresh state asked object (no_unknown state asked unknown)
+    (no_first (λ it. NotCurrent it (own_latest state it)) _ object current) (no_first TimeSpent _ object time)
+    (no_first HistoryFull _ object full)))
+
+nothing : (state : ReplicaState) → MayDecide state (first_given Waits [])
+unfolding first_given
+nothing state = tt
+
+may_act : (state : ReplicaState) (asked : Asked) (part : ObjectId × Method) (object : ObjectId)
+    → MayDecide state (decide_act state asked (part ∷ []) (object ∷ []))
+unfolding decide_act
+may_act state asked part object =
+    past state _ _ (unknown state asked) (λ known.
+    past state _ _ (thin state asked) (λ _.
+    past state _ _ (retry state asked (part ∷ []) (object ∷ [])) (λ _.
+    past state _ _ (current state asked (object ∷ [])) (λ is_current.
+    past state _ _ (method state asked (object ∷ [])) (λ _.
+    past state _ _ (version state asked (object ∷ [])) (λ _.
+    past state _ _ (kept state asked (part ∷ []) (object ∷ [])) (λ _.
+    past state _ _ (time state asked (object ∷ [])) (λ in_time.
+    past state _ _ (full state asked (object ∷ [])) (λ room.
+    past state _ _ (done state asked part object known is_current in_time room) (λ _. nothing state))))))))))
+
+may_ask : (state : ReplicaState) (asked : Asked) (part : ObjectId × Ask) (object : ObjectId)
+    → MayDecide state (decide_ask state asked (part ∷ []) (object ∷ []))
+unfolding decide_ask
+may_ask state asked part object =
+    past state _ _ (unknown state asked) (λ _.
+    past state _ _ (thin state asked) (λ _.
+    past state _ _ (current state asked (object ∷ [])) (λ _.
+    past state _ _ (method state asked (object ∷ [])) (λ _.
+    past state _ _ (version state asked (object ∷ [])) (λ _.
+    past state _ _ (told-may state asked (part ∷ []) (object ∷ [])) (λ _. nothing state))))))
+
+refused_if : (state : ReplicaState) (why : Refusal) (test : Bool)
+    → MayGive state (cond test (Some (refuse why)) None)
+refused_if state why false decision given = absurd (none-some decision given)
+refused_if state why true decision given = subst (MayDecide state) (same_Some (refuse why) decision given) tt
+
+few : (state : ReplicaState) (asked : Asked) (target : ObjectId) → MayGive state (row_few state asked target)
+unfolding row_few
+few state asked target = refused_if state _ _
+
+-- an object that the row of few entries passes has a quorum of them
+enough_shown : (state : ReplicaState) (asked : Asked) (target : ObjectId) → row_few state asked target ≡ None
+    → quorum state.keys.bounds ≤ length (shown_of asked target)
+unfolding row_few
+enough_shown state asked target none =
+    ltb-false (length (shown_of asked target)) (quorum state.keys.bounds) (not_first _ _ None none).0
+
+-- and is known, as a quorum is one at least
+pub known_target : (state : ReplicaState) (asked : Asked) (target : ObjectId) → row_unknown state asked ≡ None
+    → quorum state.keys.bounds ≤ length (shown_of asked target) → target.0 < length state.histories
+known_target state asked target known enough =
+    known_by_entries (length state.histories) asked.sets target (no_unknown state asked known)
+    (λ empty. let none : length (shown_of asked target) ≡ 0 = ap length empty in absurd (omega (arith, none, some_quorum state.keys.bounds)))
+
+pub target_found : (state : ReplicaState) (asked : Asked) (target : ObjectId) → row_unknown state asked ≡ None
+    → quorum state.keys.bounds ≤ length (shown_of asked target)
+    → (slice_get state.histories target.0 ≡ None → ⊥)
+target_found state asked target known enough =
+    none_within state.histories target.0 (known_target state asked target known enough)
+  where
+    none_within : (histories : List ObjectHistory) (place : ℕ) → place < length histories
+        → slice_get histories place ≡ None → ⊥
+    none_within [] place within none = absurd (omega arith)
+    none_within (first ∷ later) zero within none = none-some first (sym none)
+    none_within (first ∷ later) (suc place) within none = none_within later place (omega arith) none
+
+-- what mends an object has no time after the last
+made_in_time : (mend : Mend) (remedy : Remedy) (candidate : Candidate) → Makes mend remedy candidate
+    → candidate.stamp.time ≤ LAST_TIME
+made_in_time mend Nothing candidate made = absurd made
+made_in_time mend (Shown shown) candidate made =
+    subst (λ (it : Candidate). it.stamp.time ≤ LAST_TIME) (sym made.0) made.1
+made_in_time mend (Fresh barrier prior) candidate made =
+    let time : candidate.stamp.time ≡ mend.latest.time + 1 = ap (λ (it : Candidate). it.stamp.time) made.0 in
+    omega (arith, time, made.1)
+
+-- what is made of a request to mend a known object, and has its cause
+caused_may : (state : ReplicaState) (target : ObjectId) (mend : Mend) (version : Option ObjState) (made : Mending)
+    → target.0 < length state.histories → HasCause mend (own_candidates state target) version made
+    → MayDecide state (decision_by target made)
+caused_may state target mend version (Mends candidate stored) known cause = record {
+  known = known;
+  later = (cause.1).above;
+  room = (cause.1).room;
+  in_time = made_in_time mend mend.remedy candidate cause.0;
+}
+caused_may state target mend version (Holds stamp) known cause = tt
+caused_may state target mend version (Refuses why) known cause = tt
+caused_may state target mend version mending.Waits known cause = tt
+
+mended : (state : ReplicaState) (asked : Asked) (target : ObjectId) → row_unknown state asked ≡ None
+    → row_few state asked target ≡ None
+    → MayGive state (Some (decision_by target (mending_on state asked target)))
+mended state asked target known enough decision given =
+    let mend : Mend = mend_asked state asked target in
+    subst (MayDecide state) (same_Some (decision_by target (mending_on state asked target)) decision given)
+    (caused_may state target mend (wanted_version state target mend.remedy) (mending_on state asked target)
+    (known_target state asked target known (enough_shown state asked target enough))
+    (decided_has_cause mend (own_candidates state target) (wanted_version state target mend.remedy)))
+
+pub may_repair : (state : ReplicaState) (asked : Asked) (target : ObjectId)
+    → MayDecide state (decide_repair state asked target)
+unfolding decide_repair
+may_repair state asked target =
+    past state _ _ (unknown state asked) (λ known.
+    past state _ _ (thin state asked) (λ _.
+    past state _ _ (few state asked target) (λ enough.
+    past state _ _ (mended state asked target known enough) (λ _. nothing state))))
+
+pub decision_on-may : (state : ReplicaState) (asked : Asked) (asks : Body) → IsTrue (has_parts asks)
+    → MayDecide state (decision_on state asked asks)
+decision_on-may state asked (body.Act []) parts = absurd (false≢true parts)
+decision_on-may state asked (body.Act (part ∷ [])) parts = may_act state asked part part.0
+decision_on-may state asked (body.Act (first ∷ second ∷ later)) parts = absurd (false≢true parts)
+decision_on-may state asked (body.Ask []) parts = absurd (false≢true parts)
+decision_on-may state asked (body.Ask (part ∷ [])) parts = may_ask state asked part part.0
+decision_on-may state asked (body.Ask (first ∷ second ∷ later)) parts = absurd (false≢true parts)
+decision_on-may state asked (body.Mend target) parts = may_repair state asked target

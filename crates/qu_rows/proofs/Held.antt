@@ -1,0 +1,67 @@
+-- A candidate with a time after the last is not held.
+use Rattle.std.proofs.Common.{◌≡◌, ◌+◌, ◌≤◌, Bool, true, false, List, Option, None, Some, refl, sym, ◌∙◌, arith, inl, inr}
+use Rattle.std.specs.Prelude.{slice_get, option_map}
+use Rattle.std.proofs.lemmas.Bool.{cases_Bool, cases_lt, false≢true}
+use Rattle.qu_base.specs.declared.party.ObjectId.{ObjectId}
+use Rattle.qu_stamp.specs.declared.limits.TheConstants.{LAST_TIME}
+use Rattle.qu_stamp.specs.declared.candidate.Candidate.{Candidate}
+use Rattle.qu_stamp.proofs.Order.{is_below_by_time}
+use Rattle.qu_history.specs.History.{ObjectHistory, latest, holds}
+use Rattle.qu_history.specs.Sets.{latest_of}
+use Rattle.qu_history.proofs.Stamps.{not_below_latest}
+use Rattle.qu_rows.specs.State.{ReplicaState, candidates_in, own_candidates}
+use Rattle.qu_rows.specs.Rows.{Asked, base_of, shown_of, fresh_stamp, is_held}
+use Rattle.qu_rows.specs.State.{AreHistories}
+use Rattle.qu_rows.proofs.Own.{own_history}
+
+-- what a history of the replica holds has a time up to the last
+held_in_time : (candidates : List Candidate) (held : Candidate) → (latest candidates).time ≤ LAST_TIME
+    → holds held candidates ≡ true → held.stamp.time ≤ LAST_TIME
+held_in_time candidates held in_time is_held =
+    elim (cases_lt (latest candidates).time held.stamp.time) [
+      | inl above ↦ absurd
+          (false≢true (sym (not_below_latest candidates held is_held)
+          ∙ is_below_by_time (latest candidates) held.stamp above))
+      | inr within ↦ omega arith
+    ]
+
+pub own_in_time : (state : ReplicaState) (object : ObjectId) (held : Candidate) → AreHistories state
+    → holds held (own_candidates state object) ≡ true → held.stamp.time ≤ LAST_TIME
+own_in_time state object held own is_held =
+    elim (slice_get state.histories object.0) as (λ (found : Option ObjectHistory). slice_get state.histories
+    object.0 ≡ found → holds held (candidates_in found) ≡ true → held.stamp.time ≤ LAST_TIME) [
+      | None ↦ λ _ holds_it. absurd (false≢true holds_it)
+      | Some history ↦ λ is_history holds_it. held_in_time history.candidates held
+          (own_history state object.0 history own is_history).in_time holds_it
+    ] refl is_held
+
+fresh_not_held : (state : ReplicaState) (asked : Asked) (object : ObjectId) (base : Candidate)
+    → AreHistories state → LAST_TIME ≤ (latest_of (shown_of asked object)).time
+    → holds (record { stamp = fresh_stamp asked object; prior = base.stamp }) (own_candidates state object) ≡ false
+fresh_not_held state asked object base own spent =
+    let fresh : Candidate = record { stamp = fresh_stamp asked object; prior = base.stamp } in
+    elim (cases_Bool (holds fresh (own_candidates state object))) [
+      | inl is_held ↦
+          let in_time : (latest_of (shown_of asked object)).time + 1 ≤ LAST_TIME =
+          own_in_time state object fresh own is_held in
+          absurd (omega arith)
+      | inr not_held ↦ not_held
+    ]
+
+abbrev pub is_held_by : ReplicaState → ObjectId → Option Candidate → Bool
+is_held_by state object None = false
+is_held_by state object (Some fresh) = holds fresh (own_candidates state object)
+
+-- so a replica holds no fresh candidate of an object whose time is spent
+pub spent_not_held : (state : ReplicaState) (asked : Asked) (object : ObjectId) → AreHistories state
+    → LAST_TIME ≤ (latest_of (shown_of asked object)).time → is_held state asked object ≡ false
+unfolding is_held
+spent_not_held state asked object own spent =
+    elim (base_of state asked object) as (λ (base : Option Candidate). is_held_by state object
+    (option_map (λ (it : Candidate). let fresh : Candidate = record {
+      stamp = fresh_stamp asked object;
+      prior = it.stamp;
+    } in fresh) base) ≡ false) [
+      | None ↦ refl
+      | Some base ↦ fresh_not_held state asked object base own spent
+    ]

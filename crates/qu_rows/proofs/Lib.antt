@@ -1,0 +1,8 @@
+pub mod Decided
+pub mod Seeing
+pub mod Own
+pub mod Allowed
+pub mod Finding
+pub mod Held
+pub mod Carried
+pub mod Decoded

@@ -1,0 +1,97 @@
+-- What is added to the history of an object that is mended, by its class (Query/Update: repair, inline repair).
+use Rattle.std.specs.Prelude.{ℕ, Bool, true, false, not, ◌+◌, ◌≡◌, ◌≤◌, nat_le, nat_lt, if◌then◌else◌, List, Option, None, Some, IsSome}
+use Rattle.qu_base.specs.declared.party.ClientId.{ClientId}
+use Rattle.qu_base.specs.declared.party.Digest.{Digest}
+use Rattle.qu_base.specs.declared.party.ObjectId.{ObjectId}
+use Rattle.qu_base.specs.Bounds.{repair}
+use Rattle.qu_stamp.specs.declared.stamp.Stamp.{Stamp}
+use Rattle.qu_stamp.specs.declared.limits.TheConstants.{LAST_TIME}
+use Rattle.qu_stamp.specs.declared.candidate.Candidate.{Candidate}
+use Rattle.qu_history.specs.declared.sets.SetOf.{SetOf}
+use Rattle.qu_history.specs.History.{ObjectHistory}
+use Rattle.qu_history.specs.Sets.{entries_of, order_of, latest_of, method_at}
+use Rattle.qu_objects.specs.declared.state.ObjState.{ObjState}
+use Rattle.qu_class.specs.declared.class.Class.{Class}
+use Rattle.qu_class.specs.declared.class.Class.TheVariants.{Method, InlineMethod, Copy, InlineBarrier, Barrier}
+use Rattle.qu_class.specs.Class.{class_of}
+use Rattle.qu_class.specs.Repairable.{base_of}
+use Rattle.qu_class.specs.Rows.{IsGreatestOfKind}
+use Rattle.qu_rows.specs.declared.remedy.Remedy.{Remedy}
+use Rattle.qu_rows.specs.declared.remedy.Remedy.TheVariants.{Nothing, Shown, Fresh}
+use Rattle.qu_rows.specs.declared.mend.Mend.{Mend}
+
+-- where the object candidate has this stamp. A copy is of it: the plan is the target alone, and wants no other version.
+unfoldable pub remedy_by : Stamp → Class → Remedy
+remedy_by base (Method candidate) = Nothing
+remedy_by base (InlineMethod candidate) = Shown candidate
+remedy_by base Copy = Fresh false base
+remedy_by base (InlineBarrier candidate) = Shown candidate
+remedy_by base (Barrier prior) = Fresh true prior
+
+unfoldable pub remedy_of : ℕ → List ObjectHistory → Remedy
+remedy_of bounds entries = remedy_by (base_of bounds entries).stamp (class_of bounds entries)
+
+-- a request to mend an object, with what its culled sets say of it
+abbrev pub mend_of : ℕ → List SetOf → Digest → ObjectId → ClientId → Mend
+mend_of bounds sets set target client =
+    record {
+      target = target;
+      client = client;
+      set = set;
+      latest = latest_of (entries_of target sets);
+      remedy = remedy_of bounds (entries_of target sets);
+    }
+
+-- the candidate above all that the sets show, a barrier or a copy
+abbrev pub fresh_on : Mend → Bool → Stamp → Candidate
+fresh_on mend barrier prior =
+    record {
+      stamp = record {
+        time = mend.latest.time + 1;
+        barrier = barrier;
+        client = mend.client;
+        act = None;
+        set = mend.set;
+      };
+      prior = prior;
+    }
+
+-- the candidate that the remedy adds; none has a time after the last
+unfoldable pub addition_by : Mend → Remedy → Option Candidate
+addition_by mend Nothing = None
+addition_by mend (Shown candidate) = if nat_le candidate.stamp.time LAST_TIME then Some candidate else None
+addition_by mend (Fresh barrier prior) =
+    if nat_lt mend.latest.time LAST_TIME then Some (fresh_on mend barrier prior) else None
+
+abbrev pub addition_of : Mend → Option Candidate
+addition_of mend = addition_by mend mend.remedy
+
+abbrev pub unless_barrier : {X : Type 0} → Bool → X → Option X
+unless_barrier barrier value = if barrier then None else Some value
+
+-- the stamp of the version that what is added has: that of the shown candidate, or that of the copied one. A barrier
+-- has no version.
+unfoldable pub wanted_by : Remedy → Option Stamp
+wanted_by Nothing = None
+wanted_by (Shown candidate) = unless_barrier candidate.stamp.barrier candidate.stamp
+wanted_by (Fresh barrier prior) = unless_barrier barrier prior
+
+-- of the version that was found, what is stored under the new stamp: a copy's; that of a shown candidate stands under
+-- its own stamp already
+unfoldable pub stored_by : Remedy → Option ObjState → Option ObjState
+stored_by Nothing version = None
+stored_by (Shown candidate) version = None
+stored_by (Fresh true prior) version = None
+stored_by (Fresh false prior) version = version
+
+abbrev pub is_copy : Remedy → Bool
+is_copy Nothing = false
+is_copy (Shown candidate) = false
+is_copy (Fresh barrier prior) = not barrier
+
+-- what is sound is of class METHOD; what is added is shown by as many as may repair, or rests upon the object candidate
+abbrev pub IsGrounded : ℕ → List ObjectHistory → Remedy → Type 0
+IsGrounded bounds entries Nothing = IsSome (method_at bounds entries)
+IsGrounded bounds entries (Shown candidate) = repair bounds ≤ order_of candidate entries
+IsGrounded bounds entries (Fresh barrier prior) =
+    (base : Candidate) × IsGreatestOfKind bounds entries false base × (base.stamp ≡ prior)

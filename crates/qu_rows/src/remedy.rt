@@ -1,0 +1,56 @@
+ghost use Rattle.std.specs.Prelude.{◌≡◌};
+ghost use Rattle.qu_rows.specs.Remedy.{remedy_by, wanted_by};
+
+use super::Seen;
+use qu_class::Class;
+use qu_stamp::{Candidate, Stamp};
+
+/// What is added to the history of an object to mend it.
+#[derive(Clone, Copy, Debug, PartialEq, Eq)]
+pub enum Remedy {
+    /// Nothing: the object is sound.
+    Nothing,
+    /// A candidate that the sets show, as it is.
+    Shown(Candidate),
+    /// A barrier or a copy above all that the sets show, which rests upon this stamp.
+    Fresh { barrier: bool, prior: Stamp },
+}
+
+impl Remedy {
+    /// The remedy for the object by its class. A copy is of the object candidate.
+    #[tactic(auto, unfolding(crate::specs::Remedy::remedy_by))]
+    pub(super) fn of(seen: &Seen) -> Remedy
+        ensures { result ≡ remedy_by seen.now.base.stamp seen.now.class }
+    {
+        match seen.class {
+            Class::Method(_) => Remedy::Nothing,
+            Class::InlineMethod(candidate) | Class::InlineBarrier(candidate) => {
+                Remedy::Shown(candidate)
+            }
+            Class::Copy => Remedy::Fresh {
+                barrier: false,
+                prior: seen.base.stamp,
+            },
+            Class::Barrier { prior } => Remedy::Fresh {
+                barrier: true,
+                prior,
+            },
+        }
+    }
+
+    /// The stamp of the version that what is added has: that of the candidate that is shown, or of the one that is
+    /// copied. A barrier has none.
+    #[tactic(auto, unfolding(crate::specs::Remedy::wanted_by))]
+    pub fn wanted(&self) -> Option<Stamp>
+        ensures { result ≡ wanted_by self.now }
+    {
+        match self {
+            Remedy::Shown(candidate) if !candidate.stamp.barrier => Some(candidate.stamp),
+            Remedy::Fresh {
+                barrier: false,
+                prior,
+            } => Some(*prior),
+            _ => None,
+        }
+    }
+}

@@ -1,0 +1,318 @@
+ghost use Rattle.qu_base.specs.Bounds.{quorum};
+ghost use Rattle.std.specs.Prelude.{◌≡◌, ◌≤◌, ◌++◌, [], ◌∷◌, length, slice_get, None, IfOk, IsSome, IfNone, IsTrue};
+ghost use Rattle.std.specs.Option.{option_copied, option_or};
+ghost use Rattle.qu_history.specs.History.{latest};
+ghost use Rattle.qu_objects.specs.Parts.{are_parts};
+ghost use Rattle.qu_rows.specs.State.{AreHistories, are_own, own_latest, one_more};
+ghost use Rattle.qu_rows.specs.Versions.{version_at};
+ghost use Rattle.qu_rows.specs.Allowed.{MayDecide};
+ghost use Rattle.qu_rows.specs.Table.{has_no_room};
+ghost use Rattle.qu_rows.specs.Rows.{shown_of, seen_of, row_few, mending_on, decision_by, decide_repair, base_version, row_unknown, row_current, row_method, row_version, decide_act, decide_ask, decision_on, objects_of};
+
+mod acting;
+
+use crate::asked::Asked;
+use crate::decision::{Accepted, Decision, refuse};
+use crate::mend::Mend;
+use crate::mending::Mending;
+use crate::seen::Seen;
+use crate::versions::{self, Stored};
+use qu_base::{List, NoMemory, ObjectId, ReplicaId};
+use qu_frames::{Body, Refusal, Verdict};
+use qu_history::{HISTORY_LIMIT, History};
+use qu_objects::{Act, ObjState, Query};
+use qu_seal::KeyRing;
+use qu_stamp::Stamp;
+use std::alloc::Global;
+use std::collections::LinkedList;
+use std::marker::Model;
+
+/// What a replica looks at when it decides upon a request: its histories, its versions, and at most one version more,
+/// which stands behind the others and is not stored yet.
+#[derive(Drop)]
+pub struct Rows<'a> {
+    alloc: Global,
+    me: ReplicaId,
+    keys: &'a KeyRing,
+    histories: &'a [History],
+    versions: &'a LinkedList<Stored>,
+    more: Option<&'a Stored>,
+}
+
+impl<'a> Model for Rows<'a> {
+    ghost use Rattle.std.specs.Prelude.{IsTrue, ◌++◌};
+    ghost use Rattle.std.specs.Option.{option_copied};
+    ghost use Rattle.qu_rows.specs.State.{ReplicaState, are_own, one_more};
+
+    ghost Value = { ReplicaState };
+
+    ghost view = { λ rows. record {
+      me = rows.me;
+      keys = rows.keys.now;
+      histories = rows.histories.now;
+      versions = rows.versions.now ++ one_more (option_copied rows.more);
+    } };
+
+    ghost invariant = { λ rows. IsTrue (are_own rows.me 0 rows.histories.now) };
+}
+
+// The replica's tables: the orders of the rows of an act, of a query and of a request to mend an object. The first row
+// that fits gives the decision.
+impl<'a> Rows<'a> {
+    /// What this replica looks at, with these histories and versions, and with one version more where there is one.
+    pub fn new(
+        alloc: Global,
+        me: ReplicaId,
+        keys: &'a KeyRing,
+        histories: &'a [History],
+        versions: &'a LinkedList<Stored>,
+        more: Option<&'a Stored>,
+    ) -> Rows<'a>
+        requires { IsTrue (are_own me 0 histories.now) }
+        ensures { result ≡ record {
+          me = me;
+          keys = keys.now;
+          histories = histories.now;
+          versions = versions.now ++ one_more (option_copied more.entry);
+        } }
+    {
+        Rows {
+            alloc,
+            me,
+            keys,
+            histories,
+            versions,
+            more,
+        }
+    }
+
+    /// What the replica makes of a request of objects that it has.
+    pub fn decide(&self, asked: &Asked, body: &Body) -> Result<Decision, NoMemory>
+        requires { row_unknown self.now asked.now ≡ None }
+        ensures value { IfOk result (λ decision. decision ≡ decision_on self.now asked.now body.now) }
+        ensures may { IfOk result (λ decision. MayDecide self.now decision) }
+    {
+        match body {
+            Body::Act(act) => self.decide_act(asked, act),
+            Body::Ask(query) => self.decide_ask(asked, query),
+            Body::Mend(target) => self.decide_repair(asked, *target),
+        }
+    }
+
+    /// What it makes of an act.
+    fn decide_act(&self, asked: &Asked, act: &Act) -> Result<Decision, NoMemory>
+        requires { row_unknown self.now asked.now ≡ None }
+        ensures value { IfOk result (λ decision. decision
+            ≡ decide_act self.now asked.now act.now (objects_of act.now)) }
+        ensures parts { IsTrue (are_parts act.now) }
+    {
+        match act.parts().as_slice() {
+            [(object, _)] => self.decide_act_on(asked, act, *object),
+            _ => unreachable!(),
+        }
+    }
+
+    /// What it makes of an act on one object.
+    #[tactic(auto, unfolding(crate::specs::Rows::decide_act, crate::specs::Table::first_given))]
+    fn decide_act_on(
+        &self,
+        asked: &Asked,
+        act: &Act,
+        object: ObjectId,
+    ) -> Result<Decision, NoMemory>
+        requires known { row_unknown self.now asked.now ≡ None }
+        requires one_part { length act.now ≡ 1 }
+        ensures { IfOk result (λ decision. decision ≡ decide_act self.now asked.now act.now (object ∷ [])) }
+    {
+        if let Some(refusal) = self.row_thin(asked) {
+            return Ok(refusal);
+        }
+        let seen = self.seen(asked, object);
+        if let Some(kept) = self.row_retry(asked, act, &seen)? {
+            return Ok(kept);
+        }
+        if let Some(decision) = self.rows_of_base(asked, &seen) {
+            return Ok(decision);
+        }
+        if let Some(kept) = self.row_kept(asked, act, &seen)? {
+            return Ok(kept);
+        }
+        if let Some(refusal) = self.row_time(asked, &seen) {
+            return Ok(refusal);
+        }
+        if let Some(refusal) = self.row_full(asked, object) {
+            return Ok(refusal);
+        }
+        self.row_done(asked, act, &seen)
+    }
+
+    /// What it makes of a query.
+    fn decide_ask(&self, asked: &Asked, query: &Query) -> Result<Decision, NoMemory>
+        requires { row_unknown self.now asked.now ≡ None }
+        ensures value { IfOk result (λ decision. decision
+            ≡ decide_ask self.now asked.now query.now (objects_of query.now)) }
+        ensures parts { IsTrue (are_parts query.now) }
+    {
+        match query.parts().as_slice() {
+            [(object, _)] => self.decide_ask_on(asked, query, *object),
+            _ => unreachable!(),
+        }
+    }
+
+    /// What it makes of a query of one object.
+    #[tactic(auto, unfolding(crate::specs::Rows::decide_ask, crate::specs::Table::first_given))]
+    fn decide_ask_on(
+        &self,
+        asked: &Asked,
+        query: &Query,
+        object: ObjectId,
+    ) -> Result<Decision, NoMemory>
+        requires known { row_unknown self.now asked.now ≡ None }
+        requires one_part { length query.now ≡ 1 }
+        ensures { IfOk result (λ decision. decision ≡ decide_ask self.now asked.now query.now (object ∷ [])) }
+    {
+        if let Some(refusal) = self.row_thin(asked) {
+            return Ok(refusal);
+        }
+        let seen = self.seen(asked, object);
+        if let Some(decision) = self.rows_of_base(asked, &seen) {
+            return Ok(decision);
+        }
+        self.row_told(asked, query, &seen)
+    }
+
+    /// What it makes of a request to mend an object.
+    #[tactic(auto, unfolding(crate::specs::Rows::decide_repair, crate::specs::Table::first_given))]
+    fn decide_repair(&self, asked: &Asked, target: ObjectId) -> Result<Decision, NoMemory>
+        requires { row_unknown self.now asked.now ≡ None }
+        ensures { IfOk result (λ decision. decision ≡ decide_repair self.now asked.now target) }
+    {
+        if let Some(refusal) = self.row_thin(asked) {
+            return Ok(refusal);
+        }
+        if let Some(refusal) = self.row_few(asked, target) {
+            return Ok(refusal);
+        }
+        let mending = self.mending(asked, target)?;
+        decision_by(self.alloc, target, mending)
+    }
+
+    /// Refuses to mend an object of which the sets show fewer entries than a quorum.
+    #[tactic(auto, unfolding(crate::specs::Rows::row_few))]
+    fn row_few(&self, asked: &Asked, target: ObjectId) -> Option<Decision>
+        ensures enough { IfNone result (quorum self.now.keys.bounds ≤ length (shown_of asked.now target)) }
+        ensures value { result ≡ row_few self.now asked.now target }
+    {
+        if asked.sets.entries(target) < self.keys.bounds().q() {
+            Some(refuse(self.alloc, Refusal::Thin(target)))
+        } else {
+            None
+        }
+    }
+
+    /// What it makes of a request to mend an object that has a quorum of entries.
+    fn mending(&self, asked: &Asked, target: ObjectId) -> Result<Mending, NoMemory>
+        requires known { row_unknown self.now asked.now ≡ None }
+        requires enough { quorum self.now.keys.bounds ≤ length (shown_of asked.now target) }
+        ensures { IfOk result (λ mending. mending ≡ mending_on self.now asked.now target) }
+    {
+        let Some(own) = self.history(target) else {
+            unreachable!()
+        };
+        let mend = Mend::of(
+            asked.sets,
+            asked.set,
+            target,
+            asked.client,
+            &self.keys.bounds(),
+        );
+        let version = match mend.remedy.wanted() {
+            Some(stamp) => self.version(target, &stamp),
+            None => None,
+        };
+        mend.decide(self.alloc, own, version)
+    }
+
+    /// The rows that look for a version upon which an operation on the object may rest.
+    fn rows_of_base(&self, asked: &Asked, seen: &Seen) -> Option<Decision>
+        requires { seen.now ≡ seen_of self.now asked.now seen.now.object }
+        ensures version { IfNone result (IsSome (base_version self.now asked.now seen.now.object)) }
+        ensures value { result ≡ option_or (row_current self.now asked.now (seen.now.object ∷ []))
+            (option_or (row_method self.now asked.now (seen.now.object ∷ []))
+            (row_version self.now asked.now (seen.now.object ∷ []))) }
+    {
+        let current = self.row_current(asked, seen);
+        current
+            .or(self.row_method(asked, seen))
+            .or(self.row_version(asked, seen))
+    }
+
+    /// What the request's sets show of the object.
+    fn seen(&self, asked: &Asked, object: ObjectId) -> Seen
+        ensures { result ≡ seen_of self.now asked.now object }
+    {
+        Seen::of(asked.sets, object, &self.keys.bounds())
+    }
+
+    /// The replica's history of an object, None exactly where it does not have the object.
+    fn history(&self, object: ObjectId) -> Option<&'a History>
+        ensures value { option_copied result ≡ slice_get self.now.histories object.0 }
+        ensures rising { AreHistories self.now }
+    {
+        self.histories.get(usize::from(object.0))
+    }
+
+    /// The version of an object under a stamp, where the replica has it.
+    #[tactic(auto, using(crate::proofs::Finding::finds_more))]
+    fn version(&self, object: ObjectId, stamp: &Stamp) -> Option<&'a ObjState>
+        ensures { option_copied result ≡ version_at object stamp.now self.now.versions }
+    {
+        match versions::version_at(self.versions, object, stamp) {
+            Some(version) => Some(version),
+            None => versions::version_of(self.more, object, stamp),
+        }
+    }
+
+    /// The latest stamp that the replica accepted on the object.
+    #[tactic(auto, unfolding(qu_history::specs::History::greatest_stamp))]
+    fn own_latest(&self, object: ObjectId) -> Stamp
+        ensures { result ≡ own_latest self.now object }
+    {
+        match self.history(object) {
+            Some(history) => history.latest(),
+            None => Stamp::opening(),
+        }
+    }
+}
+
+/// Whether the history has no room for a candidate more.
+pub(crate) fn has_no_room(own: &History) -> bool
+    ensures { result ≡ has_no_room own.now.candidates }
+{
+    HISTORY_LIMIT <= own.len()
+}
+
+/// The decision of a replica that makes this of a request to mend the target.
+fn decision_by(alloc: Global, target: ObjectId, mending: Mending) -> Result<Decision, NoMemory>
+    ensures { IfOk result (λ decision. decision ≡ decision_by target mending) }
+{
+    Ok(match mending {
+        Mending::Mends { candidate, version } => {
+            let accepted = Accepted {
+                object: target,
+                candidate,
+                state: version,
+            };
+            Decision::Answers {
+                verdict: Verdict::Mended(target, candidate.stamp),
+                accepted: List::one(alloc, accepted)?,
+            }
+        }
+        Mending::Holds { stamp } => Decision::Answers {
+            verdict: Verdict::Mended(target, stamp),
+            accepted: List::new(alloc),
+        },
+        Mending::Refuses(why) => refuse(alloc, why),
+        Mending::Waits => Decision::Waits,
+    })
+}

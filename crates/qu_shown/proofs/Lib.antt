@@ -1,0 +1,4 @@
+pub mod OwnHistories
+pub mod TrueLetters
+pub mod Views
+pub mod AskedLetters

@@ -1,0 +1,27 @@
+ghost use Rattle.std.specs.Prelude.{◌≡◌, IfOk};
+
+use qu_base::{NoMemory, ObjectId};
+use qu_objects::ObjState;
+use qu_stamp::Stamp;
+use std::alloc::Global;
+
+/// A version of an object, under the stamp of its candidate.
+#[derive(Debug, Drop)]
+pub struct Stored {
+    pub object: ObjectId,
+    pub stamp: Stamp,
+    pub state: ObjState,
+}
+
+impl Stored {
+    /// An equal version under the same stamp.
+    pub fn copy(&self, alloc: Global) -> Result<Stored, NoMemory>
+        ensures { IfOk result (λ stored. stored ≡ self.now) }
+    {
+        Ok(Stored {
+            object: self.object,
+            stamp: self.stamp,
+            state: self.state.copy(alloc)?,
+        })
+    }
+}
