@@ -9,7 +9,7 @@ use Rattle.qu_base.specs.declared.party.ObjectId.{ObjectId}
 use Rattle.qu_stamp.specs.declared.stamp.Stamp.{Stamp}
 use Rattle.qu_stamp.specs.declared.candidate.Candidate.{Candidate}
 use Rattle.qu_stamp.specs.Stamp.{is_below}
-use Rattle.qu_class.specs.Repairable.{base_of as object_base}
+use Rattle.qu_class.specs.Repairable.{object_base as object_base}
 use Rattle.qu_history.specs.declared.sets.SetOf.{SetOf}
 use Rattle.qu_history.specs.Culling.{culled}
 use Rattle.qu_history.specs.History.{ObjectHistory}
@@ -31,10 +31,10 @@ use Rattle.qu_rows.specs.State.{ReplicaState, candidates_in, own_candidates, own
 use Rattle.qu_replica.specs.State.{accept, accept_all}
 use Rattle.qu_rows.specs.Rows.{Asked, asked_at, refuse, shown_of, decision_on, row_few, decide_repair, mend_asked, wanted_version, decision_by, mending_on}
 use Rattle.qu_rows.specs.Table.{first_given}
-use Rattle.qu_replica.specs.Step.{carried_out, on_frame}
+use Rattle.qu_replica.specs.Step.{carried_out, replica_on_frame}
 use Rattle.qu_rows.specs.Versions.{version_at}
 use Rattle.qu_rows.specs.Allowed.{HasParts, MayAccept, MayAcceptAll}
-use Rattle.qu_replica.proofs.Accepting.{other_history}
+use Rattle.qu_replica.proofs.States.Accepting.{other_history}
 use Rattle.qu_rows.proofs.Allowed.{decision_on-may}
 use Rattle.qu_claims.specs.Grounds.{Accepts, IsMade, IsRemedy, made_stamp, IsFound}
 use Rattle.qu_rows.specs.declared.mending.Mending.{Mending}
@@ -44,9 +44,9 @@ use Rattle.qu_rows.specs.declared.remedy.Remedy.{Remedy}
 use Rattle.qu_rows.specs.declared.remedy.Remedy.TheVariants.{Shown, Fresh}
 use Rattle.qu_class.specs.declared.class.Class.{Class}
 use Rattle.qu_class.specs.declared.class.Class.TheVariants as class
-use Rattle.qu_rows.specs.Remedy.{remedy_by, remedy_of, fresh_on as fresh_candidate, wanted_by}
-use Rattle.qu_rows.specs.Causes.{Makes, HasVersion, HasCause}
-use Rattle.qu_class.specs.Rows.{AreWellFormed, IsLatestOfKind, Tells}
+use Rattle.qu_rows.specs.Remedy.{remedy_by, remedy_of, fresh_repair as fresh_candidate, wanted_by}
+use Rattle.qu_rows.specs.Causes.{MakesCandidate, AddsVersion, HasCause}
+use Rattle.qu_class.specs.Rows.{AreWellFormed, IsLatestOfKind, IsClassOf}
 use Rattle.qu_base.specs.Bounds.{quorum, repair}
 use Rattle.qu_class.specs.Class.{class_of}
 use Rattle.qu_class.proofs.ClassRows.{class_tells, prior_of_barrier}
@@ -150,9 +150,10 @@ module _ (state : ReplicaState) (asked : Asked) (target : ObjectId) where
     wanted_copied prior = refl
 
     -- what the class makes of the object
-    remedy_is : (class : Class) → class_of bounds entries ≡ class → Tells bounds entries class → (candidate : Candidate)
-        (stored : Option ObjState) → Makes mend (remedy_by (object_base bounds entries).stamp class) candidate
-        → HasVersion (remedy_by (object_base bounds entries).stamp class)
+    remedy_is : (class : Class) → class_of bounds entries ≡ class → IsClassOf bounds entries class
+        → (candidate : Candidate)
+        (stored : Option ObjState) → MakesCandidate mend (remedy_by (object_base bounds entries).stamp class) candidate
+        → AddsVersion (remedy_by (object_base bounds entries).stamp class)
         (wanted_version state target (remedy_by (object_base bounds entries).stamp class)) stored
         → IsRemedy state asked target candidate stored
     unfolding remedy_by
@@ -162,7 +163,8 @@ module _ (state : ReplicaState) (asked : Asked) (target : ObjectId) where
         (sym (wanted_plain shown (((tells.0).greatest).repairable).kind))
         (has.0 (((tells.0).greatest).repairable).kind) has.1
     remedy_is class.Copy is tells candidate stored makes has =
-        copied candidate tells.0 (wanted_version state target (Fresh false (object_base bounds entries).stamp)) stored makes.0
+        copied candidate tells.0 (wanted_version state target (Fresh false (object_base bounds entries).stamp)) stored
+        makes.0
         tells.1 tells.2 (sym (wanted_copied (object_base bounds entries).stamp)) has.0 has.1
     remedy_is (class.InlineBarrier shown) is tells candidate stored makes has =
         subst (IsRemedy state asked target candidate) (sym has.1)
@@ -294,8 +296,8 @@ adds state new client number round sent mac target accepted may enough made is_n
 mend_moves : (state : ReplicaState) (client : ClientId) (number round : ℕ) (sets : List SetOf) (mac : List ℕ)
     (target : ObjectId)
     → AreWellFormed state.keys.bounds (entries_of target (culled state.keys state.me sets))
-    → ((on_frame state (frame.Request client number round sets (body.Mend target) mac)).0 ≡ state)
-    ⊎ Accepts state (on_frame state (frame.Request client number round sets (body.Mend target) mac)).0
+    → ((replica_on_frame state (frame.Request client number round sets (body.Mend target) mac)).0 ≡ state)
+    ⊎ Accepts state (replica_on_frame state (frame.Request client number round sets (body.Mend target) mac)).0
     (frame.Request client number round sets (body.Mend target) mac)
 mend_moves state client number round sets mac target formed =
     let asked : Asked = asked_at state client number sets (body.Mend target) in
@@ -319,7 +321,7 @@ IsFormed state _ = Unit {0}
 
 -- a step leaves a replica as it is, or adds candidates for which there are grounds
 pub step_moves : (state : ReplicaState) (received : Frame) → HasParts received → IsFormed state received
-    → ((on_frame state received).0 ≡ state) ⊎ Accepts state (on_frame state received).0 received
+    → ((replica_on_frame state received).0 ≡ state) ⊎ Accepts state (replica_on_frame state received).0 received
 step_moves state (frame.Request client number round sets (body.Act []) mac) parts formed = absurd (false≢true parts)
 step_moves state (frame.Request client number round sets (body.Act (part ∷ [])) mac) parts formed =
     act_moves state client number round sets mac part parts

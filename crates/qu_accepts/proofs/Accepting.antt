@@ -22,10 +22,10 @@ use Rattle.qu_claims.specs.Accepted.{accepts}
 use Rattle.qu_claims.specs.Times.{world_after}
 use Rattle.qu_runs.specs.Plain.{ArePlain}
 use Rattle.qu_claims.specs.Grounds.{IsDelivered}
-use Rattle.qu_runs.proofs.Befores.{WasBefore, was_before}
+use Rattle.qu_runs.proofs.Worlds.Befores.{WasBefore, was_before}
 use Rattle.qu_accepts.proofs.Happenings.{hands_parts, event_accepts}
-use Rattle.qu_runs.proofs.WorldGrowth.{world_after-next}
-use Rattle.qu_runs.proofs.OpeningReplicas.{opening_holds}
+use Rattle.qu_runs.proofs.Worlds.WorldGrowth.{world_after-next}
+use Rattle.qu_runs.proofs.Worlds.OpeningReplicas.{opening_holds}
 
 -- ---- at the beginning
 

@@ -39,12 +39,12 @@ use Rattle.qu_rows.specs.declared.decision.Decision.{Decision}
 use Rattle.qu_rows.specs.declared.decision.Decision.TheVariants.{Answers, Waits}
 use Rattle.qu_rows.specs.State.{ReplicaState, candidates_in, own_candidates, own_latest}
 use Rattle.qu_replica.specs.State.{with_candidate, accept, accept_all}
-use Rattle.qu_rows.specs.Rows.{Asked, asked_at, refuse, shown_of, base_of, base_version, fresh_stamp, fresh_on, standing_in, done_again, repeated, row_unknown, row_thin, row_retry, row_current, row_method, row_version, row_kept, row_time, row_full, row_done, row_told, decide_act, decide_ask, class_told}
+use Rattle.qu_rows.specs.Rows.{Asked, asked_at, refuse, shown_of, method_base, base_version, fresh_stamp, fresh_act, standing_in, done_again, repeated, row_unknown, row_thin, row_retry, row_current, row_method, row_version, row_kept, row_time, row_full, row_done, row_told, decide_act, decide_ask, class_told}
 use Rattle.qu_rows.specs.Table.{first_given}
-use Rattle.qu_replica.specs.Step.{carried_out, on_frame}
+use Rattle.qu_replica.specs.Step.{carried_out, replica_on_frame}
 use Rattle.qu_rows.specs.Versions.{version_at}
 use Rattle.qu_rows.specs.Allowed.{HasParts, MayAccept, MayAcceptAll, MayDecide}
-use Rattle.qu_replica.proofs.Accepting.{other_history}
+use Rattle.qu_replica.proofs.States.Accepting.{other_history}
 use Rattle.qu_rows.proofs.Allowed.{decision_on-may, no_first}
 use Rattle.qu_rows.proofs.Carried.{versions_one, done_one}
 use Rattle.qu_claims.specs.Grounds.{IsGround, Accepts, Performs}
@@ -118,11 +118,13 @@ pub version : (state : ReplicaState) (asked : Asked) (objects : List ObjectId)
 unfolding row_version
 version state asked objects = waiting _
 
-pub time : (state : ReplicaState) (asked : Asked) (objects : List ObjectId) → AcceptsNothing (row_time state asked objects)
+pub time : (state : ReplicaState) (asked : Asked) (objects : List ObjectId)
+    → AcceptsNothing (row_time state asked objects)
 unfolding row_time
 time state asked objects = refusing _ _
 
-pub full : (state : ReplicaState) (asked : Asked) (objects : List ObjectId) → AcceptsNothing (row_full state asked objects)
+pub full : (state : ReplicaState) (asked : Asked) (objects : List ObjectId)
+    → AcceptsNothing (row_full state asked objects)
 unfolding row_full
 full state asked objects = refusing _ _
 
@@ -203,7 +205,7 @@ is_lower asked part act before is_act parts none =
 
 makes_one : (state : ReplicaState) (asked : Asked) (part : ObjectId × Method) (base : Candidate)
     (before : ObjState) (value : Value)
-    → base_of state asked part.0 ≡ Some base → base_version state asked part.0 ≡ Some before
+    → method_base state asked part.0 ≡ Some base → base_version state asked part.0 ≡ Some before
     → IsLower asked.number (row_of asked.client before.kept)
     → performed_values (part ∷ []) (before.value ∷ []) ≡ value ∷ []
     → is_below (latest_of (shown_of asked part.0)) (own_latest state part.0) ≡ false
@@ -212,7 +214,7 @@ unfolding first_given
 makes_one state asked part base before value is_base is_before lower is_value is_current =
     let make : Candidate → Candidate = λ it. record { stamp = fresh_stamp asked part.0; prior = it.stamp } in
     let stored : Candidate → Option ObjState = λ it. version_at part.0 it.stamp state.versions in
-    let is_fresh : fresh_on state asked part.0 ≡ Some (make base) = ap (option_map make) is_base in
+    let is_fresh : fresh_act state asked part.0 ≡ Some (make base) = ap (option_map make) is_base in
     record {
       candidate = make base;
       base = base;
@@ -235,8 +237,8 @@ done : (state : ReplicaState) (asked : Asked) (part : ObjectId × Method) (act :
     → MakesOne state asked part (accepted_in (first_given Waits (row_done state asked (part ∷ []) (part.0 ∷ []) ∷ [])))
 unfolding row_current row_method row_version row_kept
 done state asked part act is_act parts is_current is_method is_version is_new =
-    let base : (it : Candidate) × (base_of state asked part.0 ≡ Some it) =
-    some_of (base_of state asked part.0)
+    let base : (it : Candidate) × (method_base state asked part.0 ≡ Some it) =
+    some_of (method_base state asked part.0)
     (no_first (λ it. NotMethod it (class_told state asked it)) _ part.0 is_method) in
     let before : (it : ObjState) × (base_version state asked part.0 ≡ Some it) =
     some_of (base_version state asked part.0) (no_wait _ is_version) in
@@ -317,7 +319,8 @@ performs state new client number sent part accepted made stored =
     record {
       bases = λ object. made.base;
       grounds = λ object names. subst
-          (λ (it : ObjectId). IsGround state (asked_at state client number sent (body.Act (part ∷ []))) it made.candidate
+          (λ (it : ObjectId). IsGround state (asked_at state client number sent (body.Act (part ∷ []))) it
+          made.candidate
           made.base) (one_named part object names) made.grounds;
       versions = λ object. after;
       performed = record {
@@ -376,8 +379,8 @@ moves state new client number round sent mac part accepted may made is_new =
 
 pub act_moves : (state : ReplicaState) (client : ClientId) (number round : ℕ) (sets : List SetOf) (mac : List ℕ)
     (part : ObjectId × Method) → HasParts (frame.Request client number round sets (body.Act (part ∷ [])) mac)
-    → ((on_frame state (frame.Request client number round sets (body.Act (part ∷ [])) mac)).0 ≡ state)
-    ⊎ Accepts state (on_frame state (frame.Request client number round sets (body.Act (part ∷ [])) mac)).0
+    → ((replica_on_frame state (frame.Request client number round sets (body.Act (part ∷ [])) mac)).0 ≡ state)
+    ⊎ Accepts state (replica_on_frame state (frame.Request client number round sets (body.Act (part ∷ [])) mac)).0
     (frame.Request client number round sets (body.Act (part ∷ [])) mac)
 act_moves state client number round sets mac part parts =
     let asked : Asked = asked_at state client number sets (body.Act (part ∷ [])) in

@@ -14,7 +14,7 @@ use Rattle.qu_history.specs.History.{ObjectHistory, holds}
 use Rattle.qu_history.specs.Sets.{entries_of, order_of, latest_of, object_candidate, if_method, method_at}
 use Rattle.qu_history.proofs.Stamps.{not_below_latest}
 use Rattle.qu_rows.specs.Rows.{Asked, fresh_stamp, asked_of, act_asked}
-use Rattle.qu_class.specs.Repairable.{base_of}
+use Rattle.qu_class.specs.Repairable.{object_base}
 use Rattle.qu_rows.specs.State.{ReplicaState, own_candidates, own_latest}
 use Rattle.qu_claims.specs.Grounds.{IsGround, Reasons, AddsTo, IsMade, IsFound, made_stamp, Performs, IsRemedy}
 use Rattle.qu_rows.proofs.Allowed.{fresh_later}
@@ -61,11 +61,12 @@ found_is : (bounds : ℕ) (entries : List ObjectHistory) (found : Option Candida
     → if_method bounds entries found ≡ Some base → found ≡ Some base
 unfolding if_method
 found_is bounds entries None base given = absurd (none-some base given)
-found_is bounds entries (Some candidate) base given = ap (λ (it : Candidate). Some it) (cond_some _ candidate base given).1
+found_is bounds entries (Some candidate) base given = ap (λ (it : Candidate). Some it) (cond_some _ candidate base
+    given).1
 
 pub base_of_method : (bounds : ℕ) (entries : List ObjectHistory) (base : Candidate)
-    → method_at bounds entries ≡ Some base → base_of bounds entries ≡ base
-unfolding method_at base_of
+    → method_at bounds entries ≡ Some base → object_base bounds entries ≡ base
+unfolding method_at object_base
 base_of_method bounds entries base given =
     ap (λ (found : Option Candidate). unwrap_or found opening)
     (found_is bounds entries (object_candidate bounds entries) base given)
@@ -158,7 +159,8 @@ module _ (old new : ReplicaState) (asked : Asked) (candidates : ObjectId → Can
       by_remedy target candidate version (IsRemedy.inline_barrier barrier found) = inr found
       by_remedy target candidate version (IsRemedy.inline_method state plain found stored) = inr found
       by_remedy target candidate version (IsRemedy.barrier barrier made) = inl made
-      by_remedy target candidate version (IsRemedy.copy latest state plain made barrier is_latest full stored) = inl made
+      by_remedy target candidate version (IsRemedy.copy latest state plain made barrier is_latest full stored) = inl
+          made
 
 -- what has an act's digest was made for an act
 pub record IsOfAct (old new : ReplicaState) (asked : Asked) (asks : Body) (candidates : ObjectId → Candidate)

@@ -1,9 +1,9 @@
 -- What a replica accepts it handled, and it was made for that act; and a request that was handled was sent.
 use Rattle.qu_trace.specs.Faulty.{is_faulty}
 use Rattle.qu_claims.specs.Carried.{offered}
-use Rattle.qu_runs.proofs.Handing.{handed_offers, handed_correct}
+use Rattle.qu_runs.proofs.Events.Handing.{handed_offers, handed_correct}
 use Rattle.qu_claims.specs.Handled.{is_handler}
-use Rattle.qu_runs.proofs.Plain.{setup_after}
+use Rattle.qu_runs.proofs.Digests.Plain.{setup_after}
 use Rattle.std.proofs.Common.{false}
 use Rattle.std.proofs.Common.{◌≡◌, ℕ, ◌<◌, ◌≤◌, Bool, true, not, cond, List, [], ◌∷◌, length, Option, None, Some, refl, sym, ap, ◌∙◌, arith}
 use Rattle.std.specs.Prelude.{slice_get, nat_le, nat_lt, Contains, option_map}
@@ -35,19 +35,19 @@ use Rattle.qu_trace.specs.declared.trace.Trace.{Trace}
 use Rattle.qu_world.specs.State.{letter_of, ring_of}
 use Rattle.qu_world.specs.Step.{world_step}
 use Rattle.qu_world.specs.Run.{IsRun}
-use Rattle.qu_claims.specs.Handled.{Request, is_known, request_to, request_by, handled_by, IsHandled, IsMadeFor, request_brought}
+use Rattle.qu_claims.specs.Handled.{Request, is_of_setup, request_to, request_by, handled_by, IsHandled, IsMadeFor, request_brought}
 use Rattle.qu_claims.specs.Grounds.{Accepts, IsDelivered, Performs}
 use Rattle.qu_claims.specs.Parts.{Names}
 use Rattle.qu_claims.specs.Times.{world_after}
-use Rattle.qu_runs.proofs.OpeningReplicas.{all_replicas, keys_are, me_is}
+use Rattle.qu_runs.proofs.Worlds.OpeningReplicas.{all_replicas, keys_are, me_is}
 use Rattle.qu_accepts.proofs.KnownObjects.{are_had, delivered_had}
-use Rattle.qu_runs.proofs.Objects.{run_has, found_within}
-use Rattle.qu_runs.proofs.Recording.{letter_stays}
+use Rattle.qu_runs.proofs.Worlds.Objects.{run_has, found_within}
+use Rattle.qu_runs.proofs.Events.Recording.{letter_stays}
 use Rattle.qu_claims.specs.Carried.{Brings, handed}
 use Rattle.qu_frames.specs.Signing.{brought}
 use Rattle.qu_seal.specs.Keys.{Ring}
 use Rattle.qu_base.specs.declared.party.ReplicaId.{ReplicaId}
-use Rattle.qu_runs.proofs.Handing.{hand}
+use Rattle.qu_runs.proofs.Events.Handing.{hand}
 use Rattle.qu_frames.specs.declared.frame.Body.{Body}
 
 -- ---- what is accepted was handled
@@ -56,7 +56,8 @@ one_known : (size number count : ℕ) → size ≤ count → not (nat_le size nu
 one_known size number count few had = grind (arith, nat_tests)
 
 all_known : (setup : Setup) (size : ℕ) → size ≤ length setup.kinds → (sets : List SetOf)
-    → list_all (λ (set : SetOf). not (nat_le size (set.object).0)) sets ≡ true → list_all (is_known setup) sets ≡ true
+    → list_all (λ (set : SetOf). not (nat_le size (set.object).0)) sets ≡ true → list_all (is_of_setup setup) sets
+    ≡ true
 all_known setup size few [] had = refl
 all_known setup size few (set ∷ sets) had =
     let parts : (not (nat_le size (set.object).0) ≡ true)
@@ -102,7 +103,7 @@ handler_at trace time event place old is_old text hands =
 -- the objects that it has are the setup's
 pub known_sent : (trace : Trace) (time place : ℕ) (old : ReplicaState)
     → slice_get (world_after trace time).replicas place ≡ Some old → (sent : List SetOf) → are_had old sent ≡ true
-    → list_all (is_known trace.setup) sent ≡ true
+    → list_all (is_of_setup trace.setup) sent ≡ true
 known_sent trace time place old is_old sent had =
     all_known trace.setup (length old.histories)
     (found_within (length trace.setup.kinds) (world_after trace time).replicas place old (run_has trace time) is_old)
@@ -117,7 +118,7 @@ pub request_handled : (trace : Trace) → IsRun trace → (time : ℕ) → time 
     → are_had old sent ≡ true → culled old.keys old.me sent ≡ request.sets
     → handled_by trace event ≡ Some request
 request_handled trace is_run time within event place old is_old text hands request round sent mac brings had culls =
-    let known : list_all (is_known trace.setup) sent ≡ true = known_sent trace time place old is_old sent had in
+    let known : list_all (is_of_setup trace.setup) sent ≡ true = known_sent trace time place old is_old sent had in
     let handles : is_handler trace.setup (record { 0 = place }) ≡ true =
     handler_at trace time event place old is_old text hands in
     request_offered trace is_run time (omega arith) event (party.Replica (record { 0 = place })) text

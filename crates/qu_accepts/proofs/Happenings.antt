@@ -14,7 +14,7 @@ use Rattle.qu_frames.specs.declared.frame.Frame.{Frame}
 use Rattle.qu_frames.specs.declared.frame.Letter.{Letter}
 use Rattle.qu_rows.specs.State.{ReplicaState, own_candidates}
 use Rattle.qu_rows.specs.Allowed.{HasParts}
-use Rattle.qu_replica.specs.Step.{on_received, replica_step}
+use Rattle.qu_replica.specs.Step.{replica_on_received, replica_step}
 use Rattle.qu_client.specs.declared.state.ClientState.{ClientState}
 use Rattle.qu_client.specs.declared.state.Stepped.{Stepped}
 use Rattle.qu_client.specs.Steps.{client_invoke, client_step, client_tick}
@@ -31,22 +31,22 @@ use Rattle.qu_frames.specs.Decoding.{decoded}
 use Rattle.qu_runs.specs.Plain.{ArePlain}
 use Rattle.qu_frames.specs.Signing.{brought}
 use Rattle.qu_frames.proofs.Signed.{brought_is_decoded}
-use Rattle.qu_runs.proofs.Handing.{letter_handed, offered_handed}
+use Rattle.qu_runs.proofs.Events.Handing.{letter_handed, offered_handed}
 use Rattle.qu_trace.specs.declared.trace.Trace.{Trace}
 use Rattle.qu_trace.specs.declared.trace.Entry.{Entry}
 use Rattle.qu_world.specs.Run.{IsRun}
 use Rattle.qu_claims.specs.Times.{world_after}
-use Rattle.qu_runs.proofs.FitParts.{fits_parts}
-use Rattle.qu_runs.proofs.Fitting.{handed_fits}
+use Rattle.qu_runs.proofs.Fits.FitParts.{fits_parts}
+use Rattle.qu_runs.proofs.Fits.Fitting.{handed_fits}
 use Rattle.qu_base.specs.Bounds.{AreThresholds}
-use Rattle.qu_runs.proofs.OpeningReplicas.{bounds_are}
+use Rattle.qu_runs.proofs.Worlds.OpeningReplicas.{bounds_are}
 use Rattle.qu_base.proofs.ThresholdFacts.{are_thresholds}
 use Rattle.qu_frames.specs.Formats.{frame_form}
 use Rattle.qu_frames.specs.declared.frame.Frame.TheVariants as frame
 use Rattle.qu_accepts.proofs.Formed.{sets_formed}
 use Rattle.qu_history.specs.Culling.{culled}
-use Rattle.qu_replica.proofs.FitCulled.{culled-fits}
-use Rattle.qu_replica.proofs.FitSteps.{request-fits}
+use Rattle.qu_replica.proofs.Fits.FitCulled.{culled-fits}
+use Rattle.qu_replica.proofs.Fits.FitSteps.{request-fits}
 
 -- ---- a replica before an event
 
@@ -89,7 +89,7 @@ record IsAccepted (read : Option Frame) (old new : ReplicaState) : Type 0 where
 
 text_moves : (old : ReplicaState) (read : Option Frame) → ((frame : Frame) → read ≡ Some frame → HasParts frame)
     → ((frame : Frame) → read ≡ Some frame → IsFormed old frame)
-    → ((on_received old read).0 ≡ old) ⊎ IsAccepted read old (on_received old read).0
+    → ((replica_on_received old read).0 ≡ old) ⊎ IsAccepted read old (replica_on_received old read).0
 text_moves old (Some frame) parts formed =
     elim (step_moves old frame (parts frame refl) (formed frame refl)) [
       | inl same ↦ inl same

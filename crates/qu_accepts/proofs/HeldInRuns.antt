@@ -13,10 +13,10 @@ use Rattle.qu_world.specs.Step.{world_step}
 use Rattle.qu_world.specs.Run.{IsRun}
 use Rattle.qu_claims.specs.Times.{world_after}
 use Rattle.qu_runs.specs.Plain.{ArePlain}
-use Rattle.qu_runs.proofs.Befores.{WasBefore, was_before}
+use Rattle.qu_runs.proofs.Worlds.Befores.{WasBefore, was_before}
 use Rattle.qu_accepts.proofs.Happenings.{hands_parts}
 use Rattle.qu_accepts.proofs.HeldVersions.{AreOfHeld, opening_of_held, event_of_held}
-use Rattle.qu_runs.proofs.WorldGrowth.{world_after-none, world_after-next}
+use Rattle.qu_runs.proofs.Worlds.WorldGrowth.{world_after-none, world_after-next}
 use Rattle.qu_runs.proofs.Small.{some_entry}
 use Rattle.qu_seal.specs.Keys.{Ring}
 

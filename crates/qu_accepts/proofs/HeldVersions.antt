@@ -17,7 +17,8 @@ use Rattle.qu_objects.specs.declared.kind.KindName.{KindName}
 use Rattle.qu_objects.specs.declared.state.ObjState.{ObjState}
 use Rattle.qu_frames.specs.declared.frame.Frame.{Frame}
 use Rattle.qu_rows.specs.State.{ReplicaState, candidates_in, own_candidates}
-use Rattle.qu_replica.specs.State.{opening_histories, opening_version, opening_versions, opening_state}
+use Rattle.qu_replica.specs.State.{opening_histories, opening_versions, replica_at_start}
+use Rattle.qu_objects.specs.Kind.{opening_version}
 use Rattle.qu_rows.specs.Versions.{version_at}
 use Rattle.qu_trace.specs.declared.event.Event.{Event}
 use Rattle.qu_world.specs.State.{WorldState}
@@ -69,7 +70,7 @@ opening_from me first (kind ∷ kinds) object stamp version found =
     ]
 
 pub opening_of_held : (me : ReplicaId) (keys : Ring) (kinds : List KindName)
-    → AreOfHeld (opening_state me keys kinds)
+    → AreOfHeld (replica_at_start me keys kinds)
 opening_of_held me keys kinds = record {
   of_held = λ object stamp version found.
       let begun : IsOpening me 0 kinds object stamp = opening_from me 0 kinds object stamp version found in

@@ -21,14 +21,14 @@ use Rattle.qu_rows.specs.State.{ReplicaState, own_candidates}
 use Rattle.qu_rows.specs.Rows.{Asked, asked_at, refuse, row_unknown, decide_act, decide_ask, decide_repair, decision_on}
 use Rattle.qu_rows.specs.declared.decision.Decision.TheVariants.{Waits}
 use Rattle.qu_rows.specs.Table.{first_given}
-use Rattle.qu_replica.specs.Step.{carried_out, on_frame, on_received, replica_step}
+use Rattle.qu_replica.specs.Step.{carried_out, replica_on_frame, replica_on_received, replica_step}
 use Rattle.qu_trace.specs.declared.event.Event.{Event}
 use Rattle.qu_world.specs.State.{WorldState}
 use Rattle.qu_world.specs.Step.{world_step, at_replica}
 use Rattle.qu_claims.specs.Grounds.{Accepts, IsDelivered, AddsTo}
 use Rattle.qu_accepts.proofs.ActAcceptance.{accepted_in, AcceptsNothing, unknown, carried, stays}
 use Rattle.qu_world.proofs.Each.{set_here}
-use Rattle.qu_runs.proofs.Handing.{handed_step}
+use Rattle.qu_runs.proofs.Events.Handing.{handed_step}
 use Rattle.qu_frames.specs.declared.frame.Body.{Body}
 
 -- ---- the rows
@@ -97,7 +97,7 @@ not_added candidates candidate same =
 
 step_had : (state : ReplicaState) (client : ClientId) (number round : ℕ) (sets : List SetOf) (asks : Body)
     (mac : List ℕ) (object : ObjectId) (candidate : Candidate)
-    → own_candidates (on_frame state (frame.Request client number round sets asks mac)).0
+    → own_candidates (replica_on_frame state (frame.Request client number round sets asks mac)).0
     object ≡ own_candidates state object ++ candidate ∷ [] → are_had state sets ≡ true
 step_had state client number round sets asks mac object candidate added =
     let asked : Asked = asked_at state client number sets asks in
@@ -112,11 +112,11 @@ step_had state client number round sets asks mac object candidate added =
     ]
 
 had_by : (old new : ReplicaState) (taken : Frame) (object : ObjectId) (accepts : Accepts old new taken)
-    → AddsTo accepts.asks object → (on_frame old taken).0 ≡ new → are_had old accepts.sent ≡ true
+    → AddsTo accepts.asks object → (replica_on_frame old taken).0 ≡ new → are_had old accepts.sent ≡ true
 had_by old new taken object accepts adds is =
     step_had old accepts.client accepts.number accepts.round accepts.sent accepts.asks
     accepts.mac object (accepts.candidates object)
-    (ap (λ (it : Frame). own_candidates (on_frame old it).0 object) (sym accepts.is_request)
+    (ap (λ (it : Frame). own_candidates (replica_on_frame old it).0 object) (sym accepts.is_request)
     ∙ ap (λ (it : ReplicaState). own_candidates it object) is ∙ accepts.added object adds)
 
 -- ---- the same in a run
@@ -124,14 +124,14 @@ had_by old new taken object accepts adds is =
 -- the replica that took the text stepped
 delivered_to : (world : WorldState) (event : Event) (place : ℕ) (old new : ReplicaState) (object : ObjectId)
     (happened : IsDelivered world event place old new object) → slice_get world.replicas place ≡ Some old
-    → slice_get (world_step world event).replicas place ≡ Some new → (on_frame old happened.carried).0 ≡ new
+    → slice_get (world_step world event).replicas place ≡ Some new → (replica_on_frame old happened.carried).0 ≡ new
 delivered_to world event place old new object happened is_old is_new =
     let text : List ℕ = happened.text in
     let stepped : ReplicaState = (replica_step old text).0 in
     let is : world_step world event ≡ at_replica world event (record { 0 = place }) text (Some old) =
     handed_step world event (party.Replica (record { 0 = place })) text happened.is_handed ∙
     ap (at_replica world event (record { 0 = place }) text) is_old in
-    ap (λ it. (on_received old it).0) (sym happened.brings) ∙
+    ap (λ it. (replica_on_received old it).0) (sym happened.brings) ∙
     same_Some stepped new (sym (set_here world.replicas place old stepped is_old)
     ∙ ap (λ (it : WorldState). slice_get it.replicas place) (sym is) ∙ is_new)
 

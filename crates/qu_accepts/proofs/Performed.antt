@@ -170,13 +170,15 @@ pub stored_before : (old new : ReplicaState) (asked : Asked) (asks : Body) (cand
     → (version_at object stamp old.versions ≡ Some version)
     ⊎ (AddsTo asks object × ((candidates object).stamp ≡ stamp))
 stored_before old new asked (body.Act parts) candidates reasons object stamp version found =
-    elim (stored_cases object stamp old.versions _ version (ap (version_at object stamp) (sym reasons.stored) ∙ found)) [
+    elim (stored_cases object stamp old.versions _ version
+    (ap (version_at object stamp) (sym reasons.stored) ∙ found)) [
       | inl before ↦ inl before
       | inr newest ↦ inr (among_stored candidates reasons.versions parts object stamp version newest)
     ]
 stored_before old new asked (body.Ask parts) candidates reasons object stamp version found = absurd reasons
 stored_before old new asked (body.Mend target) candidates reasons object stamp version found =
-    elim (stored_cases object stamp old.versions _ version (ap (version_at object stamp) (sym reasons.stored) ∙ found)) [
+    elim (stored_cases object stamp old.versions _ version
+    (ap (version_at object stamp) (sym reasons.stored) ∙ found)) [
       | inl before ↦ inl before
       | inr newest ↦
           let both : (target ≡ object) × ((candidates target).stamp ≡ stamp) =

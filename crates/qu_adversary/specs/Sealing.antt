@@ -12,13 +12,13 @@ use Rattle.qu_history.specs.Culling.{history_digest}
 use Rattle.qu_history.specs.History.{ObjectHistory}
 use Rattle.qu_frames.specs.Blank.{blank_mac}
 
-abbrev pub is_one_of : List ReplicaId → ℕ → Bool
-is_one_of good number = list_any (λ (other : ReplicaId). other.0 == number) good
+abbrev pub is_number_in : List ReplicaId → ℕ → Bool
+is_number_in good number = list_any (λ (other : ReplicaId). other.0 == number) good
 
 -- the HMAC of a digest for the replica with this number: right for the chosen ones, and else zero bytes
 unfoldable pub mac_for : Ring → ReplicaId → List ReplicaId → Digest → ℕ → List ℕ
 mac_for ring me good text number =
-    if is_one_of good number then seal_of ring (Replica me) (Replica (record { 0 = number })) text else blank_mac
+    if is_number_in good number then seal_of ring (Replica me) (Replica (record { 0 = number })) text else blank_mac
 
 -- one for each replica
 unfoldable pub authenticator_for : Ring → ReplicaId → List ReplicaId → Digest → List (List ℕ)

@@ -1,5 +1,5 @@
 ghost use Rattle.std.specs.Prelude.{◌≡◌, IfOk};
-ghost use Rattle.qu_adversary.specs.Sealing.{is_one_of, mac_for, authenticator_for, sealed_for};
+ghost use Rattle.qu_adversary.specs.Sealing.{is_number_in, mac_for, authenticator_for, sealed_for};
 
 use qu_base::{Digest, List, NoMemory, Party, ReplicaId};
 use qu_frames::blank_mac;
@@ -49,7 +49,7 @@ fn authenticator_for(
 fn mac_for(keys: &KeyRing, me: ReplicaId, good: &[ReplicaId], number: u8, text: &Digest) -> [u8; 32]
     ensures { result ≡ mac_for keys.now me good.now text.now number }
 {
-    if is_one_of(good, number) {
+    if is_number_in(good, number) {
         let other = Party::Replica(ReplicaId(number));
         keys.seal_for(Party::Replica(me), other, text)
     } else {
@@ -58,8 +58,8 @@ fn mac_for(keys: &KeyRing, me: ReplicaId, good: &[ReplicaId], number: u8, text: 
 }
 
 /// Whether the replica with this number is one of these.
-fn is_one_of(good: &[ReplicaId], number: u8) -> bool
-    ensures { result ≡ is_one_of good.now number }
+fn is_number_in(good: &[ReplicaId], number: u8) -> bool
+    ensures { result ≡ is_number_in good.now number }
 {
     good.iter().any(|other| other.0 == number)
 }

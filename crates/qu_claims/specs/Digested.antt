@@ -28,8 +28,8 @@ pub record Text : Type 0 where
   pub bytes : List ℕ
 
 -- a frame is digested up to its HMAC
-abbrev pub frame_text : List ℕ → Text
-frame_text text = record { tag = FRAME_TAG; bytes = before_mac text }
+abbrev pub signed_text : List ℕ → Text
+signed_text text = record { tag = FRAME_TAG; bytes = before_mac text }
 
 abbrev pub history_text : Sealed → Text
 history_text sealed = record { tag = HISTORY_TAG; bytes = history_form.spell sealed.history }
@@ -48,7 +48,7 @@ texts_of (Some request) = record { tag = SETS_TAG; bytes = sets_text request.set
 
 -- bytes that are taken are digested where they are a frame
 abbrev pub taken_texts : List ℕ → Result Frame BadText → List Text
-taken_texts text (Ok frame) = frame_text text ∷ []
+taken_texts text (Ok frame) = signed_text text ∷ []
 taken_texts text (Err bad) = []
 
 -- what a correct party digests of the bytes that it is handed: the frame, and of a request that a replica handles
@@ -59,7 +59,7 @@ handed_texts setup (Some (to, text)) = taken_texts text (decoded text) ++ map hi
 
 -- what it digests of a letter that it sends: the frame, and the histories that a reply shows
 abbrev pub sent_texts : Letter → List Text
-sent_texts letter = frame_text letter.text ∷ map history_text (shown_by letter)
+sent_texts letter = signed_text letter.text ∷ map history_text (shown_by letter)
 
 -- the texts that are digested at the event of an entry
 unfoldable pub texts_at : Trace → Entry → List Text

@@ -16,7 +16,7 @@ use Rattle.qu_objects.specs.Performing.{performed_values}
 use Rattle.qu_kept.specs.Performing.{row_by, links_to_others, state_after}
 use Rattle.qu_kept.specs.Rows.{row_of}
 use Rattle.qu_kept.specs.Standing.{IsLower}
-use Rattle.qu_class.specs.Repairable.{base_of}
+use Rattle.qu_class.specs.Repairable.{object_base}
 use Rattle.qu_frames.specs.declared.frame.Body.{Body}
 use Rattle.qu_frames.specs.declared.frame.Body.TheVariants as body
 use Rattle.qu_frames.specs.declared.frame.Frame.{Frame}
@@ -29,7 +29,7 @@ use Rattle.qu_rows.specs.Versions.{version_at}
 use Rattle.qu_trace.specs.declared.event.Event.{Event}
 use Rattle.qu_world.specs.State.{WorldState}
 use Rattle.qu_claims.specs.Carried.{handed, Brings}
-use Rattle.qu_claims.specs.Parts.{Names, values_of}
+use Rattle.qu_claims.specs.Parts.{Names, values_on}
 
 -- the stamp of a candidate that is made upon these sets: its time is after the latest
 abbrev pub made_stamp : Asked → ObjectId → Bool → Stamp
@@ -46,7 +46,7 @@ made_stamp asked object barrier =
 -- one is asked for, and of the sets
 pub record IsMade (bounds : ℕ) (asked : Asked) (object : ObjectId) (candidate : Candidate) : Type 0 where
   pub stamp : candidate.stamp ≡ made_stamp asked object candidate.stamp.barrier
-  pub prior : candidate.prior ≡ (base_of bounds (entries_of object asked.sets)).stamp
+  pub prior : candidate.prior ≡ (object_base bounds (entries_of object asked.sets)).stamp
 
 -- it is shown the candidate, by so many that it may be repaired, and nothing later
 pub record IsFound (bounds : ℕ) (asked : Asked) (object : ObjectId) (candidate : Candidate) : Type 0 where
@@ -71,11 +71,11 @@ pub record ArePerformed (state : ReplicaState) (client : ClientId) (number : ℕ
   pub befores : ObjectId → ObjState
   pub of_bases : (object : ObjectId) → Names parts object
       → version_at object (bases object).stamp state.versions ≡ Some (befores object)
-  pub values : performed_values parts (values_of (λ (object : ObjectId). (befores object).value) parts)
-      ≡ values_of (λ (object : ObjectId). (versions object).value) parts
+  pub values : performed_values parts (values_on (λ (object : ObjectId). (befores object).value) parts)
+      ≡ values_on (λ (object : ObjectId). (versions object).value) parts
   pub lower : (object : ObjectId) → Names parts object → IsLower number (row_of client (befores object).kept)
   pub afters : (object : ObjectId) → Names parts object → versions object ≡ state_after
-      (row_by client number parts (values_of (λ (it : ObjectId). (befores it).value) parts)) (versions object).value
+      (row_by client number parts (values_on (λ (it : ObjectId). (befores it).value) parts)) (versions object).value
       (links_to_others object (candidates object).stamp parts) (befores object)
 
 -- the versions that are stored with the candidates of the parts

@@ -38,13 +38,13 @@ pub record Request : Type 0 where
   pub body : Body
 
 -- the setup has this object
-abbrev pub is_known : Setup → SetOf → Bool
-is_known setup set = nat_lt (set.object).0 (length setup.kinds)
+abbrev pub is_of_setup : Setup → SetOf → Bool
+is_of_setup setup set = nat_lt (set.object).0 (length setup.kinds)
 
 -- the request that a frame carries to this replica, where no object of its sets is unknown
 abbrev pub request_in : Setup → ReplicaId → Frame → Option Request
 request_in setup me (frame.Request client number round sets body mac) =
-    if list_all (is_known setup) sets then Some
+    if list_all (is_of_setup setup) sets then Some
     (record { client = client; number = number; sets = culled (ring_of setup) me sets; body = body }) else None
 request_in setup me _ = None
 
@@ -93,7 +93,7 @@ pub record IsMadeFor (trace : Trace) (candidate : Candidate) (client : ClientId)
 -- the entries in the sets of a request, where no object of its sets is unknown
 abbrev pub entries_in : Setup → Frame → List Sealed
 entries_in setup (frame.Request client number round sets body mac) =
-    if list_all (is_known setup) sets then flat_map (λ (set : SetOf). set.entries) sets else []
+    if list_all (is_of_setup setup) sets then flat_map (λ (set : SetOf). set.entries) sets else []
 entries_in setup _ = []
 
 abbrev pub entries_brought : Setup → Option Frame → List Sealed

@@ -81,8 +81,8 @@ abbrev pub IsPoint : Trace → Point → Type 0
 IsPoint trace point = IsUpdatePoint trace point ⊎ IsQueryPoint trace point
 
 -- the bytes by which a request asks for an operation
-abbrev pub body_text : Op → List ℕ
-body_text op = (body_form []).spell (body_of op)
+abbrev pub op_bytes : Op → List ℕ
+op_bytes op = (body_form []).spell (body_of op)
 
 -- by event; points of one event go by client, then number, then the bytes of what is asked for
 abbrev pub point_cmp : Point → Point → Ordering
@@ -90,7 +90,7 @@ point_cmp a b =
     ordering_then (nat_cmp a.event b.event)
     (ordering_then (nat_cmp (a.client).0 (b.client).0)
     (ordering_then (nat_cmp a.number b.number)
-    (slice_cmp nat_cmp (body_text a.op) (body_text b.op))))
+    (slice_cmp nat_cmp (op_bytes a.op) (op_bytes b.op))))
 
 abbrev pub is_earlier : Point → Point → Bool
 is_earlier a b = is_lt (point_cmp a b)

@@ -10,5 +10,5 @@ Names [] object = ⊥
 Names (part ∷ parts) object = (part.0 ≡ object) ⊎ Names parts object
 
 -- the values of the objects that the parts name
-abbrev pub values_of : (ObjectId → Value) → List (ObjectId × Method) → List Value
-values_of value parts = map (λ (part : ObjectId × Method). value part.0) parts
+abbrev pub values_on : (ObjectId → Value) → List (ObjectId × Method) → List Value
+values_on value parts = map (λ (part : ObjectId × Method). value part.0) parts

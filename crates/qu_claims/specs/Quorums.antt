@@ -36,7 +36,7 @@ StandsUpon trace (verdict.Already answer) object candidate complete =
 StandsUpon trace _ object candidate complete = candidate ≡ complete
 
 -- so many correct replicas had accepted a candidate of the act, on this object, before the event of its reply, that
--- with b more they are a quorum (Query/Update: a complete candidate)
+-- with b more they are a quorum (Query/Update: an established candidate)
 pub record PartOfQuorum (trace : Trace) (operation : OpRecord) (parts : List (ObjectId × Method)) (reply : ℕ)
     (told : Verdict) (object : ObjectId) : Type 0 where
   pub candidate : Candidate

@@ -16,7 +16,7 @@ use Rattle.qu_kept.specs.Standing.{IsLower}
 use Rattle.qu_trace.specs.declared.trace.Trace.{Trace}
 use Rattle.qu_claims.specs.RunSetting.{setting}
 use Rattle.qu_claims.specs.Updates.{Update, IsOf, IsEverAccepted}
-use Rattle.qu_claims.specs.Parts.{Names, values_of}
+use Rattle.qu_claims.specs.Parts.{Names, values_on}
 
 -- on this object the candidate's update is performed upon this base
 pub record RestsOn (trace : Trace) (object : ObjectId) (candidate : Candidate) (other : ObjectId) (base : Candidate)
@@ -45,11 +45,11 @@ pub data HasVersion (trace : Trace) : ObjectId → Candidate → ObjState → Ty
       → IsOf trace update object candidate
       → ((other : ObjectId) → Names update.parts other → RestsOn trace object candidate other (bases other))
       → ((other : ObjectId) → Names update.parts other → HasVersion trace other (bases other) (befores other))
-      → performed_values update.parts (values_of (λ (other : ObjectId). (befores other).value) update.parts)
-      ≡ values_of afters update.parts
+      → performed_values update.parts (values_on (λ (other : ObjectId). (befores other).value) update.parts)
+      ≡ values_on afters update.parts
       → state ≡ state_after
       (row_by update.client update.number update.parts
-      (values_of (λ (other : ObjectId). (befores other).value) update.parts))
+      (values_on (λ (other : ObjectId). (befores other).value) update.parts))
       (afters object) (links_to_others object candidate.stamp update.parts) (befores object)
       → ((other : ObjectId) → Names update.parts other
       → IsLower update.number (row_of update.client (befores other).kept))

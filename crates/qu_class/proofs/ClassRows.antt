@@ -12,9 +12,9 @@ use Rattle.qu_history.specs.Sets.{order_of, latest_of, object_candidate, if_meth
 use Rattle.qu_history.proofs.Method.{order_of_most}
 use Rattle.qu_class.specs.declared.class.Class.{Class}
 use Rattle.qu_class.specs.declared.class.Class.TheVariants.{Method, InlineMethod, Copy, InlineBarrier, Barrier}
-use Rattle.qu_class.specs.Repairable.{barrier_candidate, base_of}
+use Rattle.qu_class.specs.Repairable.{barrier_candidate, object_base}
 use Rattle.qu_class.specs.Class.{is_latest, is_full, barrier_class, class_of}
-use Rattle.qu_class.specs.Rows.{AreWellFormed, MayBeRepaired, IsGreatestOfKind, IsLatestOfKind, NoneIsLatest, Tells}
+use Rattle.qu_class.specs.Rows.{AreWellFormed, MayBeRepaired, IsGreatestOfKind, IsLatestOfKind, NoneIsLatest, IsClassOf}
 use Rattle.qu_class.proofs.OfKind.{plain_is_object_candidate, greatest_of_kind_is, greatest_of_kind_tells, none_of_kind, stamp_at_latest, greatest_at_latest, base_is, base_is_greatest}
 
 pub latest_test : (entries : List ObjectHistory) (candidate : Candidate) → candidate.stamp ≡ latest_of entries
@@ -25,7 +25,7 @@ latest_test entries candidate latest =
 module _ (bounds : ℕ) (entries : List ObjectHistory) (formed : AreWellFormed bounds entries)
     (enough : quorum bounds ≤ length entries) where
   abbrev base : Candidate
-  base = base_of bounds entries
+  base = object_base bounds entries
 
   base_greatest : IsGreatestOfKind bounds entries false base
   base_greatest = base_is_greatest bounds entries formed enough
@@ -63,7 +63,7 @@ module _ (bounds : ℕ) (entries : List ObjectHistory) (formed : AreWellFormed b
       ]
 
   barrier_tells : is_latest entries base ≡ false → (found : Option Candidate) → barrier_candidate bounds entries ≡ found
-      → Tells bounds entries (barrier_class bounds entries base.stamp found)
+      → IsClassOf bounds entries (barrier_class bounds entries base.stamp found)
   unfolding barrier_class
   barrier_tells not_latest None none =
       (base, base_greatest, refl, none_is_latest not_latest (λ candidate may. none_at_all candidate none may))
@@ -74,7 +74,7 @@ module _ (bounds : ℕ) (entries : List ObjectHistory) (formed : AreWellFormed b
       greatest = greatest_of_kind_tells bounds entries formed true barrier is
 
       by_tests : (latest full : Bool) → is_latest entries barrier ≡ latest → is_full bounds entries barrier ≡ full
-          → Tells bounds entries
+          → IsClassOf bounds entries
           (cond (latest && full) Copy (cond latest (InlineBarrier barrier) (Barrier base.stamp)))
       by_tests true true is_latest_one is_full_one = (
         barrier,
@@ -94,13 +94,13 @@ module _ (bounds : ℕ) (entries : List ObjectHistory) (formed : AreWellFormed b
       )
 
   -- what the class says is so
-  pub class_tells : Tells bounds entries (class_of bounds entries)
+  pub class_tells : IsClassOf bounds entries (class_of bounds entries)
   unfolding class_of
   class_tells =
       by_tests (is_latest entries base) (is_full bounds entries base) refl refl
     where
       by_tests : (latest full : Bool) → is_latest entries base ≡ latest → is_full bounds entries base ≡ full
-          → Tells bounds entries
+          → IsClassOf bounds entries
           (cond (latest && full) (Method base)
           (cond latest (InlineMethod base)
           (barrier_class bounds entries base.stamp (barrier_candidate bounds entries))))
@@ -121,7 +121,7 @@ module _ (bounds : ℕ) (entries : List ObjectHistory) (formed : AreWellFormed b
   unfolding method_at if_method
   method_found candidate is =
       let tells : IsLatestOfKind bounds entries false candidate × (quorum bounds ≤ order_of candidate entries) =
-      subst (Tells bounds entries) is class_tells in
+      subst (IsClassOf bounds entries) is class_tells in
       let found : object_candidate bounds entries ≡ Some candidate =
       sym (plain_is_object_candidate bounds entries)
       ∙ greatest_of_kind_is bounds entries formed false candidate tells.0.greatest in
@@ -176,18 +176,19 @@ module _ (bounds : ℕ) (entries : List ObjectHistory) (formed : AreWellFormed b
       → quorum bounds ≤ length entries
   unfolding class_of
   enough_of_class candidate is =
-      by_tests (is_latest entries (base_of bounds entries)) (is_full bounds entries (base_of bounds entries)) refl is
+      by_tests (is_latest entries (object_base bounds entries)) (is_full bounds entries (object_base bounds entries))
+      refl is
     where
-      by_tests : (latest full : Bool) → is_full bounds entries (base_of bounds entries) ≡ full
-          → cond (latest && full) (Method (base_of bounds entries))
-          (cond latest (InlineMethod (base_of bounds entries))
-          (barrier_class bounds entries (base_of bounds entries).stamp (barrier_candidate bounds entries)))
+      by_tests : (latest full : Bool) → is_full bounds entries (object_base bounds entries) ≡ full
+          → cond (latest && full) (Method (object_base bounds entries))
+          (cond latest (InlineMethod (object_base bounds entries))
+          (barrier_class bounds entries (object_base bounds entries).stamp (barrier_candidate bounds entries)))
           ≡ Method candidate
           → quorum bounds ≤ length entries
-      by_tests true true is_full_one it = enough_where_full (base_of bounds entries) is_full_one
+      by_tests true true is_full_one it = enough_where_full (object_base bounds entries) is_full_one
       by_tests true false not_full it = absurd (cc)
       by_tests false full any it =
-          absurd (other_class candidate (base_of bounds entries).stamp (barrier_candidate bounds entries) it)
+          absurd (other_class candidate (object_base bounds entries).stamp (barrier_candidate bounds entries) it)
 
   enough_of_method : (found : Option Candidate) (candidate : Candidate)
       → if_method bounds entries found ≡ Some candidate → quorum bounds ≤ length entries
@@ -268,7 +269,7 @@ copy_has_quorum bounds entries is =
     by_tests (is_latest entries base) (is_full bounds entries base) is
   where
     base : Candidate
-    base = base_of bounds entries
+    base = object_base bounds entries
 
     by_tests : (latest full : Bool)
         → cond (latest && full) (Method base)
@@ -296,17 +297,18 @@ upon_prior bounds entries base prior (Some barrier) is =
 
 -- it rests upon the object candidate
 pub prior_of_barrier : (bounds : ℕ) (entries : List ObjectHistory) (prior : Stamp)
-    → class_of bounds entries ≡ Barrier prior → prior ≡ (base_of bounds entries).stamp
+    → class_of bounds entries ≡ Barrier prior → prior ≡ (object_base bounds entries).stamp
 unfolding class_of
 prior_of_barrier bounds entries prior is =
-    by_tests (is_latest entries (base_of bounds entries)) (is_full bounds entries (base_of bounds entries)) is
+    by_tests (is_latest entries (object_base bounds entries)) (is_full bounds entries (object_base bounds entries)) is
   where
     by_tests : (latest full : Bool)
-        → cond (latest && full) (Method (base_of bounds entries))
-        (cond latest (InlineMethod (base_of bounds entries))
-        (barrier_class bounds entries (base_of bounds entries).stamp (barrier_candidate bounds entries))) ≡ Barrier prior
-        → prior ≡ (base_of bounds entries).stamp
+        → cond (latest && full) (Method (object_base bounds entries))
+        (cond latest (InlineMethod (object_base bounds entries))
+        (barrier_class bounds entries (object_base bounds entries).stamp (barrier_candidate bounds entries)))
+        ≡ Barrier prior
+        → prior ≡ (object_base bounds entries).stamp
     by_tests true true is = absurd (cc)
     by_tests true false is = absurd (cc)
     by_tests false full is =
-        upon_prior bounds entries (base_of bounds entries).stamp prior (barrier_candidate bounds entries) is
+        upon_prior bounds entries (object_base bounds entries).stamp prior (barrier_candidate bounds entries) is

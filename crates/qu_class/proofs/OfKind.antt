@@ -16,7 +16,7 @@ use Rattle.qu_history.specs.Sets.{order_of, latest_of, candidates_of, object_can
 use Rattle.qu_history.proofs.Greatest.{greatest_cases, greatest_is, holds-filter, holds_in_filter}
 use Rattle.qu_history.proofs.Rising.{history_parts}
 use Rattle.qu_history.proofs.Stamps.{not_below_latest}
-use Rattle.qu_class.specs.Repairable.{is_of_kind, is_shown_of_kind, greatest_of_kind, base_of}
+use Rattle.qu_class.specs.Repairable.{is_of_kind, is_shown_of_kind, greatest_of_kind, object_base}
 use Rattle.qu_class.specs.Rows.{AreWellFormed, MayBeRepaired, IsGreatestOfKind}
 
 pub plain_is_object_candidate : (bounds : ℕ) (entries : List ObjectHistory)
@@ -185,8 +185,8 @@ module _ (bounds : ℕ) (entries : List ObjectHistory) (formed : AreWellFormed b
 
   module _ (enough : quorum bounds ≤ length entries) where
     -- there is an object candidate
-    pub base_is : object_candidate bounds entries ≡ Some (base_of bounds entries)
-    unfolding base_of
+    pub base_is : object_candidate bounds entries ≡ Some (object_base bounds entries)
+    unfolding object_base
     base_is =
         let opening_may : MayBeRepaired bounds entries false opening = record {
           kind = refl;
@@ -195,6 +195,6 @@ module _ (bounds : ℕ) (entries : List ObjectHistory) (formed : AreWellFormed b
         some_is (object_candidate bounds entries) (λ none. none_of_kind false opening
         (plain_is_object_candidate bounds entries ∙ none) opening_may)
 
-    pub base_is_greatest : IsGreatestOfKind bounds entries false (base_of bounds entries)
+    pub base_is_greatest : IsGreatestOfKind bounds entries false (object_base bounds entries)
     base_is_greatest =
-        greatest_of_kind_tells false (base_of bounds entries) (plain_is_object_candidate bounds entries ∙ base_is)
+        greatest_of_kind_tells false (object_base bounds entries) (plain_is_object_candidate bounds entries ∙ base_is)

@@ -10,16 +10,16 @@ use Rattle.qu_history.specs.History.{ObjectHistory}
 use Rattle.qu_history.specs.Sets.{order_of, latest_of}
 use Rattle.qu_class.specs.declared.class.Class.{Class}
 use Rattle.qu_class.specs.declared.class.Class.TheVariants.{Method, InlineMethod, Copy, InlineBarrier, Barrier}
-use Rattle.qu_class.specs.Repairable.{barrier_candidate, base_of}
+use Rattle.qu_class.specs.Repairable.{barrier_candidate, object_base}
 use Rattle.qu_class.specs.Class.{is_latest, is_full, barrier_class, class_of}
-use Rattle.qu_class.specs.Rows.{AreWellFormed, IsGreatestOfKind, IsLatestOfKind, NoneIsLatest, Tells}
+use Rattle.qu_class.specs.Rows.{AreWellFormed, IsGreatestOfKind, IsLatestOfKind, NoneIsLatest, IsClassOf}
 use Rattle.qu_class.proofs.OfKind.{plain_is_object_candidate, greatest_of_kind_is, greatest_of_kind_tells, base_is, base_is_greatest}
 use Rattle.qu_class.proofs.ClassRows.{latest_test}
 
 module _ (bounds : ℕ) (entries : List ObjectHistory) (formed : AreWellFormed bounds entries)
     (enough : quorum bounds ≤ length entries) where
   abbrev base : Candidate
-  base = base_of bounds entries
+  base = object_base bounds entries
 
   -- the classes where the object candidate is the latest or not, and a quorum holds it or not
   abbrev by_base : Bool → Bool → Class
@@ -86,7 +86,8 @@ module _ (bounds : ℕ) (entries : List ObjectHistory) (formed : AreWellFormed b
       → is_full bounds entries barrier ≡ full → class_of bounds entries ≡ by_barrier barrier true full
   latest_barrier barrier full is is_full_one =
       class_of_barrier (base_not_latest barrier is)
-      ∙ ap (barrier_class bounds entries base.stamp) (greatest_of_kind_is bounds entries formed true barrier is.greatest)
+      ∙ ap (barrier_class bounds entries base.stamp) (greatest_of_kind_is bounds entries formed true barrier
+      is.greatest)
       ∙ barrier_class_by barrier true full (latest_test entries barrier is.latest) is_full_one
 
   no_barrier : NoneIsLatest bounds entries → (found : Option Candidate) → barrier_candidate bounds entries ≡ found
@@ -106,7 +107,7 @@ module _ (bounds : ℕ) (entries : List ObjectHistory) (formed : AreWellFormed b
   short_test candidate short = lt-leb (quorum bounds) (order_of candidate entries) short
 
   -- an object has one class
-  pub class_is : (class : Class) → Tells bounds entries class → class_of bounds entries ≡ class
+  pub class_is : (class : Class) → IsClassOf bounds entries class → class_of bounds entries ≡ class
   class_is (Method candidate) tells =
       class_by true true (base_latest candidate tells.0)
       (ap (is_full bounds entries) (base_found candidate tells.0.greatest) ∙ full_test candidate tells.1)

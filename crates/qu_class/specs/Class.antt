@@ -8,7 +8,7 @@ use Rattle.qu_history.specs.History.{ObjectHistory}
 use Rattle.qu_history.specs.Sets.{order_of, latest_of}
 use Rattle.qu_class.specs.declared.class.Class.{Class}
 use Rattle.qu_class.specs.declared.class.Class.TheVariants.{Method, InlineMethod, Copy, InlineBarrier, Barrier}
-use Rattle.qu_class.specs.Repairable.{barrier_candidate, base_of}
+use Rattle.qu_class.specs.Repairable.{barrier_candidate, object_base}
 
 -- no stamp is above that of the candidate
 abbrev pub is_latest : List ObjectHistory → Candidate → Bool
@@ -29,7 +29,7 @@ barrier_class bounds entries prior (Some barrier) =
 -- the first that fits
 unfoldable pub class_of : ℕ → List ObjectHistory → Class
 class_of bounds entries =
-    let base = base_of bounds entries in
+    let base = object_base bounds entries in
     if is_latest entries base && is_full bounds entries base then Method base
     else if is_latest entries base then InlineMethod base
     else barrier_class bounds entries base.stamp (barrier_candidate bounds entries)

@@ -6,7 +6,7 @@ use Rattle.qu_stamp.specs.declared.stamp.Stamp.{Stamp}
 use Rattle.qu_history.specs.declared.sets.SetOf.{SetOf}
 use Rattle.qu_history.specs.Sets.{entries_of}
 use Rattle.qu_class.specs.declared.plan.CopyPlan.{CopyPlan}
-use Rattle.qu_class.specs.Repairable.{base_of}
+use Rattle.qu_class.specs.Repairable.{object_base}
 
 -- the versions that the plan has to know
 abbrev pub evidence_of : ℕ → List SetOf → ObjectId → List (ObjectId × Stamp)
@@ -14,4 +14,4 @@ evidence_of bounds sets target = []
 
 -- the object candidate is copied
 unfoldable pub plan_of : ℕ → List SetOf → ObjectId → CopyPlan
-plan_of bounds sets target = record { joint = (target, base_of bounds (entries_of target sets)) ∷ [] }
+plan_of bounds sets target = record { joint = (target, object_base bounds (entries_of target sets)) ∷ [] }

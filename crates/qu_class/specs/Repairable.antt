@@ -5,7 +5,7 @@ use Rattle.qu_stamp.specs.declared.candidate.Candidate.{Candidate}
 use Rattle.qu_stamp.specs.Candidate.{opening}
 use Rattle.qu_history.specs.History.{ObjectHistory}
 use Rattle.qu_history.specs.Sets.{candidates_of, greatest, object_candidate}
-use Rattle.qu_history.specs.Trimming.{is_shown}
+use Rattle.qu_history.specs.Trimming.{is_held_by}
 
 -- a candidate with a barrier, or one without
 abbrev pub is_of_kind : Bool → Candidate → Bool
@@ -14,7 +14,7 @@ is_of_kind false candidate = not candidate.stamp.barrier
 
 -- and so many of the entries hold it
 abbrev pub is_shown_of_kind : Bool → ℕ → List ObjectHistory → Candidate → Bool
-is_shown_of_kind barrier least entries candidate = is_of_kind barrier candidate && is_shown entries least candidate
+is_shown_of_kind barrier least entries candidate = is_of_kind barrier candidate && is_held_by entries least candidate
 
 -- the greatest of them
 unfoldable pub greatest_of_kind : Bool → ℕ → List ObjectHistory → Option Candidate
@@ -27,5 +27,5 @@ barrier_candidate bounds entries = greatest_of_kind true (repair bounds) entries
 
 -- the object candidate, upon which a barrier or a copy rests: where there is a quorum of histories there is one,
 -- since all of them hold the opening one
-unfoldable pub base_of : ℕ → List ObjectHistory → Candidate
-base_of bounds entries = unwrap_or (object_candidate bounds entries) opening
+unfoldable pub object_base : ℕ → List ObjectHistory → Candidate
+object_base bounds entries = unwrap_or (object_candidate bounds entries) opening

@@ -38,14 +38,14 @@ NoneIsLatest bounds entries =
     (candidate : Candidate) → repair bounds ≤ order_of candidate entries
     → is_below candidate.stamp (latest_of entries) ≡ true
 
-abbrev pub Tells : ℕ → List ObjectHistory → Class → Type 0
-Tells bounds entries (Method candidate) =
+abbrev pub IsClassOf : ℕ → List ObjectHistory → Class → Type 0
+IsClassOf bounds entries (Method candidate) =
     IsLatestOfKind bounds entries false candidate × (quorum bounds ≤ order_of candidate entries)
-Tells bounds entries (InlineMethod candidate) =
+IsClassOf bounds entries (InlineMethod candidate) =
     IsLatestOfKind bounds entries false candidate × (order_of candidate entries < quorum bounds)
-Tells bounds entries Copy =
+IsClassOf bounds entries Copy =
     (barrier : Candidate) × IsLatestOfKind bounds entries true barrier × (quorum bounds ≤ order_of barrier entries)
-Tells bounds entries (InlineBarrier candidate) =
+IsClassOf bounds entries (InlineBarrier candidate) =
     IsLatestOfKind bounds entries true candidate × (order_of candidate entries < quorum bounds)
-Tells bounds entries (Barrier prior) =
+IsClassOf bounds entries (Barrier prior) =
     (base : Candidate) × IsGreatestOfKind bounds entries false base × (base.stamp ≡ prior) × NoneIsLatest bounds entries

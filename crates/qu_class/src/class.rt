@@ -3,9 +3,9 @@ ghost use Rattle.qu_base.specs.Bounds.{quorum};
 ghost use Rattle.qu_history.specs.Sets.{entries_of, method_at};
 ghost use Rattle.qu_class.specs.Class.{is_latest, is_full, barrier_class, class_of};
 ghost use Rattle.qu_class.specs.Repairable.{barrier_candidate};
-ghost use Rattle.qu_class.specs.Rows.{AreWellFormed, Tells};
+ghost use Rattle.qu_class.specs.Rows.{AreWellFormed, IsClassOf};
 
-use super::repairable::{base_of, greatest_of_kind};
+use super::repairable::{greatest_of_kind, object_base};
 use qu_base::{Bounds, ObjectId};
 use qu_history::Sets;
 use qu_stamp::{Candidate, Stamp};
@@ -32,7 +32,7 @@ pub fn classify(sets: &Sets, object: ObjectId, bounds: &Bounds) -> Class
     ensures method { (candidate : Candidate) → (result ≡ Class.Method candidate)
         ↔ (method_at bounds.now (entries_of object sets.now) ≡ Some candidate) }
     ensures tells { quorum bounds.now ≤ length (entries_of object sets.now)
-        → Tells bounds.now (entries_of object sets.now) result }
+        → IsClassOf bounds.now (entries_of object sets.now) result }
 {
     class_of(sets, object, bounds)
 }
@@ -55,7 +55,7 @@ fn class_of(sets: &Sets, object: ObjectId, bounds: &Bounds) -> Class
     ensures value { result ≡ class_of bounds.now (entries_of object sets.now) }
     ensures formed { AreWellFormed bounds.now (entries_of object sets.now) }
 {
-    let base = base_of(sets, object, bounds);
+    let base = object_base(sets, object, bounds);
     if !is_latest(sets, object, &base) {
         return barrier_class(sets, object, bounds, base.stamp);
     }

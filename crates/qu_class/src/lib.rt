@@ -7,4 +7,4 @@ mod repairable;
 
 pub use class::{Class, classify, method_at};
 pub use plan::{CopyPlan, evidence, plan_copy};
-pub use repairable::base_of;
+pub use repairable::object_base;

@@ -5,7 +5,7 @@ ghost use Rattle.qu_class.specs.Class.{class_of};
 ghost use Rattle.qu_class.specs.Rows.{MayBeRepaired};
 ghost use Rattle.qu_class.specs.Plan.{evidence_of, plan_of};
 
-use super::repairable::base_of;
+use super::repairable::object_base;
 use qu_base::{Bounds, List, NoMemory, ObjectId};
 use qu_history::Sets;
 use qu_stamp::{Candidate, Stamp};
@@ -53,7 +53,7 @@ pub fn plan_copy(
     ensures sound { IfOk result (λ plan. All
         (λ part. MayBeRepaired bounds.now (entries_of part.0 sets.now) false part.1) plan.joint) }
 {
-    let chosen = base_of(sets, target, bounds);
+    let chosen = object_base(sets, target, bounds);
     Ok(CopyPlan {
         joint: List::one(alloc, (target, chosen))?,
     })

@@ -3,7 +3,7 @@ ghost use Rattle.qu_base.specs.Bounds.{quorum};
 ghost use Rattle.qu_history.specs.History.{is_history};
 ghost use Rattle.qu_history.specs.Sets.{entries_of, greatest};
 ghost use Rattle.qu_history.specs.Trimming.{greater_found};
-ghost use Rattle.qu_class.specs.Repairable.{is_shown_of_kind, greatest_of_kind, base_of};
+ghost use Rattle.qu_class.specs.Repairable.{is_shown_of_kind, greatest_of_kind, object_base};
 ghost use Rattle.qu_class.specs.Rows.{AreWellFormed, IsGreatestOfKind};
 
 use qu_base::{Bounds, ObjectId};
@@ -12,8 +12,8 @@ use qu_stamp::Candidate;
 
 /// The object candidate: the greatest candidate without barrier of an order that may be repaired. Each history holds
 /// the opening one.
-pub fn base_of(sets: &Sets, object: ObjectId, bounds: &Bounds) -> Candidate
-    ensures value { result ≡ base_of bounds.now (entries_of object sets.now) }
+pub fn object_base(sets: &Sets, object: ObjectId, bounds: &Bounds) -> Candidate
+    ensures value { result ≡ object_base bounds.now (entries_of object sets.now) }
     ensures greatest { quorum bounds.now ≤ length (entries_of object sets.now)
         → IsGreatestOfKind bounds.now (entries_of object sets.now) false result }
     ensures formed { AreWellFormed bounds.now (entries_of object sets.now) }

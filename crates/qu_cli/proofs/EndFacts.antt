@@ -2,7 +2,7 @@
 use Rattle.std.proofs.Common.{◌≡◌, ℕ, ◌<◌, ◌≤◌, List, ◌++◌, length, length-append, append-nil, Option, None, Some, IfSome, refl, sym, ap, ◌∙◌, arith, inl, inr, subst, ◌⊎◌}
 use Rattle.std.specs.Io.KnownBytes.{Consumes, IsAtEnd}
 use Rattle.std.proofs.lemmas.Bool.{cases_lt}
-use Rattle.qu_io.specs.Known.{Known}
+use Rattle.qu_io.specs.Streams.{StreamView}
 use Rattle.qu_trace.specs.declared.trace.Trace.{Trace}
 use Rattle.qu_script.specs.declared.bad.Bad.{Bad}
 use Rattle.qu_script.specs.declared.limits.TheConstants.{SCRIPT_LIMIT}
@@ -12,7 +12,7 @@ use Rattle.qu_cli.specs.declared.output.Output.TheVariants.{Report}
 use Rattle.qu_cli.specs.Refusal.{bad_text}
 use Rattle.qu_cli.proofs.ScriptFacts.{sim_too_long}
 use Rattle.qu_cli.specs.Transfer.{TakesScript, Writes, WritesShort, WritesOrFails}
-use Rattle.qu_cli.specs.Ends.{Reports, Tells, Makes, HasOneHistory, IsKnown, Accepts, Refuses, EndsShort, EndsDone, IsRefused, IsComplete}
+use Rattle.qu_cli.specs.Ends.{Reports, TellsRun, MakesText, HasOneHistory, IsPromised, IsScriptFor, Refuses, EndsShort, EndsDone, IsRefused, IsComplete}
 use Rattle.qu_cli.specs.Output.{Outputs}
 
 -- what was taken is all that was held, or both are too long
@@ -29,7 +29,7 @@ by_end script held (Some rest) taken to_end (inl more) =
 by_end script held (Some rest) taken to_end (inr few) =
     all (sym (taken ∙ ap (λ l. script ++ l) (to_end few) ∙ append-nil script))
 
-is_taken : (source source' : Known) (script held : List ℕ) → TakesScript source source' script
+is_taken : (source source' : StreamView) (script held : List ℕ) → TakesScript source source' script
     → source.bytes ≡ Some held → IsTaken script held
 is_taken source source' script held takes holds =
     by_end script held source'.bytes (rw holds at takes.taken) takes.to_end (cases_lt SCRIPT_LIMIT (length script))
@@ -37,11 +37,11 @@ is_taken source source' script held takes holds =
 -- ---- the laws
 
 pub tells_report : (command : Command) (trace : Trace) (text : List ℕ) → command ≡ Sim → Reports trace text
-    → Tells command trace text
+    → TellsRun command trace text
 tells_report command trace text is reports = rw is reports
 
 pub makes_few : (command : Command) (script : List ℕ) (trace : Option Trace) (text : List ℕ)
-    → Makes command script trace text → length script ≤ SCRIPT_LIMIT
+    → MakesText command script trace text → length script ≤ SCRIPT_LIMIT
 makes_few command script None text makes = absurd makes
 makes_few command script (Some trace) text makes = by (cases_lt SCRIPT_LIMIT (length script))
   where
@@ -50,13 +50,13 @@ makes_few command script (Some trace) text makes = by (cases_lt SCRIPT_LIMIT (le
     by (inr few) = few
 
 makes_accepts : (command : Command) (script : List ℕ) (trace : Option Trace) (text : List ℕ)
-    → Makes command script trace text → Accepts command script
+    → MakesText command script trace text → IsScriptFor command script
 makes_accepts command script None text makes = absurd makes
 makes_accepts command script (Some trace) text makes = rw makes.runs refl
 
 -- what is known of the run of which a text tells; of a report, that it has one history
 pub makes_known : (command : Command) (script : List ℕ) (trace : Trace) (text : List ℕ)
-    → Makes command script (Some trace) text → IsKnown (Some command) trace
+    → MakesText command script (Some trace) text → IsPromised (Some command) trace
 makes_known Sim script trace text makes = record {
   order = makes.tells.order;
   is_run = makes.is_run;
@@ -69,7 +69,7 @@ makes_known Digests script trace text makes = makes.is_run
 
 -- the headline of a program whose one command makes reports
 pub has_history : (asked : Option Command) (trace : Option Trace)
-    → ((command : Command) → asked ≡ Some command → command ≡ Sim) → IfSome trace (IsKnown asked)
+    → ((command : Command) → asked ≡ Some command → command ≡ Sim) → IfSome trace (IsPromised asked)
     → IfSome trace HasOneHistory
 has_history asked None one known = tt
 has_history None (Some trace) one known = absurd known
@@ -77,7 +77,8 @@ has_history (Some Sim) (Some trace) one known = known
 has_history (Some Events) (Some trace) one known = let wrong = one Events refl in absurd (cc)
 has_history (Some Digests) (Some trace) one known = let wrong = one Digests refl in absurd (cc)
 
-not_both : (command : Command) (script : List ℕ) (bad : Bad) → Accepts command script → Refuses command script bad → ⊥
+not_both : (command : Command) (script : List ℕ) (bad : Bad) → IsScriptFor command script → Refuses command script bad
+    → ⊥
 not_both command script bad accepts refuses = let accepted = rw refuses at accepts in absurd (cc)
 
 one_bad : (command : Command) (script : List ℕ) (bad other : Bad) → Refuses command script bad
@@ -92,17 +93,17 @@ refuses_by command script held bad (long more most) refuses = let first = sim_to
     sim_too_long held most in cc
 
 -- a good script that is held was taken
-accepts_by : (command : Command) (script held : List ℕ) → IsTaken script held → Accepts command held
-    → Accepts command script
+accepts_by : (command : Command) (script held : List ℕ) → IsTaken script held → IsScriptFor command held
+    → IsScriptFor command script
 accepts_by command script held (all same) accepts = rw same accepts
 accepts_by command script held (long more most) accepts =
     absurd (not_both command held _ accepts (sim_too_long held most))
 
 -- what is made of what was taken is made of what was held
 makes_by : (command : Command) (script held : List ℕ) (trace : Option Trace) (text : List ℕ) → IsTaken script held
-    → Makes command script trace text → Makes command held trace text
+    → MakesText command script trace text → MakesText command held trace text
 makes_by command script held trace text (all same) makes =
-    subst (λ (it : List ℕ). Makes command it trace text) same makes
+    subst (λ (it : List ℕ). MakesText command it trace text) same makes
 makes_by command script held trace text (long more most) makes = let few =
     makes_few command script trace text makes in absurd (omega arith)
 
@@ -115,7 +116,7 @@ one_command : (asked : Option Command) (command other : Command) → asked ≡ S
 one_command asked command other asks again = cc
 
 -- no report is written of a script that is refused
-pub report_refused : (asked : Option Command) (source source' sink sink' : Known) (status : ℕ) (command : Command)
+pub report_refused : (asked : Option Command) (source source' sink sink' : StreamView) (status : ℕ) (command : Command)
     (trace : Trace) (text : List ℕ) → asked ≡ Some command
     → Outputs command source source' (Report trace text) → IsRefused asked source source' sink sink' status
 report_refused asked source source' sink sink' status command trace text asks answers other held bad again holds
@@ -127,7 +128,7 @@ report_refused asked source source' sink sink' status command trace text asks an
     (refuses_by command answers.script held bad taken (subst (λ c. Refuses c held bad) same refuses)))
 
 -- no line that tells why is written of a good script
-pub refusal_complete : (asked : Option Command) (source source' sink sink' : Known) (trace : Option Trace)
+pub refusal_complete : (asked : Option Command) (source source' sink sink' : StreamView) (trace : Option Trace)
     (status : ℕ) (command : Command) (script : List ℕ) (bad : Bad) → asked ≡ Some command
     → TakesScript source source' script → Refuses command script bad → IsComplete asked source source' sink sink'
     trace status
@@ -136,9 +137,9 @@ refusal_complete asked source source' sink sink' trace status command script bad
     let same = one_command asked other command again asks in
     let taken = is_taken source source' script held takes holds in
     absurd (not_both command script bad
-    (accepts_by command script held taken (subst (λ c. Accepts c held) same accepts)) refuses)
+    (accepts_by command script held taken (subst (λ c. IsScriptFor c held) same accepts)) refuses)
 
-pub report_complete : (asked : Option Command) (source source' sink sink' : Known) (told : Option Trace)
+pub report_complete : (asked : Option Command) (source source' sink sink' : StreamView) (told : Option Trace)
     (status : ℕ) (command : Command) (trace : Trace) (text : List ℕ) → asked ≡ Some command
     → Outputs command source source' (Report trace text) → told ≡ Some trace → status ≡ 0 → Writes sink sink' text
     → IsComplete asked source source' sink sink' told status
@@ -146,19 +147,19 @@ report_complete asked source source' sink sink' told status command trace text a
     held again holds accepts quiet calm =
     let same = one_command asked other command again asks in
     let taken = is_taken source source' answers.script held answers.takes holds in
-    let makes : Makes command held (Some trace) text =
+    let makes : MakesText command held (Some trace) text =
     makes_by command answers.script held (Some trace) text taken answers.output_is in
     inl (
       is,
       record {
         text = text;
-        makes = subst (λ c. Makes c held told text) (sym same)
-            (subst (λ (it : Option Trace). Makes command held it text) (sym tells) makes);
+        makes = subst (λ c. MakesText c held told text) (sym same)
+            (subst (λ (it : Option Trace). MakesText command held it text) (sym tells) makes);
         writes = writes;
       },
     )
 
-pub refusal_refused : (asked : Option Command) (source source' sink sink' : Known) (status : ℕ)
+pub refusal_refused : (asked : Option Command) (source source' sink sink' : StreamView) (status : ℕ)
     (command : Command) (script line : List ℕ) (bad : Bad) → asked ≡ Some command
     → TakesScript source source' script → Refuses command script bad → line ≡ bad_text bad → status ≡ 3
     → WritesOrFails sink sink' line → IsRefused asked source source' sink sink' status
@@ -173,7 +174,7 @@ refusal_refused asked source source' sink sink' status command script line bad a
     inl (is, rw (← told) writes)
 
 -- a report that is written whole
-pub report_done : (asked : Option Command) (source source' sink sink' : Known) (told : Option Trace)
+pub report_done : (asked : Option Command) (source source' sink sink' : StreamView) (told : Option Trace)
     (command : Command) (trace : Trace) (text : List ℕ) → asked ≡ Some command
     → Outputs command source source' (Report trace text) → told ≡ Some trace → Writes sink sink' text
     → EndsDone asked source source' sink sink' told
@@ -184,12 +185,12 @@ report_done asked source source' sink sink' told command trace text asks answers
   asks = asks;
   takes = answers.takes;
   to_end = (answers.takes).to_end (makes_few command answers.script (Some trace) text answers.output_is);
-  makes = subst (λ (it : Option Trace). Makes command answers.script it text) (sym tells) answers.output_is;
+  makes = subst (λ (it : Option Trace). MakesText command answers.script it text) (sym tells) answers.output_is;
   writes = writes;
 }
 
 -- and one that a fault leaves short
-pub report_short : (asked : Option Command) (source source' sink sink' : Known) (told : Option Trace)
+pub report_short : (asked : Option Command) (source source' sink sink' : StreamView) (told : Option Trace)
     (command : Command) (trace : Trace) (text : List ℕ) → asked ≡ Some command
     → Outputs command source source' (Report trace text) → told ≡ Some trace → WritesShort sink sink' text
     → EndsShort asked source source' sink sink' told
@@ -200,6 +201,6 @@ report_short asked source source' sink sink' told command trace text asks answer
   asks = asks;
   takes = answers.takes;
   to_end = (answers.takes).to_end (makes_few command answers.script (Some trace) text answers.output_is);
-  makes = subst (λ (it : Option Trace). Makes command answers.script it text) (sym tells) answers.output_is;
+  makes = subst (λ (it : Option Trace). MakesText command answers.script it text) (sym tells) answers.output_is;
   short = short;
 }

@@ -2,7 +2,7 @@
 -- `sink` before the call, and as `source'` and `sink'` behind it.
 use Rattle.std.specs.Prelude.{◌≡◌, ℕ, List, Option, None, Some, Ok, Err, IsOk, IsSome, ◌⊎◌, ◌↔◌}
 use Rattle.std.specs.Io.KnownBytes.{IsAtEnd}
-use Rattle.qu_io.specs.Known.{Known, Rose}
+use Rattle.qu_io.specs.Streams.{StreamView, Rose}
 use Rattle.qu_machine.specs.declared.record.Point.{Point}
 use Rattle.qu_machine.specs.Serial.{IsSerial}
 use Rattle.qu_trace.specs.declared.premises.Premises.{Premises}
@@ -14,8 +14,8 @@ use Rattle.qu_premise.specs.Answer.{IsAnswer}
 use Rattle.qu_claims.specs.Chained.{IsChained}
 use Rattle.qu_claims.specs.Order.{IsPrintedOrder}
 use Rattle.qu_print.specs.Report.{report_of}
-use Rattle.qu_listing.specs.Digests.{digests_of}
-use Rattle.qu_listing.specs.Events.{events_of}
+use Rattle.qu_listing.specs.Digests.{digests_text}
+use Rattle.qu_listing.specs.Events.{events_text}
 use Rattle.qu_script.specs.declared.bad.Bad.{Bad}
 use Rattle.qu_script.specs.Events.{sim_of}
 use Rattle.qu_cli.specs.declared.command.Command.{Command}
@@ -49,32 +49,32 @@ pub record HasOneHistory (trace : Trace) : Type 0 where
   pub chained : MeetsPremises trace → IsChained trace
 
 -- the text is what the command tells of a run
-abbrev pub Tells : Command → Trace → List ℕ → Type 0
-Tells Sim trace text = Reports trace text
-Tells Events trace text = text ≡ events_of trace
-Tells Digests trace text = text ≡ digests_of trace
+abbrev pub TellsRun : Command → Trace → List ℕ → Type 0
+TellsRun Sim trace text = Reports trace text
+TellsRun Events trace text = text ≡ events_text trace
+TellsRun Digests trace text = text ≡ digests_text trace
 
 -- the trace is that of the script's run, and the text is what the command tells of it
 pub record MakesOf (command : Command) (script : List ℕ) (trace : Trace) (text : List ℕ) : Type 0 where
   pub runs : sim_of script ≡ Ok trace
   pub is_run : IsRun trace
-  pub tells : Tells command trace text
+  pub tells : TellsRun command trace text
 
 -- the command makes this trace and this text of it
-abbrev pub Makes : Command → List ℕ → Option Trace → List ℕ → Type 0
-Makes command script None text = ⊥
-Makes command script (Some trace) text = MakesOf command script trace text
+abbrev pub MakesText : Command → List ℕ → Option Trace → List ℕ → Type 0
+MakesText command script None text = ⊥
+MakesText command script (Some trace) text = MakesOf command script trace text
 
 -- what is known of a run of which a call told that was asked this
-abbrev pub IsKnown : Option Command → Trace → Type 0
-IsKnown None trace = ⊥
-IsKnown (Some Sim) trace = HasOneHistory trace
-IsKnown (Some Events) trace = IsRun trace
-IsKnown (Some Digests) trace = IsRun trace
+abbrev pub IsPromised : Option Command → Trace → Type 0
+IsPromised None trace = ⊥
+IsPromised (Some Sim) trace = HasOneHistory trace
+IsPromised (Some Events) trace = IsRun trace
+IsPromised (Some Digests) trace = IsRun trace
 
 -- the command can make something of it: each command runs a script
-abbrev pub Accepts : Command → List ℕ → Type 0
-Accepts command script = IsOk (sim_of script)
+abbrev pub IsScriptFor : Command → List ℕ → Type 0
+IsScriptFor command script = IsOk (sim_of script)
 
 -- the command refuses it, for this
 abbrev pub Refuses : Command → List ℕ → Bad → Type 0
@@ -83,7 +83,7 @@ Refuses command script bad = sim_of script ≡ Err bad
 -- ---- the ends
 
 -- a script was taken that the command refuses, and its line is told, but for a fault of the sink
-pub record EndsBad (asked : Option Command) (source source' sink sink' : Known) : Type 0 where
+pub record EndsBad (asked : Option Command) (source source' sink sink' : StreamView) : Type 0 where
   pub command : Command
   pub script : List ℕ
   pub bad : Bad
@@ -93,26 +93,28 @@ pub record EndsBad (asked : Option Command) (source source' sink sink' : Known) 
   pub tells : WritesOrFails sink sink' (bad_text bad)
 
 -- the text of the script that was taken stays short, by a fault of the sink
-pub record EndsShort (asked : Option Command) (source source' sink sink' : Known) (trace : Option Trace) : Type 0 where
-  pub command : Command
-  pub script : List ℕ
-  pub text : List ℕ
-  pub asks : asked ≡ Some command
-  pub takes : TakesScript source source' script
-  pub to_end : IsAtEnd source'.bytes
-  pub makes : Makes command script trace text
-  pub short : WritesShort sink sink' text
+pub record EndsShort (asked : Option Command) (source source' sink sink' : StreamView) (trace : Option Trace) : Type 0
+  where
+    pub command : Command
+    pub script : List ℕ
+    pub text : List ℕ
+    pub asks : asked ≡ Some command
+    pub takes : TakesScript source source' script
+    pub to_end : IsAtEnd source'.bytes
+    pub makes : MakesText command script trace text
+    pub short : WritesShort sink sink' text
 
 -- the source is at its end, and the whole text of what it had is written
-pub record EndsDone (asked : Option Command) (source source' sink sink' : Known) (trace : Option Trace) : Type 0 where
-  pub command : Command
-  pub script : List ℕ
-  pub text : List ℕ
-  pub asks : asked ≡ Some command
-  pub takes : TakesScript source source' script
-  pub to_end : IsAtEnd source'.bytes
-  pub makes : Makes command script trace text
-  pub writes : Writes sink sink' text
+pub record EndsDone (asked : Option Command) (source source' sink sink' : StreamView) (trace : Option Trace) : Type 0
+  where
+    pub command : Command
+    pub script : List ℕ
+    pub text : List ℕ
+    pub asks : asked ≡ Some command
+    pub takes : TakesScript source source' script
+    pub to_end : IsAtEnd source'.bytes
+    pub makes : MakesText command script trace text
+    pub writes : Writes sink sink' text
 
 -- there is a trace exactly where a text was made, whether or not it was written whole
 abbrev pub IsTraced : Option Trace → ℕ → Type 0
@@ -121,21 +123,22 @@ IsTraced trace status = IsSome trace ↔ ((status ≡ 0) ⊎ (status ≡ 5))
 -- ---- which end comes
 
 -- a source that holds a script which the command refuses, and has no fault: its line is told
-abbrev pub IsRefused : Option Command → Known → Known → Known → Known → ℕ → Type 0
+abbrev pub IsRefused : Option Command → StreamView → StreamView → StreamView → StreamView → ℕ → Type 0
 IsRefused asked source source' sink sink' status =
     (command : Command) (script : List ℕ) (bad : Bad) → asked ≡ Some command → source.bytes ≡ Some script
     → Refuses command script bad → (Rose source source' → ⊥)
     → ((status ≡ 3) × WritesOrFails sink sink' (bad_text bad)) ⊎ (status ≡ 6)
 
 -- the text that the command makes of the script is written whole
-pub record WritesMade (command : Command) (script : List ℕ) (sink sink' : Known) (trace : Option Trace) : Type 0 where
-  pub text : List ℕ
-  pub makes : Makes command script trace text
-  pub writes : Writes sink sink' text
+pub record WritesMade (command : Command) (script : List ℕ) (sink sink' : StreamView) (trace : Option Trace) : Type 0
+  where
+    pub text : List ℕ
+    pub makes : MakesText command script trace text
+    pub writes : Writes sink sink' text
 
 -- a source that holds a good script, and no fault of source or sink: the whole text is written
-abbrev pub IsComplete : Option Command → Known → Known → Known → Known → Option Trace → ℕ → Type 0
+abbrev pub IsComplete : Option Command → StreamView → StreamView → StreamView → StreamView → Option Trace → ℕ → Type 0
 IsComplete asked source source' sink sink' trace status =
     (command : Command) (script : List ℕ) → asked ≡ Some command → source.bytes ≡ Some script
-    → Accepts command script → (Rose source source' → ⊥) → (Rose sink sink' → ⊥)
+    → IsScriptFor command script → (Rose source source' → ⊥) → (Rose sink sink' → ⊥)
     → ((status ≡ 0) × WritesMade command script sink sink' trace) ⊎ (status ≡ 6)

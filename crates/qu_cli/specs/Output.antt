@@ -1,6 +1,6 @@
 -- What a command has to write, of its input.
 use Rattle.std.specs.Prelude.{◌≡◌, ℕ, List, Some, string_bytes}
-use Rattle.qu_io.specs.Known.{Known}
+use Rattle.qu_io.specs.Streams.{StreamView}
 use Rattle.qu_script.specs.declared.bad.Bad.{Bad}
 use Rattle.qu_cli.specs.declared.output.Output.{Output}
 use Rattle.qu_cli.specs.declared.output.Output.TheVariants.{Report, Refusal}
@@ -10,7 +10,7 @@ use Rattle.qu_cli.specs.declared.reading.NoScript.{NoScript}
 use Rattle.qu_cli.specs.declared.reading.NoScript.TheVariants as no_script
 use Rattle.qu_cli.specs.declared.command.Command.{Command}
 use Rattle.qu_cli.specs.Refusal.{bad_text}
-use Rattle.qu_cli.specs.Ends.{Makes, Refuses}
+use Rattle.qu_cli.specs.Ends.{MakesText, Refuses}
 use Rattle.qu_cli.specs.Transfer.{TakesScript}
 
 abbrev pub output_error : NoScript → NoOutput
@@ -25,11 +25,11 @@ pub record TellsRefusal (command : Command) (script line : List ℕ) : Type 0 wh
 
 -- what the command has to write of a script
 abbrev pub IsOutput : Command → List ℕ → Output → Type 0
-IsOutput command script (Report trace text) = Makes command script (Some trace) text
+IsOutput command script (Report trace text) = MakesText command script (Some trace) text
 IsOutput command script (Refusal line) = TellsRefusal command script (string_bytes line)
 
 -- what the command has to write of the script that was taken
-pub record Outputs (command : Command) (before now : Known) (output : Output) : Type 0 where
+pub record Outputs (command : Command) (before now : StreamView) (output : Output) : Type 0 where
   pub script : List ℕ
   pub takes : TakesScript before now script
   pub output_is : IsOutput command script output

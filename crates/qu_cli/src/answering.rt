@@ -1,7 +1,7 @@
 ghost use Rattle.std.specs.Prelude.{◌≡◌, ◌≢◌, ◌≤◌, ◌↔◌, None, IfSome};
-ghost use Rattle.qu_io.specs.Known.{Rose, IsCalm};
+ghost use Rattle.qu_io.specs.Streams.{Rose, IsCalm};
 ghost use Rattle.qu_cli.specs.Transfer.{TakesFew, WritesOrFails};
-ghost use Rattle.qu_cli.specs.Ends.{EndsBad, EndsShort, EndsDone, IsKnown, IsTraced, IsRefused, IsComplete};
+ghost use Rattle.qu_cli.specs.Ends.{EndsBad, EndsShort, EndsDone, IsPromised, IsTraced, IsRefused, IsComplete};
 
 use super::output::{NoOutput, Output, output_for};
 use super::writing::{tell_text, write_text};
@@ -38,7 +38,7 @@ pub fn answer<S: Source, K: Sink>(
     ensures done { result.status ≡ 0 → EndsDone asked
         (S.known input.old) (S.known input.new) (K.known output.old) (K.known output.new) result.trace }
     ensures traced { IsTraced result.trace result.status }
-    ensures known { IfSome result.trace (IsKnown asked) }
+    ensures known { IfSome result.trace (IsPromised asked) }
 
     ensures refused { IsRefused asked (S.known input.old)
         (S.known input.new) (K.known output.old) (K.known output.new) result.status }

@@ -1,5 +1,5 @@
 ghost use Rattle.std.specs.Prelude.{◌≡◌, ◌≢◌, ◌≤◌, ◌↔◌, None, map, string_bytes};
-ghost use Rattle.qu_io.specs.Known.{Rose, IsCalm};
+ghost use Rattle.qu_io.specs.Streams.{Rose, IsCalm};
 ghost use Rattle.qu_cli.specs.Command.{letters_command_of, letters_usage_text};
 ghost use Rattle.qu_cli.specs.Transfer.{TakesFew, WritesOrFails};
 ghost use Rattle.qu_cli.specs.Ends.{EndsBad, EndsShort, EndsDone, IsTraced, IsRefused, IsComplete};

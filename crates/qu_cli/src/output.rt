@@ -1,5 +1,5 @@
 ghost use Rattle.std.specs.Prelude.{◌≡◌, ◌≢◌, IfOk, Err};
-ghost use Rattle.qu_io.specs.Known.{Rose, IsCalm};
+ghost use Rattle.qu_io.specs.Streams.{Rose, IsCalm};
 ghost use Rattle.qu_cli.specs.Transfer.{TakesFew};
 ghost use Rattle.qu_cli.specs.Output.{Outputs};
 

@@ -1,8 +1,8 @@
 ghost use Rattle.std.specs.Prelude.{IfOk};
 ghost use Rattle.qu_world.specs.Run.{IsRun};
-ghost use Rattle.qu_script.specs.Script.{Gives};
+ghost use Rattle.qu_script.specs.Script.{IsAsMeant};
 ghost use Rattle.qu_script.specs.Events.{sim_of};
-ghost use Rattle.qu_cli.specs.Ends.{Tells};
+ghost use Rattle.qu_cli.specs.Ends.{TellsRun};
 ghost use Rattle.qu_cli.specs.Output.{IsOutput};
 
 use super::Command;
@@ -34,7 +34,7 @@ pub fn simulate(alloc: Global, command: Command, script: &[u8]) -> Result<Output
 /// What a command tells of the run of a script.
 fn told_text(alloc: Global, command: Command, trace: &Trace) -> Result<List<u8>, NoMemory>
     requires { IsRun trace.now }
-    ensures { IfOk result (Tells command trace.now) }
+    ensures { IfOk result (TellsRun command trace.now) }
 {
     match command {
         Command::Sim => {
@@ -57,7 +57,7 @@ fn told_text(alloc: Global, command: Command, trace: &Trace) -> Result<List<u8>,
 /// The run of the script that a text spells.
 #[tactic(auto, unfolding(qu_script::specs::Events::sim_of))]
 fn run_text(alloc: Global, text: &[u8]) -> Result<Trace, ScriptFail>
-    ensures value { Gives (λ trace. trace) result (sim_of text.now) }
+    ensures value { IsAsMeant (λ trace. trace) result (sim_of text.now) }
     ensures run { IfOk result IsRun }
 {
     let script = read_script(alloc, text)?;

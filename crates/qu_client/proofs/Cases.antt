@@ -20,8 +20,8 @@ use Rattle.qu_client.specs.declared.work.Work.{Work}
 use Rattle.qu_frames.specs.declared.limits.TheConstants.{LAST_ROUND}
 use Rattle.qu_client.specs.State.{ClientState, keep_all, unmarked}
 use Rattle.qu_client.specs.Leaving.{after_replies}
-use Rattle.qu_client.specs.Rounds.{operation_objects, shown_in, sets_of, are_full, asked, halted, begin_round}
-use Rattle.qu_client.specs.Steps.{Stepped, stays, goes_on, ends, fitting, identical, next_round, judged, is_asking, counts, with_verdict, counted_in, on_frame, on_received, client_step, client_invoke, first_work, next_number}
+use Rattle.qu_client.specs.Rounds.{operation_objects, marked_shown, sets_of, are_full, asked, halted, begin_round}
+use Rattle.qu_client.specs.Steps.{Stepped, stays, goes_on, ends, fitting, identical_verdicts, next_round, judged, is_asking, counts, with_verdict, counted_in, client_on_frame, client_on_received, client_step, client_invoke, first_work, next_number}
 use Rattle.qu_client.proofs.Marks.{IsRemarked, unmarked-remarked, shown_in-remarked, after_replies-remarked}
 
 cond_by : {A : Type 0} (P : A → Type 0) (b : Bool) (x y : A) → P x → P y → P (cond b x y)
@@ -35,7 +35,7 @@ pub begin_cases : (state : ClientState) (work : Work) (P : ClientState × List L
     → ((kept : List Kept) → IsRemarked state.kept kept → P (halted (record state { kept = kept }) work))
     → P (begin_round state work)
 begin_cases state work P asks halts =
-    let kept : List Kept = shown_in (operation_objects work.op) state.kept in
+    let kept : List Kept = marked_shown (operation_objects work.op) state.kept in
     let same : IsRemarked state.kept kept = shown_in-remarked (operation_objects work.op) state.kept in
     let sets = sets_of state.keys.bounds kept work.op in
     cond_by P (are_full state.keys.bounds sets) _ _ (cond_by P _ _ _ (asks kept true same) (halts kept same))
@@ -60,11 +60,11 @@ module _ (state : ClientState) (work : Work) (P : Stepped → Type 0)
       (λ kept acted marked. asks kept acted (marked ∙ same) below) (λ kept marked. halts kept (marked ∙ same) below))
 
   judged_cases : P (stays (record state { work = Some work })) → (verdict : Verdict) (found : Option Answer)
-      → ((answer : Answer) → found ≡ Some answer → quorum state.keys.bounds ≤ identical verdict work.replies
+      → ((answer : Answer) → found ≡ Some answer → quorum state.keys.bounds ≤ identical_verdicts verdict work.replies
       → P (ends state (outcome.Done answer))) → P (judged state work verdict found)
   judged_cases waits verdict None agrees = cond_by P _ _ _ next_cases waits
   judged_cases waits verdict (Some answer) agrees =
-      cond_both (leb (quorum state.keys.bounds) (identical verdict work.replies)) _ _ P
+      cond_both (leb (quorum state.keys.bounds) (identical_verdicts verdict work.replies)) _ _ P
       (λ enough. agrees answer refl (leb-true _ _ enough))
       (λ _. cond_by P _ _ _ next_cases waits)
 
@@ -76,7 +76,7 @@ module _ (state : ClientState) (replica : ReplicaId) (number round : ℕ) (verdi
     (waits : (work : Work) → state.work ≡ Some work → counts work replica number round ≡ true
     → P (stays (record state { work = Some (with_verdict work replica verdict culled) })))
     (agrees : (work : Work) (answer : Answer) → state.work ≡ Some work → counts work replica number round ≡ true
-    → fitting work.op verdict ≡ Some answer → quorum state.keys.bounds ≤ identical verdict
+    → fitting work.op verdict ≡ Some answer → quorum state.keys.bounds ≤ identical_verdicts verdict
     (with_verdict work replica verdict culled).replies → P (ends state (outcome.Done answer)))
     (gives_up : (work : Work) → state.work ≡ Some work → counts work replica number round ≡ true
     → LAST_ROUND ≤ work.round → P (ends state outcome.GaveUp))
@@ -121,7 +121,7 @@ module _ (state : ClientState) (P : Stepped → Type 0)
     → is_asking work.phase ≡ true → work.round < LAST_ROUND
     → P (goes_on (halted (record state { kept = kept })
     (record work { round = work.round + 1; replies = replies })))) where
-  pub frame_cases : (frame : Frame) → P (on_frame state frame)
+  pub frame_cases : (frame : Frame) → P (client_on_frame state frame)
   frame_cases (frame.Reply replica client number round verdict culled shown mac) =
       let kept = keep_all number round shown state.kept in
       cond_by P _ _ _
@@ -136,7 +136,7 @@ module _ (state : ClientState) (P : Stepped → Type 0)
       same
   frame_cases _ = same
 
-  received_cases : (found : Option Frame) → P (on_received state found)
+  received_cases : (found : Option Frame) → P (client_on_received state found)
   received_cases (Some frame) = frame_cases frame
   received_cases None = same
 

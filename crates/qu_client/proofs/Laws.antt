@@ -14,7 +14,7 @@ use Rattle.qu_objects.specs.declared.op.Op.{Op}
 use Rattle.qu_frames.specs.declared.verdict.Verdict.{Verdict}
 use Rattle.qu_client.specs.declared.work.Counted.{Counted}
 use Rattle.qu_client.specs.declared.work.Work.{Work}
-use Rattle.qu_client.specs.State.{ClientState, opening_state}
+use Rattle.qu_client.specs.State.{ClientState, client_at_start}
 use Rattle.qu_client.specs.Rounds.{requests_from}
 use Rattle.qu_client.specs.Steps.{client_step, client_invoke, client_tick, next_number, is_asking, counts, with_verdict}
 use Rattle.qu_client.specs.Sound.{NumbersWithin, IsSoundWork, IsSound, IsFromTo}
@@ -61,7 +61,7 @@ client_invoke-keys state op =
 
 -- numbers are at most the number of invocations so far
 
-pub NumbersWithin-opening : (me : ClientId) (keys : Ring) → NumbersWithin 0 (opening_state me keys)
+pub NumbersWithin-opening : (me : ClientId) (keys : Ring) → NumbersWithin 0 (client_at_start me keys)
 NumbersWithin-opening me keys = record { last = tt; work = tt }
 
 pub work_within : (most : ℕ) (state : ClientState) (work : Work) → NumbersWithin most state
@@ -115,7 +115,7 @@ may_invoke most state within few = fits_by most state.last_request within.last f
 
 -- a client stays sound
 
-pub IsSound-opening : (me : ClientId) (keys : Ring) → IsSound (opening_state me keys)
+pub IsSound-opening : (me : ClientId) (keys : Ring) → IsSound (client_at_start me keys)
 IsSound-opening me keys = tt
 
 pub sound_work : (state : ClientState) (work : Work) → IsSound state → state.work ≡ Some work
@@ -133,7 +133,8 @@ other_replica replies replica k d none within = λ same.
     both_ways _ none (list_any_at (λ counted. eqb (counted.replica).0 replica.0) replies k d within (eq-eqb _ _ same))
 
 different_more : (work : Work) (replica : ReplicaId) (number round : ℕ) (verdict : Verdict)
-    (culled : List (ObjectId × ReplicaId)) → counts work replica number round ≡ true → AllPairs (λ (a b : Counted). (a.replica).0 ≢ (b.replica).0)
+    (culled : List (ObjectId × ReplicaId)) → counts work replica number round ≡ true
+    → AllPairs (λ (a b : Counted). (a.replica).0 ≢ (b.replica).0)
     work.replies → AllPairs (λ (a b : Counted). (a.replica).0 ≢ (b.replica).0)
     (with_verdict work replica verdict culled).replies
 different_more work replica number round verdict culled counting different =
@@ -176,7 +177,13 @@ IsSound-step state text sound =
 pub IsSound-invoke : (state : ClientState) (op : Op) → IsSound (client_invoke state op).state
 IsSound-invoke state op =
     invoke_cases state op (λ stepped. IsSound stepped.state)
-    (λ kept acted marked. record { first = omega arith; last = omega arith; different = none_different; asked = λ _. refl })
+    (λ kept acted marked. record {
+      first = omega arith;
+      last = omega arith;
+      different = none_different;
+      asked = λ _.
+          refl;
+    })
     (λ kept marked. record {
       first = omega arith;
       last = omega arith;

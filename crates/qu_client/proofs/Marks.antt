@@ -9,7 +9,7 @@ use Rattle.qu_client.specs.declared.kept.Mark.{Mark}
 use Rattle.qu_client.specs.declared.kept.Mark.TheVariants.{Unshown}
 use Rattle.qu_client.specs.declared.work.Counted.{Counted}
 use Rattle.qu_client.specs.State.{unmarked}
-use Rattle.qu_client.specs.Rounds.{mark_in, shown_in}
+use Rattle.qu_client.specs.Rounds.{mark_in, marked_shown}
 use Rattle.qu_client.specs.Leaving.{mark_after, after_replies}
 
 abbrev pub sealed_of : List Kept → List Sealed
@@ -28,8 +28,8 @@ pub unmarked-remarked : (kept : List Kept) → IsRemarked kept (unmarked kept)
 unfolding unmarked
 unmarked-remarked kept = remarked (λ held. Unshown) kept
 
-pub shown_in-remarked : (objects : List ObjectId) (kept : List Kept) → IsRemarked kept (shown_in objects kept)
-unfolding shown_in
+pub shown_in-remarked : (objects : List ObjectId) (kept : List Kept) → IsRemarked kept (marked_shown objects kept)
+unfolding marked_shown
 shown_in-remarked objects kept = remarked (mark_in objects) kept
 
 pub after_replies-remarked : (bounds : ℕ) (replies : List Counted) (kept : List Kept)
@@ -91,8 +91,8 @@ shown_up_to_more objects place kept items d mark so_far within is =
     so_far ∙ up_to_more objects place kept d (omega arith) ∙ ap (λ (it : ℕ). shown_up_to objects it kept) next
 
 up_to_all : (objects : List ObjectId) (place : ℕ) (kept : List Kept) → length kept ≤ place
-    → shown_up_to objects place kept ≡ shown_in objects kept
-unfolding shown_up_to shown_in
+    → shown_up_to objects place kept ≡ marked_shown objects kept
+unfolding shown_up_to marked_shown
 up_to_all objects zero [] past = refl
 up_to_all objects zero (held ∷ later) past = absurd (omega arith)
 up_to_all objects (suc place) [] past = refl
@@ -102,7 +102,7 @@ up_to_all objects (suc place) (held ∷ later) past =
 
 -- after the last one all are
 pub shown_up_to_all : (objects : List ObjectId) (place : ℕ) (kept items : List Kept)
-    → items ≡ shown_up_to objects place kept → length items ≤ place → items ≡ shown_in objects kept
+    → items ≡ shown_up_to objects place kept → length items ≤ place → items ≡ marked_shown objects kept
 shown_up_to_all objects place kept items so_far past =
     let size : length items ≡ length kept = ap length so_far ∙ length-shown_up_to objects place kept in
     so_far ∙ up_to_all objects place kept (omega arith)

@@ -26,8 +26,8 @@ names_of replies held = count_by (λ counted. names counted held) replies
 abbrev pub is_named : List Counted → Kept → Bool
 is_named replies held = is_shown held.mark && nat_lt 0 (names_of replies held)
 
-abbrev pub same_object : Kept → Kept → Bool
-same_object held other = ((other.sealed.history).object).0 == ((held.sealed.history).object).0
+abbrev pub of_same_object : Kept → Kept → Bool
+of_same_object held other = ((other.sealed.history).object).0 == ((held.sealed.history).object).0
 
 -- more replies name the other one, or as many, and its replica is the higher one
 abbrev pub comes_after : List Counted → Kept → Kept → Bool
@@ -39,11 +39,11 @@ comes_after replies held other =
 -- how many named entries of its object come before an entry
 unfoldable pub before : List Counted → List Kept → Kept → ℕ
 before replies kept held =
-    count_by (λ other. same_object held other && (is_named replies other && comes_after replies held other)) kept
+    count_by (λ other. of_same_object held other && (is_named replies other && comes_after replies held other)) kept
 
 -- how many entries of its object are not left out
 unfoldable pub remaining : List Kept → Kept → ℕ
-remaining kept held = count_by (λ other. same_object held other && not (is_left_out other.mark)) kept
+remaining kept held = count_by (λ other. of_same_object held other && not (is_left_out other.mark)) kept
 
 -- a named entry is left out where a quorum of its object remains without it and all those before it
 abbrev pub leaves : ℕ → List Counted → List Kept → Kept → Bool

@@ -48,8 +48,8 @@ mark_in objects held =
     else Unshown
 
 -- the entries of these objects are shown, but for those that are left out
-unfoldable pub shown_in : List ObjectId → List Kept → List Kept
-shown_in objects kept = map (λ (held : Kept). record held { mark = mark_in objects held }) kept
+unfoldable pub marked_shown : List ObjectId → List Kept → List Kept
+marked_shown objects kept = map (λ (held : Kept). record held { mark = mark_in objects held }) kept
 
 -- the entries of an object that are shown of so many replicas from this one on
 unfoldable pub entries_from : ObjectId → ℕ → ℕ → List Kept → List Sealed
@@ -119,4 +119,4 @@ begin_shown state work =
 
 -- a round begins from what is kept
 abbrev pub begin_round : ClientState → Work → ClientState × List Letter
-begin_round state work = begin_shown (record state { kept = shown_in (operation_objects work.op) state.kept }) work
+begin_round state work = begin_shown (record state { kept = marked_shown (operation_objects work.op) state.kept }) work

@@ -10,8 +10,8 @@ use Rattle.qu_client.specs.declared.kept.Mark.{Mark}
 use Rattle.qu_client.specs.declared.kept.Mark.TheVariants.{Unshown, Shown, LeftOut}
 pub use Rattle.qu_client.specs.declared.state.ClientState.{ClientState}
 
-abbrev pub opening_state : ClientId → Ring → ClientState
-opening_state me keys =
+abbrev pub client_at_start : ClientId → Ring → ClientState
+client_at_start me keys =
     record { me = me; keys = keys; kept = []; last_request = None; work = None }
 
 abbrev pub is_shown : Mark → Bool

@@ -49,14 +49,14 @@ abbrev pub fits : Op → Verdict → Bool
 fits op verdict = elim (fitting op verdict) [ None ↦ false | Some answer ↦ true ]
 
 -- how many verdicts are identical to this one
-unfoldable pub identical : Verdict → List Counted → ℕ
-identical verdict replies = count_by (λ counted. same_verdict counted.verdict verdict) replies
+unfoldable pub identical_verdicts : Verdict → List Counted → ℕ
+identical_verdicts verdict replies = count_by (λ counted. same_verdict counted.verdict verdict) replies
 
 -- the greatest number of identical verdicts that fit, among these verdicts
 unfoldable pub best_of : Op → List Counted → List Counted → ℕ
 best_of op [] replies = 0
 best_of op (counted ∷ later) replies =
-    max (if fits op counted.verdict then identical counted.verdict replies else 0) (best_of op later replies)
+    max (if fits op counted.verdict then identical_verdicts counted.verdict replies else 0) (best_of op later replies)
 
 -- a quorum replied, and those that did not can make no quorum of any verdict that fits
 abbrev pub is_hopeless : ℕ → Op → List Counted → Bool
@@ -77,7 +77,7 @@ judged state work verdict None =
     if is_hopeless state.keys.bounds work.op work.replies then next_round state work else stays
     (record state { work = Some work })
 judged state work verdict (Some answer) =
-    if nat_le (quorum state.keys.bounds) (identical verdict work.replies) then ends state (outcome.Done answer)
+    if nat_le (quorum state.keys.bounds) (identical_verdicts verdict work.replies) then ends state (outcome.Done answer)
     else if is_hopeless state.keys.bounds work.op work.replies then next_round state work
     else stays (record state { work = Some work })
 
@@ -107,26 +107,26 @@ counted_in state (Some work) replica number round verdict culled =
 
 -- a frame that is no reply to this client is ignored; a reply's histories are kept, and then its
 -- verdict counts
-abbrev pub on_frame : ClientState → Frame → Stepped
-on_frame state (frame.Reply replica client number round verdict culled shown mac) =
+abbrev pub client_on_frame : ClientState → Frame → Stepped
+client_on_frame state (frame.Reply replica client number round verdict culled shown mac) =
     if client.0 == (state.me).0
     then counted_in (record state { kept = keep_all number round shown state.kept }) state.work replica number
     round verdict culled
     else stays state
-on_frame state _ = stays state
+client_on_frame state _ = stays state
 
-abbrev pub on_received : ClientState → Option Frame → Stepped
-on_received state None = stays state
-on_received state (Some frame) = on_frame state frame
+abbrev pub client_on_received : ClientState → Option Frame → Stepped
+client_on_received state None = stays state
+client_on_received state (Some frame) = client_on_frame state frame
 
 -- a text that is no frame, or whose HMAC is wrong, is ignored
 abbrev pub client_step : ClientState → List ℕ → Stepped
-client_step state text = on_received state (brought state.keys (party.Client state.me) text)
+client_step state text = client_on_received state (brought state.keys (party.Client state.me) text)
 
 -- the state after a step that was planned; none is planned where nothing changes
-abbrev pub state_after : ClientState → Option ClientState → ClientState
-state_after old None = old
-state_after old (Some new) = new
+abbrev pub client_planned : ClientState → Option ClientState → ClientState
+client_planned old None = old
+client_planned old (Some new) = new
 
 -- a tick changes nothing
 abbrev pub client_tick : ClientState → Stepped

@@ -1,6 +1,6 @@
 ghost use Rattle.std.specs.Prelude.{◌≡◌, ◌<◌, ◌-◌, ◌^◌, ◌↔◌, Err, None, IsTrue, IsSome, IfOk, OnOk, OnErr, IfSome, option_map, []};
-ghost use Rattle.qu_client.specs.State.{opening_state};
-ghost use Rattle.qu_client.specs.Steps.{client_invoke, client_step, on_frame, client_tick, next_number, state_after};
+ghost use Rattle.qu_client.specs.State.{client_at_start};
+ghost use Rattle.qu_client.specs.Steps.{client_invoke, client_step, client_on_frame, client_tick, next_number, client_planned};
 
 use super::rounds::begin_round;
 use super::state::{shown_to, unmarked_state};
@@ -106,7 +106,7 @@ impl Model for Client {
 impl Client {
     /// A client that was sent nothing yet.
     pub fn start(alloc: Global, me: ClientId, keys: KeyRing) -> Client
-        ensures { result ≡ opening_state me keys }
+        ensures { result ≡ client_at_start me keys }
     {
         Client {
             alloc,
@@ -182,7 +182,7 @@ impl Client {
 
     /// What `step` will make of these bytes. All that the step takes of memory is taken here.
     pub fn plan(&self, text: &[u8]) -> Result<Planned, NoMemory>
-        ensures state { IfOk result (λ planned. state_after self.now planned.state
+        ensures state { IfOk result (λ planned. client_planned self.now planned.state
             ≡ (client_step self.now text.now).state) }
         ensures letters { IfOk result (λ planned. planned.moved.letters ≡ (client_step self.now text.now).letters) }
         ensures ended { IfOk result (λ planned. planned.moved.ended ≡ (client_step self.now text.now).ended) }
@@ -196,10 +196,11 @@ impl Client {
 
     /// What a frame will make. One that is no reply to this client is ignored.
     fn plan_frame(&self, frame: &Frame) -> Result<Planned, NoMemory>
-        ensures state { IfOk result (λ planned. state_after self.now planned.state
-            ≡ (on_frame self.now frame.now).state) }
-        ensures letters { IfOk result (λ planned. planned.moved.letters ≡ (on_frame self.now frame.now).letters) }
-        ensures ended { IfOk result (λ planned. planned.moved.ended ≡ (on_frame self.now frame.now).ended) }
+        ensures state { IfOk result (λ planned. client_planned self.now planned.state
+            ≡ (client_on_frame self.now frame.now).state) }
+        ensures letters { IfOk result (λ planned. planned.moved.letters
+            ≡ (client_on_frame self.now frame.now).letters) }
+        ensures ended { IfOk result (λ planned. planned.moved.ended ≡ (client_on_frame self.now frame.now).ended) }
     {
         match frame {
             Frame::Reply {
@@ -231,7 +232,7 @@ impl Client {
 
     /// Makes what was planned, which takes no memory.
     pub fn carry_out(&mut self, planned: Planned) -> Moved
-        ensures state { self.new ≡ state_after self.old planned.state }
+        ensures state { self.new ≡ client_planned self.old planned.state }
         ensures moved { result ≡ planned.moved }
     {
         let Planned { state, moved } = planned;

@@ -82,4 +82,4 @@ mod keeping;
 mod marking;
 
 pub use keeping::{keep_all, kept_of};
-pub use marking::{shown_in, unmarked};
+pub use marking::{marked_shown, unmarked};

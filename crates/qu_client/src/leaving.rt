@@ -1,5 +1,5 @@
 ghost use Rattle.std.specs.Prelude.{◌≡◌, IfOk};
-ghost use Rattle.qu_client.specs.Leaving.{is_name_of, names, names_of, is_named, same_object, comes_after, before, remaining, leaves, after_replies};
+ghost use Rattle.qu_client.specs.Leaving.{is_name_of, names, names_of, is_named, of_same_object, comes_after, before, remaining, leaves, after_replies};
 
 use super::{Counted, Kept, Mark};
 use qu_base::{Bounds, List, NoMemory, ObjectId, ReplicaId};
@@ -42,7 +42,7 @@ fn remaining(kept: &[Kept], held: &Kept) -> usize
     ensures { result ≡ remaining kept.now held.now }
 {
     kept.iter()
-        .filter(|other| same_object(held, other) && !other.mark.is_left_out())
+        .filter(|other| of_same_object(held, other) && !other.mark.is_left_out())
         .count()
 }
 
@@ -53,7 +53,7 @@ fn before(replies: &[Counted], kept: &[Kept], held: &Kept) -> usize
 {
     kept.iter()
         .filter(|other| {
-            same_object(held, other)
+            of_same_object(held, other)
                 && is_named(replies, other)
                 && comes_after(replies, held, other)
         })
@@ -77,8 +77,8 @@ fn comes_after(replies: &[Counted], held: &Kept, other: &Kept) -> bool
         || mine == theirs && held.sealed.history.replica().0 < other.sealed.history.replica().0
 }
 
-fn same_object(held: &Kept, other: &Kept) -> bool
-    ensures { result ≡ same_object held.now other.now }
+fn of_same_object(held: &Kept, other: &Kept) -> bool
+    ensures { result ≡ of_same_object held.now other.now }
 {
     other.sealed.history.object().0 == held.sealed.history.object().0
 }

@@ -3,7 +3,7 @@ ghost use Rattle.qu_frames.specs.Formats.{frame_form};
 ghost use Rattle.qu_client.specs.Rounds.{is_act, request_of, requests_from, asked, halted, begin_full, begin_shown, begin_round};
 ghost use Rattle.qu_client.specs.Steps.{goes_on};
 
-use super::kept::shown_in;
+use super::kept::marked_shown;
 use super::sets::{are_current, are_full, operation_objects, sets_of};
 use super::{ClientState, Phase, Stepped, Work};
 use qu_base::{ClientId, List, NoMemory, Party, ReplicaId};
@@ -18,7 +18,7 @@ pub fn begin_round(alloc: Global, mut state: ClientState, work: Work) -> Result<
     ensures { IfOk result (λ stepped. stepped ≡ goes_on (begin_round state work)) }
 {
     let objects = operation_objects(alloc, &work.op)?;
-    state.kept = shown_in(objects.as_slice(), state.kept);
+    state.kept = marked_shown(objects.as_slice(), state.kept);
     begin_shown(alloc, state, work)
 }
 

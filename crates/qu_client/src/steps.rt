@@ -3,7 +3,7 @@ ghost use Rattle.qu_client.specs.Steps.{stays, ends, fitting, judged, next_round
 
 use super::leaving::after_replies;
 use super::rounds::begin_round;
-use super::verdicts::{fitting, identical, is_hopeless};
+use super::verdicts::{fitting, identical_verdicts, is_hopeless};
 use super::{ClientState, Counted, Stepped, Work};
 use qu_base::{List, NoMemory, ObjectId, ReplicaId};
 use qu_frames::{LAST_ROUND, Verdict};
@@ -50,7 +50,9 @@ fn judged(
     ensures { IfOk result (λ stepped. stepped ≡ judged state work verdict.now (fitting work.op verdict.now)) }
 {
     if let Some(answer) = fitting(&work.op, verdict) {
-        if identical(verdict, work.replies.as_slice()) >= usize::from(state.keys.bounds().q()) {
+        if identical_verdicts(verdict, work.replies.as_slice())
+            >= usize::from(state.keys.bounds().q())
+        {
             let answer = answer.copy(alloc)?;
             return Ok(ends(alloc, state, Outcome::Done(answer)));
         }

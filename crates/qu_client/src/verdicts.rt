@@ -1,6 +1,6 @@
 ghost use Rattle.std.specs.Prelude.{◌≡◌, ◌≤◌, length};
 ghost use Rattle.std.specs.Option.{option_copied};
-ghost use Rattle.qu_client.specs.Steps.{fitting, fits, identical, best_of, is_hopeless};
+ghost use Rattle.qu_client.specs.Steps.{fitting, fits, identical_verdicts, best_of, is_hopeless};
 
 use super::Counted;
 use qu_base::Bounds;
@@ -21,9 +21,9 @@ pub fn fitting<'v>(op: &Op, verdict: &'v Verdict) -> Option<&'v Answer>
 }
 
 /// How many verdicts are identical to this one.
-#[tactic(auto, unfolding(crate::specs::Steps::identical))]
-pub fn identical(verdict: &Verdict, replies: &[Counted]) -> usize
-    ensures value { result ≡ identical verdict.now replies.now }
+#[tactic(auto, unfolding(crate::specs::Steps::identical_verdicts))]
+pub fn identical_verdicts(verdict: &Verdict, replies: &[Counted]) -> usize
+    ensures value { result ≡ identical_verdicts verdict.now replies.now }
     ensures most { result ≤ length replies.now }
 {
     replies
@@ -50,7 +50,7 @@ fn best_of(op: &Op, replies: &[Counted]) -> usize
     let mut best = 0;
     for counted in replies {
         if fitting(op, &counted.verdict).is_some() {
-            best = best.max(identical(&counted.verdict, replies));
+            best = best.max(identical_verdicts(&counted.verdict, replies));
         }
     }
     best

@@ -22,7 +22,7 @@ use Rattle.qu_frames.specs.declared.frame.Body.TheVariants as body
 use Rattle.qu_frames.specs.declared.frame.Frame.{Frame}
 use Rattle.qu_frames.specs.declared.frame.Frame.TheVariants.{Request, Reply, Fetch, Fetched}
 use Rattle.qu_frames.specs.declared.limits.TheConstants.{LAST_ROUND, CULLED_LIMIT}
-use Rattle.qu_frames.specs.Formats.{refusal_form, stamps_form, verdict_form, body_code, is_body_code, act_parts, ask_parts, body_of_code, body_form, round_form, is_after_pair, spelled_pair, pair_after, culled_form, RequestFields, request_fields, request_of, request_form, request_frame, ReplyFields, reply_fields, reply_of, reply_form, reply_frame, FetchFields, fetch_fields, fetch_of, fetch_form, fetch_frame, FetchedFields, fetched_fields, fetched_of, fetched_form, fetched_frame, frame_kind, is_version, is_frame_kind, frame_body, kind_form, frame_form, mend_target, target_form}
+use Rattle.qu_frames.specs.Formats.{refusal_form, stamps_form, verdict_form, body_code, is_body_code, act_parts, ask_parts, body_of_code, body_form, round_form, is_after_pair, spelled_pair, pair_after, culled_form, RequestFields, request_fields, request_made, request_form, request_frame, ReplyFields, reply_fields, reply_of, reply_form, reply_frame, FetchFields, fetch_fields, fetch_of, fetch_form, fetch_frame, FetchedFields, fetched_fields, fetched_of, fetched_form, fetched_frame, frame_kind, is_version, is_frame_kind, frame_body, kind_form, frame_form, mend_target, target_form}
 use Rattle.qu_frames.proofs.VerdictForms.{either-exact, either-fits, of_part, refusal-exact, stamps-exact, verdict-exact}
 
 -- ---- bodies
@@ -133,9 +133,9 @@ fetched-exact =
     both-exact _ _ (stamp_with-exact false) (λ stamp fits.
     both-exact _ _ state-exact (λ state fits. bytes-exact 32))))
 
-request_again : (frame : Frame) (found : RequestFields) → request_fields frame ≡ Some found → request_of found ≡ frame
+request_again : (frame : Frame) (found : RequestFields) → request_fields frame ≡ Some found → request_made found ≡ frame
 request_again (Request client number round sets asked mac) found is =
-    of_part request_of (client, (number, (round, (sets, (asked, mac))))) found is
+    of_part request_made (client, (number, (round, (sets, (asked, mac))))) found is
 request_again _ found is = absurd cc
 
 reply_again : (frame : Frame) (found : ReplyFields) → reply_fields frame ≡ Some found → reply_of found ≡ frame
@@ -155,7 +155,7 @@ fetched_again _ found is = absurd cc
 
 pub request_frame-exact : IsExact request_frame
 unfolding request_frame
-request_frame-exact = made-exact request_of request_fields request_form request-exact (λ found fits. refl)
+request_frame-exact = made-exact request_made request_fields request_form request-exact (λ found fits. refl)
     (λ frame found fits is. request_again frame found is)
 
 pub reply_frame-exact : IsExact reply_frame
@@ -268,5 +268,15 @@ fetched-code = prefix_code fetched_frame fetched_frame-exact
 pub frame-code : IsPrefixCode frame_form
 frame-code = prefix_code frame_form frame-exact
 
-pub ruleset code_laws =
-    (refusal-code, stamps-code, verdict-code, body-code, culled-code, request-code, reply-code, fetch-code, fetched-code, frame-code)
+pub ruleset code_laws = (
+  refusal-code,
+  stamps-code,
+  verdict-code,
+  body-code,
+  culled-code,
+  request-code,
+  reply-code,
+  fetch-code,
+  fetched-code,
+  frame-code,
+)

@@ -20,7 +20,7 @@ use Rattle.qu_frames.specs.declared.frame.Frame.TheVariants.{Request, Reply, Fet
 use Rattle.qu_frames.specs.Formats.{frame_form}
 use Rattle.qu_frames.specs.Decoding.{decoded}
 use Rattle.qu_frames.specs.Signing.{mac_of, with_mac, before_mac, text_digest, is_signed, if_signed, brought}
-use Rattle.qu_frames.specs.Reading.{own_mac, ReadRequest, request_with, IsRead}
+use Rattle.qu_frames.specs.Reading.{own_mac, ReadRequest, request_with, IsReadRequest}
 use Rattle.qu_frames.proofs.Decoded.{decoded_is_spelled, spelled_is_decoded}
 use Rattle.qu_frames.proofs.Signed.{fields_of, spelled_fields, without, text_with, fits_with, mac_fits}
 
@@ -96,7 +96,7 @@ pub request_is_read : (text front : List ℕ) (digest : Digest) (client : Client
     (sets others : List SetOf) (body : Body) (mac : List ℕ) → AreBytes text
     → decoded text ≡ Ok (Request client number round sets body mac) → front ≡ before_mac text
     → digest ≡ text_digest text → others ≡ sets
-    → (digest ≡ record { 0 = digest_of FRAME_TAG front }) × IsRead (record {
+    → (digest ≡ record { 0 = digest_of FRAME_TAG front }) × IsReadRequest (record {
       front = front;
       client = client;
       number = number;
@@ -107,7 +107,7 @@ pub request_is_read : (text front : List ℕ) (digest : Digest) (client : Client
 unfolding text_digest
 request_is_read text front digest client number round sets others body mac fit given front_is digest_is sets_are =
     let frame : Frame = Request client number round sets body mac in
-    let whole : IsRead (record {
+    let whole : IsReadRequest (record {
       front = before_mac text;
       client = client;
       number = number;
@@ -117,7 +117,7 @@ request_is_read text front digest client number round sets others body mac fit g
     }) =
     record { some = front_some text frame fit given; decoded = said_again text frame fit given } in (
       digest_is ∙ ap (λ (it : List ℕ). record { 0 = digest_of FRAME_TAG it }) (sym front_is),
-      subst (λ (it : List ℕ × List SetOf). IsRead (record {
+      subst (λ (it : List ℕ × List SetOf). IsReadRequest (record {
         front = it.0;
         client = client;
         number = number;
@@ -129,7 +129,7 @@ request_is_read text front digest client number round sets others body mac fit g
 
 -- a text that says the request brings it where its own HMAC is right
 pub brought_by : (ring : Ring) (me : Party) (read : ReadRequest) (digest : Digest) (text : List ℕ) (right : Bool)
-    → IsRead read → digest ≡ record { 0 = digest_of FRAME_TAG read.front } → before_mac text ≡ read.front
+    → IsReadRequest read → digest ≡ record { 0 = digest_of FRAME_TAG read.front } → before_mac text ≡ read.front
     → right ≡ verifies ring (party.Client read.client) me digest (own_mac text)
     → brought ring me text ≡ cond right (Some (request_with read (own_mac text))) None
 unfolding brought is_signed text_digest

@@ -24,8 +24,8 @@ use Rattle.qu_frames.specs.declared.verdict.Refusal.{Refusal}
 use Rattle.qu_frames.specs.declared.verdict.Refusal.TheVariants.{HistoryFull, Thin, Needs, Stale, NotCurrent, NotMethod, Spent, TimeSpent, UnknownObject, Sound}
 use Rattle.qu_frames.specs.declared.verdict.Verdict.{Verdict}
 use Rattle.qu_frames.specs.declared.verdict.Verdict.TheVariants.{Done, Told, Already, Mended, Refused}
-use Rattle.qu_frames.specs.Verdict.{class_code}
-use Rattle.qu_frames.specs.Formats.{class_of, class_form, refused_object, latest_told, class_told, number_told, plain_refusal, plain_object, refusal_body, refusal_form, spelled_stamp, stamp_from, after_told, stamps_form, verdict_code, is_verdict_code, done, told, already, mended, refusal, answered_form, verdict_body, verdict_form}
+use Rattle.qu_frames.specs.Verdict.{number_of_class}
+use Rattle.qu_frames.specs.Formats.{class_numbered, class_form, refused_object, latest_told, class_refused, number_told, plain_refusal, plain_object, refusal_body, refusal_form, spelled_stamp, stamp_from, after_told, stamps_form, verdict_code, is_verdict_code, done, told, already, mended, refusal, answered_form, verdict_body, verdict_form}
 
 -- ---- one of two formats, by a test
 
@@ -47,7 +47,7 @@ of_part make part found is = ap make (sym (some_is is))
 
 -- ---- refusals
 
-class_back : (code : ℕ) → 2 ≤ code → code ≤ 6 → class_code (class_of code) ≡ code
+class_back : (code : ℕ) → 2 ≤ code → code ≤ 6 → number_of_class (class_numbered code) ≡ code
 class_back zero low high = absurd (omega arith)
 class_back (suc zero) low high = absurd (omega arith)
 class_back (suc (suc zero)) low high = refl
@@ -57,7 +57,7 @@ class_back (suc (suc (suc (suc (suc zero))))) low high = refl
 class_back (suc (suc (suc (suc (suc (suc zero)))))) low high = refl
 class_back (suc (suc (suc (suc (suc (suc (suc code))))))) low high = absurd (omega arith)
 
-class_again : (class : ClassCode) → class_of (class_code class) ≡ class
+class_again : (class : ClassCode) → class_numbered (number_of_class class) ≡ class
 class_again class.InlineMethod = refl
 class_again class.Copy = refl
 class_again class.InlineBarrier = refl
@@ -65,7 +65,7 @@ class_again class.Barrier = refl
 class_again class.Needs = refl
 
 class-exact : IsExact class_form
-class-exact = fields-exact class_of class_code (number w8 2 6) (byte-exact 2 6 (omega arith))
+class-exact = fields-exact class_numbered number_of_class (number w8 2 6) (byte-exact 2 6 (omega arith))
     (λ code fits. class_back code fits.0 fits.1) class_again
 
 latest_again : (refusal : Refusal) (found : ObjectId × Stamp) → latest_told refusal ≡ Some found
@@ -74,7 +74,7 @@ latest_again (NotCurrent object latest) found is = of_part (λ (pair : ObjectId 
     (object, latest) found is
 latest_again _ found is = absurd cc
 
-class_told_again : (refusal : Refusal) (found : ObjectId × ClassCode) → class_told refusal ≡ Some found
+class_told_again : (refusal : Refusal) (found : ObjectId × ClassCode) → class_refused refusal ≡ Some found
     → NotMethod found.0 found.1 ≡ refusal
 class_told_again (NotMethod object class) found is =
     of_part (λ (pair : ObjectId × ClassCode). NotMethod pair.0 pair.1) (object, class) found is
@@ -150,7 +150,7 @@ refusal_body-exact code known =
     (made-exact _ latest_told _ (both-exact object_form _ object-exact (λ object fits. stamp_with-exact true))
     (λ found fits. refl) (λ refusal found fits is. latest_again refusal found is))
     (λ no22. either-exact (code == NOT_METHOD) _ _
-    (made-exact _ class_told _ (both-exact object_form _ object-exact (λ object fits. class-exact))
+    (made-exact _ class_refused _ (both-exact object_form _ object-exact (λ object fits. class-exact))
     (λ found fits. refl) (λ refusal found fits is. class_told_again refusal found is))
     (λ no23. either-exact (code == SPENT) _ _
     (made-exact _ number_told _ (both-exact object_form _ object-exact (λ object fits. word-exact))
@@ -162,7 +162,7 @@ latest_number : (form : Format (ObjectId × Stamp)) (refusal : Refusal) → Fits
 latest_number form (NotCurrent object latest) fits = refl
 latest_number form _ fits = absurd fits
 
-class_number : (form : Format (ObjectId × ClassCode)) (refusal : Refusal) → FitsPart form (class_told refusal)
+class_number : (form : Format (ObjectId × ClassCode)) (refusal : Refusal) → FitsPart form (class_refused refusal)
     → refusal_number refusal ≡ 23
 class_number form (NotMethod object class) fits = refl
 class_number form _ fits = absurd fits

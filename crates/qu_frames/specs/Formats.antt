@@ -31,19 +31,19 @@ use Rattle.qu_frames.specs.declared.verdict.Refusal.{Refusal}
 use Rattle.qu_frames.specs.declared.verdict.Refusal.TheVariants.{HistoryFull, Thin, Needs, Stale, NotCurrent, NotMethod, Spent, TimeSpent, UnknownObject, Sound}
 use Rattle.qu_frames.specs.declared.verdict.Verdict.{Verdict}
 use Rattle.qu_frames.specs.declared.verdict.Verdict.TheVariants.{Done, Told, Already, Mended, Refused}
-use Rattle.qu_frames.specs.Verdict.{class_code}
+use Rattle.qu_frames.specs.Verdict.{number_of_class}
 
 -- ---- refusals
 
-abbrev pub class_of : ℕ → ClassCode
-class_of code =
+abbrev pub class_numbered : ℕ → ClassCode
+class_numbered code =
     if code == 2 then class.InlineMethod else
     if code == 3 then class.Copy else
     if code == 4 then class.InlineBarrier else
     if code == 5 then class.Barrier else class.Needs
 
 abbrev pub class_form : Format ClassCode
-class_form = made class_of (λ class. Some (class_code class)) (number w8 2 6)
+class_form = made class_numbered (λ class. Some (number_of_class class)) (number w8 2 6)
 
 abbrev pub refused_object : Refusal → ObjectId
 refused_object (HistoryFull object) = object
@@ -61,9 +61,9 @@ abbrev pub latest_told : Refusal → Option (ObjectId × Stamp)
 latest_told (NotCurrent object latest) = Some (object, latest)
 latest_told _ = None
 
-abbrev pub class_told : Refusal → Option (ObjectId × ClassCode)
-class_told (NotMethod object class) = Some (object, class)
-class_told _ = None
+abbrev pub class_refused : Refusal → Option (ObjectId × ClassCode)
+class_refused (NotMethod object class) = Some (object, class)
+class_refused _ = None
 
 abbrev pub number_told : Refusal → Option (ObjectId × ℕ)
 number_told (Spent object number) = Some (object, number)
@@ -87,7 +87,7 @@ refusal_body code =
     either (code == NOT_CURRENT)
     (made (λ fields. NotCurrent fields.0 fields.1) latest_told (both object_form (λ object. stamp_form)))
     (either (code == NOT_METHOD)
-    (made (λ fields. NotMethod fields.0 fields.1) class_told (both object_form (λ object. class_form)))
+    (made (λ fields. NotMethod fields.0 fields.1) class_refused (both object_form (λ object. class_form)))
     (either (code == SPENT)
     (made (λ fields. Spent fields.0 fields.1) number_told (both object_form (λ object. word_form)))
     (made (plain_refusal code) (plain_object code) object_form)))
@@ -233,8 +233,8 @@ abbrev pub request_fields : Frame → Option RequestFields
 request_fields (Request client number round sets body mac) = Some (client, (number, (round, (sets, (body, mac)))))
 request_fields _ = None
 
-abbrev pub request_of : RequestFields → Frame
-request_of fields = Request fields.0 fields.1.0 fields.1.1.0 fields.1.1.1.0 fields.1.1.1.1.0 fields.1.1.1.1.1
+abbrev pub request_made : RequestFields → Frame
+request_made fields = Request fields.0 fields.1.0 fields.1.1.0 fields.1.1.1.0 fields.1.1.1.1.0 fields.1.1.1.1.1
 
 -- client, number from 1 on, round, sets, what is asked for, HMAC
 abbrev pub request_form : Format RequestFields
@@ -243,7 +243,7 @@ request_form =
     both sets_form (λ sets. both (body_form (objects_in_sets sets)) (λ body. bytes 32)))))
 
 unfoldable pub request_frame : Format Frame
-request_frame = made request_of request_fields request_form
+request_frame = made request_made request_fields request_form
 
 abbrev pub ReplyFields : Type 0
 ReplyFields = ReplicaId × (ClientId × (ℕ × (ℕ × (Verdict × (List (ObjectId × ReplicaId) × (List Sealed × List ℕ))))))

@@ -35,6 +35,6 @@ abbrev pub request_with : ReadRequest → List ℕ → Frame
 request_with read mac = Request read.client read.number read.round read.sets read.body mac
 
 -- each text with these bytes before its HMAC is decoded to the request with the text's own HMAC
-pub record IsRead (read : ReadRequest) : Type 0 where
+pub record IsReadRequest (read : ReadRequest) : Type 0 where
   pub some : 0 < length read.front
   pub decoded : (text : List ℕ) → before_mac text ≡ read.front → decoded text ≡ Ok (request_with read (own_mac text))

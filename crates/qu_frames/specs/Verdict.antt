@@ -19,12 +19,12 @@ abbrev pub same_stamps : List (ObjectId × Stamp) → List (ObjectId × Stamp) �
 same_stamps stamps others = pointwise (λ (a b : ObjectId × Stamp). same_object a.0 b.0 && same_stamp a.1 b.1)
     stamps others
 
-abbrev pub class_code : ClassCode → ℕ
-class_code class.InlineMethod = 2
-class_code class.Copy = 3
-class_code class.InlineBarrier = 4
-class_code class.Barrier = 5
-class_code class.Needs = 6
+abbrev pub number_of_class : ClassCode → ℕ
+number_of_class class.InlineMethod = 2
+number_of_class class.Copy = 3
+number_of_class class.InlineBarrier = 4
+number_of_class class.Barrier = 5
+number_of_class class.Needs = 6
 
 abbrev pub same_refusal : Refusal → Refusal → Bool
 same_refusal (HistoryFull a) (HistoryFull b) = same_object a b
@@ -32,7 +32,7 @@ same_refusal (Thin a) (Thin b) = same_object a b
 same_refusal (Needs a) (Needs b) = same_object a b
 same_refusal (Stale a) (Stale b) = same_object a b
 same_refusal (NotCurrent a stamp) (NotCurrent b other) = same_object a b && same_stamp stamp other
-same_refusal (NotMethod a class) (NotMethod b other) = same_object a b && class_code class == class_code other
+same_refusal (NotMethod a class) (NotMethod b other) = same_object a b && number_of_class class == number_of_class other
 same_refusal (Spent a number) (Spent b other) = same_object a b && number == other
 same_refusal (TimeSpent a) (TimeSpent b) = same_object a b
 same_refusal (UnknownObject a) (UnknownObject b) = same_object a b

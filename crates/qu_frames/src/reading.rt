@@ -6,7 +6,7 @@ ghost use Rattle.qu_frames.specs.Reading.{is_request, own_mac, request_with};
 
 use super::{Body, Frame, before_mac, decode, text_digest};
 use qu_base::{ClientId, Cursor, Digest, List, NoMemory, Party, ReadFail};
-use qu_history::Digested;
+use qu_history::DigestedSets;
 use qu_seal::KeyRing;
 use std::alloc::Global;
 use std::marker::Model;
@@ -22,7 +22,7 @@ pub struct Reading {
     client: ClientId,
     number: u64,
     round: u8,
-    sets: Digested,
+    sets: DigestedSets,
     body: Body,
 }
 
@@ -30,7 +30,7 @@ impl Model for Reading {
     ghost use Rattle.std.specs.Prelude.{◌≡◌};
     ghost use Rattle.qu_seal.specs.declared.constants.TheConstants.{FRAME_TAG};
     ghost use Rattle.qu_seal.specs.Digesting.{digest_of};
-    ghost use Rattle.qu_frames.specs.Reading.{ReadRequest, IsRead};
+    ghost use Rattle.qu_frames.specs.Reading.{ReadRequest, IsReadRequest};
 
     ghost Value = { ReadRequest };
 
@@ -44,7 +44,7 @@ impl Model for Reading {
     } };
 
     ghost invariant = { λ reading. (reading.digest ≡ record { 0 = digest_of FRAME_TAG reading.front })
-        × IsRead (record {
+        × IsReadRequest (record {
           front = reading.front;
           client = reading.client;
           number = reading.number;
@@ -78,7 +78,7 @@ impl Reading {
                 client,
                 number,
                 round,
-                sets: Digested::of(alloc, sets)?,
+                sets: DigestedSets::of(alloc, sets)?,
                 body,
             })),
             Ok(_) | Err(ReadFail::Bad(_)) => Ok(None),
@@ -126,7 +126,7 @@ impl Reading {
     }
 
     /// The histories that the client was shown.
-    pub fn sets(&self) -> &Digested
+    pub fn sets(&self) -> &DigestedSets
         ensures { result.now ≡ self.now.sets }
     {
         &self.sets

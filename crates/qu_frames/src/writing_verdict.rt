@@ -1,7 +1,7 @@
 //! Verdicts as bytes, by the formats of `specs/Formats.antt`.
 ghost use Rattle.std.specs.Prelude.{◌≡◌, ◌++◌, OnOk};
 ghost use Rattle.std.specs.List.{flat_map};
-ghost use Rattle.qu_frames.specs.Verdict.{class_code};
+ghost use Rattle.qu_frames.specs.Verdict.{number_of_class};
 ghost use Rattle.qu_frames.specs.Formats.{refusal_form, refused_object, spelled_stamp, stamps_form, verdict_form};
 
 use super::{ClassCode, Refusal, Verdict};
@@ -104,7 +104,7 @@ fn object_of(refusal: &Refusal) -> ObjectId
 
 /// The code of a class.
 fn code_of(class: ClassCode) -> u8
-    ensures { result ≡ class_code class }
+    ensures { result ≡ number_of_class class }
 {
     match class {
         ClassCode::InlineMethod => 2,

@@ -24,7 +24,7 @@ use Rattle.qu_history.specs.declared.sealed.Sealed.{Sealed}
 use Rattle.qu_history.specs.declared.sets.SetOf.{SetOf}
 use Rattle.qu_history.specs.History.{ObjectHistory, is_history, rises_from}
 use Rattle.qu_history.specs.Sets.{histories, is_entry, are_entries, is_set, are_sets_from, are_sets}
-use Rattle.qu_history.specs.Formats.{next_stamp, next_candidate, candidates_form, history_with, history_form, macs_form, sealed_with, sealed_form, object_from, entry_form, next_replica, sealed_entry_form, next_entry, entries_form, set_form, sets_form, histories_form, object_text_form, sets_text_form, shown_by, next_object, shown_form}
+use Rattle.qu_history.specs.Formats.{next_stamp, next_candidate, candidates_form, history_with, history_form, macs_form, sealed_with, sealed_form, object_from, entry_form, next_replica, sealed_entry_form, next_entry, entries_form, set_form, sets_form, histories_form, object_text_form, sets_text_form, sealed_from, object_after, shown_form}
 
 -- ---- histories
 
@@ -151,21 +151,22 @@ sets_text-exact =
 
 -- ---- what a replica shows
 
-shown_by-exact : (replica : ReplicaId) (least : ℕ) → IsExact (shown_by replica least)
-unfolding shown_by
+shown_by-exact : (replica : ReplicaId) (least : ℕ) → IsExact (sealed_from replica least)
+unfolding sealed_from
 shown_by-exact replica least =
     sealed_with-exact _
     (history_with-exact _ _ (object_from-exact least) (tested-exact _ Range replica_form replica-exact))
 
 shown_by-spelled : (replica : ReplicaId) (least : ℕ) (sealed : Sealed)
-    → (shown_by replica least).spell sealed ≡ sealed_form.spell sealed
-unfolding shown_by sealed_form history_form
+    → (sealed_from replica least).spell sealed ≡ sealed_form.spell sealed
+unfolding sealed_from sealed_form history_form
 shown_by-spelled replica least sealed = refl
 
 pub shown-exact : (replica : ReplicaId) → IsExact (shown_form replica)
 unfolding shown_form
 shown-exact replica =
-    counted-exact sealed_form.spell (shown_by replica) next_object (shown_by-exact replica) (shown_by-spelled replica)
+    counted-exact sealed_form.spell (sealed_from replica) object_after (shown_by-exact replica) (shown_by-spelled
+    replica)
     (number w8 0 OBJECTS_LIMIT) 0 (number-exact w8 (2 ^ 8) 0 OBJECTS_LIMIT wide8 (omega arith))
 
 -- ---- what fits

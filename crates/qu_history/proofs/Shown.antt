@@ -15,7 +15,7 @@ use Rattle.qu_stamp.specs.Candidate.{same}
 use Rattle.qu_history.specs.declared.sealed.Sealed.{Sealed}
 use Rattle.qu_history.specs.History.{ObjectHistory, rises_from, is_history, holds}
 use Rattle.qu_history.specs.Sets.{histories, greater, greatest_from, greatest, candidates_of}
-use Rattle.qu_history.specs.Trimming.{is_shown, greatest_shown, greater_of, greater_found}
+use Rattle.qu_history.specs.Trimming.{is_held_by, greatest_shown, greater_of, greater_found}
 use Rattle.qu_history.proofs.Rising.{history_parts}
 use Rattle.qu_history.proofs.Histories.{histories_within, histories_whole, history_at}
 use Rattle.qu_history.proofs.Greatest.{greatest_none, greatest_push, greatest_cases, holds-filter}
@@ -191,9 +191,9 @@ shown_next test entries index entry best last found within here is_best is_last 
 -- its end
 pub shown_all : (entries : List Sealed) (least index : ℕ) (best : Option Candidate) → length entries ≤ index
     → best ≡ greatest
-    (filter (is_shown (histories entries) least) (candidates_of (take index (histories entries))))
+    (filter (is_held_by (histories entries) least) (candidates_of (take index (histories entries))))
     → best ≡ greatest_shown (histories entries) least
 unfolding greatest_shown
 shown_all entries least index best whole is =
-    is ∙ ap (λ (it : List ObjectHistory). greatest (filter (is_shown (histories entries) least) (candidates_of it)))
+    is ∙ ap (λ (it : List ObjectHistory). greatest (filter (is_held_by (histories entries) least) (candidates_of it)))
     (take_all index (histories entries) (histories_whole entries index whole))

@@ -118,17 +118,17 @@ sets_text_form = counted (number w8 1 SETS_YET) (object_text_form 0).spell objec
 -- ---- what a replica shows of its histories
 
 -- a sealed history of this replica, of an object that is not below this number
-unfoldable pub shown_by : ReplicaId → ℕ → Format Sealed
-shown_by replica least =
+unfoldable pub sealed_from : ReplicaId → ℕ → Format Sealed
+sealed_from replica least =
     sealed_with (history_with (object_from least)
     (tested (λ (other : ReplicaId). other.0 == replica.0) Range replica_form))
 
-abbrev pub next_object : Sealed → ℕ
-next_object sealed = ((sealed.history).object).0 + 1
+abbrev pub object_after : Sealed → ℕ
+object_after sealed = ((sealed.history).object).0 + 1
 
 abbrev pub some_shown : ReplicaId → ℕ → ℕ → Format (List Sealed)
-some_shown replica least count = items sealed_form.spell (shown_by replica) next_object least count
+some_shown replica least count = items sealed_form.spell (sealed_from replica) object_after least count
 
 -- by rising objects
 unfoldable pub shown_form : ReplicaId → Format (List Sealed)
-shown_form replica = counted (number w8 0 OBJECTS_LIMIT) sealed_form.spell (shown_by replica) next_object 0
+shown_form replica = counted (number w8 0 OBJECTS_LIMIT) sealed_form.spell (sealed_from replica) object_after 0

@@ -10,12 +10,12 @@ use Rattle.qu_history.specs.History.{ObjectHistory, latest}
 use Rattle.qu_history.specs.Sets.{histories, order_of, candidates_of, greater, greatest}
 
 -- so many of the entries hold the candidate
-abbrev pub is_shown : List ObjectHistory → ℕ → Candidate → Bool
-is_shown entries least candidate = nat_le least (order_of candidate entries)
+abbrev pub is_held_by : List ObjectHistory → ℕ → Candidate → Bool
+is_held_by entries least candidate = nat_le least (order_of candidate entries)
 
 -- the greatest candidate that so many of the entries hold, with a barrier or without
 unfoldable pub greatest_shown : List ObjectHistory → ℕ → Option Candidate
-greatest_shown entries least = greatest (filter (is_shown entries least) (candidates_of entries))
+greatest_shown entries least = greatest (filter (is_held_by entries least) (candidates_of entries))
 
 -- the greater of a candidate and the best so far
 abbrev pub greater_of : Option Candidate → Candidate → Candidate

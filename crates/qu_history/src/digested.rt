@@ -14,13 +14,13 @@ use std::marker::Model;
 /// Sets with the digests that are made of them: that of each history, and that of the whole sets. They are made
 /// once, however many replicas look at the sets.
 #[derive(Debug, Drop)]
-pub struct Digested {
+pub struct DigestedSets {
     sets: Sets,
     histories: List<List<Digest>>,
     whole: Digest,
 }
 
-impl Model for Digested {
+impl Model for DigestedSets {
     ghost use Rattle.std.specs.Prelude.{◌≡◌, List};
     ghost use Rattle.qu_history.specs.declared.sets.SetOf.{SetOf};
     ghost use Rattle.qu_history.specs.Digested.{history_digests};
@@ -34,14 +34,14 @@ impl Model for Digested {
         × (digested.whole ≡ sets_digest digested.sets) };
 }
 
-impl Digested {
+impl DigestedSets {
     /// These sets with their digests, for whose texts it takes memory.
-    pub fn of(alloc: Global, sets: Sets) -> Result<Digested, NoMemory>
+    pub fn of(alloc: Global, sets: Sets) -> Result<DigestedSets, NoMemory>
         ensures { IfOk result (λ digested. digested ≡ sets) }
     {
         let histories = history_digests(alloc, sets.objects().as_slice())?;
         let whole = sets.digest_of(alloc)?;
-        Ok(Digested {
+        Ok(DigestedSets {
             sets,
             histories,
             whole,

@@ -19,7 +19,7 @@ mod writing;
 mod writing_sets;
 
 pub use culling::Culled;
-pub use digested::Digested;
+pub use digested::DigestedSets;
 pub use formats::formats_are_codes;
 pub use history::{AddFail, History};
 pub use limits::{HISTORY_LIMIT, OBJECTS_LIMIT, SETS_YET, limits_are_these};

@@ -1,6 +1,6 @@
 ghost use Rattle.std.specs.Prelude.{◌≡◌, ◌<◌, ◌≤◌, IfOk, OnErr};
 ghost use Rattle.qu_base.specs.Reading.{Reads, Gives};
-ghost use Rattle.qu_history.specs.Formats.{some_macs, macs_form, object_from, entry_form, sealed_entry_form, some_entries, entries_form, shown_by, some_shown, shown_form};
+ghost use Rattle.qu_history.specs.Formats.{some_macs, macs_form, object_from, entry_form, sealed_entry_form, some_entries, entries_form, sealed_from, some_shown, shown_form};
 
 use super::reading::candidates_at;
 use super::{History, OBJECTS_LIMIT, Sealed};
@@ -128,7 +128,7 @@ fn next_shown(
     let mut shown = List::new(alloc);
     let mut least = 0;
     for at in 0..count {
-        let sealed = shown_by(alloc, replica, least, text)?;
+        let sealed = sealed_from(alloc, replica, least, text)?;
         least = sealed.history.object().0 + 1;
         shown.push(sealed)?;
     }
@@ -136,14 +136,14 @@ fn next_shown(
 }
 
 /// The next sealed history of this replica, of an object that is not below this number.
-#[tactic(auto, unfolding(crate::specs::Formats::shown_by))]
-fn shown_by(
+#[tactic(auto, unfolding(crate::specs::Formats::sealed_from))]
+fn sealed_from(
     alloc: Global,
     replica: ReplicaId,
     least: u16,
     text: &mut Cursor,
 ) -> Result<Sealed, ReadFail>
-    ensures given { Gives (shown_by replica least) result text.old text.new }
+    ensures given { Gives (sealed_from replica least) result text.old text.new }
     ensures below { IfOk result (λ sealed. ((sealed.history).object).0 < OBJECT_IDS) }
 {
     let object = object_from(least, text)?;

@@ -2,7 +2,7 @@ ghost use Rattle.std.specs.Prelude.{◌≡◌, ◌≤◌, length, filter, IfOk};
 ghost use Rattle.qu_base.specs.declared.party.ObjectId.{ObjectId as Object};
 ghost use Rattle.qu_base.specs.Bounds.{quorum};
 ghost use Rattle.qu_history.specs.Sets.{histories, entries_of, greatest};
-ghost use Rattle.qu_history.specs.Trimming.{is_shown, greatest_shown, greater_of, greater_found, is_up_to, entries_up_to, trimmed_set, trimmed};
+ghost use Rattle.qu_history.specs.Trimming.{is_held_by, greatest_shown, greater_of, greater_found, is_up_to, entries_up_to, trimmed_set, trimmed};
 
 use super::entries::order_of;
 use super::{History, Sealed, SetOf, Sets};
@@ -116,7 +116,7 @@ fn greater_of(best: Option<Candidate>, candidate: Candidate) -> Candidate
 /// The greatest candidate of a history that at least so many of the entries hold: the last one, since stamps rise.
 #[tactic(auto, using(crate::proofs::Shown::last_laws))]
 fn last_shown(entries: &[Sealed], least: usize, history: &History) -> Option<Candidate>
-    ensures { result ≡ greatest (filter (is_shown (histories entries.now) least) history.now.candidates) }
+    ensures { result ≡ greatest (filter (is_held_by (histories entries.now) least) history.now.candidates) }
 {
     let candidates = history.candidates().as_slice();
     for place in (0..candidates.len()).rev() {

@@ -5,7 +5,7 @@ use Rattle.std.proofs.lemmas.Grind.{common_steps}
 use Rattle.std.proofs.KnownBytes.{Consumes-nil, Consumes-trans, Consumes-kept, Appends-nil, Appends-trans, Appends-kept}
 use Rattle.std.specs.Io.KnownBytes.{Appends}
 use Rattle.qu_io.specs.declared.failed.Failed.{Failed}
-use Rattle.qu_io.specs.Known.{Known, Rose}
+use Rattle.qu_io.specs.Streams.{StreamView, Rose}
 use Rattle.qu_io.specs.Reads.{ReadsFrom, HasRead}
 use Rattle.qu_io.specs.Writes.{WritesTo, HasWritten}
 
@@ -18,11 +18,11 @@ Appends-take first middle last text place count before now =
     (Appends-trans first middle last (take place text) (take count (drop place text)) before now)
 
 -- no read was made yet
-pub reads_start : (first : Known) → HasRead first first []
+pub reads_start : (first : StreamView) → HasRead first first []
 reads_start first = record { takes = Consumes-nil first.bytes; counts = omega arith }
 
 -- after a read
-pub reads_more : (first before now : Known) (bytes into : List ℕ) (count : ℕ) → HasRead first before bytes
+pub reads_more : (first before now : StreamView) (bytes into : List ℕ) (count : ℕ) → HasRead first before bytes
     → ReadsFrom before now (Ok count) into → HasRead first now (bytes ++ take count into)
 reads_more first before now bytes into count earlier read = record {
   takes = Consumes-trans first.bytes before.bytes now.bytes bytes (take count into) earlier.takes read.takes;
@@ -30,7 +30,7 @@ reads_more first before now bytes into count earlier read = record {
 }
 
 -- after a read that failed
-pub reads_failed : (first before now : Known) (bytes into : List ℕ) (failed : Failed) → HasRead first before bytes
+pub reads_failed : (first before now : StreamView) (bytes into : List ℕ) (failed : Failed) → HasRead first before bytes
     → ReadsFrom before now (Err failed) into → HasRead first now bytes × Rose first now
 reads_failed first before now bytes into failed earlier read = (
   record {
@@ -41,11 +41,11 @@ reads_failed first before now bytes into failed earlier read = (
 )
 
 -- no write was made yet
-pub writes_start : (first : Known) → HasWritten first first []
+pub writes_start : (first : StreamView) → HasWritten first first []
 writes_start first = record { takes = Appends-nil first.bytes; counts = omega arith }
 
 -- after a write of `&text[place..]`, as a slice is cut
-pub writes_more : (first before now : Known) (text : List ℕ) (place count : ℕ)
+pub writes_more : (first before now : StreamView) (text : List ℕ) (place count : ℕ)
     → HasWritten first before (take place text) → WritesTo before now (Ok count)
     (take (length text - place) (drop place text)) → HasWritten first now (take (place + count) text)
 writes_more first before now text place count earlier written = record {
@@ -56,7 +56,7 @@ writes_more first before now text place count earlier written = record {
 }
 
 -- after a write that failed
-pub writes_failed : (first before now : Known) (bytes piece : List ℕ) (failed : Failed)
+pub writes_failed : (first before now : StreamView) (bytes piece : List ℕ) (failed : Failed)
     → HasWritten first before bytes → WritesTo before now (Err failed) piece → HasWritten first now bytes
     × Rose first now
 writes_failed first before now bytes piece failed earlier written = (

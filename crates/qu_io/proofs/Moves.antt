@@ -3,7 +3,7 @@ use Rattle.std.proofs.Common.{◌≡◌, ℕ, ◌<◌, ◌≤◌, List, ◌++◌
 use Rattle.std.proofs.lemmas.Grind.{common_steps}
 use Rattle.std.proofs.lemmas.List.{take-append-drop, drop-append-le}
 use Rattle.qu_io.specs.declared.failed.Failed.{Failed}
-use Rattle.qu_io.specs.Known.{next_count}
+use Rattle.qu_io.specs.Streams.{next_count}
 use Rattle.qu_io.specs.Reads.{ReadsFrom}
 use Rattle.qu_io.specs.Writes.{WritesTo}
 

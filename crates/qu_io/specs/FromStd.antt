@@ -2,7 +2,7 @@
 use Rattle.std.specs.Prelude.{ℕ, List, Option}
 use Rattle.qu_io.specs.declared.std_source.StdSource.{StdSource}
 use Rattle.qu_io.specs.declared.std_sink.StdSink.{StdSink}
-use Rattle.qu_io.specs.Known.{Known}
+use Rattle.qu_io.specs.Streams.{StreamView}
 
 abbrev pub reader_of : {R : Type 0} → StdSource R → R
 reader_of source = source.reader
@@ -11,7 +11,7 @@ abbrev pub read_faults : {R : Type 0} → StdSource R → ℕ
 read_faults source = source.faults
 
 -- what is left is what is left in the reader
-abbrev pub known_source : {R : Type 0} → (R → Option (List ℕ)) → StdSource R → Known
+abbrev pub known_source : {R : Type 0} → (R → Option (List ℕ)) → StdSource R → StreamView
 known_source remaining source = record { bytes = remaining source.reader; faults = source.faults }
 
 abbrev pub writer_of : {W : Type 0} → StdSink W → W
@@ -21,5 +21,5 @@ abbrev pub write_faults : {W : Type 0} → StdSink W → ℕ
 write_faults sink = sink.faults
 
 -- what was taken is what the writer holds
-abbrev pub known_sink : {W : Type 0} → (W → Option (List ℕ)) → StdSink W → Known
+abbrev pub known_sink : {W : Type 0} → (W → Option (List ℕ)) → StdSink W → StreamView
 known_sink contents sink = record { bytes = contents sink.writer; faults = sink.faults }

@@ -1,6 +1,6 @@
 -- A source or a sink in memory, whose calls fail where its maker says.
 use Rattle.std.specs.Prelude.{◌≡◌, ℕ, List, Some, Contains}
-use Rattle.qu_io.specs.Known.{Known, next_count}
+use Rattle.qu_io.specs.Streams.{StreamView, next_count}
 
 pub record InMemory : Type 0 where
   -- the bytes that are left in the source, or that the sink took
@@ -15,7 +15,7 @@ pub record InMemory : Type 0 where
   pub faults : ℕ
 
 -- what it tells as a source or as a sink
-abbrev pub known_of : InMemory → Known
+abbrev pub known_of : InMemory → StreamView
 known_of memory = record { bytes = Some memory.bytes; faults = memory.faults }
 
 -- a call was counted, and the plan of failures stays; both counts stay at 2 ^ 64 - 1

@@ -1,4 +1,4 @@
-pub mod Known
+pub mod Streams
 pub mod Reads
 pub mod Writes
 pub mod InMemory

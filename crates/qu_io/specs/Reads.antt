@@ -3,11 +3,11 @@ use Rattle.std.specs.Prelude.{◌≡◌, ℕ, ◌≤◌, List, [], take, Some, R
 use Rattle.std.specs.Io.{ReadsAtMost}
 use Rattle.std.specs.Io.KnownBytes.{Consumes, Keeps, IsAtEnd}
 use Rattle.qu_io.specs.declared.failed.Failed.{Failed}
-use Rattle.qu_io.specs.Known.{Known, Rose, IsCalm}
+use Rattle.qu_io.specs.Streams.{StreamView, Rose, IsCalm}
 
 -- `before` and `now` are what is known of the source as the call begins and as it returns,
 -- and `into` is what its slice holds then
-pub record ReadsFrom (before now : Known) (result : Result ℕ Failed) (into : List ℕ) : Type 0 where
+pub record ReadsFrom (before now : StreamView) (result : Result ℕ Failed) (into : List ℕ) : Type 0 where
   -- it gives at most as many bytes as the slice has room for
   pub fits : ReadsAtMost result into
   -- they stand at the slice's front, and are the first of those that were left
@@ -23,6 +23,6 @@ pub record ReadsFrom (before now : Known) (result : Result ℕ Failed) (into : L
   pub stays : IfOk result (λ count. IsCalm before now)
 
 -- reads in a row took these bytes
-pub record HasRead (first now : Known) (bytes : List ℕ) : Type 0 where
+pub record HasRead (first now : StreamView) (bytes : List ℕ) : Type 0 where
   pub takes : Consumes first.bytes now.bytes bytes
   pub counts : first.faults ≤ now.faults

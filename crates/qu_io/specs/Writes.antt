@@ -3,10 +3,10 @@ use Rattle.std.specs.Prelude.{◌≡◌, ℕ, ◌<◌, ◌≤◌, List, length, 
 use Rattle.std.specs.Io.{WritesAtMost}
 use Rattle.std.specs.Io.KnownBytes.{Appends, Keeps}
 use Rattle.qu_io.specs.declared.failed.Failed.{Failed}
-use Rattle.qu_io.specs.Known.{Known, Rose}
+use Rattle.qu_io.specs.Streams.{StreamView, Rose}
 
 -- `before` and `now` are what is known of the sink as the call begins and as it returns
-pub record WritesTo (before now : Known) (result : Result ℕ Failed) (piece : List ℕ) : Type 0 where
+pub record WritesTo (before now : StreamView) (result : Result ℕ Failed) (piece : List ℕ) : Type 0 where
   -- it takes at most the piece, and something of a piece that is not empty
   pub fits : WritesAtMost result piece
   pub moves : IfOk result (λ count. 0 < length piece → 0 < count)
@@ -20,6 +20,6 @@ pub record WritesTo (before now : Known) (result : Result ℕ Failed) (piece : L
   pub stays : IfOk result (λ count. now.faults ≡ before.faults)
 
 -- writes in a row took these bytes
-pub record HasWritten (first now : Known) (bytes : List ℕ) : Type 0 where
+pub record HasWritten (first now : StreamView) (bytes : List ℕ) : Type 0 where
   pub takes : Appends first.bytes now.bytes bytes
   pub counts : first.faults ≤ now.faults

@@ -1,5 +1,5 @@
 ghost use Rattle.std.specs.Prelude.{◌≡◌, ◌↔◌, ◌++◌, ◌<◌, min, length, take, drop, is_ok, if◌then◌else◌, IsErr, IfOk, OnErr};
-ghost use Rattle.qu_io.specs.Known.{next_count};
+ghost use Rattle.qu_io.specs.Streams.{next_count};
 ghost use Rattle.qu_io.specs.Reads.{ReadsFrom};
 ghost use Rattle.qu_io.specs.InMemory.{known_of, CountsCall, HasToFail};
 

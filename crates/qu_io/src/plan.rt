@@ -1,5 +1,5 @@
 ghost use Rattle.std.specs.Prelude.{◌≡◌, ◌≤◌, ◌↔◌, IsTrue, IsErr, is_ok, if◌then◌else◌, Contains};
-ghost use Rattle.qu_io.specs.Known.{next_count};
+ghost use Rattle.qu_io.specs.Streams.{next_count};
 
 use super::Failed;
 use qu_base::List;

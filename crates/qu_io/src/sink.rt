@@ -1,4 +1,4 @@
-ghost use Rattle.qu_io.specs.Known.{Known};
+ghost use Rattle.qu_io.specs.Streams.{StreamView};
 ghost use Rattle.qu_io.specs.Writes.{WritesTo};
 
 use super::Failed;
@@ -6,7 +6,7 @@ use super::Failed;
 /// Where bytes go.
 pub trait Sink {
     // The bytes that were taken, where they are told, and how many faults there were.
-    ghost known: { Self → Known };
+    ghost known: { Self → StreamView };
 
     /// Takes bytes off the front of a piece, and gives their number.
     ///

@@ -1,5 +1,5 @@
 ghost use Rattle.std.specs.Prelude.{◌<◌, length};
-ghost use Rattle.qu_io.specs.Known.{Known};
+ghost use Rattle.qu_io.specs.Streams.{StreamView};
 ghost use Rattle.qu_io.specs.Reads.{ReadsFrom};
 
 use super::Failed;
@@ -7,7 +7,7 @@ use super::Failed;
 /// Where bytes come from.
 pub trait Source {
     // The bytes that are left, where they are told, and how many faults there were.
-    ghost known: { Self → Known };
+    ghost known: { Self → StreamView };
 
     /// Puts the next bytes at the front of a slice that is not empty, and gives their number.
     ///

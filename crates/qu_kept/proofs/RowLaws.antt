@@ -11,5 +11,6 @@ pub rows_fit : (clients : ℕ) (row : KeptRow) (rows : List KeptRow) → AreRisi
 rows_fit clients row rows rising all is =
     let within : AreOfClients clients (with_row row rows) = all_with client_of (IsOfClients clients) row rows is all in
     let few : 0 + length (with_row row rows) ≤ clients =
-    rising_within client_of 0 clients (with_row row rows) (omega arith) (rising_with client_of row rows rising) within in
+    rising_within client_of 0 clients (with_row row rows) (omega arith) (rising_with client_of row rows rising)
+    within in
     (within, omega (arith))

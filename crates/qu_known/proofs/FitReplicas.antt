@@ -13,8 +13,8 @@ use Rattle.qu_frames.specs.declared.frame.Letter.{Letter}
 use Rattle.qu_rows.specs.State.{ReplicaState}
 use Rattle.qu_replica.specs.Step.{replica_step}
 use Rattle.qu_replica.specs.Fits.{StateFits}
-use Rattle.qu_replica.proofs.FitState.{opening-fits}
-use Rattle.qu_replica.proofs.FitSteps.{step-fits}
+use Rattle.qu_replica.proofs.Fits.FitState.{opening-fits}
+use Rattle.qu_replica.proofs.Fits.FitSteps.{step-fits}
 use Rattle.qu_trace.specs.declared.event.Event.{Event}
 use Rattle.qu_trace.specs.declared.event.Event.TheVariants.{Invoke, Deliver, Tick, Inject}
 use Rattle.qu_trace.specs.declared.trace.Entry.{Entry}
@@ -26,12 +26,12 @@ use Rattle.qu_world.specs.Step.{world_step}
 use Rattle.qu_world.proofs.Each.{each_append, each_at, each_numbered, set_cases}
 use Rattle.qu_claims.specs.Carried.{offered}
 use Rattle.qu_claims.specs.Times.{world_after}
-use Rattle.qu_runs.proofs.Handing.{hand}
-use Rattle.qu_runs.proofs.Objects.{few_kinds}
-use Rattle.qu_runs.proofs.OpeningReplicas.{all_replicas, opening_at}
-use Rattle.qu_runs.proofs.Recording.{entries_after}
+use Rattle.qu_runs.proofs.Events.Handing.{hand}
+use Rattle.qu_runs.proofs.Worlds.Objects.{few_kinds}
+use Rattle.qu_runs.proofs.Worlds.OpeningReplicas.{all_replicas, opening_at}
+use Rattle.qu_runs.proofs.Events.Recording.{entries_after}
 use Rattle.qu_runs.proofs.Small.{some_entry}
-use Rattle.qu_runs.proofs.WorldGrowth.{world_after-next}
+use Rattle.qu_runs.proofs.Worlds.WorldGrowth.{world_after-next}
 use Rattle.qu_known.specs.Known.{HasBytes, IsOfBytes, AreOfBytes}
 use Rattle.qu_known.proofs.Happened.{Happens, happens}
 

@@ -21,11 +21,11 @@ use Rattle.qu_frames.specs.Body.{body_of}
 use Rattle.qu_frames.specs.Decoding.{decoded}
 use Rattle.qu_frames.specs.Signing.{brought, signature, signed}
 use Rattle.qu_rows.specs.State.{ReplicaState}
-use Rattle.qu_replica.specs.Step.{replica_step, carried_out, on_received}
+use Rattle.qu_replica.specs.Step.{replica_step, carried_out, replica_on_received}
 use Rattle.qu_rows.specs.declared.decision.Decision.{Decision}
 use Rattle.qu_rows.specs.declared.decision.Decision.TheVariants.{Answers, Waits}
 use Rattle.qu_rows.specs.Rows.{asked_at, decision_on}
-use Rattle.qu_replica.proofs.FitSteps.{blank_sized}
+use Rattle.qu_replica.proofs.Fits.FitSteps.{blank_sized}
 use Rattle.qu_client.specs.declared.state.ClientState.{ClientState}
 use Rattle.qu_client.specs.declared.state.Stepped.{Stepped}
 use Rattle.qu_client.specs.declared.work.Work.{Work}
@@ -39,11 +39,11 @@ use Rattle.qu_trace.specs.declared.trace.Entry.{Entry}
 use Rattle.qu_world.specs.State.{WorldState, numbered, letter_of}
 use Rattle.qu_world.specs.Step.{world_step, unchanged, at_replica, at_client, received, delivered}
 use Rattle.qu_world.proofs.Steps.{step_cases}
-use Rattle.qu_runs.proofs.Handing.{hand}
+use Rattle.qu_runs.proofs.Events.Handing.{hand}
 use Rattle.qu_claims.specs.Carried.{offered}
-use Rattle.qu_runs.proofs.Carrying.{no_reply, signed_spelled}
+use Rattle.qu_runs.proofs.Fits.Carrying.{no_reply, signed_spelled}
 use Rattle.qu_known.specs.declared.answers.Answered.{Answered}
-use Rattle.qu_known.specs.Answers.{answered, letter_answered, rounds_told}
+use Rattle.qu_known.specs.Answers.{round_answered, letter_answered, rounds_told}
 use Rattle.qu_known.specs.Known.{Seen, see_letters}
 
 -- no other letters than those of replicas answer
@@ -82,13 +82,13 @@ no_answer : (read : Result Frame BadText)
     → ((replica : ReplicaId) (client : ClientId) (number round : ℕ) (verdict : Verdict)
     (culled : List (ObjectId × ReplicaId)) (shown : List Sealed) (mac : List ℕ)
     → read ≡ Ok (frame.Reply replica client number round verdict culled shown mac) → ⊥)
-    → answered read ≡ None
+    → round_answered read ≡ None
 no_answer (Ok (frame.Reply replica client number round verdict culled shown mac)) none =
     absurd (none replica client number round verdict culled shown mac refl)
 no_answer _ none = refl
 
 request_answers : (keys : Ring) (to : Party) (me : ClientId) (work : Work) (sets : List SetOf)
-    → answered (decoded (signed keys to (request_of me work sets))) ≡ None
+    → round_answered (decoded (signed keys to (request_of me work sets))) ≡ None
 request_answers keys to me work sets =
     let sent : Frame = request_of me work sets in
     let letter : Letter = record { from = party.Client me; to = to; text = signed keys to sent } in
@@ -137,7 +137,7 @@ unfolding rounds_told
 carried_out_answers state client number round sets (Answers verdict accepted) = refl
 carried_out_answers state client number round sets Waits = refl
 
-received_answers : (state : ReplicaState) (found : Option Frame) → ReplicasAnswer (on_received state found).1
+received_answers : (state : ReplicaState) (found : Option Frame) → ReplicasAnswer (replica_on_received state found).1
 received_answers state None = none_tells.1
 received_answers state (Some (frame.Request client number round sets body mac)) =
     carried_out_answers state client number round sets

@@ -11,10 +11,10 @@ use Rattle.qu_stamp.specs.Candidate.{same}
 use Rattle.qu_history.specs.History.{ObjectHistory, holds}
 use Rattle.qu_rows.specs.State.{ReplicaState, candidates_in}
 use Rattle.qu_claims.specs.Accepted.{accepts}
-use Rattle.qu_runs.proofs.Objects.{EachHas}
+use Rattle.qu_runs.proofs.Worlds.Objects.{EachHas}
 use Rattle.qu_known.specs.declared.tracked.Tracked.{Tracked}
-use Rattle.qu_known.specs.Known.{Row, known_on, knows, row_tracked, rows_tracked, IsKnown, AreKnown}
-use Rattle.qu_known.specs.Tracked.{is_of, is_tracked, undecided}
+use Rattle.qu_known.specs.Known.{ShownRow, known_on, knows, row_tracked, rows_tracked, IsKnown, AreKnown}
+use Rattle.qu_known.specs.Tracked.{is_tracked_as, is_tracked, undecided}
 
 -- ---- tests
 
@@ -42,7 +42,7 @@ pub is_tracked-append : (object : ObjectId) (candidate : Candidate) (first secon
     → is_tracked object candidate
     (first ++ second) ≡ (is_tracked object candidate first || is_tracked object candidate second)
 unfolding is_tracked
-is_tracked-append object candidate first second = list_any-append (is_of object candidate) first second
+is_tracked-append object candidate first second = list_any-append (is_tracked_as object candidate) first second
 
 pub is_tracked-undecided : (object other : ObjectId) (candidate : Candidate) (candidates : List Candidate)
     → is_tracked object candidate (map (undecided other) candidates) ≡ ((other.0 == object.0) && holds candidate
@@ -50,11 +50,11 @@ pub is_tracked-undecided : (object other : ObjectId) (candidate : Candidate) (ca
 unfolding is_tracked
 is_tracked-undecided object other candidate [] = sym (and_false (other.0 == object.0))
 is_tracked-undecided object other candidate (first ∷ later) =
-    ap (λ (test : Bool). is_of object candidate (undecided other first) || test)
+    ap (λ (test : Bool). is_tracked_as object candidate (undecided other first) || test)
     (is_tracked-undecided object other candidate later) ∙
     and_or (other.0 == object.0) (same first candidate) (holds candidate later)
 
-here_tracked : (row : Row) (place : ℕ) (object : ObjectId) (candidate : Candidate)
+here_tracked : (row : ShownRow) (place : ℕ) (object : ObjectId) (candidate : Candidate)
     → is_tracked object candidate (map (undecided (record { 0 = place })) (known_on (record { 0 = place }) row))
     ≡ ((place == object.0) && knows object candidate row)
 here_tracked row place object candidate =
@@ -65,7 +65,7 @@ here_tracked row place object candidate =
       | inr other ↦ rw other refl
     ]
 
-row_tracked-held : (row : Row) (first count : ℕ) (object : ObjectId) (candidate : Candidate)
+row_tracked-held : (row : ShownRow) (first count : ℕ) (object : ObjectId) (candidate : Candidate)
     → is_tracked object candidate (row_tracked row first count)
     ≡ ((nat_le first object.0 && nat_lt object.0 (first + count)) && knows object candidate row)
 unfolding row_tracked is_tracked
@@ -90,7 +90,7 @@ candidates_past (history ∷ later) zero past = absurd (omega arith)
 candidates_past (history ∷ later) (suc place) past = candidates_past later place (omega arith)
 
 -- all that a replica accepted is tracked of what is known of it
-row_accepted : (objects : ℕ) (replica : ReplicaState) (row : Row) (object : ObjectId) (candidate : Candidate)
+row_accepted : (objects : ℕ) (replica : ReplicaState) (row : ShownRow) (object : ObjectId) (candidate : Candidate)
     → length replica.histories ≤ objects → IsKnown replica row
     → is_tracked object candidate (row_tracked row 0 objects) ≡ accepts object candidate replica
 row_accepted objects replica row object candidate few known =
@@ -111,7 +111,7 @@ row_accepted objects replica row object candidate few known =
         → ((nat_le 0 place && nat_lt place (0 + objects)) && held) ≡ held
     within place objects held inside = grind (arith, nat_tests)
 
-pub rows_accepted : (objects : ℕ) (replicas : List ReplicaState) (rows : List Row) (object : ObjectId)
+pub rows_accepted : (objects : ℕ) (replicas : List ReplicaState) (rows : List ShownRow) (object : ObjectId)
     (candidate : Candidate) → EachHas objects replicas → AreKnown replicas rows
     → is_tracked object candidate (rows_tracked objects rows) ≡ list_any (accepts object candidate) replicas
 unfolding is_tracked

@@ -11,7 +11,7 @@ use Rattle.qu_frames.specs.declared.frame.Letter.{Letter}
 use Rattle.qu_rows.specs.State.{ReplicaState}
 use Rattle.qu_replica.specs.Step.{replica_step}
 use Rattle.qu_replica.specs.Fits.{StateFits}
-use Rattle.qu_replica.proofs.FitSteps.{step-fits}
+use Rattle.qu_replica.proofs.Fits.FitSteps.{step-fits}
 use Rattle.qu_trace.specs.declared.event.Event.{Event}
 use Rattle.qu_trace.specs.declared.trace.Entry.{Entry}
 use Rattle.qu_trace.specs.declared.trace.Trace.{Trace}
@@ -21,18 +21,18 @@ use Rattle.qu_world.specs.Step.{world_step}
 use Rattle.qu_claims.specs.Accepted.{accepts}
 use Rattle.qu_claims.specs.Carried.{offered}
 use Rattle.qu_claims.specs.Times.{world_after}
-use Rattle.qu_runs.proofs.Entries.{entry_recorded}
-use Rattle.qu_runs.proofs.OpeningReplicas.{me_is}
-use Rattle.qu_runs.proofs.WorldGrowth.{world_after-next}
-use Rattle.qu_known.specs.Answers.{answered_at, rounds_told}
-use Rattle.qu_known.specs.Known.{Row, Seen, knows, see_letters, AreKnown, Learned, AreOfBytes}
+use Rattle.qu_runs.proofs.Events.Entries.{entry_recorded}
+use Rattle.qu_runs.proofs.Worlds.OpeningReplicas.{me_is}
+use Rattle.qu_runs.proofs.Worlds.WorldGrowth.{world_after-next}
+use Rattle.qu_known.specs.Answers.{rounds_answered, rounds_told}
+use Rattle.qu_known.specs.Known.{ShownRow, Seen, knows, see_letters, AreKnown, Learned, AreOfBytes}
 use Rattle.qu_known.proofs.FitReplicas.{run_offers, replicas_fit}
 use Rattle.qu_known.proofs.Happened.{IsQuiet, IsTaken, Happens, ReplicasAnswer, happens}
 use Rattle.qu_known.proofs.Replies.{step_shows}
 use Rattle.qu_known.proofs.Seeing.{quiet_learned, taken_learned}
 
 module _ (trace : Trace) (is_run : IsRun trace) (bytes : AreOfBytes trace.entries) (count : ℕ)
-    (below : count < length trace.entries) (rows : List Row)
+    (below : count < length trace.entries) (rows : List ShownRow)
     (known : AreKnown (world_after trace count).replicas rows) where
   abbrev old : WorldState
   old = world_after trace count
@@ -81,8 +81,8 @@ module _ (trace : Trace) (is_run : IsRun trace) (bytes : AreOfBytes trace.entrie
 
 -- the letters of replicas answer what all letters answer
 pub entry_told : (trace : Trace) → IsRun trace → (count : ℕ) → count < length trace.entries → (entry : Entry)
-    → slice_get trace.entries count ≡ Some entry → rounds_told entry.letters ≡ answered_at entry
-unfolding answered_at
+    → slice_get trace.entries count ≡ Some entry → rounds_told entry.letters ≡ rounds_answered entry
+unfolding rounds_answered
 entry_told trace is_run count below entry is_entry =
     let event : Event = (get_or trace.entries count entry).event in
     let did : Happens (world_after trace count) event (world_step (world_after trace count) event) =
@@ -94,7 +94,7 @@ entry_told trace is_run count below entry is_entry =
 
 -- the same of the letters that the code takes
 pub letters_learned : (trace : Trace) → IsRun trace → AreOfBytes trace.entries → (count : ℕ)
-    → count < length trace.entries → (rows : List Row) → AreKnown (world_after trace count).replicas rows
+    → count < length trace.entries → (rows : List ShownRow) → AreKnown (world_after trace count).replicas rows
     → (entry : Entry) (letters : List Letter) (seen : Seen) → entry ≡ get_or trace.entries count entry
     → letters ≡ entry.letters → see_letters letters (rows, []) ≡ seen
     → Learned (world_after trace count).replicas (world_after trace (count + 1)).replicas seen
@@ -109,11 +109,11 @@ letters_learned trace is_run bytes count below rows known entry letters seen ent
 abbrev counted : ObjectId → Candidate → ReplicaState → ℕ
 counted object candidate replica = cond (accepts object candidate replica) 1 0
 
-abbrev known_counted : ObjectId → Candidate → Row → ℕ
+abbrev known_counted : ObjectId → Candidate → ShownRow → ℕ
 known_counted object candidate row = cond (knows object candidate row) 1 0
 
 -- as many replicas are known to have accepted a candidate as did
-pub count_known : (object : ObjectId) (candidate : Candidate) (replicas : List ReplicaState) (rows : List Row)
+pub count_known : (object : ObjectId) (candidate : Candidate) (replicas : List ReplicaState) (rows : List ShownRow)
     → AreKnown replicas rows
     → count_by (knows object candidate) rows ≡ count_by (accepts object candidate) replicas
 count_known object candidate [] [] known = refl

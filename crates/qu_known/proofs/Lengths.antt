@@ -18,7 +18,7 @@ use Rattle.qu_stamp.specs.Formats.{least_client, most_client, stamp_client_form,
 use Rattle.qu_history.specs.declared.limits.TheConstants.{HISTORY_LIMIT, OBJECTS_LIMIT}
 use Rattle.qu_history.specs.declared.sealed.Sealed.{Sealed}
 use Rattle.qu_history.specs.History.{ObjectHistory}
-use Rattle.qu_history.specs.Formats.{next_stamp, next_candidate, candidates_form, history_with, history_form, macs_form, sealed_with, sealed_form, object_from, shown_by, next_object, shown_form}
+use Rattle.qu_history.specs.Formats.{next_stamp, next_candidate, candidates_form, history_with, history_form, macs_form, sealed_with, sealed_form, object_from, sealed_from, object_after, shown_form}
 use Rattle.qu_objects.specs.declared.answer.Answer.TheVariants as answer
 use Rattle.qu_objects.specs.declared.answer.Item.TheVariants.{Number}
 use Rattle.qu_objects.specs.declared.limits.TheConstants.{PARTS_LIMIT}
@@ -29,7 +29,7 @@ use Rattle.qu_frames.specs.declared.frame.Frame.TheVariants.{Reply}
 use Rattle.qu_frames.specs.declared.refusal_number.TheConstants.{NOT_CURRENT, NOT_METHOD, SPENT}
 use Rattle.qu_frames.specs.declared.verdict.Verdict.{Verdict}
 use Rattle.qu_frames.specs.declared.verdict.Verdict.TheVariants.{Already, Refused}
-use Rattle.qu_frames.specs.Formats.{class_form, latest_told, class_told, number_told, plain_refusal, plain_object, refusal_body, refusal_form, stamp_from, spelled_stamp, after_told, stamps_form, answered_form, verdict_body, verdict_form, spelled_pair, pair_after, culled_form, round_form, ReplyFields, reply_form, reply_frame, kind_form, frame_form}
+use Rattle.qu_frames.specs.Formats.{class_form, latest_told, class_refused, number_told, plain_refusal, plain_object, refusal_body, refusal_form, stamp_from, spelled_stamp, after_told, stamps_form, answered_form, verdict_body, verdict_form, spelled_pair, pair_after, culled_form, round_form, ReplyFields, reply_form, reply_frame, kind_form, frame_form}
 use Rattle.qu_frames.specs.Formats as frames
 
 -- each spelling has at most so many bytes
@@ -209,9 +209,9 @@ history-short object replica short_object short_replica =
 sealed-short : (form : Format ObjectHistory) → IsShort 156677 form → IsShort 164838 (sealed_with form)
 sealed-short form short = fields-short 164838 _ _ _ (both-short 156677 8161 form _ short (λ _. macs-short))
 
-shown_by-short : (me : ReplicaId) (least : ℕ) (sealed : Sealed) → (shown_by me least).Fits sealed
+shown_by-short : (me : ReplicaId) (least : ℕ) (sealed : Sealed) → (sealed_from me least).Fits sealed
     → length (sealed_form.spell sealed) ≤ 164838
-unfolding shown_by sealed_form history_form
+unfolding sealed_from sealed_form history_form
 shown_by-short me least sealed fits =
     (sealed-short _
     (history-short (object_from least) (tested (λ (other : ReplicaId). other.0 == me.0) Range replica_form)
@@ -221,7 +221,8 @@ shown_by-short me least sealed fits =
 shown-short : (me : ReplicaId) → IsShort 1318705 (shown_form me)
 unfolding shown_form
 shown-short me =
-    counted-short 1 8 164838 (number w8 0 OBJECTS_LIMIT) sealed_form.spell (shown_by me) next_object 0 (byte-short 0 _)
+    counted-short 1 8 164838 (number w8 0 OBJECTS_LIMIT) sealed_form.spell (sealed_from me) object_after 0 (byte-short
+    0 _)
     (λ many fits. fits.1) (shown_by-short me)
 
 -- ---- verdicts
@@ -239,7 +240,7 @@ answer-short =
     (made-short 37 answer.Ok objects.answered items_form
     (counted-short {K = Unit {0}} 1 4 9 (number w8 1 PARTS_LIMIT) item_form.spell (λ before. item_form) (λ item. tt)
     tt (byte-short 1 _) (λ many fits. fits.1) (λ before item fits. item-short.within item fits)))
-    (made-short 37 _ objects.refusal part_refusal_form
+    (made-short 37 _ objects.refused_part part_refusal_form
     (shorter 2 37 _ (omega arith)
     (both-short 1 1 _ _ (byte-short 0 _) (λ at. tested-short 1 _ Range _ (byte-short 0 255))))))
 
@@ -252,7 +253,7 @@ refusal-short =
     tagged-short 78 _ _ refusal_body (λ code.
     either-short 78 (code == NOT_CURRENT) _ _ (made-short 78 _ latest_told _ told-short)
     (either-short 78 (code == NOT_METHOD) _ _
-    (made-short 78 _ class_told _
+    (made-short 78 _ class_refused _
     (shorter 3 78 _ (omega arith) (both-short 2 1 object_form _ object-short
     (λ object. fields-short 1 _ _ _ (byte-short 2 6)))))
     (either-short 78 (code == SPENT) _ _

@@ -27,11 +27,11 @@ use Rattle.qu_rows.specs.declared.decision.Decision.TheVariants.{Answers, Waits}
 use Rattle.qu_rows.specs.State.{ReplicaState, own_candidates}
 use Rattle.qu_replica.specs.State.{accept_all}
 use Rattle.qu_rows.specs.Rows.{asked_at, decision_on}
-use Rattle.qu_replica.specs.Step.{shown, named, answer_frame, reply, carried_out, on_frame, on_received, replica_step}
+use Rattle.qu_replica.specs.Step.{shown, named, answer_frame, reply, carried_out, replica_on_frame, replica_on_received, replica_step}
 use Rattle.qu_replica.specs.Fits.{StateFits}
-use Rattle.qu_replica.proofs.FitSteps.{request-fits}
-use Rattle.qu_runs.proofs.FitParts.{fits_parts}
-use Rattle.qu_runs.proofs.Fitting.{answers_fit}
+use Rattle.qu_replica.proofs.Fits.FitSteps.{request-fits}
+use Rattle.qu_runs.proofs.Fits.FitParts.{fits_parts}
+use Rattle.qu_runs.proofs.Fits.Fitting.{answers_fit}
 use Rattle.qu_claims.specs.Parts.{Names}
 use Rattle.qu_accepts.proofs.Acceptance.{step_moves}
 use Rattle.qu_accepts.proofs.Parts.{one_named}
@@ -130,7 +130,7 @@ module _ (old : ReplicaState) (fits : StateFits old) where
   others_stay : (client : ClientId) (number round : ℕ) (set : SetOf) (asks : Body) (mac : List ℕ)
       → frame_form.Fits (frame.Request client number round (set ∷ []) asks mac) → (object : ObjectId)
       → (object.0 ≡ (set.object).0 → ⊥)
-      → own_candidates (on_frame old (frame.Request client number round (set ∷ []) asks mac)).0 object
+      → own_candidates (replica_on_frame old (frame.Request client number round (set ∷ []) asks mac)).0 object
       ≡ own_candidates old object
   others_stay client number round set asks mac within object apart =
       let asked : Frame = frame.Request client number round (set ∷ []) asks mac in
@@ -154,8 +154,8 @@ module _ (old : ReplicaState) (fits : StateFits old) where
 
   request_shows : (client : ClientId) (number round : ℕ) (sets : List SetOf) (asks : Body) (mac : List ℕ)
       → frame_form.Fits (frame.Request client number round sets asks mac) → sets_form.Fits sets
-      → IsSilent old (on_frame old (frame.Request client number round sets asks mac))
-      ⊎ Shows old (on_frame old (frame.Request client number round sets asks mac))
+      → IsSilent old (replica_on_frame old (frame.Request client number round sets asks mac))
+      ⊎ Shows old (replica_on_frame old (frame.Request client number round sets asks mac))
   unfolding sets_form
   request_shows client number round [] asks mac within sets = absurd (omega (arith, (sets.0).0))
   request_shows client number round (set ∷ []) asks mac within sets =
@@ -166,14 +166,14 @@ module _ (old : ReplicaState) (fits : StateFits old) where
       absurd (omega (arith, (sets.0).1))
 
   frame_shows : (received : Frame) → frame_form.Fits received
-      → IsSilent old (on_frame old received) ⊎ Shows old (on_frame old received)
+      → IsSilent old (replica_on_frame old received) ⊎ Shows old (replica_on_frame old received)
   frame_shows (frame.Request client number round sets asks mac) within =
       request_shows client number round sets asks mac within
       (request-fits client number round sets asks mac within).shown
   frame_shows _ within = inl (record { same = refl; none = refl })
 
   received_shows : (found : Option Frame) → ((received : Frame) → found ≡ Some received → frame_form.Fits received)
-      → IsSilent old (on_received old found) ⊎ Shows old (on_received old found)
+      → IsSilent old (replica_on_received old found) ⊎ Shows old (replica_on_received old found)
   received_shows None within = inl (record { same = refl; none = refl })
   received_shows (Some received) within = frame_shows received (within received refl)
 

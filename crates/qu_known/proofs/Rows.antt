@@ -9,14 +9,14 @@ use Rattle.qu_stamp.specs.Candidate.{opening}
 use Rattle.qu_objects.specs.declared.kind.KindName.{KindName}
 use Rattle.qu_rows.specs.State.{candidates_in}
 use Rattle.qu_replica.specs.State.{opening_histories}
-use Rattle.qu_replica.proofs.FitState.{opening_number}
+use Rattle.qu_replica.proofs.Fits.FitState.{opening_number}
 use Rattle.qu_trace.specs.declared.trace.Trace.{Trace}
 use Rattle.qu_world.specs.State.{WorldState, kinds_at, opening_replicas, ring_of}
 use Rattle.qu_claims.specs.Times.{world_after}
-use Rattle.qu_runs.proofs.WorldGrowth.{world_after-none}
+use Rattle.qu_runs.proofs.Worlds.WorldGrowth.{world_after-none}
 use Rattle.qu_known.specs.declared.tracked.Tracked.{Tracked}
 use Rattle.qu_known.specs.Tracked.{undecided}
-use Rattle.qu_known.specs.Known.{Row, known_on, opening_row, opening_rows, row_tracked, AreKnown}
+use Rattle.qu_known.specs.Known.{ShownRow, known_on, opening_row, opening_rows, row_tracked, AreKnown}
 
 -- ---- the beginning
 
@@ -25,7 +25,7 @@ opening_row-push : (kinds : List KindName) (index : ℕ) → index < length kind
 opening_row-push [] index below = absurd (omega arith)
 opening_row-push (kind ∷ later) zero below = refl
 opening_row-push (kind ∷ later) (suc index) below =
-    ap (λ (row : Row). (opening ∷ []) ∷ row) (opening_row-push later index (omega arith))
+    ap (λ (row : ShownRow). (opening ∷ []) ∷ row) (opening_row-push later index (omega arith))
 
 pub opening_row_more : (kinds : List KindName) (index : ℕ) → index < length kinds
     → opening_row (take (index + 1) kinds) ≡ opening_row (take index kinds) ++ (opening ∷ []) ∷ []
@@ -38,7 +38,7 @@ unfolding opening_rows
 opening_rows-push first zero kinds = ap (λ (number : ℕ). opening_row (kinds number) ∷ []) (sym (add-zero first))
 opening_rows-push first (suc count) kinds =
     let place : (first + 1) + count ≡ first + suc count = omega arith in
-    ap (λ (later : List Row). opening_row (kinds first) ∷ later)
+    ap (λ (later : List ShownRow). opening_row (kinds first) ∷ later)
     (opening_rows-push (first + 1) count kinds
     ∙ ap (λ (number : ℕ). opening_rows (first + 1) count kinds ++ opening_row (kinds number) ∷ []) place)
 
@@ -84,10 +84,10 @@ known_opening trace =
 
 -- ---- what is tracked of a row
 
-abbrev tracked_on : Row → ℕ → List Tracked
+abbrev tracked_on : ShownRow → ℕ → List Tracked
 tracked_on row object = map (undecided (record { 0 = object })) (known_on (record { 0 = object }) row)
 
-row_tracked-push : (row : Row) (first count : ℕ) → row_tracked row first (suc count)
+row_tracked-push : (row : ShownRow) (first count : ℕ) → row_tracked row first (suc count)
     ≡ row_tracked row first count ++ tracked_on row (first + count)
 unfolding row_tracked
 row_tracked-push row first zero = append-nil _ ∙ ap (tracked_on row) (sym (add-zero first))
@@ -98,7 +98,7 @@ row_tracked-push row first (suc count) =
     ∙ ap (λ (object : ℕ). row_tracked row (first + 1) count ++ tracked_on row object) place) ∙
     sym (append_assoc (tracked_on row first) (row_tracked row (first + 1) count) (tracked_on row (first + suc count)))
 
-pub row_tracked_more : (before : List Tracked) (row : Row) (object : ℕ)
+pub row_tracked_more : (before : List Tracked) (row : ShownRow) (object : ℕ)
     → before ++ row_tracked row 0 (object + 1) ≡ (before ++ row_tracked row 0 object)
     ++ map (undecided (record { 0 = object })) (known_on (record { 0 = object }) row)
 row_tracked_more before row object =
@@ -107,6 +107,6 @@ row_tracked_more before row object =
     ∙ ap (λ (place : ℕ). row_tracked row 0 object ++ tracked_on row place) (zero-add object)) ∙
     sym (append_assoc before (row_tracked row 0 object) (tracked_on row object))
 
-pub row_tracked_none : (before : List Tracked) (row : Row) → before ++ row_tracked row 0 0 ≡ before
+pub row_tracked_none : (before : List Tracked) (row : ShownRow) → before ++ row_tracked row 0 0 ≡ before
 unfolding row_tracked
 row_tracked_none before row = append-nil before

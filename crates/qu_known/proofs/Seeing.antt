@@ -21,13 +21,13 @@ use Rattle.qu_rows.specs.State.{ReplicaState, candidates_in, own_candidates}
 use Rattle.qu_replica.specs.Step.{shown, replica_step}
 use Rattle.qu_replica.specs.Growth.{Grows}
 use Rattle.qu_replica.specs.Fits.{StateFits}
-use Rattle.qu_replica.proofs.Growth.{step-grows}
+use Rattle.qu_replica.proofs.States.Growth.{step-grows}
 use Rattle.qu_rows.proofs.Own.{IsOwn, own_history}
 use Rattle.qu_claims.specs.Accepted.{accepts}
-use Rattle.qu_runs.proofs.WorldGrowth.{AcceptsMore}
+use Rattle.qu_runs.proofs.Worlds.WorldGrowth.{AcceptsMore}
 use Rattle.qu_known.specs.declared.tracked.Tracked.{Tracked}
 use Rattle.qu_known.specs.Tracked.{is_tracked, undecided}
-use Rattle.qu_known.specs.Known.{Row, Seen, known_on, beyond, with_known, with_row, see_shown, see_from, see_letters, IsKnown, AreKnown, Learned}
+use Rattle.qu_known.specs.Known.{ShownRow, Seen, known_on, beyond, with_known, with_shown_row, see_shown, see_from, see_letters, IsKnown, AreKnown, Learned}
 use Rattle.qu_known.proofs.Held.{is_tracked-undecided, or_false}
 use Rattle.qu_known.proofs.Replies.{IsSilent, Shows}
 use Rattle.qu_known.proofs.Happened.{none_tells}
@@ -41,12 +41,12 @@ put_self (first ∷ later) zero item is = ap (λ it. it ∷ later) (sym (same_So
 put_self (first ∷ later) (suc place) item is = ap (λ rest. first ∷ rest) (put_self later place item is)
 
 -- what is known of a replica
-record KnownAt (rows : List Row) (place : ℕ) (replica : ReplicaState) : Type 0 where
-  row : Row
+record KnownAt (rows : List ShownRow) (place : ℕ) (replica : ReplicaState) : Type 0 where
+  row : ShownRow
   is_row : slice_get rows place ≡ Some row
   known : IsKnown replica row
 
-known_at : (replicas : List ReplicaState) (rows : List Row) (place : ℕ) (replica : ReplicaState)
+known_at : (replicas : List ReplicaState) (rows : List ShownRow) (place : ℕ) (replica : ReplicaState)
     → AreKnown replicas rows → slice_get replicas place ≡ Some replica → KnownAt rows place replica
 known_at [] rows place replica each found = absurd (none-some replica found)
 known_at (first ∷ later) [] place replica each found = absurd each
@@ -56,7 +56,7 @@ known_at (first ∷ later) (row ∷ rows) (suc place) replica each found =
     let there : KnownAt rows place replica = known_at later rows place replica each.1 found in
     record { row = there.row; is_row = there.is_row; known = there.known }
 
-put_known : (replicas : List ReplicaState) (rows : List Row) (place : ℕ) (replica : ReplicaState) (row : Row)
+put_known : (replicas : List ReplicaState) (rows : List ShownRow) (place : ℕ) (replica : ReplicaState) (row : ShownRow)
     → AreKnown replicas rows → IsKnown replica row → AreKnown (set replicas place replica) (set rows place row)
 put_known [] [] place replica row each known = each
 put_known [] (other ∷ rows) place replica row each known = absurd each
@@ -103,15 +103,15 @@ zip_put R (first ∷ later) (suc place) old new self found here =
 -- ---- what a step of a replica tells
 
 -- what was known and what was new, after what one replica sent
-pub record Learns (old new : ReplicaState) (rows : List Row) (me : ℕ) (seen : Seen) : Type 0 where
-  row : Row
+pub record Learns (old new : ReplicaState) (rows : List ShownRow) (me : ℕ) (seen : Seen) : Type 0 where
+  row : ShownRow
   rows_are : seen.0 ≡ set rows me row
   known : IsKnown new row
   either : (object : ObjectId) (candidate : Candidate)
       → accepts object candidate new ≡ (accepts object candidate old || is_tracked object candidate seen.1)
 
 -- where nothing is told, all is as it was
-learns_nothing : (old new : ReplicaState) (rows : List Row) (me : ℕ) (row : Row) (seen : Seen)
+learns_nothing : (old new : ReplicaState) (rows : List ShownRow) (me : ℕ) (row : ShownRow) (seen : Seen)
     → slice_get rows me ≡ Some row → IsKnown old row → seen ≡ (rows, []) → length new.histories ≡ length old.histories
     → ((object : ObjectId) → own_candidates new object ≡ own_candidates old object) → Learns old new rows me seen
 unfolding is_tracked
@@ -127,7 +127,7 @@ learns_nothing old new rows me row seen is_row known is number same = record {
 }
 
 -- a history that has its place among those of a replica, and more candidates than are known
-module _ (old new : ReplicaState) (row : Row) (known : IsKnown old row) (grows : Grows old new)
+module _ (old new : ReplicaState) (row : ShownRow) (known : IsKnown old row) (grows : Grows old new)
     (history : ObjectHistory)
     (found : slice_get new.histories (history.object).0 ≡ Some history)
     (others : (object : ObjectId) → (object.0 ≡ (history.object).0 → ⊥)
@@ -157,7 +157,7 @@ module _ (old new : ReplicaState) (row : Row) (known : IsKnown old row) (grows :
   beyond_is : beyond had history.candidates ≡ more
   beyond_is = ap (beyond had) shown_is ∙ drop_at had more (length had) refl
 
-  abbrev row_after : Row
+  abbrev row_after : ShownRow
   row_after = set row object.0 (had ++ beyond had history.candidates)
 
   row_is : with_known history (row, []) (slice_get row object.0)
@@ -229,7 +229,7 @@ module _ (old new : ReplicaState) (row : Row) (known : IsKnown old row) (grows :
       ]
 
 -- what is told of the replica, which has this number
-module _ (old new : ReplicaState) (rows : List Row) (me : ReplicaId) (row : Row)
+module _ (old new : ReplicaState) (rows : List ShownRow) (me : ReplicaId) (row : ShownRow)
     (is_row : slice_get rows me.0 ≡ Some row) (known : IsKnown old row) (grows : Grows old new)
     (fits : StateFits new) (set_shown : SetOf) (keys : Ring)
     (others : (object : ObjectId) → (object.0 ≡ (set_shown.object).0 → ⊥)
@@ -272,8 +272,8 @@ module _ (old new : ReplicaState) (rows : List Row) (me : ReplicaId) (row : Row)
         set rows me.0 (row_after old new row known grows history there apart),
         map (undecided history.object) (beyond (known_on history.object row) history.candidates),
       ) =
-      ap (with_row me history (rows, [])) is_row
-      ∙ ap (λ (made : Row × List Tracked). (set rows me.0 made.0, made.1))
+      ap (with_shown_row me history (rows, [])) is_row
+      ∙ ap (λ (made : ShownRow × List Tracked). (set rows me.0 made.0, made.1))
       (row_is old new row known grows history there apart) in
       record {
         row = row_after old new row known grows history there apart;
@@ -296,7 +296,7 @@ each_self : (states : List ReplicaState) → AllZip AcceptsMore states states
 each_self [] = tt
 each_self (state ∷ later) = ((λ object candidate held. held), each_self later)
 
-pub quiet_learned : (replicas : List ReplicaState) (rows : List Row) → AreKnown replicas rows
+pub quiet_learned : (replicas : List ReplicaState) (rows : List ShownRow) → AreKnown replicas rows
     → Learned replicas replicas (rows, [])
 unfolding is_tracked
 quiet_learned replicas rows known = record {
@@ -305,7 +305,7 @@ quiet_learned replicas rows known = record {
   still = λ none. each_self replicas;
 }
 
-learned_at : (replicas : List ReplicaState) (rows : List Row) (me : ℕ) (old new : ReplicaState) (seen : Seen)
+learned_at : (replicas : List ReplicaState) (rows : List ShownRow) (me : ℕ) (old new : ReplicaState) (seen : Seen)
     → AreKnown replicas rows → slice_get replicas me ≡ Some old → Learns old new rows me seen
     → Learned replicas (set replicas me new) seen
 unfolding is_tracked
@@ -322,7 +322,7 @@ learned_at replicas rows me old new seen known is_old learns = record {
 }
 
 -- what the letters of a replica tell that takes a text
-module _ (replicas : List ReplicaState) (rows : List Row) (me : ReplicaId) (state : ReplicaState) (text : List ℕ)
+module _ (replicas : List ReplicaState) (rows : List ShownRow) (me : ReplicaId) (state : ReplicaState) (text : List ℕ)
     (known : AreKnown replicas rows) (is_state : slice_get replicas me.0 ≡ Some state) (named : state.me ≡ me)
     (fits : StateFits (replica_step state text).0) where
   abbrev new : ReplicaState

@@ -23,15 +23,15 @@ use Rattle.qu_known.specs.declared.tracked.Tracked.{Tracked}
 use Rattle.qu_known.specs.Tracked.{undecided, is_tracked}
 
 -- the candidates of the objects 0, 1, 2, .. at one replica
-abbrev pub Row : Type 0
-Row = List (List Candidate)
+abbrev pub ShownRow : Type 0
+ShownRow = List (List Candidate)
 
 -- what is known of the replicas 0, 1, 2, .., and what was new
 abbrev pub Seen : Type 0
-Seen = List Row × List Tracked
+Seen = List ShownRow × List Tracked
 
 -- what is known of an object
-abbrev pub known_on : ObjectId → Row → List Candidate
+abbrev pub known_on : ObjectId → ShownRow → List Candidate
 known_on object row = slice_index_or row object.0 []
 
 -- ---- what a history tells
@@ -41,26 +41,26 @@ abbrev pub beyond : List Candidate → List Candidate → List Candidate
 beyond known shown = drop (length known) shown
 
 -- the objects of a row with a history of one of them, and what was new
-abbrev pub with_known : ObjectHistory → Row × List Tracked → Option (List Candidate) → Row × List Tracked
+abbrev pub with_known : ObjectHistory → ShownRow × List Tracked → Option (List Candidate) → ShownRow × List Tracked
 with_known history seen None = seen
 with_known history seen (Some known) = (
   slice_set seen.0 (history.object).0 (known ++ beyond known history.candidates),
   seen.1 ++ map (undecided history.object) (beyond known history.candidates),
 )
 
-abbrev pub see_in : ObjectHistory → Row × List Tracked → Row × List Tracked
+abbrev pub see_in : ObjectHistory → ShownRow × List Tracked → ShownRow × List Tracked
 see_in history seen = with_known history seen (slice_get seen.0 (history.object).0)
 
 -- the same of all replicas, with a history of one of them
-abbrev pub put_row : List Row → ReplicaId → Row × List Tracked → Seen
+abbrev pub put_row : List ShownRow → ReplicaId → ShownRow × List Tracked → Seen
 put_row rows me made = (slice_set rows me.0 made.0, made.1)
 
-abbrev pub with_row : ReplicaId → ObjectHistory → Seen → Option Row → Seen
-with_row me history seen None = seen
-with_row me history seen (Some row) = put_row seen.0 me (see_in history (row, seen.1))
+abbrev pub with_shown_row : ReplicaId → ObjectHistory → Seen → Option ShownRow → Seen
+with_shown_row me history seen None = seen
+with_shown_row me history seen (Some row) = put_row seen.0 me (see_in history (row, seen.1))
 
 abbrev pub see_history : ReplicaId → ObjectHistory → Seen → Seen
-see_history me history seen = with_row me history seen (slice_get seen.0 me.0)
+see_history me history seen = with_shown_row me history seen (slice_get seen.0 me.0)
 
 -- ---- what letters tell
 
@@ -80,32 +80,32 @@ see_letters (letter ∷ later) seen = see_letters later (see_from letter.from le
 -- ---- the beginning
 
 -- the opening candidate of each object
-abbrev pub opening_row : List KindName → Row
+abbrev pub opening_row : List KindName → ShownRow
 opening_row kinds = map (λ kind. opening ∷ []) kinds
 
 -- of so many replicas from this number on, each with objects of its kinds
-unfoldable pub opening_rows : ℕ → ℕ → (ℕ → List KindName) → List Row
+unfoldable pub opening_rows : ℕ → ℕ → (ℕ → List KindName) → List ShownRow
 opening_rows number zero kinds = []
 opening_rows number (suc count) kinds = opening_row (kinds number) ∷ opening_rows (number + 1) count kinds
 
 -- all that is known of so many objects from this number on
-unfoldable pub row_tracked : Row → ℕ → ℕ → List Tracked
+unfoldable pub row_tracked : ShownRow → ℕ → ℕ → List Tracked
 row_tracked row object zero = []
 row_tracked row object (suc count) =
     map (undecided (record { 0 = object })) (known_on (record { 0 = object }) row) ++ row_tracked row (object + 1) count
 
 -- of the first objects of all replicas
-abbrev pub rows_tracked : ℕ → List Row → List Tracked
+abbrev pub rows_tracked : ℕ → List ShownRow → List Tracked
 rows_tracked objects rows = flat_map (λ row. row_tracked row 0 objects) rows
 
 -- ---- what replicas have
 
 -- all that the replica accepted is known
-pub record IsKnown (replica : ReplicaState) (row : Row) : Type 0 where
+pub record IsKnown (replica : ReplicaState) (row : ShownRow) : Type 0 where
   pub number : length replica.histories ≤ length row
   pub all : (object : ObjectId) → known_on object row ≡ own_candidates replica object
 
-abbrev pub AreKnown : List ReplicaState → List Row → Type 0
+abbrev pub AreKnown : List ReplicaState → List ShownRow → Type 0
 AreKnown replicas rows = AllZip IsKnown replicas rows
 
 -- what the letters of an event tell: all that the replicas accepted is known after it, where it was before; what
@@ -118,7 +118,7 @@ pub record Learned (old new : List ReplicaState) (seen : Seen) : Type 0 where
       → accepts object candidate after ≡ true → accepts object candidate before ≡ true) new old
 
 -- what is known of a replica has the candidate
-abbrev pub knows : ObjectId → Candidate → Row → Bool
+abbrev pub knows : ObjectId → Candidate → ShownRow → Bool
 knows object candidate row = holds candidate (known_on object row)
 
 -- ---- bytes

@@ -1,7 +1,7 @@
 //! The rounds that are answered.
 ghost use Rattle.std.specs.Prelude.{◌≡◌, Ok, IfOk};
 ghost use Rattle.qu_frames.specs.Decoding.{decoded};
-ghost use Rattle.qu_known.specs.Answers.{answered};
+ghost use Rattle.qu_known.specs.Answers.{round_answered};
 
 use qu_base::{ClientId, NoMemory, ReadFail};
 use qu_frames::{Frame, decode};
@@ -17,7 +17,7 @@ pub struct Answered {
 
 /// The round that a text answers, None where it is no answer.
 pub fn round_answered(alloc: Global, text: &[u8]) -> Result<Option<Answered>, NoMemory>
-    ensures { IfOk result (λ round. round ≡ answered (decoded text.now)) }
+    ensures { IfOk result (λ round. round ≡ round_answered (decoded text.now)) }
 {
     match decode(alloc, text) {
         Ok(frame) => Ok(answered_by(&frame)),
@@ -28,7 +28,7 @@ pub fn round_answered(alloc: Global, text: &[u8]) -> Result<Option<Answered>, No
 
 /// The round that a frame answers.
 pub fn answered_by(frame: &Frame) -> Option<Answered>
-    ensures { result ≡ answered (Ok frame.now) }
+    ensures { result ≡ round_answered (Ok frame.now) }
 {
     match frame {
         Frame::Reply {

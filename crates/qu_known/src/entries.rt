@@ -4,10 +4,10 @@ ghost use Rattle.qu_base.specs.Format.{AreBytes};
 ghost use Rattle.qu_trace.specs.declared.trace.Entry.{Entry as AnEntry};
 ghost use Rattle.qu_world.specs.Run.{IsRun};
 ghost use Rattle.qu_claims.specs.Times.{world_after};
-ghost use Rattle.qu_known.specs.Answers.{answered_at};
+ghost use Rattle.qu_known.specs.Answers.{rounds_answered};
 ghost use Rattle.qu_known.specs.Known.{AreKnown, Learned, HasBytes, HaveBytes, IsOfBytes, AreOfBytes};
 
-use super::known::{Known, Told};
+use super::known::{Known, Learnt};
 use qu_base::NoMemory;
 use qu_frames::Letter;
 use qu_trace::{Entry, Event, Trace};
@@ -19,7 +19,7 @@ pub fn see_entry(
     trace: &Trace,
     index: usize,
     known: &mut Known,
-) -> Result<Told, NoMemory>
+) -> Result<Learnt, NoMemory>
     requires run { IsRun trace.now }
     requires bytes { AreOfBytes trace.now.entries }
     requires within { index < length trace.now.entries }
@@ -27,7 +27,7 @@ pub fn see_entry(
     ensures learned { IfOk result (λ told. Learned (world_after trace.now index).replicas
         (world_after trace.now (index + 1)).replicas (known.new, told.news)) }
     ensures answered { IfOk result (λ told. (entry : AnEntry) → slice_get trace.now.entries index ≡ Some entry
-        → told.rounds ≡ answered_at entry) }
+        → told.rounds ≡ rounds_answered entry) }
 {
     let entry = &trace.entries.as_slice()[index];
     let told = known.see_letters(alloc, entry.letters.as_slice())?;

@@ -5,7 +5,7 @@ ghost use Rattle.qu_base.specs.Bounds.{replicas};
 ghost use Rattle.qu_frames.specs.Decoding.{decoded};
 ghost use Rattle.qu_world.specs.State.{kinds_at};
 ghost use Rattle.qu_known.specs.Tracked.{undecided};
-ghost use Rattle.qu_known.specs.Answers.{answered, letter_told, rounds_told};
+ghost use Rattle.qu_known.specs.Answers.{round_answered, letter_told, rounds_told};
 ghost use Rattle.qu_claims.specs.Handled.{shown_in};
 ghost use Rattle.qu_known.specs.Known.{beyond, known_on, knows, opening_row, opening_rows, row_tracked, rows_tracked, see_in, see_history, see_shown, see_from, see_letters};
 
@@ -22,18 +22,18 @@ use std::marker::Model;
 
 /// What letters tell: the candidates that are new, and the rounds that are answered.
 #[derive(Drop)]
-pub struct Told {
+pub struct Learnt {
     pub news: List<Tracked>,
     pub rounds: List<Answered>,
 }
 
 /// The candidates of each object at one replica.
 #[derive(Debug, Drop)]
-pub struct Row {
+pub struct ShownRow {
     objects: Vec<List<Candidate>>,
 }
 
-impl Model for Row {
+impl Model for ShownRow {
     ghost use Rattle.std.specs.Prelude.{List};
     ghost use Rattle.qu_stamp.specs.declared.candidate.Candidate.{Candidate};
 
@@ -42,17 +42,17 @@ impl Model for Row {
     ghost view = { λ row. row.objects.items };
 }
 
-impl Row {
+impl ShownRow {
     /// The opening candidate of each object, as their kinds stand.
     #[tactic(auto, using(crate::proofs::Rows::opening_row_more))]
-    fn opening(alloc: Global, kinds: &[KindName]) -> Result<Row, NoMemory>
+    fn opening(alloc: Global, kinds: &[KindName]) -> Result<ShownRow, NoMemory>
         ensures { IfOk result (λ row. row ≡ opening_row kinds.now) }
     {
         let mut row = Vec::new(alloc);
         for _kind in kinds {
             row.push(List::one(alloc, Candidate::opening())?)?;
         }
-        Ok(Row { objects: row })
+        Ok(ShownRow { objects: row })
     }
 
     /// What is known of an object, nothing where the replica does not have it.
@@ -150,7 +150,7 @@ fn learn(
 /// The candidates of each replica.
 #[derive(Debug, Drop)]
 pub struct Known {
-    rows: Vec<Row>,
+    rows: Vec<ShownRow>,
 }
 
 impl Model for Known {
@@ -170,7 +170,7 @@ impl Known {
     {
         let mut rows = Vec::new(alloc);
         for number in 0..setup.bounds.n() {
-            rows.push(Row::opening(alloc, kinds_at(setup, ReplicaId(number)))?)?;
+            rows.push(ShownRow::opening(alloc, kinds_at(setup, ReplicaId(number)))?)?;
         }
         Ok(Known { rows })
     }
@@ -200,7 +200,7 @@ impl Known {
     /// Takes what letters show, and tells what is new of it and which rounds they answer. Replies of replicas alone
     /// show something, and each is decoded once.
     #[tactic(auto, unfolding(crate::specs::Known::see_letters, crate::specs::Answers::rounds_told))]
-    pub fn see_letters(&mut self, alloc: Global, letters: &[Letter]) -> Result<Told, NoMemory>
+    pub fn see_letters(&mut self, alloc: Global, letters: &[Letter]) -> Result<Learnt, NoMemory>
         ensures news { IfOk result (λ told. see_letters letters.now (self.old, []) ≡ (self.new, told.news)) }
         ensures rounds { IfOk result (λ told. told.rounds ≡ rounds_told letters.now) }
     {
@@ -209,7 +209,7 @@ impl Known {
         for letter in letters {
             self.see_letter(alloc, letter, &mut news, &mut rounds)?;
         }
-        Ok(Told { news, rounds })
+        Ok(Learnt { news, rounds })
     }
 
     fn see_letter(
@@ -241,7 +241,7 @@ impl Known {
     ) -> Result<(), NoMemory>
         ensures news { OnOk result
             (see_shown me (shown_in (decoded text.now)) (self.old, news.old) ≡ (self.new, news.new)) }
-        ensures rounds { OnOk result (rounds.new ≡ rounds.old ++ cons_option (answered (decoded text.now)) []) }
+        ensures rounds { OnOk result (rounds.new ≡ rounds.old ++ cons_option (round_answered (decoded text.now)) []) }
     {
         match decode(alloc, text) {
             Ok(frame) => {
@@ -309,7 +309,7 @@ fn shown_by(frame: &Frame) -> &[Sealed]
 
 /// Adds the round that a frame answers, where it is an answer.
 fn add_answered(frame: &Frame, rounds: &mut List<Answered>) -> Result<(), NoMemory>
-    ensures { OnOk result (rounds.new ≡ rounds.old ++ cons_option (answered (Ok frame.now)) []) }
+    ensures { OnOk result (rounds.new ≡ rounds.old ++ cons_option (round_answered (Ok frame.now)) []) }
 {
     if let Some(round) = answered_by(frame) {
         rounds.push(round)?;

@@ -8,5 +8,5 @@ mod tracked;
 
 pub use answers::{Answered, round_answered};
 pub use entries::{are_of_bytes, see_entry};
-pub use known::{Known, Told};
+pub use known::{Known, Learnt};
 pub use tracked::Tracked;

@@ -22,10 +22,10 @@ use Rattle.qu_world.specs.State.{WorldState, history_at}
 use Rattle.qu_claims.specs.Accepted.{accepts}
 use Rattle.qu_claims.specs.Times.{world_after}
 use Rattle.qu_shown.specs.Views.{WasHeld, IsOfKept, HeldIfCorrect}
-use Rattle.qu_runs.proofs.WorldGrowth.{AcceptsMore, has_more, world_after-grows, counted-more}
+use Rattle.qu_runs.proofs.Worlds.WorldGrowth.{AcceptsMore, has_more, world_after-grows, counted-more}
 use Rattle.qu_accepts.proofs.Grounds.{is_base}
 use Rattle.qu_runs.proofs.Small.{same_object}
-use Rattle.qu_runs.proofs.FitRequests.{IsFound, found_among, entries_with, entries_next, entries_none}
+use Rattle.qu_runs.proofs.Fits.FitRequests.{IsFound, found_among, entries_with, entries_next, entries_none}
 use Rattle.qu_history.specs.declared.sealed.Sealed.{Sealed}
 use Rattle.qu_claims.specs.Count.{count, test_at}
 use Rattle.qu_chain.proofs.Counting.{bit, count-first, test_at-here}
@@ -35,8 +35,8 @@ use Rattle.qu_seal.specs.Keys.{Ring}
 use Rattle.qu_base.specs.declared.party.ReplicaId.{ReplicaId}
 use Rattle.qu_trace.specs.Faulty.{is_good}
 use Rattle.qu_claims.specs.Setting.{acceptors}
-use Rattle.qu_runs.proofs.Settings.{acceptors_counted}
-use Rattle.qu_runs.proofs.FewFaults.{either_counted}
+use Rattle.qu_runs.proofs.Worlds.Settings.{acceptors_counted}
+use Rattle.qu_runs.proofs.Worlds.FewFaults.{either_counted}
 
 -- ---- what was held is still accepted
 

@@ -17,7 +17,7 @@ use Rattle.std.proofs.lemmas.Option.{none-some}
 use Rattle.qu_stamp.specs.Candidate.{opening}
 use Rattle.qu_runs.proofs.Small.{same_candidate}
 use Rattle.qu_claims.specs.RunSetting.{setting}
-use Rattle.qu_runs.proofs.Settings.{somewhere_accepted}
+use Rattle.qu_runs.proofs.Worlds.Settings.{somewhere_accepted}
 use Rattle.qu_laws.proofs.Named.{stamps_name}
 
 module _ (trace : Trace) (is_run : IsRun trace) (have : ArePlain trace) where

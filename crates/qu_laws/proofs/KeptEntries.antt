@@ -27,8 +27,8 @@ use Rattle.qu_frames.specs.declared.frame.Letter.{Letter}
 use Rattle.qu_frames.specs.Decoding.{decoded}
 use Rattle.qu_frames.specs.Signing.{brought}
 use Rattle.qu_rows.specs.State.{ReplicaState}
-use Rattle.qu_replica.proofs.FitCulled.{culled-fits}
-use Rattle.qu_replica.proofs.FitSteps.{request-fits}
+use Rattle.qu_replica.proofs.Fits.FitCulled.{culled-fits}
+use Rattle.qu_replica.proofs.Fits.FitSteps.{request-fits}
 use Rattle.qu_trace.specs.declared.trace.Entry.{Entry}
 use Rattle.qu_trace.specs.declared.trace.Setup.{Setup}
 use Rattle.qu_trace.specs.declared.trace.Trace.{Trace}
@@ -47,13 +47,13 @@ use Rattle.qu_runs.specs.Plain.{ArePlain}
 use Rattle.qu_claims.specs.Premises.{WasShown}
 use Rattle.qu_claims.specs.RunSetting.{setting}
 use Rattle.qu_claims.specs.Times.{world_after}
-use Rattle.qu_runs.proofs.FewFaults.{either_counted}
-use Rattle.qu_runs.proofs.Fitting.{handed_fits}
-use Rattle.qu_runs.proofs.OpeningReplicas.{keys_are, me_is}
-use Rattle.qu_runs.proofs.Plain.{setup_after}
-use Rattle.qu_runs.proofs.Settings.{acceptors_counted}
+use Rattle.qu_runs.proofs.Worlds.FewFaults.{either_counted}
+use Rattle.qu_runs.proofs.Fits.Fitting.{handed_fits}
+use Rattle.qu_runs.proofs.Worlds.OpeningReplicas.{keys_are, me_is}
+use Rattle.qu_runs.proofs.Digests.Plain.{setup_after}
+use Rattle.qu_runs.proofs.Worlds.Settings.{acceptors_counted}
 use Rattle.qu_runs.proofs.Small.{same_object, only_one}
-use Rattle.qu_runs.proofs.Carrying.{brings_decoded}
+use Rattle.qu_runs.proofs.Fits.Carrying.{brings_decoded}
 use Rattle.qu_shown.specs.Views.{WasHeld, HeldIfCorrect}
 use Rattle.qu_laws.proofs.Acceptors.{still_accepts}
 use Rattle.qu_accepts.proofs.Grounds.{is_base}

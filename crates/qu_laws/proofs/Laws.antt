@@ -16,12 +16,12 @@ use Rattle.qu_rows.specs.State.{ReplicaState, own_candidates, own_latest}
 use Rattle.qu_stamp.specs.declared.stamp.Stamp.{Stamp}
 use Rattle.qu_trace.specs.declared.trace.Trace.{Trace}
 use Rattle.qu_accepts.proofs.Grounds.{above_base, base_not_below, added_above, IsBase, is_base}
-use Rattle.qu_runs.proofs.Objects.{accepted_known}
+use Rattle.qu_runs.proofs.Worlds.Objects.{accepted_known}
 use Rattle.qu_claims.specs.Accepted.{accepts}
-use Rattle.qu_runs.proofs.OpeningReplicas.{acceptor_is_good, all_begin, all_replicas}
+use Rattle.qu_runs.proofs.Worlds.OpeningReplicas.{acceptor_is_good, all_begin, all_replicas}
 use Rattle.qu_base.proofs.ThresholdFacts.{are_thresholds}
 use Rattle.qu_rows.specs.Rows.{asked_of, Asked}
-use Rattle.qu_runs.proofs.Carrying.{brings_decoded}
+use Rattle.qu_runs.proofs.Fits.Carrying.{brings_decoded}
 use Rattle.std.proofs.lemmas.Bool.{cases_Bool, cases_lt, false≢true, lt-ltb, ltb-true, not-true}
 use Rattle.qu_claims.specs.Count.{test_at}
 use Rattle.std.specs.Prelude.{is_some, slice_get}
@@ -52,7 +52,7 @@ use Rattle.qu_chain.specs.Joint.{IsCopied}
 use Rattle.qu_objects.specs.declared.state.ObjState.{ObjState}
 use Rattle.qu_history.proofs.Method.{method_at_plain}
 use Rattle.qu_history.proofs.Stamps.{not_below_latest}
-use Rattle.qu_class.specs.Repairable.{base_of}
+use Rattle.qu_class.specs.Repairable.{object_base}
 use Rattle.qu_class.proofs.OfKind.{base_is_greatest, held_if_repairable}
 use Rattle.qu_rows.proofs.Allowed.{fresh_later}
 use Rattle.qu_base.specs.declared.party.Digest.{Digest}
@@ -138,7 +138,7 @@ module _ (trace : Trace) (is_run : IsRun trace) (have : ArePlain trace) where
         let some : quorum trace.setup.bounds ≤ length entries =
         subst (λ (bounds : ℕ). quorum bounds ≤ length entries) same_bounds
         (subst (λ (it : List SetOf). quorum old_bounds ≤ length (entries_of object it)) sets enough) in
-        let base : Candidate = base_of trace.setup.bounds entries in
+        let base : Candidate = object_base trace.setup.bounds entries in
         let greatest : IsGreatestOfKind trace.setup.bounds entries false base =
         base_is_greatest trace.setup.bounds entries formed some in
         let shown : order_of base entries ≤ acceptors (setting trace) time object base + (setting trace).faults =
@@ -152,8 +152,8 @@ module _ (trace : Trace) (is_run : IsRun trace) (have : ArePlain trace) where
         record {
           base = base;
           plain_base = ap not (greatest.repairable).kind;
-          prior = made.prior ∙ ap (λ (it : List SetOf). (base_of old_bounds (entries_of object it)).stamp) sets
-              ∙ ap (λ (bounds : ℕ). (base_of bounds entries).stamp) same_bounds;
+          prior = made.prior ∙ ap (λ (it : List SetOf). (object_base old_bounds (entries_of object it)).stamp) sets
+              ∙ ap (λ (bounds : ℕ). (object_base bounds entries).stamp) same_bounds;
           below = fresh_later (latest_of entries) base.stamp copy.stamp
               (ap (λ (it : Stamp). it.time) stamp ∙ ap (λ (it : Stamp). it.time + 1) latest_is)
               (not_above_shown entries base held);
@@ -223,7 +223,8 @@ module _ (trace : Trace) (is_run : IsRun trace) (have : ArePlain trace) where
             inl (found_attested asked object it sets refl found)
         by_remedy it version (IsRemedy.barrier barrier made) plain_it enough current =
             absurd (no_barrier it barrier plain_it)
-        by_remedy it version (IsRemedy.copy latest state kind made barrier is_latest full stored) plain_it enough current =
+        by_remedy it version (IsRemedy.copy latest state kind made barrier is_latest full stored) plain_it enough
+            current =
             inr (copy_linked asked latest it sets enough current no_act made barrier is_latest full)
 
     -- whatever the request asks for

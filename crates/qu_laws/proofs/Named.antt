@@ -12,8 +12,8 @@ use Rattle.qu_history.specs.Text.{sets_text, sets_digest}
 use Rattle.qu_history.proofs.Unsealed.{entries_of-one}
 use Rattle.qu_frames.specs.declared.frame.Frame.{Frame}
 use Rattle.qu_frames.specs.Formats.{frame_form}
-use Rattle.qu_replica.proofs.FitCulled.{culled-fits}
-use Rattle.qu_replica.proofs.FitSteps.{request-fits}
+use Rattle.qu_replica.proofs.Fits.FitCulled.{culled-fits}
+use Rattle.qu_replica.proofs.Fits.FitSteps.{request-fits}
 use Rattle.qu_trace.specs.declared.trace.Trace.{Trace}
 use Rattle.qu_world.specs.State.{WorldState}
 use Rattle.qu_world.specs.Step.{world_step}
@@ -25,19 +25,19 @@ use Rattle.qu_claims.specs.Named.{shown_to, StampsNameHistories}
 use Rattle.qu_claims.specs.Times.{world_after}
 use Rattle.qu_claims.specs.Origins.{Origin}
 use Rattle.qu_runs.specs.Plain.{HasEventParts, ArePlain}
-use Rattle.qu_runs.proofs.Fitting.{offered_fits}
-use Rattle.qu_runs.proofs.Handing.{handed_offers}
+use Rattle.qu_runs.proofs.Fits.Fitting.{offered_fits}
+use Rattle.qu_runs.proofs.Events.Handing.{handed_offers}
 use Rattle.qu_world.proofs.Each.{each_at}
 use Rattle.qu_trace.specs.declared.event.Event.{Event}
 use Rattle.qu_trace.specs.declared.trace.Entry.{Entry}
 use Rattle.qu_base.specs.declared.party.Party.TheVariants as party
 use Rattle.qu_accepts.proofs.Handled.{request_upon, upon_handled}
-use Rattle.qu_runs.proofs.DigestedTexts.{request_digested}
+use Rattle.qu_runs.proofs.Digests.DigestedTexts.{request_digested}
 use Rattle.qu_laws.proofs.Origins.{accepted_from}
-use Rattle.qu_runs.proofs.Carrying.{brings_decoded}
+use Rattle.qu_runs.proofs.Fits.Carrying.{brings_decoded}
 use Rattle.qu_machine.proofs.Firsts.{contains_at}
 use Rattle.qu_history.specs.History.{ObjectHistory}
-use Rattle.qu_class.specs.Repairable.{base_of}
+use Rattle.qu_class.specs.Repairable.{object_base}
 
 -- the text of sets
 abbrev text_of : List SetOf → Text
@@ -120,7 +120,7 @@ module _ (trace : Trace) (is_run : IsRun trace) (plain : ArePlain trace) where
       → first.stamp ≡ second.stamp → first.prior ≡ second.prior
   same_prior no_collision object first second one other same =
       (one.made).prior
-      ∙ ap (λ (entries : List ObjectHistory). (base_of trace.setup.bounds entries).stamp)
+      ∙ ap (λ (entries : List ObjectHistory). (object_base trace.setup.bounds entries).stamp)
       (same_histories no_collision object first second one other same)
       ∙ sym (other.made).prior
 

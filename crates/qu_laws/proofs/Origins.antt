@@ -16,10 +16,10 @@ use Rattle.qu_world.specs.Run.{IsRun}
 use Rattle.qu_claims.specs.Times.{world_after}
 use Rattle.qu_claims.specs.Origins.{Origin}
 use Rattle.qu_runs.specs.Plain.{ArePlain}
-use Rattle.qu_runs.proofs.WorldGrowth.{world_after-next}
-use Rattle.qu_runs.proofs.Befores.{WasBefore, was_before}
+use Rattle.qu_runs.proofs.Worlds.WorldGrowth.{world_after-next}
+use Rattle.qu_runs.proofs.Worlds.Befores.{WasBefore, was_before}
 use Rattle.qu_accepts.proofs.Happenings.{hands_parts, event_accepts}
-use Rattle.qu_runs.proofs.OpeningReplicas.{opening_holds, bounds_are}
+use Rattle.qu_runs.proofs.Worlds.OpeningReplicas.{opening_holds, bounds_are}
 use Rattle.std.specs.List.{list_any}
 use Rattle.qu_claims.specs.Chained.{last_world}
 use Rattle.qu_claims.specs.Accepted.{accepts, is_accepted}
@@ -34,7 +34,7 @@ use Rattle.qu_history.specs.declared.sets.SetOf.{SetOf}
 use Rattle.qu_base.specs.Bounds.{repair, replicas, AreThresholds}
 use Rattle.qu_laws.proofs.KeptEntries.{shown_by_accepting}
 use Rattle.qu_frames.specs.declared.frame.Frame.{Frame}
-use Rattle.qu_runs.proofs.FewFaults.{few_faulty}
+use Rattle.qu_runs.proofs.Worlds.FewFaults.{few_faulty}
 use Rattle.qu_accepts.proofs.KnownObjects.{delivered_had}
 use Rattle.qu_accepts.proofs.Accepting.{some_entry}
 use Rattle.qu_accepts.proofs.KnownObjects.{delivered_had}
@@ -82,7 +82,8 @@ module _ (trace : Trace) (is_run : IsRun trace) (have : ArePlain trace) where
       (is_old : slice_get (world_after trace count).replicas place ≡ Some old)
       (is_new : slice_get (world_step (world_after trace count) (get_or trace.entries count some_entry).event).replicas
       place ≡ Some new)
-      (delivered : IsDelivered (world_after trace count) (get_or trace.entries count some_entry).event place old new object)
+      (delivered : IsDelivered (world_after trace count) (get_or trace.entries count some_entry).event place old new
+      object)
     where
       abbrev one : Accepts old new delivered.carried
       one = delivered.accepts

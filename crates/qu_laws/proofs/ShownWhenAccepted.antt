@@ -1,7 +1,7 @@
 -- What a replica accepts in a run, and what its request showed then.
 use Rattle.std.proofs.Common.{◌≡◌, Bool, List, Some, ap, arith, false, length, not, refl, subst, suc, sym, true, ℕ, ◌<◌, ◌≤◌, ◌∙◌, [], ◌+◌, add-one, Option, get_or, None, count_by}
 use Rattle.qu_accepts.proofs.Accepting.{some_entry, opening_alone, Acceptance, acceptance, added_is}
-use Rattle.qu_runs.proofs.WorldGrowth.{has_more, world_after-grows, world_after-next}
+use Rattle.qu_runs.proofs.Worlds.WorldGrowth.{has_more, world_after-grows, world_after-next}
 use Rattle.qu_claims.specs.Grounds.{Accepts}
 use Rattle.qu_runs.specs.Plain.{ArePlain}
 use Rattle.qu_base.specs.Bounds.{AreThresholds, quorum, replicas, repair}
@@ -18,11 +18,11 @@ use Rattle.qu_trace.specs.declared.trace.Trace.{Trace}
 use Rattle.qu_chain.proofs.Arrival.{Turn, turn_between}
 use Rattle.qu_accepts.proofs.Grounds.{added_above}
 use Rattle.qu_claims.specs.Accepted.{accepts}
-use Rattle.qu_runs.proofs.FewFaults.{few_faulty}
-use Rattle.qu_runs.proofs.OpeningReplicas.{bounds_are}
+use Rattle.qu_runs.proofs.Worlds.FewFaults.{few_faulty}
+use Rattle.qu_runs.proofs.Worlds.OpeningReplicas.{bounds_are}
 use Rattle.qu_base.proofs.ThresholdFacts.{are_thresholds}
 use Rattle.qu_rows.specs.Rows.{asked_of, Asked}
-use Rattle.qu_runs.proofs.Carrying.{brings_decoded}
+use Rattle.qu_runs.proofs.Fits.Carrying.{brings_decoded}
 use Rattle.std.proofs.lemmas.Bool.{false≢true, and_parts}
 use Rattle.qu_claims.specs.Count.{test_at, count}
 use Rattle.std.specs.Prelude.{slice_get, ◌&&◌}
@@ -134,7 +134,8 @@ module _ (trace : Trace) (is_run : IsRun trace) (have : ArePlain trace) where
   unfolding setting
   still_accepted from to order object place candidate accepted =
       more_at object candidate (world_after trace from).replicas (world_after trace to).replicas place
-      (has_more (world_after trace from) (world_after trace to) (world_after-grows trace from to order)).replicas accepted
+      (has_more (world_after trace from) (world_after trace to) (world_after-grows trace from to order)).replicas
+      accepted
 
   -- what the replica had accepted, it held
   pub held_before : (time : ℕ) (object : ObjectId) (place : ℕ) (candidate earlier : Candidate)
@@ -269,7 +270,8 @@ module _ (trace : Trace) (is_run : IsRun trace) (have : ArePlain trace) where
         other in
         let most : count_by (λ (it : ObjectHistory). holds barrier it.candidates) shown_then
         ≤ count_by (λ (it : ObjectHistory). holds other it.candidates) shown_then + count n (lacks other) =
-        subst (λ (sets : List SetOf). count_by (λ (it : ObjectHistory). holds barrier it.candidates) (entries_of object sets)
+        subst (λ (sets : List SetOf). count_by (λ (it : ObjectHistory). holds barrier it.candidates)
+        (entries_of object sets)
         ≤ count_by (λ (it : ObjectHistory). holds other it.candidates) (entries_of object sets)
         + count n (lacks other)) one.culls
         (counted trace is_run have time within some_entry place accepted.old accepted.is_old

@@ -16,9 +16,9 @@ use Rattle.qu_trace.specs.declared.trace.Entry.{Entry}
 use Rattle.qu_trace.specs.declared.trace.Setup.{Setup}
 use Rattle.qu_trace.specs.Letters.{letters_of}
 use Rattle.qu_trace.specs.Operation.{invokes, begun_by}
-use Rattle.qu_listing.specs.declared.known.Sent.{Sent}
+use Rattle.qu_listing.specs.declared.so_far.Sent.{Sent}
 use Rattle.qu_listing.specs.Events.{sent_letter}
-use Rattle.qu_listing.specs.Known.{CountsCalls, Knows, calls_of, sent_of}
+use Rattle.qu_listing.specs.SoFar.{CountsCalls, IsSoFar, calls_of, sent_of}
 
 pub begun_few : (client : ClientId) (entries : List Entry) → begun_by client entries ≤ length entries
 unfolding begun_by
@@ -84,7 +84,7 @@ counts_same earlier entry calls none counts client =
     omega (arith, same, at_end)
 
 pub knows_nothing : (setup : Setup) (sent : List Sent) (calls : HashMap ℕ ℕ (BuildHasherDefault FoldHasher))
-    → sent ≡ [] → calls.entries ≡ [] → Knows setup [] (record { sent = sent; calls = calls })
+    → sent ≡ [] → calls.entries ≡ [] → IsSoFar setup [] (record { sent = sent; calls = calls })
 unfolding begun_by letters_of
 knows_nothing setup sent calls none empty = record {
   sent = none;

@@ -5,8 +5,8 @@ use Rattle.std.proofs.lemmas.Grind.{flat_map-append}
 use Rattle.qu_trace.specs.declared.trace.Entry.{Entry}
 use Rattle.qu_trace.specs.declared.trace.Setup.{Setup}
 use Rattle.qu_trace.specs.Letters.{letters_of}
-use Rattle.qu_listing.specs.declared.known.Sent.{Sent}
-use Rattle.qu_listing.specs.Known.{sent_of}
+use Rattle.qu_listing.specs.declared.so_far.Sent.{Sent}
+use Rattle.qu_listing.specs.SoFar.{sent_of}
 
 -- the letters of entries and of one more
 pub letters_more : (earlier : List Entry) (entry : Entry)

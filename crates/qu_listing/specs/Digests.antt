@@ -44,5 +44,5 @@ abbrev pub numbered_lines : ℕ → List (ℕ × Letter) → List (List ℕ)
 numbered_lines first letters = map (λ place. digest_line place.0 (place.1).0 (place.1).1) (enumerate_from first letters)
 
 -- a line for each letter that the run sent: events are numbered from 1, and so are letters
-unfoldable pub digests_of : Trace → List ℕ
-digests_of trace = lines_text (numbered_lines 1 (sent_from 1 trace.entries))
+unfoldable pub digests_text : Trace → List ℕ
+digests_text trace = lines_text (numbered_lines 1 (sent_from 1 trace.entries))

@@ -21,7 +21,7 @@ use Rattle.qu_print.specs.Lines.{lines_text}
 use Rattle.qu_print.specs.Words.{name_text, op_text, answer_text}
 use Rattle.qu_listing.specs.Names.{party_text, count_text}
 use Rattle.qu_listing.specs.Frames.{frame_text, carried_text}
-use Rattle.qu_listing.specs.Receivers.{taken}
+use Rattle.qu_listing.specs.Receivers.{frame_taken}
 
 -- ---- the line of a letter
 
@@ -50,7 +50,7 @@ sent_letter (suc number) letters = slice_get letters number
 
 abbrev pub receiver_text : Setup → Option Letter → List ℕ
 receiver_text setup None = codes "nobody"
-receiver_text setup (Some letter) = party_text letter.to ++ taken_text (taken setup letter.to letter.text)
+receiver_text setup (Some letter) = party_text letter.to ++ taken_text (frame_taken setup letter.to letter.text)
 
 -- a frame that is taken of injected bytes is told as one of the party that it names
 abbrev pub injected_text : Option Frame → List ℕ
@@ -66,7 +66,7 @@ event_text setup earlier (Deliver number) =
 event_text setup earlier (Tick client) = codes "tick " ++ party_text (party.Client client)
 event_text setup earlier (Inject to text) =
     codes "inject " ++ count_text (length text) (codes "byte") ++ codes " to " ++ party_text to
-    ++ injected_text (taken setup to text)
+    ++ injected_text (frame_taken setup to text)
 
 abbrev pub outcome_text : Outcome → List ℕ
 outcome_text (Done answer) = codes " with " ++ answer_text answer
@@ -86,13 +86,13 @@ event_line setup earlier entry =
 -- ---- the listing
 
 -- letters are numbered on, from event to event
-unfoldable pub event_lines : Setup → List Entry → Entry → List (List ℕ)
-event_lines setup earlier entry =
+unfoldable pub entry_lines : Setup → List Entry → Entry → List (List ℕ)
+entry_lines setup earlier entry =
     event_line setup earlier entry ∷ letter_lines (length (letters_of earlier) + 1) entry.letters
 
 unfoldable pub listing : Setup → List Entry → List (List ℕ)
-listing setup entries = flat_map (λ place. event_lines setup (take place.0 entries) place.1) (enumerate_from 0 entries)
+listing setup entries = flat_map (λ place. entry_lines setup (take place.0 entries) place.1) (enumerate_from 0 entries)
 
 -- the events of the run by their numbers, each with the letters that it sent
-unfoldable pub events_of : Trace → List ℕ
-events_of trace = lines_text (listing trace.setup trace.entries)
+unfoldable pub events_text : Trace → List ℕ
+events_text trace = lines_text (listing trace.setup trace.entries)

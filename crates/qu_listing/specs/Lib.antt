@@ -4,4 +4,4 @@ pub mod Verdicts
 pub mod Frames
 pub mod Receivers
 pub mod Events
-pub mod Known
+pub mod SoFar

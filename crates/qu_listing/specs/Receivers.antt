@@ -12,5 +12,5 @@ abbrev pub keys_of : Setup → Ring
 keys_of setup = record { seed = setup.seed; bounds = setup.bounds; clients = setup.clients }
 
 -- the frame that a party takes of a text: a faulty one takes none, since nothing happens at it
-unfoldable pub taken : Setup → Party → List ℕ → Option Frame
-taken setup to text = if is_faulty setup to then None else brought (keys_of setup) to text
+unfoldable pub frame_taken : Setup → Party → List ℕ → Option Frame
+frame_taken setup to text = if is_faulty setup to then None else brought (keys_of setup) to text

@@ -4,13 +4,13 @@ ghost use Rattle.std.specs.Fmt.{decimal};
 ghost use Rattle.qu_trace.specs.Letters.{letters_of};
 ghost use Rattle.qu_listing.specs.Names.{party_text, count_text};
 ghost use Rattle.qu_listing.specs.Events.{sent_letter, receiver_text, injected_text};
-ghost use Rattle.qu_listing.specs.Known.{Knows};
-ghost use Rattle.qu_listing.specs.Receivers.{taken};
+ghost use Rattle.qu_listing.specs.SoFar.{IsSoFar};
+ghost use Rattle.qu_listing.specs.Receivers.{frame_taken};
 
 use super::frames::put_frame;
-use super::known::Known;
 use super::names::{put_count, put_party};
 use super::receivers::Receivers;
+use super::so_far::SoFar;
 use qu_base::{NoMemory, Party};
 use qu_frames::Frame;
 use qu_trace::Entry;
@@ -20,11 +20,11 @@ use std::alloc::Global;
 pub fn put_delivery(
     text: &mut String,
     receivers: &Receivers,
-    known: &Known,
+    known: &SoFar,
     earlier: &[Entry],
     number: u64,
 ) -> Result<(), NoMemory>
-    requires { Knows receivers.now earlier.now known.now }
+    requires { IsSoFar receivers.now earlier.now known.now }
     ensures { OnOk result (string_bytes text.new ≡ string_bytes text.old ++ codes "deliver " ++ decimal number
         ++ codes " to " ++ receiver_text receivers.now (sent_letter number (letters_of earlier.now))) }
 {
@@ -61,7 +61,7 @@ pub fn put_injection(
 ) -> Result<(), NoMemory>
     ensures { OnOk result (string_bytes text.new ≡ string_bytes text.old ++ codes "inject "
         ++ count_text (length bytes.now) (codes "byte") ++ codes " to " ++ party_text to
-        ++ injected_text (taken receivers.now to bytes.now)) }
+        ++ injected_text (frame_taken receivers.now to bytes.now)) }
 {
     text.push_str("inject ")?;
     put_count(text, bytes.len(), "byte")?;

@@ -1,6 +1,6 @@
 ghost use Rattle.std.specs.Prelude.{◌≡◌, ◌∷◌, [], ◌++◌, ◌<◌, ◌≤◌, ◌^◌, length, map, IfOk, OnOk, string_bytes};
 ghost use Rattle.qu_print.specs.Lines.{lines_text};
-ghost use Rattle.qu_listing.specs.Digests.{short_name, route_text, digest_text, digest_line, sent_at, sent_from, numbered_lines, digests_of};
+ghost use Rattle.qu_listing.specs.Digests.{short_name, route_text, digest_text, digest_line, sent_at, sent_from, numbered_lines, digests_text};
 
 use qu_base::{List, NoMemory, Party};
 use qu_frames::Letter;
@@ -10,9 +10,9 @@ use std::alloc::Global;
 
 /// A line for each letter of a run, by rising number: its number, its event, sender, receiver, length
 /// in bytes, and the SHA-256 digest of all its bytes.
-#[tactic(auto, unfolding(crate::specs::Digests::digests_of))]
+#[tactic(auto, unfolding(crate::specs::Digests::digests_text))]
 pub fn digests_text(alloc: Global, trace: &Trace) -> Result<List<u8>, NoMemory>
-    ensures { IfOk result (λ text. text ≡ digests_of trace.now) }
+    ensures { IfOk result (λ text. text ≡ digests_text trace.now) }
 {
     let mut text = String::new(alloc);
     put_digests(alloc, &mut text, trace.entries.as_slice())?;

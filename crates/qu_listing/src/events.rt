@@ -1,14 +1,14 @@
 ghost use Rattle.std.specs.Prelude.{◌≡◌, ◌∷◌, [], ◌++◌, ◌≤◌, IfOk, OnOk, string_bytes};
 ghost use Rattle.qu_base.specs.declared.limits.TheConstants.{LAST_CLIENT};
 ghost use Rattle.qu_print.specs.Lines.{lines_text};
-ghost use Rattle.qu_listing.specs.Events.{events_of, listing, event_line, event_lines, event_text, outcome_text, end_text};
-ghost use Rattle.qu_listing.specs.Known.{Knows};
+ghost use Rattle.qu_listing.specs.Events.{events_text, listing, event_line, entry_lines, event_text, outcome_text, end_text};
+ghost use Rattle.qu_listing.specs.SoFar.{IsSoFar};
 
 use super::deliveries::{put_delivery, put_injection};
-use super::known::Known;
 use super::letters::put_letters;
 use super::names::put_party;
 use super::receivers::Receivers;
+use super::so_far::SoFar;
 use qu_base::{ClientId, List, NoMemory, Party};
 use qu_objects::Outcome;
 use qu_print::{put_answer, put_op};
@@ -17,10 +17,10 @@ use std::alloc::Global;
 
 /// A line for each event of a run, with the operation that it ends, and below it a line for each letter
 /// that it sends. A text of which its receiver takes no frame is told as ignored.
-#[tactic(auto, unfolding(crate::specs::Events::events_of))]
+#[tactic(auto, unfolding(crate::specs::Events::events_text))]
 pub fn events_text(alloc: Global, trace: &Trace) -> Result<List<u8>, NoMemory>
     requires { trace.now.setup.clients ≤ LAST_CLIENT }
-    ensures { IfOk result (λ text. text ≡ events_of trace.now) }
+    ensures { IfOk result (λ text. text ≡ events_text trace.now) }
 {
     let receivers = Receivers::new(&trace.setup);
     let mut text = String::new(alloc);
@@ -39,7 +39,7 @@ fn put_events(
     ensures { OnOk result (string_bytes text.new
         ≡ string_bytes text.old ++ lines_text (listing receivers.now entries.now)) }
 {
-    let mut known = Known::new(alloc);
+    let mut known = SoFar::new(alloc);
     for (index, entry) in entries.iter().enumerate() {
         put_event(alloc, text, receivers, &mut known, &entries[..index], entry)?;
     }
@@ -47,19 +47,19 @@ fn put_events(
 }
 
 /// Writes the lines of the event behind the earlier ones, and then knows of it too.
-#[tactic(auto, unfolding(qu_print::specs::Lines::lines_text, crate::specs::Events::event_lines))]
+#[tactic(auto, unfolding(qu_print::specs::Lines::lines_text, crate::specs::Events::entry_lines))]
 fn put_event(
     alloc: Global,
     text: &mut String,
     receivers: &Receivers,
-    known: &mut Known,
+    known: &mut SoFar,
     earlier: &[Entry],
     entry: &Entry,
 ) -> Result<(), NoMemory>
-    requires { Knows receivers.now earlier.now known.old }
+    requires { IsSoFar receivers.now earlier.now known.old }
     ensures text { OnOk result (string_bytes text.new
-        ≡ string_bytes text.old ++ lines_text (event_lines receivers.now earlier.now entry.now)) }
-    ensures known { OnOk result (Knows receivers.now (earlier.now ++ entry.now ∷ []) known.new) }
+        ≡ string_bytes text.old ++ lines_text (entry_lines receivers.now earlier.now entry.now)) }
+    ensures known { OnOk result (IsSoFar receivers.now (earlier.now ++ entry.now ∷ []) known.new) }
 {
     put_event_line(alloc, text, receivers, known, earlier, entry)?;
     put_letters(
@@ -79,11 +79,11 @@ fn put_event_line(
     alloc: Global,
     text: &mut String,
     receivers: &Receivers,
-    known: &Known,
+    known: &SoFar,
     earlier: &[Entry],
     entry: &Entry,
 ) -> Result<(), NoMemory>
-    requires { Knows receivers.now earlier.now known.now }
+    requires { IsSoFar receivers.now earlier.now known.now }
     ensures { OnOk result (string_bytes text.new
         ≡ string_bytes text.old ++ event_line receivers.now earlier.now entry.now ++ 10 ∷ []) }
 {
@@ -100,11 +100,11 @@ fn put_happened(
     alloc: Global,
     text: &mut String,
     receivers: &Receivers,
-    known: &Known,
+    known: &SoFar,
     earlier: &[Entry],
     event: &Event,
 ) -> Result<(), NoMemory>
-    requires { Knows receivers.now earlier.now known.now }
+    requires { IsSoFar receivers.now earlier.now known.now }
     ensures { OnOk result (string_bytes text.new
         ≡ string_bytes text.old ++ event_text receivers.now earlier.now event.now) }
 {

@@ -2,7 +2,7 @@ ghost use Rattle.std.specs.Prelude.{◌≡◌, ◌++◌, OnOk, string_bytes};
 ghost use Rattle.qu_listing.specs.Frames.{showers_text, body_text, version_text, state_text, asked_text, frame_text};
 
 use super::names::{put_count, put_object, put_party};
-use super::told::{Told, put_all};
+use super::told::{LinePart, put_all};
 use super::verdicts::{put_stamp, put_verdict};
 use qu_base::{ClientId, NoMemory, ObjectId, Party, ReplicaId};
 use qu_frames::{Body, Frame};
@@ -10,7 +10,7 @@ use qu_history::{Sealed, SetOf};
 use qu_objects::{ObjState, Value};
 use qu_stamp::Stamp;
 
-impl Told for SetOf {
+impl LinePart for SetOf {
     ghost use Rattle.qu_listing.specs.Frames.{set_text};
 
     ghost text_of = { set_text };
@@ -23,7 +23,7 @@ impl Told for SetOf {
     }
 }
 
-impl Told for (ObjectId, ReplicaId) {
+impl LinePart for (ObjectId, ReplicaId) {
     ghost use Rattle.qu_listing.specs.Frames.{culled_text};
 
     ghost text_of = { culled_text };
@@ -37,7 +37,7 @@ impl Told for (ObjectId, ReplicaId) {
     }
 }
 
-impl Told for Sealed {
+impl LinePart for Sealed {
     ghost use Rattle.qu_listing.specs.Frames.{shown_text};
 
     ghost text_of = { shown_text };

@@ -4,12 +4,12 @@ ghost use Rattle.qu_print.specs.Lines.{lines_text};
 ghost use Rattle.qu_frames.specs.Decoding.{decoded};
 ghost use Rattle.qu_listing.specs.Frames.{carried_text};
 ghost use Rattle.qu_listing.specs.Events.{letter_route, letter_line, letter_lines};
-ghost use Rattle.qu_listing.specs.Known.{sent_of};
+ghost use Rattle.qu_listing.specs.SoFar.{sent_of};
 
 use super::frames::put_frame;
-use super::known::Sent;
 use super::names::put_party;
 use super::receivers::Receivers;
+use super::so_far::Sent;
 use qu_base::{List, NoMemory, ReadFail};
 use qu_frames::{Letter, decode};
 use std::alloc::Global;
@@ -70,7 +70,7 @@ fn put_route(text: &mut String, letter: &Letter) -> Result<(), NoMemory>
 }
 
 /// Writes the frame that a letter carries, and tells whether its receiver takes none of it.
-#[tactic(auto, unfolding(crate::specs::Receivers::taken, qu_frames::specs::Signing::brought))]
+#[tactic(auto, unfolding(crate::specs::Receivers::frame_taken, qu_frames::specs::Signing::brought))]
 fn put_carried(
     alloc: Global,
     text: &mut String,

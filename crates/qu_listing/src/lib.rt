@@ -5,10 +5,10 @@ mod deliveries;
 mod digests;
 mod events;
 mod frames;
-mod known;
 mod letters;
 mod names;
 mod receivers;
+mod so_far;
 mod told;
 mod verdicts;
 

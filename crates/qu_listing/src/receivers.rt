@@ -1,7 +1,7 @@
 ghost use Rattle.std.specs.Prelude.{◌≡◌, ◌≤◌, Ok, IfOk, is_none};
 ghost use Rattle.qu_base.specs.declared.limits.TheConstants.{LAST_CLIENT};
 ghost use Rattle.qu_frames.specs.Decoding.{decoded};
-ghost use Rattle.qu_listing.specs.Receivers.{taken};
+ghost use Rattle.qu_listing.specs.Receivers.{frame_taken};
 
 use qu_base::{NoMemory, Party};
 use qu_frames::{Frame, receive};
@@ -43,7 +43,7 @@ impl<'a> Receivers<'a> {
 
     /// The frame that a party takes of a text.
     pub fn take(&self, alloc: Global, to: Party, text: &[u8]) -> Result<Option<Frame>, NoMemory>
-        ensures { IfOk result (λ frame. frame ≡ taken self.now to text.now) }
+        ensures { IfOk result (λ frame. frame ≡ frame_taken self.now to text.now) }
     {
         if self.setup.is_faulty(to) {
             return Ok(None);
@@ -54,7 +54,7 @@ impl<'a> Receivers<'a> {
     /// Whether a party takes no frame of a text that is decoded to this one.
     pub fn ignores(&self, to: Party, frame: &Frame, text: &[u8]) -> bool
         requires { decoded text.now ≡ Ok frame.now }
-        ensures { result ≡ is_none (taken self.now to text.now) }
+        ensures { result ≡ is_none (frame_taken self.now to text.now) }
     {
         self.setup.is_faulty(to) || !frame.is_signed(&self.keys, to, text)
     }

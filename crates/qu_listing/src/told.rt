@@ -4,7 +4,7 @@ ghost use Rattle.std.specs.List.{flat_map};
 use qu_base::NoMemory;
 
 /// What is told in a line behind others of its kind.
-pub trait Told {
+pub trait LinePart {
     ghost use Rattle.std.specs.Prelude.{List, ℕ};
 
     ghost text_of: { Self → List ℕ };
@@ -14,7 +14,7 @@ pub trait Told {
 }
 
 /// Writes all of them, in their order.
-pub fn put_all<T: Told>(text: &mut String, items: &[T]) -> Result<(), NoMemory>
+pub fn put_all<T: LinePart>(text: &mut String, items: &[T]) -> Result<(), NoMemory>
     ensures { OnOk result (string_bytes text.new ≡ string_bytes text.old ++ flat_map T.text_of items.now) }
 {
     for item in items {

@@ -2,14 +2,14 @@ ghost use Rattle.std.specs.Prelude.{◌≡◌, ◌++◌, OnOk, string_bytes};
 ghost use Rattle.qu_listing.specs.Verdicts.{time_word, stamp_text, class_text, not_method_text, refusal_text, answered_text, verdict_text};
 
 use super::names::{put_object, put_party};
-use super::told::{Told, put_all};
+use super::told::{LinePart, put_all};
 use qu_base::{NoMemory, ObjectId, Party};
 use qu_frames::{ClassCode, Refusal, Verdict};
 use qu_objects::Answer;
 use qu_print::put_answer;
 use qu_stamp::Stamp;
 
-impl Told for (ObjectId, Stamp) {
+impl LinePart for (ObjectId, Stamp) {
     ghost use Rattle.qu_listing.specs.Verdicts.{object_at_text};
 
     ghost text_of = { object_at_text };

@@ -23,8 +23,8 @@ use Rattle.qu_objects.specs.declared.op.Op.{Op}
 use Rattle.qu_objects.specs.declared.op.Op.TheVariants as op
 use Rattle.qu_machine.specs.declared.record.OpRecord.{OpRecord}
 use Rattle.qu_machine.specs.declared.record.Point.{Point}
-use Rattle.qu_machine.specs.Serial.{Stands, Agree, IsKnown}
-use Rattle.qu_machine.specs.PointTests.{same_method, same_ask, same_part, same_op, stands, agree, is_known}
+use Rattle.qu_machine.specs.Serial.{Stands, Agree, IsOfOperations}
+use Rattle.qu_machine.specs.PointTests.{same_method, same_ask, same_part, same_op, stands, agree, is_of_operations}
 use Rattle.qu_objects.specs.Alike.{same_item, same_answer}
 
 -- ---- equal operations and answers
@@ -154,8 +154,8 @@ pub any_from_passes : {X : Type 0} (test : X → Bool) (all : List X) (found : X
     → test found ≡ true → list_any test all ≡ true
 any_from_passes test all found held passes = list_any-from_Any test all (held.0, found, held.1, held.2, passes)
 
-pub decides_known : (operations : List OpRecord) (point : Point) → Decides (is_known operations point)
-    (IsKnown operations point)
+pub decides_known : (operations : List OpRecord) (point : Point) → Decides (is_of_operations operations point)
+    (IsOfOperations operations point)
 decides_known operations point = (
   λ any.
       let one = passes_from_any (λ (operation : OpRecord). stands operation point) operations any in

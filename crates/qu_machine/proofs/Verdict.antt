@@ -14,9 +14,9 @@ use Rattle.qu_machine.specs.declared.fault.JudgeFault.{JudgeFault}
 use Rattle.qu_machine.specs.declared.fault.JudgeFault.TheVariants as fault
 use Rattle.qu_machine.specs.declared.record.OpRecord.{OpRecord}
 use Rattle.qu_machine.specs.declared.record.Point.{Point}
-use Rattle.qu_machine.specs.Serial.{IsRising, answer_at, Stands, StandsAt, Completes, StandsOnce, IsKnown, IsUpdate, Agree, IsSerial}
+use Rattle.qu_machine.specs.Serial.{IsRising, answer_at, Stands, StandsAt, Completes, StandsOnce, IsOfOperations, IsUpdate, Agree, IsSerial}
 use Rattle.qu_machine.specs.Fault.{DiffersAt, IsBeforeReply, IsBetween, IsBeyond, IsOutside, OutsideAt, TwiceAt, AbsentAt, Nowhere, IsFault}
-use Rattle.qu_machine.specs.PointTests.{stands, is_update, is_completed, is_before_reply, is_between, is_misplaced, is_known, is_beyond, is_outside, is_placed, is_absent}
+use Rattle.qu_machine.specs.PointTests.{stands, is_update, is_completed, is_before_reply, is_between, is_misplaced, is_of_operations, is_beyond, is_outside, is_placed, is_absent}
 use Rattle.qu_machine.proofs.Equalities.{decides_stands, decides_answer, decides_known, passes_from_any, any_from_passes}
 use Rattle.qu_machine.proofs.Firsts.{contains_at, at_contains, one_at, DecidesAt}
 
@@ -101,10 +101,10 @@ decides_outside operations point =
     ]
   where
     choice : {b : Bool} → point.faulty ≡ b → is_outside operations point ≡ cond b (not (is_update point.op))
-        (not (is_known operations point) || is_beyond operations point)
+        (not (is_of_operations operations point) || is_beyond operations point)
     choice is = ap
         (λ (it : Bool). cond it (not (is_update point.op))
-        (not (is_known operations point) || is_beyond operations point)) is
+        (not (is_of_operations operations point) || is_beyond operations point)) is
 
 pub outside_at : (operations : List OpRecord) (order : List Point) → DecidesAt (is_outside operations)
     (OutsideAt operations order) order
@@ -335,7 +335,7 @@ never_twice kinds operations order serial at it =
           it.there it.agree in
           absurd (omega arith)
       | inr correct ↦
-          let known : IsKnown operations it.point = serial.known at it.point it.there correct in
+          let known : IsOfOperations operations it.point = serial.known at it.point it.there correct in
           let first : Stands known.operation it.first = record {
             correct = it.agree.faulty ∙ correct;
             client = known.stands.client ∙ sym it.agree.client;

@@ -9,7 +9,7 @@ use Rattle.qu_machine.specs.declared.fault.JudgeFault.{JudgeFault}
 use Rattle.qu_machine.specs.declared.fault.JudgeFault.TheVariants as fault
 use Rattle.qu_machine.specs.declared.record.OpRecord.{OpRecord}
 use Rattle.qu_machine.specs.declared.record.Point.{Point}
-use Rattle.qu_machine.specs.Serial.{answer_at, Stands, StandsAt, Completes, IsKnown, IsUpdate, Agree}
+use Rattle.qu_machine.specs.Serial.{answer_at, Stands, StandsAt, Completes, IsOfOperations, IsUpdate, Agree}
 
 -- the point at this place is that of a completed operation with another answer than the machine's
 pub record DiffersAt (kinds : List KindName) (operations : List OpRecord) (order : List Point) (at : ℕ) : Type 0 where
@@ -46,7 +46,7 @@ pub record IsBeyond (operations : List OpRecord) (point : Point) : Type 0 where
 abbrev pub IsOutside : List OpRecord → Point → Type 0
 IsOutside operations point =
     ((point.faulty ≡ true) × ¬ (IsUpdate point.op))
-    ⊎ (((point.faulty ≡ false) × ¬ (IsKnown operations point)) ⊎ IsBeyond operations point)
+    ⊎ (((point.faulty ≡ false) × ¬ (IsOfOperations operations point)) ⊎ IsBeyond operations point)
 
 pub record OutsideAt (operations : List OpRecord) (order : List Point) (at : ℕ) : Type 0 where
   pub point : Point

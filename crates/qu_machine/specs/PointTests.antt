@@ -81,15 +81,16 @@ is_answered_otherwise operation point machine = stands operation point && has_ot
 
 -- ---- one point among the operations
 
-abbrev pub is_known : List OpRecord → Point → Bool
-is_known operations point = list_any (λ operation. stands operation point) operations
+abbrev pub is_of_operations : List OpRecord → Point → Bool
+is_of_operations operations point = list_any (λ operation. stands operation point) operations
 
 abbrev pub is_beyond : List OpRecord → Point → Bool
 is_beyond operations point = list_any (λ operation. is_misplaced operation point) operations
 
 abbrev pub is_outside : List OpRecord → Point → Bool
 is_outside operations point =
-    if point.faulty then not (is_update point.op) else (not (is_known operations point) || is_beyond operations point)
+    if point.faulty then not (is_update point.op) else (not (is_of_operations operations point)
+    || is_beyond operations point)
 
 abbrev pub differs : List OpRecord → Point → Answer → Bool
 differs operations point machine =

@@ -78,7 +78,7 @@ pub record StandsAtMostOnce (operation : OpRecord) (order : List Point) : Type 0
   pub after : (at : ℕ) (point : Point) → StandsAt operation order at point → operation.invoked < point.event
 
 -- the point is one of the operations
-pub record IsKnown (operations : List OpRecord) (point : Point) : Type 0 where
+pub record IsOfOperations (operations : List OpRecord) (point : Point) : Type 0 where
   pub operation : OpRecord
   pub of_list : Contains operations operation
   pub stands : Stands operation point
@@ -110,7 +110,7 @@ pub record IsSerial (kinds : List KindName) (operations : List OpRecord) (order 
   pub once : (operation : OpRecord) → Contains operations operation → StandsAtMostOnce operation order
   -- each point that is not a faulty client's is one of the operations
   pub known : (at : ℕ) (point : Point) → slice_get order at ≡ Some point → point.faulty ≡ false
-      → IsKnown operations point
+      → IsOfOperations operations point
   -- each point of a faulty client is one of an update, and no two of these agree
   pub faulty : (at : ℕ) (point : Point) → slice_get order at ≡ Some point → point.faulty ≡ true
       → IsLoneUpdate order at point

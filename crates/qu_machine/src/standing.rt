@@ -1,5 +1,5 @@
 ghost use Rattle.std.specs.Prelude.{◌≡◌};
-ghost use Rattle.qu_machine.specs.PointTests.{stands, agree, is_update, is_completed, is_before_reply, is_between, has_other_answer, is_misplaced, is_answered_otherwise, is_known, is_beyond, is_outside, differs, is_placed, is_absent};
+ghost use Rattle.qu_machine.specs.PointTests.{stands, agree, is_update, is_completed, is_before_reply, is_between, has_other_answer, is_misplaced, is_answered_otherwise, is_of_operations, is_beyond, is_outside, differs, is_placed, is_absent};
 ghost use Rattle.std.specs.List.{list_any};
 
 use super::alike::{same_answer, same_op};
@@ -72,8 +72,8 @@ fn has_other_answer(operation: &OpRecord, answer: &Answer) -> bool
 }
 
 /// Whether the point is one of the operations.
-fn is_known(operations: &[OpRecord], point: &Point) -> bool
-    ensures { result ≡ is_known operations.now point.now }
+fn is_of_operations(operations: &[OpRecord], point: &Point) -> bool
+    ensures { result ≡ is_of_operations operations.now point.now }
 {
     operations.iter().any(|operation| stands(operation, point))
 }
@@ -101,7 +101,7 @@ pub fn is_outside(operations: &[OpRecord], point: &Point) -> bool
     if point.faulty {
         !is_update(&point.op)
     } else {
-        !is_known(operations, point) || is_beyond(operations, point)
+        !is_of_operations(operations, point) || is_beyond(operations, point)
     }
 }
 

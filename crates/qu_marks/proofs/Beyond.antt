@@ -6,10 +6,10 @@ use Rattle.std.proofs.lemmas.List.Elements.{All-push}
 use Rattle.qu_base.specs.declared.party.ObjectId.{ObjectId}
 use Rattle.qu_stamp.specs.declared.candidate.Candidate.{Candidate}
 use Rattle.qu_world.specs.State.{WorldState}
-use Rattle.qu_runs.proofs.Objects.{EachHas}
+use Rattle.qu_runs.proofs.Worlds.Objects.{EachHas}
 use Rattle.qu_known.specs.declared.tracked.Tracked.{Tracked}
-use Rattle.qu_known.specs.Known.{Row, rows_tracked, AreKnown}
-use Rattle.qu_known.specs.Tracked.{is_of, is_tracked, undecided}
+use Rattle.qu_known.specs.Known.{ShownRow, rows_tracked, AreKnown}
+use Rattle.qu_known.specs.Tracked.{is_tracked_as, is_tracked, undecided}
 use Rattle.qu_known.proofs.Held.{is_tracked-append, or_false, rows_accepted}
 use Rattle.qu_marks.specs.Tracker.{with_tracked, with_all, AreAccepted}
 use Rattle.qu_marks.proofs.Settling.{is_of_equal}
@@ -22,17 +22,17 @@ or_assoc false b c = refl
 
 pushed : (object : ObjectId) (candidate : Candidate) (new : Tracked) (tracked : List Tracked)
     → is_tracked object candidate (tracked ++ undecided new.object new.candidate ∷ [])
-    ≡ (is_tracked object candidate tracked || is_of object candidate new)
+    ≡ (is_tracked object candidate tracked || is_tracked_as object candidate new)
 unfolding is_tracked
 pushed object candidate new tracked =
     is_tracked-append object candidate tracked (undecided new.object new.candidate ∷ []) ∙
-    ap (λ (test : Bool). is_tracked object candidate tracked || test) (or_false (is_of object candidate new))
+    ap (λ (test : Bool). is_tracked object candidate tracked || test) (or_false (is_tracked_as object candidate new))
 
 already : (object : ObjectId) (candidate : Candidate) (new : Tracked) (tracked : List Tracked)
     → is_tracked new.object new.candidate tracked ≡ true
-    → is_tracked object candidate tracked ≡ (is_tracked object candidate tracked || is_of object candidate new)
+    → is_tracked object candidate tracked ≡ (is_tracked object candidate tracked || is_tracked_as object candidate new)
 already object candidate new tracked known =
-    elim (cases_Bool (is_of object candidate new)) [
+    elim (cases_Bool (is_tracked_as object candidate new)) [
       | inl it ↦
           let same : (new.object ≡ object) × (new.candidate ≡ candidate) = is_of_equal object candidate new it in
           let here : is_tracked object candidate tracked ≡ true = rw (same.0, same.1) at known in
@@ -45,12 +45,12 @@ not_before : (object : ObjectId) (candidate : Candidate) (new : Tracked) (tracke
     → is_tracked object candidate (tracked ++ undecided new.object new.candidate ∷ []) ≡ false
     → is_tracked object candidate tracked ≡ false
 not_before object candidate new tracked not_after =
-    (or_parts (is_tracked object candidate tracked) (is_of object candidate new)
+    (or_parts (is_tracked object candidate tracked) (is_tracked_as object candidate new)
     (sym (pushed object candidate new tracked) ∙ not_after)).0
 
 is_tracked-with_tracked : (object : ObjectId) (candidate : Candidate) (new : Tracked) (tracked : List Tracked)
     → is_tracked object candidate
-    (with_tracked new tracked) ≡ (is_tracked object candidate tracked || is_of object candidate new)
+    (with_tracked new tracked) ≡ (is_tracked object candidate tracked || is_tracked_as object candidate new)
 unfolding with_tracked
 is_tracked-with_tracked object candidate new tracked =
     elim (cases_Bool (is_tracked new.object new.candidate tracked)) [
@@ -74,7 +74,8 @@ is_tracked-with_all object candidate (new ∷ later) tracked =
     is_tracked-with_all object candidate later (with_tracked new tracked) ∙
     ap (λ (test : Bool). test || is_tracked object candidate later)
     (is_tracked-with_tracked object candidate new tracked) ∙
-    or_assoc (is_tracked object candidate tracked) (is_of object candidate new) (is_tracked object candidate later)
+    or_assoc (is_tracked object candidate tracked) (is_tracked_as object candidate new) (is_tracked object candidate
+    later)
 
 -- what is true of all that was tracked, and of each undecided candidate that was not, is true of all
 pub all_with_all : (P : Tracked → Type 0) (news tracked : List Tracked) → All P tracked
@@ -98,7 +99,7 @@ all_with_all P (new ∷ later) tracked all fresh =
     ]
 
 -- what is known of all replicas, tracked at the beginning, is what they accepted
-pub accepted_opening : (objects : ℕ) (world : WorldState) (rows : List Row) → EachHas objects world.replicas
+pub accepted_opening : (objects : ℕ) (world : WorldState) (rows : List ShownRow) → EachHas objects world.replicas
     → AreKnown world.replicas rows → AreAccepted world (with_all (rows_tracked objects rows) [])
 unfolding is_tracked
 accepted_opening objects world rows few known object candidate =

@@ -9,15 +9,15 @@ use Rattle.qu_trace.specs.declared.trace.Setup.{Setup}
 use Rattle.qu_world.specs.State.{WorldState}
 use Rattle.qu_claims.specs.Accepted.{accepts, is_accepted}
 use Rattle.qu_marks.specs.Tracker.{is_established, IsDecidedIn}
-use Rattle.qu_runs.proofs.WorldGrowth.{HasMore, is_accepted-more, count-more}
+use Rattle.qu_runs.proofs.Worlds.WorldGrowth.{HasMore, is_accepted-more, count-more}
 use Rattle.qu_claims.specs.Setting.{IsAccepted, IsEstablished, acceptors}
 use Rattle.qu_claims.specs.Decided.{IsDecided}
 use Rattle.qu_world.specs.Run.{IsRun}
 use Rattle.qu_trace.specs.declared.trace.Trace.{Trace}
-use Rattle.qu_runs.proofs.Settings.{accepted_of, acceptors_are, is_accepted_by}
+use Rattle.qu_runs.proofs.Worlds.Settings.{accepted_of, acceptors_are, is_accepted_by}
 use Rattle.qu_base.proofs.ThresholdFacts.{are_thresholds}
 use Rattle.qu_claims.specs.RunSetting.{setting}
-use Rattle.qu_runs.proofs.Plain.{setup_after}
+use Rattle.qu_runs.proofs.Digests.Plain.{setup_after}
 use Rattle.qu_claims.specs.Times.{world_after}
 
 is_established-more : (old new : WorldState) → HasMore old new → (object : ObjectId) (candidate : Candidate)

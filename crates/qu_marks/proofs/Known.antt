@@ -4,11 +4,11 @@ use Rattle.std.specs.Prelude.{position}
 use Rattle.qu_world.specs.State.{WorldState}
 use Rattle.qu_claims.specs.Accepted.{accepts}
 use Rattle.qu_known.specs.declared.tracked.Tracked.{Tracked}
-use Rattle.qu_known.specs.Known.{Row, knows, AreKnown}
+use Rattle.qu_known.specs.Known.{ShownRow, knows, AreKnown}
 use Rattle.qu_known.proofs.Learning.{count_known}
 use Rattle.qu_marks.specs.Tracker.{is_next, is_next_known}
 
-next_known : (world : WorldState) (bounds : ℕ) (rows : List Row) (all : List Tracked)
+next_known : (world : WorldState) (bounds : ℕ) (rows : List ShownRow) (all : List Tracked)
     → world.setup.bounds ≡ bounds → AreKnown world.replicas rows → (tracked : Tracked)
     → is_next_known bounds rows all tracked ≡ is_next world all tracked
 unfolding is_next is_next_known
@@ -18,7 +18,7 @@ next_known world bounds rows all same known tracked =
     count_known tracked.object tracked.candidate world.replicas rows known in
     rw (← same, count) refl
 
-pub position_known : (world : WorldState) (bounds : ℕ) (rows : List Row) (all : List Tracked)
+pub position_known : (world : WorldState) (bounds : ℕ) (rows : List ShownRow) (all : List Tracked)
     → world.setup.bounds ≡ bounds → AreKnown world.replicas rows
     → position (is_next_known bounds rows all) all ≡ position (is_next world all) all
 position_known world bounds rows all same known =

@@ -13,14 +13,14 @@ use Rattle.qu_world.specs.State.{WorldState}
 use Rattle.qu_world.specs.Run.{IsRun}
 use Rattle.qu_claims.specs.Accepted.{is_accepted}
 use Rattle.qu_claims.specs.Times.{world_after}
-use Rattle.qu_runs.proofs.WorldGrowth.{HasMore, has_more, world_after-grows, world_after-none, is_accepted-more}
-use Rattle.qu_runs.proofs.Objects.{EachHas, run_has}
+use Rattle.qu_runs.proofs.Worlds.WorldGrowth.{HasMore, has_more, world_after-grows, world_after-none, is_accepted-more}
+use Rattle.qu_runs.proofs.Worlds.Objects.{EachHas, run_has}
 use Rattle.qu_claims.specs.RunSetting.{setting}
 use Rattle.qu_claims.specs.Decided.{IsDecided}
 use Rattle.qu_known.specs.declared.tracked.Tracked.{Tracked}
 use Rattle.qu_known.specs.Tracked.{is_tracked, undecided}
-use Rattle.qu_known.specs.Known.{Row, Seen, rows_tracked, AreKnown, Learned}
-use Rattle.qu_marks.specs.Tracker.{with_all, SettlesTo, IsSettled, IsSound, TellsFirst, TellsOf, AreAccepted, Tracks, IsDecidedIn}
+use Rattle.qu_known.specs.Known.{ShownRow, Seen, rows_tracked, AreKnown, Learned}
+use Rattle.qu_marks.specs.Tracker.{with_all, SettlesTo, IsSettled, IsDecidedMark, TellsFirst, TellsOf, AreAccepted, Tracks, IsDecidedIn}
 use Rattle.qu_marks.proofs.DecidedWorlds.{decided_in_more, decided_is_accepted, in_setting, in_world}
 use Rattle.qu_marks.proofs.Settling.{MarksTo, IsMarked, is_tracked-zip}
 use Rattle.qu_marks.proofs.Beyond.{all_with_all, accepted_opening, is_tracked-with_all}
@@ -131,9 +131,9 @@ sound_by_tells trace is_run count object candidate (Some event) tells =
     object candidate tells.1)
 
 pub all_sound_by_tells : (trace : Trace) → IsRun trace → (count : ℕ) (tracked : List Tracked)
-    → All (TellsOf trace count) tracked → All (IsSound (world_after trace count)) tracked
+    → All (TellsOf trace count) tracked → All (IsDecidedMark (world_after trace count)) tracked
 all_sound_by_tells trace is_run count tracked tells =
-    All-weaker (TellsOf trace count) (IsSound (world_after trace count))
+    All-weaker (TellsOf trace count) (IsDecidedMark (world_after trace count))
     (λ it. sound_by_tells trace is_run count it.object it.candidate it.decided) tracked tells
 
 -- ---- where nothing is new
@@ -198,7 +198,7 @@ bounds_after trace count world is =
     ∙ ap (λ (it : WorldState). it.setup) (world_after-none trace))
 
 -- before the first event
-pub accepted_begun : (trace : Trace) (objects : ℕ) (rows : List Row) → objects ≡ length trace.setup.kinds
+pub accepted_begun : (trace : Trace) (objects : ℕ) (rows : List ShownRow) → objects ≡ length trace.setup.kinds
     → AreKnown (world_after trace 0).replicas rows
     → AreAccepted (world_after trace 0) (with_all (rows_tracked objects rows) [])
 accepted_begun trace objects rows objects_are known =

@@ -19,18 +19,18 @@ use Rattle.qu_world.specs.State.{WorldState}
 use Rattle.qu_claims.specs.Accepted.{is_accepted}
 use Rattle.qu_runs.proofs.Small.{same_object}
 use Rattle.qu_known.specs.declared.tracked.Tracked.{Tracked}
-use Rattle.qu_known.specs.Tracked.{is_of, is_tracked}
-use Rattle.qu_marks.specs.Tracker.{is_established, IsDecidedIn, is_child, is_next, SettlesTo, IsSettled, IsSound, AreAccepted}
+use Rattle.qu_known.specs.Tracked.{is_tracked_as, is_tracked}
+use Rattle.qu_marks.specs.Tracker.{is_established, IsDecidedIn, is_child, is_next, SettlesTo, IsSettled, IsDecidedMark, AreAccepted}
 use Rattle.qu_marks.proofs.DecidedWorlds.{accepted_by_decided}
 use Rattle.qu_marks.proofs.Places.{position_none}
 
 -- ---- pairs
 
-pub is_of-self : (tracked : Tracked) → is_of tracked.object tracked.candidate tracked ≡ true
+pub is_of-self : (tracked : Tracked) → is_tracked_as tracked.object tracked.candidate tracked ≡ true
 is_of-self tracked = and_from _ _ (eq-eqb (tracked.object).0 (tracked.object).0 refl) (same-self tracked.candidate)
 
 pub is_of_equal : (object : ObjectId) (candidate : Candidate) (tracked : Tracked)
-    → is_of object candidate tracked ≡ true → (tracked.object ≡ object) × (tracked.candidate ≡ candidate)
+    → is_tracked_as object candidate tracked ≡ true → (tracked.object ≡ object) × (tracked.candidate ≡ candidate)
 is_of_equal object candidate tracked it =
     let parts : (((tracked.object).0 == object.0) ≡ true) × (same tracked.candidate candidate ≡ true) =
     and_parts _ _ it in
@@ -41,7 +41,7 @@ pub is_tracked_at : (all : List Tracked) (place : ℕ) (default : Tracked) → p
 unfolding is_tracked
 is_tracked_at all place default below =
     let here : Tracked = get_or all place default in
-    list_any_at (is_of here.object here.candidate) all place default below (is_of-self here)
+    list_any_at (is_tracked_as here.object here.candidate) all place default below (is_of-self here)
 
 -- where a tracked candidate stands
 pub record IsTrackedAt (object : ObjectId) (candidate : Candidate) (all : List Tracked) : Type 0 where
@@ -56,8 +56,8 @@ pub stands_in : (object : ObjectId) (candidate : Candidate) (all : List Tracked)
     → is_tracked object candidate all ≡ true → IsTrackedAt object candidate all
 unfolding is_tracked
 stands_in object candidate all tracked =
-    let any : Any (λ (it : Tracked). is_of object candidate it ≡ true) all =
-    Any-from_list_any (is_of object candidate) all tracked in
+    let any : Any (λ (it : Tracked). is_tracked_as object candidate it ≡ true) all =
+    Any-from_list_any (is_tracked_as object candidate) all tracked in
     let same : (any.1.object ≡ object) × (any.1.candidate ≡ candidate) = is_of_equal object candidate any.1 any.4 in
     record { place = any.0; below = any.2; found = any.1; at = any.3; object_is = same.0; candidate_is = same.1 }
 
@@ -69,7 +69,7 @@ sound_is_decided world object candidate None some sound = absurd (false≢true s
 sound_is_decided world object candidate (Some event) some sound = sound
 
 child_decides : (world : WorldState) (tracked child : Tracked) → is_child tracked child ≡ true
-    → IsSound world child → is_accepted world tracked.object tracked.candidate ≡ true
+    → IsDecidedMark world child → is_accepted world tracked.object tracked.candidate ≡ true
     → IsDecidedIn world tracked.object tracked.candidate
 child_decides world tracked child rests sound accepted =
     let parts : (is_some child.decided ≡ true)
@@ -86,7 +86,7 @@ child_decides world tracked child rests sound accepted =
 
 -- what the next mark is made of is decided
 pub next_is_decided : (world : WorldState) (all : List Tracked) (tracked : Tracked)
-    → is_next world all tracked ≡ true → All (IsSound world) all
+    → is_next world all tracked ≡ true → All (IsDecidedMark world) all
     → is_accepted world tracked.object tracked.candidate ≡ true → (is_none tracked.decided ≡ true)
     × IsDecidedIn world tracked.object tracked.candidate
 unfolding is_next
@@ -101,7 +101,8 @@ next_is_decided world all tracked next sound accepted =
             | inr rested ↦
                 let any : Any (λ (it : Tracked). is_child tracked it ≡ true) all =
                 Any-from_list_any (is_child tracked) all rested in
-                child_decides world tracked any.1 any.4 (subst (IsSound world) any.3 (sound any.0 any.1 any.2)) accepted
+                child_decides world tracked any.1 any.4 (subst (IsDecidedMark world) any.3 (sound any.0 any.1 any.2))
+                accepted
           ],
     )
 
@@ -152,14 +153,14 @@ mark_sound world event object candidate None None marks sound = tt
 mark_sound world event object candidate None (Some now) marks sound = marks.1
 
 marked_sound : (world : WorldState) (event : ℕ) (old new : Tracked) → IsMarked world event old new
-    → IsSound world old → IsSound world new
+    → IsDecidedMark world old → IsDecidedMark world new
 marked_sound world event old new marked sound =
     let there : OnSome new.decided (IsDecidedIn world old.object old.candidate) =
     mark_sound world event old.object old.candidate old.decided new.decided marked.mark sound in
     rw (marked.object, marked.candidate) there
 
 pub all_sound : (world : WorldState) (event : ℕ) (old new : List Tracked) → AllZip (IsMarked world event) old new
-    → All (IsSound world) old → All (IsSound world) new
+    → All (IsDecidedMark world) old → All (IsDecidedMark world) new
 all_sound world event old new marks sound place default below =
     let same : length old ≡ length new = length_all_zip (IsMarked world event) old new marks in
     let before : place < length old = omega arith in
@@ -175,9 +176,10 @@ is_tracked-zip world event [] [] marks object candidate = refl
 is_tracked-zip world event [] (new ∷ news) marks object candidate = absurd marks
 is_tracked-zip world event (old ∷ olds) [] marks object candidate = absurd marks
 is_tracked-zip world event (old ∷ olds) (new ∷ news) marks object candidate =
-    let here : is_of object candidate new ≡ is_of object candidate old = rw (marks.0.object, marks.0.candidate) refl in
+    let here : is_tracked_as object candidate new
+    ≡ is_tracked_as object candidate old = rw (marks.0.object, marks.0.candidate) refl in
     ap (λ (test : Bool). test || is_tracked object candidate news) here ∙
-    ap (λ (test : Bool). is_of object candidate old || test)
+    ap (λ (test : Bool). is_tracked_as object candidate old || test)
     (is_tracked-zip world event olds news marks.1 object candidate)
 
 mark_again : (world : WorldState) (event : ℕ) (object : ObjectId) (candidate : Candidate) (old new : Option ℕ)
@@ -200,7 +202,7 @@ remark world event old new none decided marked =
 
 -- the next mark is right too
 pub marks-set : (world : WorldState) (event : ℕ) (old all : List Tracked) (place : ℕ) (tracked : Tracked)
-    → AreAccepted world old → All (IsSound world) old → AllZip (IsMarked world event) old all
+    → AreAccepted world old → All (IsDecidedMark world) old → AllZip (IsMarked world event) old all
     → position (is_next world all) all ≡ Some place → tracked ≡ get_or all place tracked
     → AllZip (IsMarked world event) old (set all place (record tracked { decided = Some event }))
 marks-set world event old all place tracked accepted sound marks next is =

@@ -16,7 +16,7 @@ use Rattle.qu_world.specs.Run.{IsRun}
 use Rattle.qu_claims.specs.RunSetting.{setting}
 use Rattle.qu_known.specs.declared.tracked.Tracked.{Tracked}
 use Rattle.qu_known.specs.Tracked.{is_tracked, undecided}
-use Rattle.qu_known.specs.Known.{Row, knows}
+use Rattle.qu_known.specs.Known.{ShownRow, knows}
 
 -- ---- what is new
 
@@ -59,12 +59,12 @@ is_next world all tracked =
     (is_child tracked) all)
 
 -- the same by what is known of the replicas
-abbrev pub is_known_established : ℕ → List Row → ObjectId → Candidate → Bool
+abbrev pub is_known_established : ℕ → List ShownRow → ObjectId → Candidate → Bool
 is_known_established bounds rows object candidate =
     not candidate.stamp.barrier
     && nat_le (quorum bounds) (count_by (knows object candidate) rows + bounds)
 
-unfoldable pub is_next_known : ℕ → List Row → List Tracked → Tracked → Bool
+unfoldable pub is_next_known : ℕ → List ShownRow → List Tracked → Tracked → Bool
 is_next_known bounds rows all tracked =
     is_none tracked.decided
     && (is_known_established bounds rows tracked.object tracked.candidate || list_any (is_child tracked) all)
@@ -81,8 +81,8 @@ pub record IsSettled (world : WorldState) (event : ℕ) (old new : Tracked) : Ty
   pub mark : SettlesTo world event old.object old.candidate old.decided new.decided
 
 -- what is marked is decided in this world
-abbrev pub IsSound : WorldState → Tracked → Type 0
-IsSound world tracked = OnSome tracked.decided (IsDecidedIn world tracked.object tracked.candidate)
+abbrev pub IsDecidedMark : WorldState → Tracked → Type 0
+IsDecidedMark world tracked = OnSome tracked.decided (IsDecidedIn world tracked.object tracked.candidate)
 
 -- tracked are those that some replica accepted
 abbrev pub AreAccepted : WorldState → List Tracked → Type 0

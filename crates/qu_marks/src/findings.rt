@@ -3,7 +3,7 @@ ghost use Rattle.std.specs.Prelude.{◌≡◌, ◌<◌, ◌+◌, ◌^◌, length
 ghost use Rattle.qu_trace.specs.declared.trace.Entry.{Entry as AnEntry};
 ghost use Rattle.qu_world.specs.Run.{IsRun};
 ghost use Rattle.qu_claims.specs.Times.{world_after};
-ghost use Rattle.qu_known.specs.Answers.{answered_at};
+ghost use Rattle.qu_known.specs.Answers.{rounds_answered};
 ghost use Rattle.qu_known.specs.Known.{AreKnown, AreOfBytes};
 ghost use Rattle.qu_marks.specs.Tracker.{with_all, TellsOf, AreAccepted, Tracks};
 
@@ -26,7 +26,7 @@ pub struct Findings {
 pub fn find(alloc: Global, trace: &Trace) -> Result<Findings, NoMemory>
     requires { IsRun trace.now }
     ensures tracked { IfOk result (λ found. Tracks trace.now (length trace.now.entries) found.tracker) }
-    ensures answered { IfOk result (λ found. found.answers ≡ map answered_at trace.now.entries) }
+    ensures answered { IfOk result (λ found. found.answers ≡ map rounds_answered trace.now.entries) }
 {
     are_of_bytes(trace.entries.as_slice());
     let mut known = Known::opening(alloc, &trace.setup)?;
@@ -67,7 +67,7 @@ fn follow(
     requires tracked { Tracks trace.now index tracker.old }
     ensures known { OnOk result (AreKnown (world_after trace.now (index + 1)).replicas known.new) }
     ensures answered { IfOk result (λ rounds. (entry : AnEntry) → slice_get trace.now.entries index ≡ Some entry
-        → rounds ≡ answered_at entry) }
+        → rounds ≡ rounds_answered entry) }
     ensures tracked { OnOk result (Tracks trace.now (index + 1) tracker.new) }
 {
     let told = see_entry(alloc, trace, index, known)?;

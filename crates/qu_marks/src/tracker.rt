@@ -3,7 +3,7 @@ ghost use Rattle.std.specs.List.{AllZip, list_any};
 ghost use Rattle.qu_claims.specs.Times.{world_after};
 ghost use Rattle.qu_known.specs.Known.{AreKnown};
 ghost use Rattle.qu_known.specs.Tracked.{is_tracked};
-ghost use Rattle.qu_marks.specs.Tracker.{is_known_established, is_next_known, with_tracked, with_all, is_child, IsSettled, IsSound, AreAccepted};
+ghost use Rattle.qu_marks.specs.Tracker.{is_known_established, is_next_known, with_tracked, with_all, is_child, IsSettled, IsDecidedMark, AreAccepted};
 
 use qu_base::{Bounds, List, NoMemory, ObjectId};
 use qu_known::{Known, Tracked};
@@ -79,7 +79,7 @@ impl Tracker {
     pub fn settle(&mut self, trace: &Trace, known: &Known, event: u64)
         requires known { AreKnown (world_after trace.now event).replicas known.now }
         requires accepted { AreAccepted (world_after trace.now event) self.old }
-        requires sound { All (IsSound (world_after trace.now event)) self.old }
+        requires sound { All (IsDecidedMark (world_after trace.now event)) self.old }
         ensures { AllZip (IsSettled (world_after trace.now event) event) self.old self.new }
     {
         while let Some(index) = self.next(known, &trace.setup.bounds) {

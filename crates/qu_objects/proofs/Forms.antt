@@ -16,8 +16,8 @@ use Rattle.qu_objects.specs.declared.answer.Item.TheVariants.{Number}
 use Rattle.qu_objects.specs.declared.answer.Answer.{Answer}
 use Rattle.qu_objects.specs.declared.answer.Answer.TheVariants as answer
 use Rattle.qu_objects.specs.declared.limits.TheConstants.{MOST_PARTS, PARTS_LIMIT, LAST_METHOD}
-use Rattle.qu_objects.specs.RefusalNumber.{is_refusal_number}
-use Rattle.qu_objects.specs.Formats.{word_form, method_code, added, taken, is_method_code, method_body, method_form, ask_code, is_ask_code, ask_form, item_code, item_number, is_item_code, item_form, is_after, next_object, part_form, spelled_object, parts_form, act_form, query_form, part_refusal_form, items_form, answer_code, answered, refusal, is_answer_code, answer_body, answer_form}
+use Rattle.qu_objects.specs.RefusalNumber.{is_kind_refusal}
+use Rattle.qu_objects.specs.Formats.{word_form, method_code, added, taken, is_method_code, method_body, method_form, ask_code, is_ask_code, ask_form, item_code, item_number, is_item_code, item_form, is_after, next_object, part_form, spelled_object, parts_form, act_form, query_form, part_refusal_form, items_form, answer_code, answered, refused_part, is_answer_code, answer_body, answer_form}
 
 pub word-exact : IsExact word_form
 word-exact = number-exact w64 (2 ^ 64) 0 (2 ^ 64 - 1) wide64 (omega arith)
@@ -113,9 +113,9 @@ query-exact known = parts-exact ask_form ask-exact known
 
 refusal-exact : IsExact part_refusal_form
 refusal-exact =
-    both-exact (below w8 PARTS_LIMIT) (λ at. tested is_refusal_number Range (number w8 0 255))
+    both-exact (below w8 PARTS_LIMIT) (λ at. tested is_kind_refusal Range (number w8 0 255))
     (byte-exact 0 (PARTS_LIMIT - 1) (omega arith))
-    (λ at fits. tested-exact is_refusal_number Range (number w8 0 255) (byte-exact 0 255 (omega arith)))
+    (λ at fits. tested-exact is_kind_refusal Range (number w8 0 255) (byte-exact 0 255 (omega arith)))
 
 items-exact : IsExact items_form
 items-exact =
@@ -127,7 +127,7 @@ answered_back : (given : Answer) (items : List Item) → answered given ≡ Some
 answered_back (answer.Ok other) items is = cc
 answered_back (answer.Refused at why) items is = absurd cc
 
-refusal_back : (given : Answer) (refused : ℕ × ℕ) → refusal given ≡ Some refused
+refusal_back : (given : Answer) (refused : ℕ × ℕ) → refused_part given ≡ Some refused
     → answer.Refused refused.0 refused.1 ≡ given
 refusal_back (answer.Ok items) refused is = absurd cc
 refusal_back (answer.Refused at why) refused is = ap (λ (pair : ℕ × ℕ). answer.Refused pair.0 pair.1) (sym (some_is is))
@@ -135,10 +135,10 @@ refusal_back (answer.Refused at why) refused is = ap (λ (pair : ℕ × ℕ). an
 answer_body-exact : (code : ℕ) → IsExact (answer_body code)
 answer_body-exact code =
     either-exact (code == 0) (made answer.Ok answered items_form)
-    (made (λ refused. answer.Refused refused.0 refused.1) refusal part_refusal_form)
+    (made (λ refused. answer.Refused refused.0 refused.1) refused_part part_refusal_form)
     (made-exact answer.Ok answered items_form items-exact (λ items fits. refl)
     (λ given items fits is. answered_back given items is))
-    (made-exact (λ refused. answer.Refused refused.0 refused.1) refusal part_refusal_form refusal-exact
+    (made-exact (λ refused. answer.Refused refused.0 refused.1) refused_part part_refusal_form refusal-exact
     (λ refused fits. refl) (λ given refused fits is. refusal_back given refused is))
 
 answer_coded : (code : ℕ) (given : Answer) → IsTrue (is_answer_code code) → (answer_body code).Fits given

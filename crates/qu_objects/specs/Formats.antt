@@ -14,7 +14,7 @@ use Rattle.qu_objects.specs.declared.answer.Item.TheVariants.{Number}
 use Rattle.qu_objects.specs.declared.answer.Answer.{Answer}
 use Rattle.qu_objects.specs.declared.answer.Answer.TheVariants as answer
 use Rattle.qu_objects.specs.declared.limits.TheConstants.{MOST_PARTS, PARTS_LIMIT, LAST_METHOD, LAST_ASK, LAST_ITEM}
-use Rattle.qu_objects.specs.RefusalNumber.{is_refusal_number}
+use Rattle.qu_objects.specs.RefusalNumber.{is_kind_refusal}
 
 -- a number of eight bytes
 abbrev pub word_form : Format ℕ
@@ -109,7 +109,7 @@ query_form known = parts_form ask_form known
 
 -- the position of a part, and the number of the refusal
 abbrev pub part_refusal_form : Format (ℕ × ℕ)
-part_refusal_form = both (below w8 PARTS_LIMIT) (λ at. tested is_refusal_number Range (number w8 0 255))
+part_refusal_form = both (below w8 PARTS_LIMIT) (λ at. tested is_kind_refusal Range (number w8 0 255))
 
 abbrev pub some_items : ℕ → Format (List Item)
 some_items count = items {K = Unit {0}} item_form.spell (λ before. item_form) (λ item. tt) tt count
@@ -126,9 +126,9 @@ abbrev pub answered : Answer → Option (List Item)
 answered (answer.Ok items) = Some items
 answered (answer.Refused at why) = None
 
-abbrev pub refusal : Answer → Option (ℕ × ℕ)
-refusal (answer.Ok items) = None
-refusal (answer.Refused at why) = Some (at, why)
+abbrev pub refused_part : Answer → Option (ℕ × ℕ)
+refused_part (answer.Ok items) = None
+refused_part (answer.Refused at why) = Some (at, why)
 
 abbrev pub is_answer_code : ℕ → Bool
 is_answer_code code = nat_le code 1
@@ -136,7 +136,7 @@ is_answer_code code = nat_le code 1
 abbrev pub answer_body : ℕ → Format Answer
 answer_body code =
     either (code == 0) (made answer.Ok answered items_form)
-    (made (λ refused. answer.Refused refused.0 refused.1) refusal part_refusal_form)
+    (made (λ refused. answer.Refused refused.0 refused.1) refused_part part_refusal_form)
 
 -- 0: the items; 1: the first refused part
 unfoldable pub answer_form : Format Answer

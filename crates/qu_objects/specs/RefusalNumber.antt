@@ -2,5 +2,5 @@
 use Rattle.std.specs.Prelude.{ℕ, Bool, ◌==◌, ◌&&◌, ◌||◌, nat_le}
 use Rattle.qu_objects.specs.declared.refusal_number.TheConstants.{OVER, LAST_OF_KINDS, WRONG_KIND}
 
-abbrev pub is_refusal_number : ℕ → Bool
-is_refusal_number why = (nat_le OVER why && nat_le why LAST_OF_KINDS) || (why == WRONG_KIND)
+abbrev pub is_kind_refusal : ℕ → Bool
+is_kind_refusal why = (nat_le OVER why && nat_le why LAST_OF_KINDS) || (why == WRONG_KIND)

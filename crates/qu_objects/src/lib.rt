@@ -31,7 +31,7 @@ pub use limits::{
     limits_are_these,
 };
 pub use op::{Op, Outcome};
-pub use performing::{Performed, perform, tell_all};
+pub use performing::{PerformedValues, perform, tell_all};
 pub use query::{Ask, Query};
 pub use reading_answer::read_answer;
 pub use reading_parts::{read_act, read_query};

@@ -7,17 +7,17 @@ use std::alloc::Global;
 
 /// What an act makes of the values of its objects: each of them changed or none, and the answer.
 #[derive(Debug, Drop)]
-pub struct Performed {
+pub struct PerformedValues {
     pub values: List<Value>,
     pub answer: Answer,
 }
 
-impl Performed {
+impl PerformedValues {
     /// Equal values and an equal answer.
-    pub fn copy(&self, alloc: Global) -> Result<Performed, NoMemory>
+    pub fn copy(&self, alloc: Global) -> Result<PerformedValues, NoMemory>
         ensures { IfOk result (λ performed. performed ≡ self.now) }
     {
-        Ok(Performed {
+        Ok(PerformedValues {
             values: self.values.copy(alloc)?,
             answer: self.answer.copy(alloc)?,
         })
@@ -25,18 +25,18 @@ impl Performed {
 }
 
 /// Performs an act on the values of its objects, given in the order of its parts.
-pub fn perform(alloc: Global, values: &[Value], act: &Act) -> Result<Performed, NoMemory>
+pub fn perform(alloc: Global, values: &[Value], act: &Act) -> Result<PerformedValues, NoMemory>
     requires { length values.now ≡ length act.now }
     ensures values { IfOk result (λ performed. performed.values ≡ performed_values act.now values.now) }
     ensures answer { IfOk result (λ performed. performed.answer ≡ performed_answer act.now values.now) }
 {
     match (values, act.parts().as_slice()) {
         ([value], [(_, method)]) => match value.apply(method) {
-            Applied::Changed(value, item) => Ok(Performed {
+            Applied::Changed(value, item) => Ok(PerformedValues {
                 values: List::one(alloc, value)?,
                 answer: Answer::Ok(List::one(alloc, item)?),
             }),
-            Applied::Refused(why) => Ok(Performed {
+            Applied::Refused(why) => Ok(PerformedValues {
                 values: List::one(alloc, *value)?,
                 answer: Answer::Refused { at: 0, why },
             }),

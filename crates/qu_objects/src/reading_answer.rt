@@ -4,7 +4,7 @@ ghost use Rattle.qu_base.specs.Reading.{Reads, Gives, IsGiven};
 ghost use Rattle.qu_objects.specs.Formats.{some_items, items_form, part_refusal_form, answer_form};
 
 use super::reading::read_item;
-use super::refusal_number::is_refusal_number;
+use super::refusal_number::is_kind_refusal;
 use super::{Answer, Item, PARTS_LIMIT};
 use qu_base::{BadText, Cursor, List, ReadFail, Why};
 use std::alloc::Global;
@@ -69,7 +69,7 @@ fn read_refusal(text: &mut Cursor<'_>) -> Result<(u8, u8), BadText>
     let at = text.u8_within(0, PARTS_LIMIT - 1)?;
     let start = text.ahead();
     let why = text.u8_within(0, 255)?;
-    if !is_refusal_number(why) {
+    if !is_kind_refusal(why) {
         return Err(start.refusal(Why::Range));
     }
     Ok((at, why))

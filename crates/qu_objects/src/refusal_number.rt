@@ -1,5 +1,5 @@
 ghost use Rattle.std.specs.Prelude.{◌≡◌};
-ghost use Rattle.qu_objects.specs.RefusalNumber.{is_refusal_number};
+ghost use Rattle.qu_objects.specs.RefusalNumber.{is_kind_refusal};
 
 // A counter refuses by numbers 3 and 4 alone. The other numbers stand in answers that no replica made: they are read,
 // and printed by their words.
@@ -32,8 +32,8 @@ pub const LAST_OF_KINDS: u8 = FULL;
 pub const WRONG_KIND: u8 = 12;
 
 /// Whether a refusal of a part has this number.
-pub fn is_refusal_number(why: u8) -> bool
-    ensures { result ≡ is_refusal_number why }
+pub fn is_kind_refusal(why: u8) -> bool
+    ensures { result ≡ is_kind_refusal why }
 {
     OVER <= why && why <= LAST_OF_KINDS || why == WRONG_KIND
 }

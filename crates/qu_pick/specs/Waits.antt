@@ -6,8 +6,8 @@ use Rattle.qu_base.specs.declared.party.ClientId.{ClientId}
 use Rattle.qu_pick.specs.declared.limits.TheConstants.{MOST_DOUBLINGS}
 
 -- the words of a client: the generator PCG32 of the seed, on the client's own stream
-abbrev pub words_of : ℕ → ClientId → Lcg
-words_of seed client = started 64 multiplier_64 seed (increment_of 64 client.0)
+abbrev pub wait_words : ℕ → ClientId → Lcg
+wait_words seed client = started 64 multiplier_64 seed (increment_of 64 client.0)
 
 -- the longest wait after the round
 unfoldable pub longest : ℕ → ℕ

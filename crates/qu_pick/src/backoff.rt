@@ -1,5 +1,5 @@
 ghost use Rattle.std.specs.Prelude.{◌≡◌, ◌≤◌};
-ghost use Rattle.qu_pick.specs.Waits.{words_of, longest, next_wait};
+ghost use Rattle.qu_pick.specs.Waits.{wait_words, longest, next_wait};
 
 use super::{LONGEST_WAIT, MOST_DOUBLINGS};
 use qu_base::ClientId;
@@ -27,7 +27,7 @@ impl Model for Backoff {
 impl Backoff {
     /// The waits that the seed gives to the client.
     pub fn seeded(seed: u64, client: ClientId) -> Backoff
-        ensures { result ≡ words_of seed client }
+        ensures { result ≡ wait_words seed client }
     {
         Backoff {
             words: Lcg64Xsh32::new(seed, u64::from(client.0)),

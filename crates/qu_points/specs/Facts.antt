@@ -1,7 +1,7 @@
 -- What has to be known of a run to find the points of its operations.
 use Rattle.std.specs.Prelude.{◌≡◌, length, map}
 use Rattle.qu_trace.specs.declared.trace.Trace.{Trace}
-use Rattle.qu_known.specs.Answers.{answered_at}
+use Rattle.qu_known.specs.Answers.{rounds_answered}
 use Rattle.qu_points.specs.declared.facts.Facts.{Facts}
 use Rattle.qu_points.specs.Points.{handled_acts}
 use Rattle.qu_marks.specs.Tracker.{Tracks}
@@ -12,4 +12,4 @@ pub record AreFacts (trace : Trace) (facts : Facts) : Type 0 where
   -- which acts replicas handled
   pub handled : facts.acts ≡ handled_acts trace
   -- which rounds were answered at each event
-  pub answered : facts.answers ≡ map answered_at trace.entries
+  pub answered : facts.answers ≡ map rounds_answered trace.entries

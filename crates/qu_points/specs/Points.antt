@@ -27,7 +27,7 @@ use Rattle.qu_claims.specs.Answers.{answers}
 use Rattle.qu_claims.specs.Effects.{is_on}
 use Rattle.qu_known.specs.declared.answers.Answered.{Answered}
 use Rattle.qu_known.specs.declared.tracked.Tracked.{Tracked}
-use Rattle.qu_claims.specs.Order.{DecidesAt, query_effect, body_text, is_earlier, are_in_order}
+use Rattle.qu_claims.specs.Order.{DecidesAt, query_effect, op_bytes, is_earlier, are_in_order}
 
 -- ---- updates
 
@@ -36,15 +36,15 @@ abbrev pub NamedAct : Type 0
 NamedAct = ClientId × ℕ × List (ObjectId × Method)
 
 -- the act that is asked for
-abbrev pub act_asked : ClientId → ℕ → Body → Option NamedAct
-act_asked client number (body.Act parts) = Some (client, number, parts)
-act_asked client number (body.Ask parts) = None
-act_asked client number (body.Mend target) = None
+abbrev pub named_act_in : ClientId → ℕ → Body → Option NamedAct
+named_act_in client number (body.Act parts) = Some (client, number, parts)
+named_act_in client number (body.Ask parts) = None
+named_act_in client number (body.Mend target) = None
 
 -- the same of a request
 abbrev pub act_in : Option Request → Option NamedAct
 act_in None = None
-act_in (Some request) = act_asked request.client request.number request.body
+act_in (Some request) = named_act_in request.client request.number request.body
 
 -- the same of the request that the event of an entry lets a replica handle
 abbrev pub act_at : Trace → Entry → Option NamedAct
@@ -55,8 +55,9 @@ unfoldable pub handled_acts : Trace → List NamedAct
 handled_acts trace = filter_map (act_at trace) trace.entries
 
 -- the act is of this client, and has this number and these parts
-abbrev pub is_act : ClientId → ℕ → List (ObjectId × Method) → NamedAct → Bool
-is_act client number parts act = (act.0).0 == client.0 && (act.1 == number && same_op (op.Act act.2) (op.Act parts))
+abbrev pub is_named_act : ClientId → ℕ → List (ObjectId × Method) → NamedAct → Bool
+is_named_act client number parts act = (act.0).0 == client.0 && (act.1 == number
+    && same_op (op.Act act.2) (op.Act parts))
 
 -- the candidate is one of the update of this client and these parts whose digest is `act`, on one of its objects
 abbrev pub is_of_update : ClientId → List (ObjectId × Method) → Digest → Tracked → Bool
@@ -77,7 +78,7 @@ first_mark client parts act (tracked ∷ later) =
 -- the same of the update that this client asks for under this number, where it is among the handled acts
 abbrev pub act_mark : ClientId → ℕ → List (ObjectId × Method) → List NamedAct → List Tracked → Option ℕ
 act_mark client number parts acts tracked =
-    if list_any (is_act client number parts) acts
+    if list_any (is_named_act client number parts) acts
     then first_mark client parts (act_digest client number parts) tracked
     else None
 
@@ -124,7 +125,7 @@ AreApart first second = (first.client).0 ≡ (second.client).0 → first.number 
 -- the second is another operation, or asks for something else by the same client and number
 abbrev pub AreDistinct : OpRecord → OpRecord → Type 0
 AreDistinct first second = (first.client).0 ≡ (second.client).0 → first.number ≡ second.number
-    → body_text first.op ≡ body_text second.op → ⊥
+    → op_bytes first.op ≡ op_bytes second.op → ⊥
 
 -- the client of an operation is correct
 abbrev pub IsOfCorrect : Setup → OpRecord → Type 0
@@ -145,7 +146,7 @@ pub record AddsActs (acts : List NamedAct) (old new : List OpRecord) : Type 0 wh
 
 -- an act that is none of the earlier ones, as an operation
 abbrev pub new_act : List NamedAct → NamedAct → List OpRecord
-new_act earlier act = if list_any (is_act act.0 act.1 act.2) earlier then [] else as_operation act ∷ []
+new_act earlier act = if list_any (is_named_act act.0 act.1 act.2) earlier then [] else as_operation act ∷ []
 
 -- the numbers of an act fit their bytes
 abbrev pub ActFits : NamedAct → Type 0

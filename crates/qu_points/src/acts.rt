@@ -5,10 +5,10 @@ ghost use Rattle.qu_base.specs.declared.party.ReplicaId.{ReplicaId};
 ghost use Rattle.qu_frames.specs.Signing.{brought};
 ghost use Rattle.qu_world.specs.State.{ring_of};
 ghost use Rattle.qu_world.specs.Run.{IsSetup};
-ghost use Rattle.qu_claims.specs.Handled.{is_known, request_in, request_brought, request_to, handled_by};
+ghost use Rattle.qu_claims.specs.Handled.{is_of_setup, request_in, request_brought, request_to, handled_by};
 ghost use Rattle.qu_objects.specs.declared.op.Op.TheVariants as op;
 ghost use Rattle.qu_machine.specs.PointTests.{same_op};
-ghost use Rattle.qu_points.specs.Points.{act_in, handled_acts, is_act};
+ghost use Rattle.qu_points.specs.Points.{act_in, handled_acts, is_named_act};
 
 use super::verifier::Verifier;
 use qu_base::{ClientId, List, NoMemory, Party, ReadFail, ReplicaId};
@@ -158,7 +158,7 @@ fn act_in(
 
 /// Whether the setup has all objects of the sets.
 fn are_known(setup: &Setup, sets: &Sets) -> bool
-    ensures { result ≡ list_all (is_known setup.now) sets.now }
+    ensures { result ≡ list_all (is_of_setup setup.now) sets.now }
 {
     let known = setup.kinds.len();
     sets.objects()
@@ -168,7 +168,7 @@ fn are_known(setup: &Setup, sets: &Sets) -> bool
 
 /// Whether an act is among these.
 pub fn is_handled(acts: &[(ClientId, u64, Act)], client: ClientId, number: u64, act: &Act) -> bool
-    ensures { result ≡ list_any (is_act client number act.now) acts.now }
+    ensures { result ≡ list_any (is_named_act client number act.now) acts.now }
 {
     acts.iter().any(|other| other.0 == client && other.1 == number && same_acts(&other.2, act))
 }

@@ -2,7 +2,7 @@
 ghost use Rattle.std.specs.Prelude.{◌≡◌, ℕ, IfOk};
 ghost use Rattle.std.specs.Ordering.{nat_cmp, ordering_then, is_lt};
 ghost use Rattle.std.specs.Cmp.Lexicographic.{slice_cmp};
-ghost use Rattle.qu_claims.specs.Order.{body_text, is_earlier};
+ghost use Rattle.qu_claims.specs.Order.{op_bytes, is_earlier};
 
 use qu_base::{List, NoMemory, Outbytes};
 use qu_machine::Point;
@@ -34,17 +34,17 @@ fn event_order(first: &Point, second: &Point) -> Ordering
 #[tactic(auto, using(crate::proofs::Compared::told_before))]
 fn asks_before(alloc: Global, first: &Op, second: &Op) -> Result<bool, NoMemory>
     ensures { IfOk result
-        (λ before. before ≡ is_lt (slice_cmp nat_cmp (body_text first.now) (body_text second.now))) }
+        (λ before. before ≡ is_lt (slice_cmp nat_cmp (op_bytes first.now) (op_bytes second.now))) }
 {
-    let text = body_text(alloc, first)?;
-    let other = body_text(alloc, second)?;
+    let text = op_bytes(alloc, first)?;
+    let other = op_bytes(alloc, second)?;
     Ok(text.as_slice() < other.as_slice())
 }
 
 /// The bytes by which a request asks for an operation.
 #[tactic(auto, unfolding(qu_frames::specs::Formats::body_form))]
-fn body_text(alloc: Global, op: &Op) -> Result<List<u8>, NoMemory>
-    ensures { IfOk result (λ text. text ≡ body_text op.now) }
+fn op_bytes(alloc: Global, op: &Op) -> Result<List<u8>, NoMemory>
+    ensures { IfOk result (λ text. text ≡ op_bytes op.now) }
 {
     let mut text = Outbytes::new(alloc);
     match op {

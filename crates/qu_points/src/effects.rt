@@ -4,7 +4,7 @@ ghost use Rattle.qu_frames.specs.Decoding.{decoded};
 ghost use Rattle.qu_world.specs.State.{numbered};
 ghost use Rattle.qu_claims.specs.Answers.{delivered_round, round_in};
 ghost use Rattle.qu_claims.specs.Effects.{is_on};
-ghost use Rattle.qu_known.specs.Answers.{answered_at};
+ghost use Rattle.qu_known.specs.Answers.{rounds_answered};
 ghost use Rattle.qu_claims.specs.Order.{query_effect, AnswersFirst};
 ghost use Rattle.qu_points.specs.Facts.{AreFacts};
 ghost use Rattle.qu_points.specs.Points.{effect_of, mark_of, first_mark, act_mark};
@@ -97,7 +97,7 @@ fn query_effect(
     answers: &[List<Answered>],
     operation: &OpRecord,
 ) -> Result<Option<u64>, NoMemory>
-    requires answered { answers.now ≡ map answered_at trace.now.entries }
+    requires answered { answers.now ≡ map rounds_answered trace.now.entries }
     ensures { IfOk result
         (λ found. MatchOption found
         ((event : ℕ) → ¬ (query_effect trace.now operation.now event operation.now.reply))
@@ -125,7 +125,7 @@ fn first_answer_of(
     number: u64,
     reply: u64,
 ) -> Result<Option<u64>, NoMemory>
-    requires answered { answers.now ≡ map answered_at trace.now.entries }
+    requires answered { answers.now ≡ map rounds_answered trace.now.entries }
     ensures { IfOk result
         (λ found. MatchOption found ((event : ℕ) → ¬ (AnswersFirst trace.now client number reply event))
         (λ event. AnswersFirst trace.now client number reply event)) }

@@ -11,12 +11,12 @@ use std::marker::Model;
 
 /// The bytes of a frame before its HMAC, with their digest.
 #[derive(Drop)]
-struct Known {
+struct KnownDigest {
     bytes: List<u8>,
     digest: Digest,
 }
 
-impl Model for Known {
+impl Model for KnownDigest {
     ghost use Rattle.std.specs.Prelude.{◌≡◌, ℕ, List};
     ghost use Rattle.qu_seal.specs.declared.constants.TheConstants.{FRAME_TAG};
     ghost use Rattle.qu_seal.specs.Digesting.{digest_of};
@@ -33,7 +33,7 @@ impl Model for Known {
 #[derive(Drop)]
 pub struct Verifier {
     keys: KeyRing,
-    last: Option<Known>,
+    last: Option<KnownDigest>,
 }
 
 impl Model for Verifier {
@@ -79,20 +79,20 @@ impl Verifier {
         }
         let digest = text_digest(text);
         let bytes = List::from_clones(alloc, bytes)?;
-        self.last = Some(Known { bytes, digest });
+        self.last = Some(KnownDigest { bytes, digest });
         Ok(digest)
     }
 }
 
 /// The digest of these bytes, where it is known.
-fn digest_known(last: &Option<Known>, bytes: &[u8]) -> Option<Digest>
+fn digest_known(last: &Option<KnownDigest>, bytes: &[u8]) -> Option<Digest>
     ensures { IfSome result (λ digest. digest.0 ≡ digest_of FRAME_TAG bytes.now) }
 {
     let known = last.as_ref()?;
     known.digest_if(bytes)
 }
 
-impl Known {
+impl KnownDigest {
     /// The digest, where it is that of these bytes.
     #[tactic(auto, using(crate::proofs::SignedActs::digest_of_same))]
     fn digest_if(&self, bytes: &[u8]) -> Option<Digest>

@@ -23,7 +23,8 @@ use Rattle.qu_premise.specs.Forging.{same_history, same_mac}
 
 pub decides_party : (a b : Party) → Decides (is_same a b) (a ≡ b)
 decides_party (party.Replica a) (party.Replica b) = (
-  λ same. ap (λ (it : ℕ). (let who : ReplicaId = record { 0 = it } in party.Replica who)) ((Decides-eqb a.0 b.0).0 same),
+  λ same. ap (λ (it : ℕ). (let who : ReplicaId = record { 0 = it } in party.Replica who))
+      ((Decides-eqb a.0 b.0).0 same),
   λ same. (Decides-eqb a.0 b.0).1 (cc),
 )
 decides_party (party.Replica a) (party.Client b) = (λ same. absurd (false≢true same), λ same. absurd (cc))
@@ -85,7 +86,8 @@ decides_digest a b = (
 
 -- equal bytes under one tag have the digest of the text
 pub digest_of_same : (digest : Digest) (one other : ℕ) (bytes more : List ℕ)
-    → digest ≡ digest_of_text (record { tag = one; bytes = bytes }) → (one == other && pointwise nat_eq bytes more) ≡ true
+    → digest ≡ digest_of_text (record { tag = one; bytes = bytes }) → (one == other && pointwise nat_eq bytes more)
+    ≡ true
     → digest ≡ digest_of_text (record { tag = other; bytes = more })
 digest_of_same digest one other bytes more is alike =
     let first : Text = record { tag = one; bytes = bytes } in

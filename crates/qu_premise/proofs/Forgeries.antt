@@ -20,10 +20,10 @@ use Rattle.qu_trace.specs.declared.trace.Setup.{Setup}
 use Rattle.qu_trace.specs.Faulty.{is_same, is_faulty}
 use Rattle.qu_trace.specs.Letters.{letters_of}
 use Rattle.qu_world.specs.State.{WorldState, ring_of, numbered}
-use Rattle.qu_claims.specs.Handled.{is_known, is_handler, shown_by, entries_in, entries_brought, entries_to}
+use Rattle.qu_claims.specs.Handled.{is_of_setup, is_handler, shown_by, entries_in, entries_brought, entries_to}
 use Rattle.qu_claims.specs.Premises.{HasSent, WasShown, AreUnforged}
 use Rattle.qu_premise.specs.declared.shown.Shown.{Shown}
-use Rattle.qu_premise.specs.Forging.{is_letter, was_sent, is_unsent, shown_of, shown_in_all, is_like, is_showing, was_shown, is_unshown, has_unshown, asks_unshown, shows_unshown, is_forged_frame, is_forged_text}
+use Rattle.qu_premise.specs.Forging.{is_letter, was_sent, is_unsent, letter_shown, shown_in_all, is_like, is_showing, was_shown, is_unshown, has_unshown, asks_unshown, shows_unshown, is_forged_frame, is_forged_text}
 use Rattle.qu_premise.proofs.Lists.{Passing, passing, any_at, any_flat, any_mapped, any_contained, contained}
 use Rattle.qu_premise.proofs.Equalities.{decides_party, decides_mac, decides_history}
 
@@ -81,14 +81,14 @@ sent_is world from to text it =
 -- ---- histories
 
 in_shown : (entries : List Entry) (me : ReplicaId) (sealed : Sealed) → was_shown (shown_in_all entries) me
-    sealed ≡ list_any (λ letter. is_showing me sealed (shown_of letter)) (letters_of entries)
+    sealed ≡ list_any (λ letter. is_showing me sealed (letter_shown letter)) (letters_of entries)
 unfolding shown_in_all
-in_shown entries me sealed = any_mapped (is_showing me sealed) shown_of (letters_of entries)
+in_shown entries me sealed = any_mapped (is_showing me sealed) letter_shown (letters_of entries)
 
 shown_found : (world : WorldState) (me : ReplicaId) (sealed : Sealed)
     → was_shown (shown_in_all world.entries) me sealed ≡ true → WasShown world me sealed
 shown_found world me sealed shown =
-    let by : Passing (λ letter. is_showing me sealed (shown_of letter)) (letters_of world.entries) =
+    let by : Passing (λ letter. is_showing me sealed (letter_shown letter)) (letters_of world.entries) =
     passing _ _ (sym (in_shown world.entries me sealed) ∙ shown) in
     let parts = and_parts _ _ by.passes in
     let it : Passing (is_like me sealed) (shown_by by.item) = passing _ _ parts.1 in
@@ -108,7 +108,7 @@ shown_is : (world : WorldState) (me : ReplicaId) (sealed : Sealed) → WasShown 
     (shown_in_all world.entries) me sealed ≡ true
 shown_is world me sealed it =
     in_shown world.entries me sealed ∙
-    any_numbered (λ letter. is_showing me sealed (shown_of letter)) (letters_of world.entries) it.number it.letter
+    any_numbered (λ letter. is_showing me sealed (letter_shown letter)) (letters_of world.entries) it.number it.letter
     it.is_letter
     (and_from _ _ ((decides_party (it.letter).from (party.Replica (sealed.history).replica)).1 it.from_is)
     (any_contained (is_like me sealed) (shown_by it.letter) it.shown it.by_letter
@@ -131,7 +131,7 @@ asks_in setup shown me sets false = refl
 asks_entries : (setup : Setup) (shown : List Shown) (me : ReplicaId) (sent : Frame) → asks_unshown setup shown me
     sent ≡ list_any (is_unshown setup shown me) (entries_in setup sent)
 asks_entries setup shown me (frame.Request client number round sets body mac) =
-    asks_in setup shown me sets (list_all (is_known setup) sets)
+    asks_in setup shown me sets (list_all (is_of_setup setup) sets)
 asks_entries setup shown me (frame.Reply replica client number round verdict left histories mac) = refl
 asks_entries setup shown me (frame.Fetch replica object stamp mac) = refl
 asks_entries setup shown me (frame.Fetched replica object stamp state mac) = refl

@@ -22,14 +22,14 @@ use Rattle.qu_claims.specs.Carried.{handed}
 use Rattle.qu_claims.specs.Digested.{Text, texts_at, digested, NoCollision}
 use Rattle.qu_claims.specs.Premises.{AreUnforged, IsUnforgedAt, MeetsPremises}
 use Rattle.qu_claims.specs.Times.{world_after}
-use Rattle.qu_runs.proofs.Recording.{entries_after}
-use Rattle.qu_runs.proofs.WorldGrowth.{world_after-none, world_after-grows}
+use Rattle.qu_runs.proofs.Events.Recording.{entries_after}
+use Rattle.qu_runs.proofs.Worlds.WorldGrowth.{world_after-none, world_after-grows}
 use Rattle.qu_premise.specs.declared.auditing.Past.{Past}
 use Rattle.qu_premise.specs.declared.shown.Shown.{Shown}
 use Rattle.qu_premise.specs.Answer.{UnforgedAt, UnforgedBefore, texts_of_entry, texts_by, DoCollide, NoneCollideBefore, IsFirstForged, IsFirstCollision}
 use Rattle.qu_premise.specs.Digesting.{same_text}
 use Rattle.qu_premise.specs.Digests.{look, Notes, first_clash}
-use Rattle.qu_premise.specs.Forging.{shown_of, shown_in_all, is_forged_given, is_forged}
+use Rattle.qu_premise.specs.Forging.{letter_shown, shown_in_all, is_forged_given, is_forged}
 use Rattle.qu_premise.specs.Past.{IsPast, Knows}
 use Rattle.qu_premise.proofs.Collisions.{knows_more, knows_nothing, none_at, first_collision}
 use Rattle.qu_premise.proofs.Equalities.{decides_text}
@@ -96,13 +96,13 @@ unforged_more trace index before now at within order =
 
 pub shown_more : (entries : List Entry) (index : ℕ) (entry : Entry) → index < length entries
     → get_or entries index entry ≡ entry → shown_in_all (take (index + 1) entries) ≡ shown_in_all (take index entries)
-    ++ map shown_of entry.letters
+    ++ map letter_shown entry.letters
 unfolding shown_in_all
 shown_more entries index entry within at =
-    ap (λ (it : List Entry). map shown_of (letters_of it)) (take_more entries index entry within) ∙
-    ap (λ (it : Entry). map shown_of (letters_of (take index entries ++ it ∷ []))) at ∙
-    ap (map shown_of) (letters-push (take index entries) entry) ∙
-    map-append shown_of (letters_of (take index entries)) entry.letters
+    ap (λ (it : List Entry). map letter_shown (letters_of it)) (take_more entries index entry within) ∙
+    ap (λ (it : Entry). map letter_shown (letters_of (take index entries ++ it ∷ []))) at ∙
+    ap (map letter_shown) (letters-push (take index entries) entry) ∙
+    map-append letter_shown (letters_of (take index entries)) entry.letters
 
 -- the texts of the event with this index
 texts_here : (trace : Trace) (index : ℕ) (entry : Entry) → index < length trace.entries
@@ -208,7 +208,7 @@ first_forged trace index past is within forged = record {
 pub past_more : (trace : Trace) (index : ℕ) (entry : Entry) (old new : Past) → IsPast trace index old
     → index < length trace.entries → get_or trace.entries index entry ≡ entry → UnforgedAt trace index
     → Notes (look old.digests) (look new.digests) (index + 1) (texts_at trace entry)
-    → new.shown ≡ old.shown ++ map shown_of entry.letters
+    → new.shown ≡ old.shown ++ map letter_shown entry.letters
     → first_clash (look new.digests) (texts_at trace entry) ≡ None → IsPast trace (index + 1) new
 past_more trace index entry old new is within at unforged notes shown none =
     let texts : texts_at trace entry ≡ texts_by trace (index + 1) = texts_here trace index entry within at in
@@ -216,7 +216,7 @@ past_more trace index entry old new is within at unforged notes shown none =
     knows_more trace index old.digests new.digests is.digests
     (subst (λ (it : List Text). Notes (look old.digests) (look new.digests) (index + 1) it) texts notes) in
     record {
-      shown = shown ∙ ap (λ (it : List Shown). it ++ map shown_of entry.letters) is.shown
+      shown = shown ∙ ap (λ (it : List Shown). it ++ map letter_shown entry.letters) is.shown
           ∙ sym (shown_more trace.entries index entry within at);
       digests = knows;
       unforged = unforged_more trace index is.unforged unforged;

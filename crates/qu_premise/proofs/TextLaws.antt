@@ -21,7 +21,7 @@ use Rattle.qu_trace.specs.Letters.{letters_of}
 use Rattle.qu_world.specs.State.{ring_of, numbered}
 use Rattle.qu_world.specs.Step.{is_to_faulty}
 use Rattle.qu_claims.specs.Carried.{offered_by, handed_by}
-use Rattle.qu_claims.specs.Digested.{Text, frame_text, history_text, texts_of, taken_texts, handed_texts, sent_texts, texts_at}
+use Rattle.qu_claims.specs.Digested.{Text, signed_text, history_text, texts_of, taken_texts, handed_texts, sent_texts, texts_at}
 use Rattle.qu_claims.specs.Handled.{Request, is_handler, request_brought, request_to, request_by, handled_by, entries_brought}
 use Rattle.qu_premise.specs.Texts.{frame_texts, decoded_texts, reached_texts}
 
@@ -33,7 +33,7 @@ request_when setup me handles found = cond handles (request_brought setup me fou
 
 abbrev handed_when : Setup → List ℕ → Frame → Bool → Option Frame → List Text
 handed_when setup text frame handles found =
-    frame_text text ∷ [] ++ map history_text (cond handles (entries_brought setup found) [])
+    signed_text text ∷ [] ++ map history_text (cond handles (entries_brought setup found) [])
 
 frame_cases : (setup : Setup) (me : ReplicaId) (text : List ℕ) (frame : Frame) (handles signed : Bool)
     → texts_of (request_when setup me handles (cond signed (Some frame) None))
@@ -45,7 +45,8 @@ frame_cases setup me text frame false true = refl
 frame_cases setup me text frame false false = refl
 
 none_handled : (setup : Setup) (me : ReplicaId) (handles : Bool)
-    → texts_of (request_when setup me handles None) ++ map history_text (cond handles (entries_brought setup None) []) ≡ []
+    → texts_of (request_when setup me handles None) ++ map history_text (cond handles (entries_brought setup None) [])
+    ≡ []
 none_handled setup me true = refl
 none_handled setup me false = refl
 

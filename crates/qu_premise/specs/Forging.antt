@@ -22,7 +22,7 @@ use Rattle.qu_trace.specs.Faulty.{is_same, is_faulty}
 use Rattle.qu_trace.specs.Letters.{letters_of}
 use Rattle.qu_world.specs.State.{ring_of}
 use Rattle.qu_claims.specs.Carried.{handed_by}
-use Rattle.qu_claims.specs.Handled.{is_known, is_handler, shown_by}
+use Rattle.qu_claims.specs.Handled.{is_of_setup, is_handler, shown_by}
 use Rattle.qu_premise.specs.declared.shown.Shown.{Shown}
 
 -- ---- letters
@@ -47,12 +47,12 @@ is_unsent setup entries to text frame =
 -- ---- histories
 
 -- what a letter shows, and the party that sent it
-abbrev pub shown_of : Letter → Shown
-shown_of letter = record { from = letter.from; histories = shown_by letter }
+abbrev pub letter_shown : Letter → Shown
+letter_shown letter = record { from = letter.from; histories = shown_by letter }
 
 -- what the letters of these entries show
 unfoldable pub shown_in_all : List Entry → List Shown
-shown_in_all entries = map shown_of (letters_of entries)
+shown_in_all entries = map letter_shown (letters_of entries)
 
 abbrev pub same_history : ObjectHistory → ObjectHistory → Bool
 same_history one other =
@@ -91,7 +91,7 @@ has_unshown setup shown me set = list_any (is_unshown setup shown me) set.entrie
 -- one in the sets of a request that the replica handles
 abbrev pub asks_unshown : Setup → List Shown → ReplicaId → Frame → Bool
 asks_unshown setup shown me (frame.Request client number round sets body mac) =
-    list_all (is_known setup) sets && list_any (has_unshown setup shown me) sets
+    list_all (is_of_setup setup) sets && list_any (has_unshown setup shown me) sets
 asks_unshown setup shown me _ = false
 
 abbrev pub shows_unshown : Setup → List Shown → Party → Frame → Bool

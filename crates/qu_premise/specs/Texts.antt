@@ -10,7 +10,7 @@ use Rattle.qu_frames.specs.Signing.{is_signed}
 use Rattle.qu_trace.specs.declared.trace.Setup.{Setup}
 use Rattle.qu_trace.specs.Faulty.{is_faulty}
 use Rattle.qu_world.specs.State.{ring_of}
-use Rattle.qu_claims.specs.Digested.{Text, frame_text, history_text, texts_of}
+use Rattle.qu_claims.specs.Digested.{Text, signed_text, history_text, texts_of}
 use Rattle.qu_claims.specs.Handled.{is_handler, request_in, entries_in}
 
 -- the replica that handles the frame of these bytes
@@ -30,7 +30,7 @@ entry_texts setup frame (Some me) = map history_text (entries_in setup frame)
 -- what is digested of a frame
 abbrev pub frame_texts : Setup → List ℕ → Frame → Option ReplicaId → List Text
 frame_texts setup text frame handler =
-    request_texts setup frame handler ++ frame_text text ∷ entry_texts setup frame handler
+    request_texts setup frame handler ++ signed_text text ∷ entry_texts setup frame handler
 
 -- what is digested of bytes that were decoded so
 abbrev pub decoded_texts : Setup → Party → List ℕ → Result Frame BadText → List Text

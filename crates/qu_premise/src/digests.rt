@@ -1,7 +1,7 @@
 ghost use Rattle.std.specs.Prelude.{◌≡◌, [], ◌∷◌, None, OnOk, IfOk, IfSome};
 ghost use Rattle.std.specs.Option.{option_copied};
 ghost use Rattle.qu_base.specs.declared.party.Digest.{Digest as Key};
-ghost use Rattle.qu_claims.specs.Digested.{frame_text, history_text};
+ghost use Rattle.qu_claims.specs.Digested.{signed_text, history_text};
 ghost use Rattle.qu_premise.specs.Digesting.{digest_of_text};
 ghost use Rattle.qu_premise.specs.Digests.{look, Notes, clash_with, clash, first_clash};
 
@@ -81,8 +81,8 @@ impl Digests {
     }
 
     /// The text of a frame up to its HMAC.
-    pub fn frame_text(&self, alloc: Global, text: &[u8]) -> Result<Text, NoMemory>
-        ensures { IfOk result (λ digested. digested ≡ frame_text text.now) }
+    pub fn signed_text(&self, alloc: Global, text: &[u8]) -> Result<Text, NoMemory>
+        ensures { IfOk result (λ digested. digested ≡ signed_text text.now) }
     {
         let bytes = List::from_clones(alloc, before_mac(text))?;
         Ok(self.text(FRAME_TAG, bytes))

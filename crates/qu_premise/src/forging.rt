@@ -4,7 +4,7 @@ ghost use Rattle.qu_base.specs.declared.party.Party.TheVariants as party;
 ghost use Rattle.qu_frames.specs.Signing.{if_signed};
 ghost use Rattle.qu_world.specs.State.{ring_of};
 ghost use Rattle.qu_world.specs.Run.{IsSetup};
-ghost use Rattle.qu_claims.specs.Handled.{is_known, is_handler};
+ghost use Rattle.qu_claims.specs.Handled.{is_of_setup, is_handler};
 ghost use Rattle.qu_premise.specs.Forging.{is_letter, is_sent_at, was_sent, is_unsent, is_unshown, has_unshown, asks_unshown, shows_unshown, is_forged_frame, is_forged_text, is_forged};
 
 use super::shown::ShownSoFar;
@@ -175,7 +175,7 @@ pub fn is_handler(setup: &Setup, me: ReplicaId) -> bool
 
 /// Whether the setup has all objects of the sets.
 pub fn are_known(setup: &Setup, sets: &Sets) -> bool
-    ensures { result ≡ list_all (is_known setup.now) sets.now }
+    ensures { result ≡ list_all (is_of_setup setup.now) sets.now }
 {
     let known = setup.kinds.len();
     sets.objects()

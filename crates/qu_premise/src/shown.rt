@@ -3,7 +3,7 @@ ghost use Rattle.std.specs.Prelude.{◌≡◌, [], ◌++◌, map, IfOk, OnOk};
 ghost use Rattle.std.specs.List.{list_any};
 ghost use Rattle.std.specs.Option.{option_copied};
 ghost use Rattle.qu_claims.specs.Handled.{shown_by};
-ghost use Rattle.qu_premise.specs.Forging.{shown_of, same_history, same_mac, is_like, is_showing, was_shown};
+ghost use Rattle.qu_premise.specs.Forging.{letter_shown, same_history, same_mac, is_like, is_showing, was_shown};
 
 use qu_base::{List, NoMemory, Party, ReadFail, ReplicaId};
 use qu_frames::{Frame, Letter, decode};
@@ -45,10 +45,10 @@ impl ShownSoFar {
 
     /// Adds what the letters of an entry show.
     pub fn add(&mut self, alloc: Global, entry: &Entry) -> Result<(), NoMemory>
-        ensures { OnOk result (self.new ≡ self.old ++ map shown_of entry.now.letters) }
+        ensures { OnOk result (self.new ≡ self.old ++ map letter_shown entry.now.letters) }
     {
         for letter in entry.letters.as_slice() {
-            self.shown.push(shown_of(alloc, letter)?)?;
+            self.shown.push(letter_shown(alloc, letter)?)?;
         }
         Ok(())
     }
@@ -66,8 +66,8 @@ impl ShownSoFar {
 }
 
 /// What a letter shows.
-fn shown_of(alloc: Global, letter: &Letter) -> Result<Shown, NoMemory>
-    ensures { IfOk result (λ shown. shown ≡ shown_of letter.now) }
+fn letter_shown(alloc: Global, letter: &Letter) -> Result<Shown, NoMemory>
+    ensures { IfOk result (λ shown. shown ≡ letter_shown letter.now) }
 {
     Ok(Shown {
         from: letter.from,

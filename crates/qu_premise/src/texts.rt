@@ -6,7 +6,7 @@ ghost use Rattle.qu_frames.specs.Decoding.{decoded};
 ghost use Rattle.qu_frames.specs.Signing.{text_digest};
 ghost use Rattle.qu_world.specs.Run.{IsSetup};
 ghost use Rattle.qu_claims.specs.Carried.{offered_by};
-ghost use Rattle.qu_claims.specs.Digested.{texts_at, sent_texts, texts_of, body_texts, frame_text, history_text};
+ghost use Rattle.qu_claims.specs.Digested.{texts_at, sent_texts, texts_of, body_texts, signed_text, history_text};
 ghost use Rattle.qu_claims.specs.Handled.{entries_in, request_in};
 ghost use Rattle.qu_premise.specs.Digesting.{digest_of_text};
 ghost use Rattle.qu_premise.specs.Texts.{handler_of, request_texts, entry_texts, frame_texts, decoded_texts, reached_texts};
@@ -109,7 +109,7 @@ fn add_frame(
     requires { IsSetup setup.now }
     ensures { OnOk result (texts.new ≡ texts.old ++ decoded_texts setup.now to text.now (Ok frame.now)) }
 {
-    let digested = digests.frame_text(alloc, text)?;
+    let digested = digests.signed_text(alloc, text)?;
     let handler = handler_of(setup, to, text, frame, digested.digest());
     add_request(alloc, digests, setup, frame, handler, texts)?;
     texts.push(digested)?;
@@ -276,7 +276,7 @@ fn sent_frame(
     text: &[u8],
     before: &[Text],
 ) -> Result<Text, NoMemory>
-    ensures { IfOk result (λ digested. digested ≡ frame_text text.now) }
+    ensures { IfOk result (λ digested. digested ≡ signed_text text.now) }
 {
     let bytes = List::from_clones(alloc, before_mac(text))?;
     match digest_of_last(before, FRAME_TAG, bytes.as_slice()) {

@@ -5,12 +5,12 @@ use Rattle.qu_stamp.specs.declared.candidate.Candidate.{Candidate}
 use Rattle.qu_rows.specs.declared.versions.Stored.{Stored}
 use Rattle.qu_replica.specs.declared.planned.Gain.{Gain}
 use Rattle.qu_rows.specs.State.{ReplicaState, AreHistories, own_candidates}
-use Rattle.qu_replica.specs.State.{state_after}
+use Rattle.qu_replica.specs.State.{with_gain}
 
 -- what a replica's state may gain: the history of an object that it has stays its own, and a list holds all versions
 pub record MayGain (state : ReplicaState) (gain : Gain) : Type 0 where
   pub known : ((gain.history).object).0 < length state.histories
-  pub own : AreHistories (state_after state (Some gain))
+  pub own : AreHistories (with_gain state (Some gain))
   pub room : length (state.versions ++ gain.versions) < 2 ^ 63
 
 -- more candidates and more versions are held, and nothing is forgotten

@@ -10,7 +10,7 @@ use Rattle.qu_stamp.specs.Candidate.{opening}
 use Rattle.qu_history.specs.History.{ObjectHistory}
 use Rattle.qu_objects.specs.declared.kind.KindName.{KindName}
 use Rattle.qu_objects.specs.declared.state.ObjState.{ObjState}
-use Rattle.qu_objects.specs.Kind.{fresh_value}
+use Rattle.qu_objects.specs.Kind.{fresh_value, opening_version}
 use Rattle.qu_rows.specs.declared.versions.Stored.{Stored}
 use Rattle.qu_rows.specs.declared.decision.Accepted.{Accepted}
 use Rattle.qu_rows.specs.State.{ReplicaState}
@@ -40,9 +40,9 @@ accept_all state [] = state
 accept_all state (accepted ∷ later) = accept_all (accept state accepted) later
 
 -- the state with what it gains
-abbrev pub state_after : ReplicaState → Option Gain → ReplicaState
-state_after state None = state
-state_after state (Some gain) = record state {
+abbrev pub with_gain : ReplicaState → Option Gain → ReplicaState
+with_gain state None = state
+with_gain state (Some gain) = record state {
   histories = set state.histories ((gain.history).object).0 gain.history;
   versions = state.versions ++ gain.versions;
 }
@@ -54,10 +54,6 @@ opening_histories me number (kind ∷ kinds) =
     record { object = record { 0 = number }; replica = me; candidates = opening ∷ [] } ∷ opening_histories me
     (number + 1) kinds
 
--- the version with which an object of this kind begins
-abbrev pub opening_version : KindName → ObjState
-opening_version kind = record { value = fresh_value kind; kept = []; links = [] }
-
 unfoldable pub opening_versions : ℕ → List KindName → List Stored
 opening_versions number [] = []
 opening_versions number (kind ∷ kinds) =
@@ -68,8 +64,8 @@ opening_versions number (kind ∷ kinds) =
     } ∷ opening_versions (number + 1) kinds
 
 -- a replica that has accepted nothing but the opening candidates
-abbrev pub opening_state : ReplicaId → Ring → List KindName → ReplicaState
-opening_state me keys kinds =
+abbrev pub replica_at_start : ReplicaId → Ring → List KindName → ReplicaState
+replica_at_start me keys kinds =
     record {
       me = me;
       keys = keys;

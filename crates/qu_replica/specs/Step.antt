@@ -49,15 +49,15 @@ carried_out state client number round sets (Answers verdict accepted) =
 carried_out state client number round sets Waits = (state, [])
 
 -- a frame that is no request is ignored
-abbrev pub on_frame : ReplicaState → Frame → ReplicaState × List Letter
-on_frame state (frame.Request client number round sets body mac) =
+abbrev pub replica_on_frame : ReplicaState → Frame → ReplicaState × List Letter
+replica_on_frame state (frame.Request client number round sets body mac) =
     carried_out state client number round sets (decision_on state (asked_at state client number sets body) body)
-on_frame state _ = (state, [])
+replica_on_frame state _ = (state, [])
 
-abbrev pub on_received : ReplicaState → Option Frame → ReplicaState × List Letter
-on_received state None = (state, [])
-on_received state (Some frame) = on_frame state frame
+abbrev pub replica_on_received : ReplicaState → Option Frame → ReplicaState × List Letter
+replica_on_received state None = (state, [])
+replica_on_received state (Some frame) = replica_on_frame state frame
 
 -- a text that is not decoded, or whose HMAC is wrong, is ignored
 abbrev pub replica_step : ReplicaState → List ℕ → ReplicaState × List Letter
-replica_step state text = on_received state (brought state.keys (party.Replica state.me) text)
+replica_step state text = replica_on_received state (brought state.keys (party.Replica state.me) text)

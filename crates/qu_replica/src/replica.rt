@@ -7,7 +7,7 @@ ghost use Rattle.qu_rows.specs.State.{AreHistories};
 ghost use Rattle.qu_rows.specs.Versions.{version_at};
 ghost use Rattle.qu_rows.specs.Rows.{asked_at, unknown_in, unknown_refused, decision_on};
 ghost use Rattle.qu_rows.specs.Allowed.{MayDecide};
-ghost use Rattle.qu_replica.specs.State.{opening_state, state_after};
+ghost use Rattle.qu_replica.specs.State.{replica_at_start, with_gain};
 ghost use Rattle.qu_history.specs.Culling.{culled};
 ghost use Rattle.qu_history.specs.Text.{sets_digest};
 ghost use Rattle.qu_frames.specs.Signing.{before_mac};
@@ -76,7 +76,7 @@ impl Replica {
         kinds: &[KindName],
     ) -> Result<Replica, NoMemory>
         requires { length kinds.now ≤ OBJECT_IDS }
-        ensures value { IfOk result (λ replica. replica ≡ opening_state me keys kinds.now) }
+        ensures value { IfOk result (λ replica. replica ≡ replica_at_start me keys kinds.now) }
         ensures fits { me.0 < REPLICA_IDS → IfOk result StateFits }
     {
         // Tells the proof that the number of faults is in its range.
@@ -151,7 +151,7 @@ impl Replica {
     /// What `step` will make of this text. All that the step takes of memory is taken here.
     #[tactic(auto, using(crate::proofs::Stepped::step_laws))]
     pub fn plan(&self, text: &[u8]) -> Result<Planned, NoMemory>
-        ensures state { IfOk result (λ planned. state_after self.now planned.gain
+        ensures state { IfOk result (λ planned. with_gain self.now planned.gain
             ≡ (replica_step self.now text.now).0) }
         ensures letters { IfOk result (λ planned. planned.letters ≡ (replica_step self.now text.now).1) }
         ensures may { IfOk result (λ planned. IfSome planned.gain (MayGain self.now)) }
@@ -167,7 +167,7 @@ impl Replica {
     #[tactic(auto, using(crate::proofs::Stepped::step_laws))]
     pub fn plan_read(&self, text: &[u8], reading: &Reading) -> Result<Planned, NoMemory>
         requires { before_mac text.now ≡ reading.now.front }
-        ensures state { IfOk result (λ planned. state_after self.now planned.gain
+        ensures state { IfOk result (λ planned. with_gain self.now planned.gain
             ≡ (replica_step self.now text.now).0) }
         ensures letters { IfOk result (λ planned. planned.letters ≡ (replica_step self.now text.now).1) }
         ensures may { IfOk result (λ planned. IfSome planned.gain (MayGain self.now)) }
@@ -183,7 +183,7 @@ impl Replica {
     /// Makes what was planned of the state that the replica has, which takes no memory.
     pub fn carry_out(&mut self, planned: Planned) -> List<Letter>
         requires { IfSome planned.gain (MayGain self.old) }
-        ensures state { self.new ≡ state_after self.old planned.gain }
+        ensures state { self.new ≡ with_gain self.old planned.gain }
         ensures letters { result ≡ planned.letters }
     {
         let Planned { gain, letters } = planned;
@@ -196,7 +196,7 @@ impl Replica {
     /// Puts the history in the place of that of its object, and the versions after the others.
     fn take(&mut self, gain: Gain)
         requires { MayGain self.old gain }
-        ensures { self.new ≡ state_after self.old (Some gain) }
+        ensures { self.new ≡ with_gain self.old (Some gain) }
     {
         let Gain {
             history,

@@ -26,7 +26,7 @@ use Rattle.qu_rows.specs.declared.decision.Accepted.{Accepted}
 use Rattle.qu_rows.specs.declared.decision.Decision.{Decision}
 use Rattle.qu_rows.specs.declared.decision.Decision.TheVariants.{Answers, Waits}
 use Rattle.qu_rows.specs.State.{ReplicaState, own_candidates, own_latest}
-use Rattle.qu_rows.specs.Rows.{asked_of, Asked, refuse, shown_of, base_of, base_version, row_unknown, row_thin, row_retry, row_current, row_method, row_version, row_kept, row_time, row_full, row_done, row_told, decide_act, decide_ask, decision_on, class_told, row_few, decision_by, mending_on, decide_repair}
+use Rattle.qu_rows.specs.Rows.{asked_of, Asked, refuse, shown_of, method_base, base_version, row_unknown, row_thin, row_retry, row_current, row_method, row_version, row_kept, row_time, row_full, row_done, row_told, decide_act, decide_ask, decision_on, class_told, row_few, decision_by, mending_on, decide_repair}
 use Rattle.qu_rows.specs.Table.{first_given}
 use Rattle.qu_rows.specs.Versions.{version_at}
 use Rattle.qu_rows.proofs.Carried.{told_one}
@@ -182,10 +182,10 @@ module _ (state : ReplicaState) (asked : Asked) (object : ObjectId) where
   passed_current none = no_first (λ it. NotCurrent it (own_latest state it)) _ object none
 
   pub passed_method : row_method state asked (object ∷ []) ≡ None → (it : Candidate)
-      × (base_of state asked object ≡ Some it)
+      × (method_base state asked object ≡ Some it)
   unfolding row_method
   passed_method none =
-      some_of (base_of state asked object) (no_first (λ it. NotMethod it (class_told state asked it)) _ object none)
+      some_of (method_base state asked object) (no_first (λ it. NotMethod it (class_told state asked it)) _ object none)
 
   pub passed_version : row_version state asked (object ∷ []) ≡ None → (it : ObjState)
       × (base_version state asked object ≡ Some it)
@@ -193,7 +193,7 @@ module _ (state : ReplicaState) (asked : Asked) (object : ObjectId) where
   passed_version none = some_of (base_version state asked object) (no_wait _ none)
 
   -- the version is that of the base
-  pub version_of_base : (base : Candidate) (version : ObjState) → base_of state asked object ≡ Some base
+  pub version_of_base : (base : Candidate) (version : ObjState) → method_base state asked object ≡ Some base
       → base_version state asked object ≡ Some version → version_at object base.stamp state.versions ≡ Some version
   version_of_base base version is_base is_version =
       let stored : Candidate → Option ObjState = λ it. version_at object it.stamp state.versions in
@@ -216,7 +216,7 @@ told_tells : (state : ReplicaState) (asked : Asked) (object : ObjectId) (ask : A
     → row_version state asked (object ∷ []) ≡ None
     → Gives (QueryTells state asked.sets object ask) (row_told state asked ((object, ask) ∷ []) (object ∷ []))
 told_tells state asked object ask is_current is_method is_version decision given =
-    let found : (it : Candidate) × (base_of state asked object ≡ Some it) =
+    let found : (it : Candidate) × (method_base state asked object ≡ Some it) =
     passed_method state asked object is_method in
     let base : Candidate = found.0 in
     let stored : (it : ObjState) × (base_version state asked object ≡ Some it) =

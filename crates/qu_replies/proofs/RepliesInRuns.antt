@@ -20,7 +20,7 @@ use Rattle.qu_rows.specs.State.{ReplicaState}
 use Rattle.qu_replica.specs.State.{accept_all}
 use Rattle.qu_rows.specs.Allowed.{has_parts}
 use Rattle.qu_rows.specs.Rows.{Asked, asked_of, asked_at, row_unknown, objects_of, decision_on}
-use Rattle.qu_replica.specs.Step.{on_received, carried_out, replica_step}
+use Rattle.qu_replica.specs.Step.{replica_on_received, carried_out, replica_step}
 use Rattle.qu_trace.specs.declared.trace.Trace.{Trace}
 use Rattle.qu_world.specs.Run.{IsRun}
 use Rattle.qu_machine.proofs.Firsts.{contains_at}
@@ -124,7 +124,7 @@ after_decision : (old new : ReplicaState) (text : List ℕ) (client : ClientId) 
     → decision_on old (asked_at old client number sets asks) asks ≡ Answers given accepted
     → new ≡ accept_all old accepted
 after_decision old new text client number round sets asks given accepted step mac brings decided =
-    step ∙ ap (λ it. (on_received old it).0) brings
+    step ∙ ap (λ it. (replica_on_received old it).0) brings
     ∙ ap (λ (it : Decision). (carried_out old client number round sets it).0) decided
 
 module _ (trace : Trace) (is_run : IsRun trace) (have : ArePlain trace) (at : ℕ)

@@ -27,7 +27,7 @@ use Rattle.qu_rows.specs.declared.decision.Decision.TheVariants.{Answers, Waits}
 use Rattle.qu_rows.specs.State.{ReplicaState}
 use Rattle.qu_replica.specs.State.{accept_all}
 use Rattle.qu_rows.specs.Rows.{asked_at, decision_on}
-use Rattle.qu_replica.specs.Step.{answer_frame, reply, carried_out, on_frame, on_received, replica_step}
+use Rattle.qu_replica.specs.Step.{answer_frame, reply, carried_out, replica_on_frame, replica_on_received, replica_step}
 use Rattle.qu_replica.specs.Step as own
 use Rattle.qu_client.specs.declared.state.ClientState.{ClientState}
 use Rattle.qu_client.specs.declared.state.Stepped.{Stepped}
@@ -47,20 +47,20 @@ use Rattle.qu_claims.specs.Times.{world_after}
 use Rattle.qu_replies.specs.Replies.{IsReplyTo}
 use Rattle.qu_runs.specs.Plain.{ArePlain}
 use Rattle.qu_world.proofs.Each.{each_found, set_here}
-use Rattle.qu_runs.proofs.Entries.{entry_recorded}
+use Rattle.qu_runs.proofs.Events.Entries.{entry_recorded}
 use Rattle.qu_shown.proofs.OwnHistories.{IsInPlace, step-in_place}
 use Rattle.qu_shown.proofs.Views.{true_world}
-use Rattle.qu_runs.proofs.WorldGrowth.{world_after-next}
+use Rattle.qu_runs.proofs.Worlds.WorldGrowth.{world_after-next}
 use Rattle.qu_claims.specs.Carried.{Tells, Carries, Brings, handed}
 use Rattle.qu_frames.specs.Formats.{frame_form}
 use Rattle.qu_history.specs.declared.sealed.Sealed.{Sealed}
-use Rattle.qu_runs.proofs.Carrying.{AnswersFit, no_reply, signed_spelled, signed_carries, brings_decoded}
-use Rattle.qu_runs.proofs.Fitting.{fit_step, handed_fits}
+use Rattle.qu_runs.proofs.Fits.Carrying.{AnswersFit, no_reply, signed_spelled, signed_carries, brings_decoded}
+use Rattle.qu_runs.proofs.Fits.Fitting.{fit_step, handed_fits}
 use Rattle.qu_frames.specs.Signing.{brought, signed, signature}
 use Rattle.qu_seal.specs.Keys.{Ring}
-use Rattle.qu_replica.proofs.FitSteps.{blank_sized}
-use Rattle.qu_runs.proofs.Handing.{letter_handed, offered_handed}
-use Rattle.qu_runs.proofs.FitParts.{fits_parts}
+use Rattle.qu_replica.proofs.Fits.FitSteps.{blank_sized}
+use Rattle.qu_runs.proofs.Events.Handing.{letter_handed, offered_handed}
+use Rattle.qu_runs.proofs.Fits.FitParts.{fits_parts}
 use Rattle.qu_rows.specs.Allowed.{has_parts}
 use Rattle.qu_trace.specs.Faulty.{is_faulty}
 use Rattle.qu_shown.proofs.AskedLetters.{AskedBy, asked_letter}
@@ -206,7 +206,7 @@ record IsDecidedOn (state : ReplicaState) (taken : Frame) (replica : ReplicaId) 
   is_request : taken ≡ frame.Request client number round sets body mac
   accepted : List Accepted
   decided : decision_on state (asked_at state client number sets body) body ≡ Answers verdict accepted
-  from : replica ≡ ((on_frame state taken).0).me
+  from : replica ≡ ((replica_on_frame state taken).0).me
 
 module _ (replica : ReplicaId) (client : ClientId) (number round : ℕ) (verdict : Verdict)
     (culled : List (ObjectId × ReplicaId)) (shown : List Sealed) (seal : List ℕ) where
@@ -222,7 +222,7 @@ module _ (replica : ReplicaId) (client : ClientId) (number round : ℕ) (verdict
       (mac : List ℕ) (accepted : List Accepted) (given : Verdict)
       → decision_on state (asked_at state other asked sets body) body ≡ Answers given accepted
       → (accept_all state accepted).me ≡ replica → other ≡ client → asked ≡ number → turn ≡ round → given ≡ verdict
-      → ((on_frame state (frame.Request other asked turn sets body mac)).0).me ≡ replica
+      → ((replica_on_frame state (frame.Request other asked turn sets body mac)).0).me ≡ replica
       → IsDecidedOn state (frame.Request other asked turn sets body mac) replica client number round verdict
   decided_by state other asked turn sets body mac accepted given is from is_client is_number is_round is_verdict
       me = record {
@@ -267,7 +267,7 @@ module _ (replica : ReplicaId) (client : ClientId) (number round : ℕ) (verdict
       (ap (λ (it : Decision). ((carried_out state other asked turn sets it).0).me) is ∙ same.0)
 
   reply_decided : (state : ReplicaState) (taken : Frame) → AnswersFit state taken → (place : ℕ) (sent : Letter)
-      → slice_get (on_frame state taken).1 place ≡ Some sent
+      → slice_get (replica_on_frame state taken).1 place ≡ Some sent
       → Carries sent (frame.Reply replica client number round verdict culled shown seal)
       → IsDecidedOn state taken replica client number round verdict
   reply_decided state (frame.Request other asked turn sets body mac) fits place sent found is_reply =
@@ -294,12 +294,12 @@ decided_upon : (state : ReplicaState) (text : List ℕ) (replica : ReplicaId) (c
     → Tells sent replica client number round verdict shown → IsDecidedUpon state text replica client number
     round verdict
 decided_upon state text replica client number round verdict shown None read fits place sent found tells =
-    absurd (none-some sent (ap (λ it. slice_get (on_received state it).1 place) (sym read) ∙ found))
+    absurd (none-some sent (ap (λ it. slice_get (replica_on_received state it).1 place) (sym read) ∙ found))
 decided_upon state text replica client number round verdict shown (Some taken) read fits place sent found tells =
     let made : IsDecidedOn state taken replica client number round verdict =
     reply_decided replica client number round verdict tells.culled shown tells.mac state taken
     (fits taken (brings_decoded state text taken read)) place sent
-    (ap (λ it. slice_get (on_received state it).1 place) (sym read) ∙ found) tells.carries in
+    (ap (λ it. slice_get (replica_on_received state it).1 place) (sym read) ∙ found) tells.carries in
     record {
       sets = made.sets;
       body = made.body;
@@ -307,7 +307,7 @@ decided_upon state text replica client number round verdict shown (Some taken) r
       brings = read ∙ ap (λ (it : Frame). Some it) made.is_request;
       accepted = made.accepted;
       decided = made.decided;
-      from = made.from ∙ ap (λ it. ((on_received state it).0).me) (sym read);
+      from = made.from ∙ ap (λ it. ((replica_on_received state it).0).me) (sym read);
     }
 
 -- ---- the replies of a run

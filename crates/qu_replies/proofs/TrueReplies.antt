@@ -35,7 +35,7 @@ use Rattle.qu_rows.specs.declared.decision.Decision.{Decision}
 use Rattle.qu_rows.specs.declared.decision.Decision.TheVariants.{Answers, Waits}
 use Rattle.qu_rows.specs.State.{ReplicaState, own_candidates}
 use Rattle.qu_replica.specs.State.{accept_all}
-use Rattle.qu_rows.specs.Rows.{asked_of, Asked, base_of, base_version, fresh_stamp, fresh_on, fresh_stamps, fresh_versions, is_held, standing_in, done_again, repeated, row_unknown, row_retry, row_current, row_method, row_version, row_kept, row_done, decide_act, decision_on}
+use Rattle.qu_rows.specs.Rows.{asked_of, Asked, method_base, base_version, fresh_stamp, fresh_act, fresh_stamps, fresh_versions, is_held, standing_in, done_again, repeated, row_unknown, row_retry, row_current, row_method, row_version, row_kept, row_done, decide_act, decision_on}
 use Rattle.qu_rows.specs.Table.{first_given}
 use Rattle.qu_rows.specs.Versions.{is_stored, version_at}
 use Rattle.qu_rows.proofs.Carried.{versions_one, done_one}
@@ -107,16 +107,16 @@ module _ (state : ReplicaState) (asked : Asked) (object : ObjectId) (method : Me
   abbrev kept_by : Option ObjState → Option Decision
   kept_by stored = done_again stamps_of (standing_in asked one_part (cons_option stored []))
 
-  not_held : base_of state asked object ≡ None → is_held state asked object ≡ false
+  not_held : method_base state asked object ≡ None → is_held state asked object ≡ false
   unfolding is_held
   not_held is = rw (is_held, is) refl
 
-  held_where : (base : Candidate) → base_of state asked object ≡ Some base → is_held state asked object ≡ holds
+  held_where : (base : Candidate) → method_base state asked object ≡ Some base → is_held state asked object ≡ holds
       (fresh_of asked object base) (own_candidates state object)
   unfolding is_held
   held_where base is = rw (is_held, is) refl
 
-  stamps_where : (base : Candidate) → base_of state asked object ≡ Some base
+  stamps_where : (base : Candidate) → method_base state asked object ≡ Some base
       → fresh_stamps state asked (object ∷ []) ≡ stamps_of
   stamps_where base is = rw is refl
 
@@ -130,10 +130,10 @@ module _ (state : ReplicaState) (asked : Asked) (object : ObjectId) (method : Me
       (done_again (fresh_stamps state asked (object ∷ []))
       (standing_in asked one_part (fresh_versions state asked (object ∷ [])))) None) is
 
-  retry_none : base_of state asked object ≡ None → row_retry state asked one_part (object ∷ []) ≡ None
+  retry_none : method_base state asked object ≡ None → row_retry state asked one_part (object ∷ []) ≡ None
   retry_none is = retry_by false (not_held is)
 
-  retry_some : (base : Candidate) → base_of state asked object ≡ Some base
+  retry_some : (base : Candidate) → method_base state asked object ≡ Some base
       → row_retry state asked one_part (object ∷ []) ≡ cond
       (holds (fresh_of asked object base) (own_candidates state object) && true)
       (kept_by (version_at object (fresh_stamp asked object) state.versions)) None
@@ -191,14 +191,14 @@ module _ (state : ReplicaState) (asked : Asked) (object : ObjectId) (method : Me
         again_tells base version is_held is_stored (standing_in asked one_part (version ∷ [])) refl decision given
 
     -- a retry is told what is stored with the candidate that is held
-    retry_tells : (found : Option Candidate) → base_of state asked object ≡ found
+    retry_tells : (found : Option Candidate) → method_base state asked object ≡ found
         → Gives (ActTells state asked act object) (row_retry state asked one_part (object ∷ []))
     retry_tells None is decision given = absurd (none-some decision (sym (retry_none is) ∙ given))
     retry_tells (Some base) is decision given =
         kept_tells base _ _ refl refl decision (sym (retry_some base is) ∙ given)
 
     -- an act that was performed before is told what the version of its base keeps
-    repeated_tells : (base : Candidate) (version : ObjState) → base_of state asked object ≡ Some base
+    repeated_tells : (base : Candidate) (version : ObjState) → method_base state asked object ≡ Some base
         → version_at object base.stamp state.versions ≡ Some version
         → (standing : Standing) → standing_in asked one_part (version ∷ []) ≡ standing
         → Gives (ActTells state asked act object) (repeated standing)
@@ -219,7 +219,7 @@ module _ (state : ReplicaState) (asked : Asked) (object : ObjectId) (method : Me
         → Gives (ActTells state asked act object) (row_kept state asked one_part (object ∷ []))
     unfolding row_kept
     already_tells is_method is_version decision given =
-        let found : (it : Candidate) × (base_of state asked object ≡ Some it) =
+        let found : (it : Candidate) × (method_base state asked object ≡ Some it) =
         passed_method state asked object is_method in
         let stored : (it : ObjState) × (base_version state asked object ≡ Some it) =
         passed_version state asked object is_version in
@@ -265,7 +265,7 @@ done_tells : (state : ReplicaState) (asked : Asked) (object : ObjectId) (method 
 done_tells state asked object method is_act are is_known is_current is_method is_version decision given =
     let parts : List (ObjectId × Method) = (object, method) ∷ [] in
     let act : Digest = act_digest asked.client asked.number parts in
-    let found : (it : Candidate) × (base_of state asked object ≡ Some it) =
+    let found : (it : Candidate) × (method_base state asked object ≡ Some it) =
     passed_method state asked object is_method in
     let base : Candidate = found.0 in
     let before : (it : ObjState) × (base_version state asked object ≡ Some it) =
@@ -276,7 +276,7 @@ done_tells state asked object method is_act are is_known is_current is_method is
     let row : KeptRow = row_by asked.client asked.number parts ((before.0).value ∷ []) in
     let after : ObjState = state_after row value.0 [] before.0 in
     let fresh : Candidate = fresh_of asked object base in
-    let is_fresh : fresh_on state asked object ≡ Some fresh = ap (option_map (fresh_of asked object)) found.1 in
+    let is_fresh : fresh_act state asked object ≡ Some fresh = ap (option_map (fresh_of asked object)) found.1 in
     let grounds : IsGround state asked object fresh base =
     record { method = found.1; prior = refl; stamp = refl; current = passed_current state asked object is_current } in
     let known : object.0 < length state.histories =
@@ -298,7 +298,7 @@ act_tells state asked object method is_act are =
     let act : Digest = act_digest asked.client asked.number ((object, method) ∷ []) in
     act_cases (ActTells state asked act object) (λ why. tt) tt state asked ((object, method) ∷ [])
     (object ∷ [])
-    (retry_tells state asked object method act is_act (base_of state asked object) refl)
+    (retry_tells state asked object method act is_act (method_base state asked object) refl)
     (already_tells state asked object method act is_act)
     (done_tells state asked object method is_act are)
 

@@ -22,11 +22,11 @@ use Rattle.qu_replica.specs.State.{accept_all}
 use Rattle.qu_rows.specs.Rows.{asked_at, decision_on}
 use Rattle.qu_replica.specs.Step.{shown, named, reply, carried_out, replica_step, answer_frame}
 use Rattle.qu_replica.specs.Step as replica
-use Rattle.qu_replica.proofs.FitSteps.{blank_sized}
+use Rattle.qu_replica.proofs.Fits.FitSteps.{blank_sized}
 use Rattle.qu_client.specs.declared.work.Work.{Work}
 use Rattle.qu_client.specs.Rounds.{request_of, requests_from}
 use Rattle.qu_claims.specs.Carried.{Carries, Asks}
-use Rattle.qu_runs.proofs.Carrying.{no_request, signed_spelled, signed_carries}
+use Rattle.qu_runs.proofs.Fits.Carrying.{no_request, signed_spelled, signed_carries}
 
 -- ---- replicas
 
@@ -49,12 +49,13 @@ answered state client number round sets (Answers verdict accepted) =
     (signed_spelled new.keys to answer blank_sized))
     (All-nil AsksNothing)
 
-frame_asks : (state : ReplicaState) (sent : Frame) → All AsksNothing (replica.on_frame state sent).1
+frame_asks : (state : ReplicaState) (sent : Frame) → All AsksNothing (replica.replica_on_frame state sent).1
 frame_asks state (frame.Request client number round sets asked mac) =
     answered state client number round sets (decision_on state (asked_at state client number sets asked) asked)
 frame_asks state _ = All-nil AsksNothing
 
-brought_asks : (state : ReplicaState) (found : Option Frame) → All AsksNothing (replica.on_received state found).1
+brought_asks : (state : ReplicaState) (found : Option Frame)
+    → All AsksNothing (replica.replica_on_received state found).1
 brought_asks state (Some sent) = frame_asks state sent
 brought_asks state None = All-nil AsksNothing
 

@@ -1,6 +1,6 @@
 -- A completed operation was answered by a quorum.
 use Rattle.qu_claims.specs.Carried.{offered}
-use Rattle.qu_runs.proofs.Handing.{handed_offers}
+use Rattle.qu_runs.proofs.Events.Handing.{handed_offers}
 use Rattle.std.proofs.Common.{◌≡◌, ◌≢◌, ℕ, suc, ◌+◌, ◌-◌, ◌<◌, ◌≤◌, Bool, true, eqb, List, [], ◌∷◌, length, map, filter, get_or, None, Some, refl, sym, ap, subst, ◌∙◌, arith, slice_get, All, AllPairs, Contains, Ok, Option, not, cond, inl, inr, false, ◌==◌}
 use Rattle.std.proofs.lemmas.Bool.{and_parts, eqb-true, cond_both, or_cases, false≢true}
 use Rattle.std.proofs.lemmas.List.{length-map, get_or-map}
@@ -22,7 +22,7 @@ use Rattle.qu_frames.specs.Verdict.{same_verdict}
 use Rattle.qu_client.specs.declared.state.ClientState.{ClientState}
 use Rattle.qu_client.specs.declared.work.Counted.{Counted}
 use Rattle.qu_client.specs.declared.work.Work.{Work}
-use Rattle.qu_client.specs.Steps.{fitting, identical, is_asking, counts, client_invoke, client_step, client_tick, with_verdict}
+use Rattle.qu_client.specs.Steps.{fitting, identical_verdicts, is_asking, counts, client_invoke, client_step, client_tick, with_verdict}
 use Rattle.qu_client.proofs.Cases.{invoke_cases}
 use Rattle.qu_machine.specs.declared.record.OpRecord.{OpRecord}
 use Rattle.qu_trace.specs.declared.event.Event.{Event}
@@ -35,7 +35,7 @@ use Rattle.qu_world.specs.Run.{IsRun}
 use Rattle.qu_claims.specs.Times.{world_after}
 use Rattle.qu_claims.specs.Answers.{round_in, round_of, delivered_round}
 use Rattle.qu_claims.specs.Completions.{Replied, IsCompleted}
-use Rattle.qu_runs.proofs.Recording.{entry_cases, letter_stays}
+use Rattle.qu_runs.proofs.Events.Recording.{entry_cases, letter_stays}
 use Rattle.qu_rounds.proofs.Counted.{WasAnswered, AreDifferent, Counts, counts_world, work_answered, with_answered, different_more, WasTold, answers_from}
 use Rattle.qu_rounds.proofs.Endings.{TextCompletes, EndsAt, operation_ends, EndedBy, ended_so, ReplyCompletes, completes}
 use Rattle.qu_claims.specs.Carried.{handed}
@@ -49,12 +49,12 @@ use Rattle.qu_base.specs.declared.party.Party.{Party}
 use Rattle.std.specs.Prelude.{option_map}
 use Rattle.qu_frames.specs.Decoding.{decoded}
 use Rattle.qu_trace.specs.Letters.{letters_of}
-use Rattle.qu_runs.proofs.Handing.{hand}
+use Rattle.qu_runs.proofs.Events.Handing.{hand}
 use Rattle.qu_trace.specs.Faulty.{is_good}
 use Rattle.qu_rounds.proofs.Members.{is_among, members_count}
 use Rattle.qu_claims.specs.Count.{count}
 use Rattle.qu_chain.proofs.Counting.{count-more}
-use Rattle.qu_runs.proofs.FewFaults.{few_faulty}
+use Rattle.qu_runs.proofs.Worlds.FewFaults.{few_faulty}
 
 -- ---- what the theorem is given of the records of operations
 
@@ -92,9 +92,9 @@ name_of counted = (counted.replica).0
 abbrev agreeing : Verdict → List Counted → List ℕ
 agreeing verdict replies = map name_of (filter (agrees verdict) replies)
 
-agreeing_number : (verdict : Verdict) (replies : List Counted) → length (agreeing verdict replies) ≡ identical
+agreeing_number : (verdict : Verdict) (replies : List Counted) → length (agreeing verdict replies) ≡ identical_verdicts
     verdict replies
-unfolding identical
+unfolding identical_verdicts
 agreeing_number verdict replies = length-map (filter (agrees verdict) replies) name_of
     ∙ length-filter (agrees verdict) replies
 
@@ -314,8 +314,9 @@ by_text trace is have recorded one operation among index answer text client stat
       members = filter good agree;
       different = AllPairs-filter (λ (a b : ℕ). a ≢ b) good agree apart;
       enough =
-          let enough : quorum state.keys.bounds ≤ identical done.verdict replies = done.enough in
-          let number_is : length agree ≡ identical done.verdict replies = agreeing_number done.verdict replies in
+          let enough : quorum state.keys.bounds ≤ identical_verdicts done.verdict replies = done.enough in
+          let number_is : length agree ≡ identical_verdicts done.verdict replies = agreeing_number done.verdict
+          replies in
           let many : quorum trace.setup.bounds ≤ length agree =
           subst (λ (bounds : ℕ). quorum bounds ≤ length agree) holds.bounds (omega arith) in
           let correct : length agree ≤ length (filter good agree)

@@ -17,8 +17,8 @@ use Rattle.qu_client.specs.declared.state.ClientState.{ClientState}
 use Rattle.qu_client.specs.declared.state.Stepped.{Stepped}
 use Rattle.qu_client.specs.declared.work.Counted.{Counted}
 use Rattle.qu_client.specs.declared.work.Work.{Work}
-use Rattle.qu_client.specs.State.{opening_state, keep_all}
-use Rattle.qu_client.specs.Steps.{is_asking, counts, on_frame, on_received, client_step, client_invoke, client_tick, with_verdict}
+use Rattle.qu_client.specs.State.{client_at_start, keep_all}
+use Rattle.qu_client.specs.Steps.{is_asking, counts, client_on_frame, client_on_received, client_step, client_invoke, client_tick, with_verdict}
 use Rattle.qu_client.specs.Sound.{IsSound}
 use Rattle.qu_client.proofs.Cases.{counted_cases, invoke_cases}
 use Rattle.qu_client.proofs.Laws.{client_step-me, client_step-bounds, client_invoke-me, client_invoke-bounds, IsSound-opening, IsSound-step, IsSound-invoke, other_replica}
@@ -29,10 +29,10 @@ use Rattle.qu_world.specs.State.{WorldState, opening_world, numbered, with_numbe
 use Rattle.qu_world.specs.Step.{world_step}
 use Rattle.qu_world.specs.Run.{IsRun}
 use Rattle.qu_claims.specs.Times.{world_after}
-use Rattle.qu_runs.proofs.WorldGrowth.{world_after-none, world_after-next}
-use Rattle.qu_runs.proofs.Recording.{world_cases}
+use Rattle.qu_runs.proofs.Worlds.WorldGrowth.{world_after-none, world_after-next}
+use Rattle.qu_runs.proofs.Events.Recording.{world_cases}
 use Rattle.qu_rounds.proofs.Replies.{RepliesWithin, replies_within, SentBefore, sent_before}
-use Rattle.qu_runs.proofs.Keyed.{opening_client}
+use Rattle.qu_runs.proofs.Worlds.Keyed.{opening_client}
 use Rattle.qu_runs.proofs.Small.{some_entry}
 use Rattle.qu_world.proofs.Each.{with_cases}
 use Rattle.qu_claims.specs.Carried.{Tells}
@@ -50,7 +50,7 @@ use Rattle.qu_base.specs.declared.bad_text.BadText.{BadText}
 use Rattle.qu_base.specs.declared.party.Party.{Party}
 use Rattle.std.specs.Prelude.{nat_lt}
 use Rattle.qu_trace.specs.declared.trace.Setup.{Setup}
-use Rattle.qu_runs.proofs.Plain.{setup_after}
+use Rattle.qu_runs.proofs.Digests.Plain.{setup_after}
 
 -- the verdict was sent by its replica to this round, before the event of the entry with this index
 pub record WasTold (trace : Trace) (before : ℕ) (client : ClientId) (number round : ℕ)
@@ -238,7 +238,7 @@ with_answered trace before client work replica number round verdict culled answe
 -- what a text makes of them
 answered_frame : (trace : Trace) (before : ℕ) (text : List ℕ) (state : ClientState) → AreAnswers trace before text
     → WorkAnswered trace before state.me state.work → (received : Frame) → decoded text ≡ Ok received
-    → WorkAnswered trace (before + 1) state.me (on_frame state received).state.work
+    → WorkAnswered trace (before + 1) state.me (client_on_frame state received).state.work
 answered_frame trace before text state answers are
     (frame.Reply replica client number round verdict culled shown mac) is_frame =
     let P : Stepped → Type 0 = λ stepped. WorkAnswered trace (before + 1) state.me stepped.state.work in
@@ -269,7 +269,7 @@ answered_frame trace before text state answers are _ is_frame = work_more trace 
 answered_brought : (trace : Trace) (before : ℕ) (text : List ℕ) (state : ClientState) → AreAnswers trace before text
     → WorkAnswered trace before state.me state.work
     → (found : Option Frame) → brought state.keys (party.Client state.me) text ≡ found
-    → WorkAnswered trace (before + 1) state.me (on_received state found).state.work
+    → WorkAnswered trace (before + 1) state.me (client_on_received state found).state.work
 answered_brought trace before text state answers are (Some taken) brings =
     answered_frame trace before text state answers are taken
     (brought_is_decoded state.keys (party.Client state.me) text taken brings)
@@ -370,10 +370,10 @@ counts_step trace is have before within each event plain =
 counts_opening : (trace : Trace) → Each (Counts trace 0) (opening_world trace.setup).clients
 counts_opening trace zero state found = absurd (none-some state found)
 counts_opening trace (suc place) state found =
-    let opens : state ≡ opening_state (record { 0 = 1 + place }) (ring_of trace.setup) =
+    let opens : state ≡ client_at_start (record { 0 = 1 + place }) (ring_of trace.setup) =
     opening_client 1 trace.setup.clients (ring_of trace.setup) place state found in
     let holds : Counts trace 0 (suc place)
-    (opening_state (record { 0 = 1 + place }) (ring_of trace.setup)) =
+    (client_at_start (record { 0 = 1 + place }) (ring_of trace.setup)) =
     record {
       me = omega arith;
       bounds = refl;

@@ -16,7 +16,7 @@ use Rattle.qu_client.specs.declared.state.ClientState.{ClientState}
 use Rattle.qu_client.specs.declared.state.Stepped.{Stepped}
 use Rattle.qu_client.specs.declared.work.Work.{Work}
 use Rattle.qu_client.specs.State.{keep_all}
-use Rattle.qu_client.specs.Steps.{fitting, identical, counts, on_frame, on_received, client_step, with_verdict}
+use Rattle.qu_client.specs.Steps.{fitting, identical_verdicts, counts, client_on_frame, client_on_received, client_step, with_verdict}
 use Rattle.qu_client.proofs.Cases.{counted_cases}
 use Rattle.qu_machine.specs.declared.record.OpRecord.{OpRecord}
 use Rattle.qu_trace.specs.declared.event.Event.{Event}
@@ -161,7 +161,7 @@ pub record ReplyCompletes (state : ClientState) (received : Frame) (answer : Ans
   pub under_way : state.work ≡ Some work
   pub counting : counts work replica number round ≡ true
   pub fits : fitting work.op verdict ≡ Some answer
-  pub enough : quorum state.keys.bounds ≤ identical verdict (with_verdict work replica verdict culled).replies
+  pub enough : quorum state.keys.bounds ≤ identical_verdicts verdict (with_verdict work replica verdict culled).replies
 
 same_answer : (first second : Answer) → Some (outcome.Done first) ≡ Some (outcome.Done second) → first ≡ second
 same_answer first second same = cc
@@ -170,7 +170,7 @@ gave_up : (answer : Answer) → Some outcome.GaveUp ≡ Some (outcome.Done answe
 gave_up answer same = cc
 
 pub frame_completes : (state : ClientState) (received : Frame) (answer : Answer)
-    → (on_frame state received).ended ≡ Some (outcome.Done answer) → ReplyCompletes state received answer
+    → (client_on_frame state received).ended ≡ Some (outcome.Done answer) → ReplyCompletes state received answer
 frame_completes state (frame.Reply replica client number round verdict culled shown mac) answer ends =
     let P : Stepped → Type 0 = λ stepped. stepped.ended ≡ Some (outcome.Done answer)
     → ReplyCompletes state (frame.Reply replica client number round verdict culled shown mac) answer in
@@ -210,7 +210,7 @@ pub record TextCompletes (state : ClientState) (found : Option Frame) (answer : 
   pub completes : ReplyCompletes state carried answer
 
 brought_completes : (state : ClientState) (found : Option Frame) (answer : Answer)
-    → (on_received state found).ended ≡ Some (outcome.Done answer) → TextCompletes state found answer
+    → (client_on_received state found).ended ≡ Some (outcome.Done answer) → TextCompletes state found answer
 brought_completes state (Some taken) answer ends =
     record { carried = taken; is_frame = refl; completes = frame_completes state taken answer ends }
 brought_completes state None answer ends = absurd (none-some (outcome.Done answer) ends)

@@ -23,7 +23,7 @@ use Rattle.qu_replica.specs.Step.{replica_step}
 use Rattle.qu_client.specs.declared.state.ClientState.{ClientState}
 use Rattle.qu_client.specs.declared.state.Stepped.{Stepped}
 use Rattle.qu_client.specs.declared.work.Work.{Work}
-use Rattle.qu_client.specs.State.{opening_state}
+use Rattle.qu_client.specs.State.{client_at_start}
 use Rattle.qu_client.specs.Steps.{client_step, client_invoke, client_tick}
 use Rattle.qu_client.specs.Sound.{last_number}
 use Rattle.qu_trace.specs.declared.event.Event.{Event}
@@ -37,22 +37,22 @@ use Rattle.qu_trace.specs.Operation.{invokes, begun_by, record_of}
 use Rattle.qu_world.specs.State.{WorldState, opening_world, opening_clients, numbered, with_numbered, letter_of, ring_of}
 use Rattle.qu_world.specs.Step.{world_step, at_client, at_replica, received, delivered, ended_by}
 use Rattle.qu_world.specs.Run.{bar_of, IsRun}
-use Rattle.qu_runs.proofs.Plain.{setup_after}
+use Rattle.qu_runs.proofs.Digests.Plain.{setup_after}
 use Rattle.qu_claims.specs.Times.{world_after}
 use Rattle.qu_rounds.specs.Invocations.{IsRequestOf}
-use Rattle.qu_runs.proofs.WorldGrowth.{world_after-next, world_after-none}
-use Rattle.qu_runs.proofs.Beginning.{operation_begun, begun_one, begun_same, happens, IsFree, may_invoke}
+use Rattle.qu_runs.proofs.Worlds.WorldGrowth.{world_after-next, world_after-none}
+use Rattle.qu_runs.proofs.Events.Beginning.{operation_begun, begun_one, begun_same, happens, IsFree, may_invoke}
 use Rattle.qu_rounds.proofs.Requesting.{IsAsked, asked_later, replica_asked, IsUnderWay, IsAtWork, IsClientAt, client_later, client_steps, client_step-asked, client_begins, client_begins-asked}
 use Rattle.qu_runs.proofs.Small.{some_entry}
 use Rattle.qu_world.proofs.Each.{with_cases}
 use Rattle.qu_claims.specs.Carried.{Asks}
 use Rattle.qu_runs.specs.Plain.{IsPlain, ArePlain}
-use Rattle.qu_runs.proofs.Carrying.{AsksFit, IsFitStep, numbered_here}
-use Rattle.qu_runs.proofs.Fitting.{fit_step}
+use Rattle.qu_runs.proofs.Fits.Carrying.{AsksFit, IsFitStep, numbered_here}
+use Rattle.qu_runs.proofs.Fits.Fitting.{fit_step}
 use Rattle.qu_world.proofs.LetterLaws.{letters-push}
 use Rattle.qu_machine.proofs.Equalities.{client_is}
 use Rattle.qu_seal.specs.Keys.{Ring}
-use Rattle.qu_runs.proofs.Handing.{injected_cases}
+use Rattle.qu_runs.proofs.Events.Handing.{injected_cases}
 
 letters_next : (trace : Trace) (count : ℕ) (entries : List Entry) (entry : Entry) → All (IsAsked trace count)
     (letters_of entries) → All (IsAsked trace (count + 1)) entry.letters → All (IsAsked trace (count + 1))
@@ -234,7 +234,8 @@ module _ (trace : Trace) (count : ℕ) (world : WorldState) (shown : IsShown tra
   -- the next event of the trace
   module _ (default : Entry) (below : count < length trace.entries) where
     quiet_by : (event : Event) → (get_or trace.entries count default).event ≡ event → (number : ℕ)
-        → invokes (record { 0 = number }) event ≡ false → begun_at trace (count + 1) number ≡ begun_at trace count number
+        → invokes (record { 0 = number }) event ≡ false → begun_at trace (count + 1) number
+        ≡ begun_at trace count number
     quiet_by event is number other =
         still_begun trace count number
         (begun_same trace.entries count default (record { 0 = number }) below
@@ -320,7 +321,7 @@ opening_from : (trace : Trace) (first many : ℕ) (keys : Ring) (index number : 
 unfolding opening_clients
 opening_from trace first zero keys index number state at found = absurd cc
 opening_from trace first (suc many) keys zero number state at found =
-    subst (IsClientAt trace 0 0 number) (same_Some (opening_state (record { 0 = first }) keys) state found)
+    subst (IsClientAt trace 0 0 number) (same_Some (client_at_start (record { 0 = first }) keys) state found)
     (record { named = omega arith; sound = tt; at_work = refl })
 opening_from trace first (suc many) keys (suc index) number state at found =
     opening_from trace (first + 1) many keys index number state (omega arith) found

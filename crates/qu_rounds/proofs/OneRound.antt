@@ -27,11 +27,11 @@ use Rattle.qu_world.proofs.LetterLaws.{letters-push}
 use Rattle.qu_claims.specs.Carried.{Asks}
 use Rattle.qu_runs.specs.Plain.{IsPlain, ArePlain}
 use Rattle.qu_claims.specs.Times.{world_after}
-use Rattle.qu_runs.proofs.Carrying.{AsksFit, numbered_here}
-use Rattle.qu_runs.proofs.Fitting.{fit_step}
-use Rattle.qu_runs.proofs.Recording.{world_cases}
+use Rattle.qu_runs.proofs.Fits.Carrying.{AsksFit, numbered_here}
+use Rattle.qu_runs.proofs.Fits.Fitting.{fit_step}
+use Rattle.qu_runs.proofs.Events.Recording.{world_cases}
 use Rattle.qu_runs.proofs.Small.{some_entry}
-use Rattle.qu_runs.proofs.WorldGrowth.{world_after-none, world_after-next}
+use Rattle.qu_runs.proofs.Worlds.WorldGrowth.{world_after-none, world_after-next}
 use Rattle.qu_rounds.proofs.Asking.{AsksNothing, replica_asks}
 use Rattle.qu_rounds.proofs.Counted.{Each, Counts, counts_world}
 use Rattle.qu_rounds.proofs.RoundSent.{OrNew, AreOneRound, AreUpTo, IsRoundStep, IsRoundIf, before_more, one_round_more, quiet, client_step-round, client_invoke-round}

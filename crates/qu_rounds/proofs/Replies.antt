@@ -23,8 +23,8 @@ use Rattle.qu_rows.specs.State.{ReplicaState}
 use Rattle.qu_replica.specs.State.{accept_all}
 use Rattle.qu_replica.specs.Growth.{Grows}
 use Rattle.qu_rows.specs.Rows.{asked_at, decision_on}
-use Rattle.qu_replica.specs.Step.{answer_frame, reply, carried_out, on_frame, on_received}
-use Rattle.qu_replica.proofs.Growth.{accept_all-me}
+use Rattle.qu_replica.specs.Step.{answer_frame, reply, carried_out, replica_on_frame, replica_on_received}
+use Rattle.qu_replica.proofs.States.Growth.{accept_all-me}
 use Rattle.qu_client.specs.declared.state.ClientState.{ClientState}
 use Rattle.qu_client.specs.declared.work.Work.{Work}
 use Rattle.qu_client.specs.Rounds.{request_of, requests_from}
@@ -38,17 +38,17 @@ use Rattle.qu_world.specs.Growth.{GrowsTo}
 use Rattle.qu_world.specs.Run.{IsRun}
 use Rattle.qu_world.proofs.LetterLaws.{slice_get-append_left, slice_get-append_right}
 use Rattle.qu_claims.specs.Times.{world_after}
-use Rattle.qu_runs.proofs.WorldGrowth.{world_after-none, world_after-grows}
-use Rattle.qu_runs.proofs.Recording.{entries_after, entry_cases}
+use Rattle.qu_runs.proofs.Worlds.WorldGrowth.{world_after-none, world_after-grows}
+use Rattle.qu_runs.proofs.Events.Recording.{entries_after, entry_cases}
 use Rattle.qu_claims.specs.Carried.{Tells}
 use Rattle.qu_frames.specs.Formats.{frame_form}
 use Rattle.qu_runs.specs.Plain.{ArePlain}
 use Rattle.qu_history.specs.declared.sealed.Sealed.{Sealed}
-use Rattle.qu_runs.proofs.Carrying.{AnswersFit, no_reply, signed_spelled, signed_carries, brings_decoded}
-use Rattle.qu_runs.proofs.Fitting.{fit_step, from_fits}
+use Rattle.qu_runs.proofs.Fits.Carrying.{AnswersFit, no_reply, signed_spelled, signed_carries, brings_decoded}
+use Rattle.qu_runs.proofs.Fits.Fitting.{fit_step, from_fits}
 use Rattle.qu_frames.specs.Signing.{brought, signed, signature, with_mac}
 use Rattle.qu_seal.specs.Keys.{Ring}
-use Rattle.qu_replica.proofs.FitSteps.{blank_sized}
+use Rattle.qu_replica.proofs.Fits.FitSteps.{blank_sized}
 use Rattle.qu_base.specs.declared.party.Party.{Party}
 
 -- ---- the names of replicas
@@ -113,7 +113,7 @@ by_replica bound state client number round sets (Answers verdict accepted) fits 
 by_replica bound state client number round sets Waits fits below = All-nil (RepliesWithin bound)
 
 frame_replies : (bound : ℕ) (state : ReplicaState) (received : Frame) → AnswersFit state received
-    → (state.me).0 < bound → All (RepliesWithin bound) (on_frame state received).1
+    → (state.me).0 < bound → All (RepliesWithin bound) (replica_on_frame state received).1
 frame_replies bound state (frame.Request client number round sets body mac) fits below =
     by_replica bound state client number round sets (decision_on state (asked_at state client number sets body) body)
     fits below
@@ -121,7 +121,7 @@ frame_replies bound state _ fits below = All-nil (RepliesWithin bound)
 
 brought_replies : (bound : ℕ) (state : ReplicaState) (found : Option Frame)
     → ((sent : Frame) → found ≡ Some sent → AnswersFit state sent) → (state.me).0 < bound
-    → All (RepliesWithin bound) (on_received state found).1
+    → All (RepliesWithin bound) (replica_on_received state found).1
 brought_replies bound state (Some taken) fits below = frame_replies bound state taken (fits taken refl) below
 brought_replies bound state None fits below = All-nil (RepliesWithin bound)
 

@@ -23,7 +23,7 @@ use Rattle.qu_client.specs.declared.work.Work.{Work}
 use Rattle.qu_client.specs.declared.state.ClientState.{ClientState}
 use Rattle.qu_client.specs.State.{keep_all}
 use Rattle.qu_client.specs.Rounds.{request_of, requests_from}
-use Rattle.qu_client.specs.Steps.{on_frame, on_received, client_step, client_invoke, counted_in, counts, is_asking, next_number}
+use Rattle.qu_client.specs.Steps.{client_on_frame, client_on_received, client_step, client_invoke, counted_in, counts, is_asking, next_number}
 use Rattle.qu_client.specs.Sound.{IsSoundWork, IsSound, last_number}
 use Rattle.qu_client.proofs.Cases.{counted_cases, invoke_cases}
 use Rattle.qu_client.proofs.Laws.{client_step-me, client_invoke-me, IsSound-step, IsSound-invoke, sound_work}
@@ -32,7 +32,7 @@ use Rattle.qu_rounds.specs.Invocations.{IsRequestOf}
 use Rattle.qu_rounds.proofs.Asking.{AsksNothing, CarriesOnly, replica_asks, requests_carry}
 use Rattle.qu_claims.specs.Carried.{Carries}
 use Rattle.qu_frames.specs.Formats.{frame_form}
-use Rattle.qu_runs.proofs.Carrying.{AsksFit}
+use Rattle.qu_runs.proofs.Fits.Carrying.{AsksFit}
 use Rattle.qu_frames.specs.Signing.{brought}
 use Rattle.qu_seal.specs.Keys.{Ring}
 
@@ -185,8 +185,8 @@ module _ (trace : Trace) (count begun : ℕ) (state : ClientState) (sound : IsSo
       })
 
 frame_at : (trace : Trace) (count begun : ℕ) (state : ClientState) (sent : Frame) → IsSound state
-    → IsAtWork trace count begun state.me state.last_request state.work → AsksFit (on_frame state sent).state
-    → IsStepAt trace count begun state.me (on_frame state sent)
+    → IsAtWork trace count begun state.me state.last_request state.work → AsksFit (client_on_frame state sent).state
+    → IsStepAt trace count begun state.me (client_on_frame state sent)
 frame_at trace count begun state (frame.Reply replica client number round verdict culled shown mac) sound at fits =
     cond_both (eqb client.0 (state.me).0) _ _
     (λ stepped. AsksFit stepped.state → IsStepAt trace count begun state.me stepped)
@@ -197,8 +197,8 @@ frame_at trace count begun state (frame.Reply replica client number round verdic
 frame_at trace count begun state _ sound at fits = record { at_work = at; letters = All-nil (IsAsked trace count) }
 
 brought_at : (trace : Trace) (count begun : ℕ) (state : ClientState) (found : Option Frame) → IsSound state
-    → IsAtWork trace count begun state.me state.last_request state.work → AsksFit (on_received state found).state
-    → IsStepAt trace count begun state.me (on_received state found)
+    → IsAtWork trace count begun state.me state.last_request state.work → AsksFit (client_on_received state found).state
+    → IsStepAt trace count begun state.me (client_on_received state found)
 brought_at trace count begun state (Some sent) sound at fits = frame_at trace count begun state sent sound at fits
 brought_at trace count begun state None sound at fits = record { at_work = at; letters = All-nil (IsAsked trace count) }
 

@@ -20,7 +20,7 @@ use Rattle.qu_client.specs.Sound.{IsSound, last_number}
 use Rattle.qu_client.proofs.Cases.{step_cases, invoke_cases}
 use Rattle.qu_client.proofs.Laws.{sound_work}
 use Rattle.qu_claims.specs.Carried.{Asks}
-use Rattle.qu_runs.proofs.Carrying.{asks_as, AsksFit}
+use Rattle.qu_runs.proofs.Fits.Carrying.{asks_as, AsksFit}
 use Rattle.qu_rounds.proofs.Asking.{AsksNothing, CarriesOnly, IsSameRequest, requests_carry, asks_only}
 
 -- these letters, and the new ones

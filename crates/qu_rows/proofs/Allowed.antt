@@ -33,12 +33,12 @@ use Rattle.qu_rows.specs.declared.mend.Mend.{Mend}
 use Rattle.qu_rows.specs.declared.mending.Mending.{Mending}
 use Rattle.qu_rows.specs.declared.mending.Mending.TheVariants.{Mends, Holds, Refuses}
 use Rattle.qu_rows.specs.declared.mending.Mending.TheVariants as mending
-use Rattle.qu_rows.specs.Causes.{Makes, HasCause}
+use Rattle.qu_rows.specs.Causes.{MakesCandidate, HasCause}
 use Rattle.qu_rows.proofs.Decided.{decided_has_cause}
 use Rattle.qu_rows.specs.declared.decision.Decision.{Decision}
 use Rattle.qu_rows.specs.declared.decision.Decision.TheVariants.{Answers, Waits}
 use Rattle.qu_rows.specs.State.{ReplicaState, own_candidates, own_latest}
-use Rattle.qu_rows.specs.Rows.{Asked, refuse, base_of, shown_of, fresh_stamp, fresh_on, accepted_by, done_again, repeated, row_unknown, row_thin, row_retry, row_current, row_method, row_version, row_kept, row_time, row_full, row_done, row_told, row_few, mend_asked, wanted_version, mending_on, decision_by, decide_act, decide_ask, decide_repair, decision_on}
+use Rattle.qu_rows.specs.Rows.{Asked, refuse, method_base, shown_of, fresh_stamp, fresh_act, accepted_by, done_again, repeated, row_unknown, row_thin, row_retry, row_current, row_method, row_version, row_kept, row_time, row_full, row_done, row_told, row_few, mend_asked, wanted_version, mending_on, decision_by, decide_act, decide_ask, decide_repair, decision_on}
 use Rattle.qu_rows.specs.Table.{first_given}
 use Rattle.qu_rows.specs.Allowed.{MayAccept, MayAcceptAll, MayDecide, has_parts}
 
@@ -186,11 +186,11 @@ may_accept_fresh : (state : ReplicaState) (asked : Asked) (object : ObjectId)
     → is_below (latest_of (shown_of asked object)) (own_latest state object) ≡ false
     → nat_le LAST_TIME (latest_of (shown_of asked object)).time ≡ false
     → nat_le HISTORY_LIMIT (length (own_candidates state object)) ≡ false
-    → (fresh : Candidate) → fresh_on state asked object ≡ Some fresh → (version : ObjState)
+    → (fresh : Candidate) → fresh_act state asked object ≡ Some fresh → (version : ObjState)
     → MayAccept state (record { object = object; candidate = fresh; state = Some version })
 may_accept_fresh state asked object known current in_time room fresh made version =
-    let parts : (base_of state asked object ≡ None → ⊥) × (fresh.stamp ≡ fresh_stamp asked object) =
-    made_of asked object (base_of state asked object) fresh made in
+    let parts : (method_base state asked object ≡ None → ⊥) × (fresh.stamp ≡ fresh_stamp asked object) =
+    made_of asked object (method_base state asked object) fresh made in
     let next : fresh.stamp.time ≡ (latest_of (shown_of asked object)).time + 1 =
     ap (λ (stamp : Stamp). stamp.time) parts.1 in
     record {
@@ -203,8 +203,8 @@ may_accept_fresh state asked object known current in_time room fresh made versio
     }
 
 may_accept_made : (state : ReplicaState) (asked : Asked) (object : ObjectId) (versions : List ObjState)
-    (made : Option Candidate) → fresh_on state asked object ≡ made
-    → ((fresh : Candidate) → fresh_on state asked object ≡ Some fresh → (version : ObjState)
+    (made : Option Candidate) → fresh_act state asked object ≡ made
+    → ((fresh : Candidate) → fresh_act state asked object ≡ Some fresh → (version : ObjState)
     → MayAccept state (record { object = object; candidate = fresh; state = Some version }))
     → MayAcceptAll state (accepted_by state asked (object ∷ []) versions)
 unfolding accepted_by
@@ -286,7 +286,8 @@ pub known_target : (state : ReplicaState) (asked : Asked) (target : ObjectId) �
     → quorum state.keys.bounds ≤ length (shown_of asked target) → target.0 < length state.histories
 known_target state asked target known enough =
     known_by_entries (length state.histories) asked.sets target (no_unknown state asked known)
-    (λ empty. let none : length (shown_of asked target) ≡ 0 = ap length empty in absurd (omega (arith, none, some_quorum state.keys.bounds)))
+    (λ empty. let none : length (shown_of asked target) ≡ 0 = ap length empty
+    in absurd (omega (arith, none, some_quorum state.keys.bounds)))
 
 pub target_found : (state : ReplicaState) (asked : Asked) (target : ObjectId) → row_unknown state asked ≡ None
     → quorum state.keys.bounds ≤ length (shown_of asked target)
@@ -301,7 +302,7 @@ target_found state asked target known enough =
     none_within (first ∷ later) (suc place) within none = none_within later place (omega arith) none
 
 -- what mends an object has no time after the last
-made_in_time : (mend : Mend) (remedy : Remedy) (candidate : Candidate) → Makes mend remedy candidate
+made_in_time : (mend : Mend) (remedy : Remedy) (candidate : Candidate) → MakesCandidate mend remedy candidate
     → candidate.stamp.time ≤ LAST_TIME
 made_in_time mend Nothing candidate made = absurd made
 made_in_time mend (Shown shown) candidate made =

@@ -16,10 +16,10 @@ use Rattle.qu_rows.specs.declared.decision.Accepted.{Accepted}
 use Rattle.qu_rows.specs.declared.decision.Decision.{Decision}
 use Rattle.qu_rows.specs.declared.decision.Decision.TheVariants.{Answers}
 use Rattle.qu_rows.specs.State.{ReplicaState}
-use Rattle.qu_rows.specs.Rows.{Asked, base_of, base_version, base_versions, fresh_stamp, fresh_on, fresh_stamps, accepted_by, row_done, row_told}
+use Rattle.qu_rows.specs.Rows.{Asked, method_base, base_version, base_versions, fresh_stamp, fresh_act, fresh_stamps, accepted_by, row_done, row_told}
 
 accepted_one : (state : ReplicaState) (asked : Asked) (object : ObjectId) (fresh : Candidate) (version : ObjState)
-    → fresh_on state asked object ≡ Some fresh
+    → fresh_act state asked object ≡ Some fresh
     → accepted_by state asked (object ∷ []) (version ∷ [])
     ≡ record { object = object; candidate = fresh; state = Some version } ∷ []
 unfolding accepted_by
@@ -30,7 +30,7 @@ pub versions_one : (state : ReplicaState) (asked : Asked) (object : ObjectId) (v
 versions_one state asked object version is_version = rw is_version refl
 
 pub stamps_one : (state : ReplicaState) (asked : Asked) (object : ObjectId) (fresh : Candidate)
-    → fresh_on state asked object ≡ Some fresh → fresh_stamps state asked (object ∷ []) ≡ (object, fresh.stamp) ∷ []
+    → fresh_act state asked object ≡ Some fresh → fresh_stamps state asked (object ∷ []) ≡ (object, fresh.stamp) ∷ []
 stamps_one state asked object fresh is_fresh = rw is_fresh refl
 
 -- the stamp of a fresh candidate
@@ -43,12 +43,12 @@ stamp_by asked object None fresh made = absurd (none-some fresh made)
 stamp_by asked object (Some base) fresh made = ap (λ (it : Candidate). it.stamp) (same_Some _ fresh made)
 
 pub fresh_on-stamp : (state : ReplicaState) (asked : Asked) (object : ObjectId) (fresh : Candidate)
-    → fresh_on state asked object ≡ Some fresh → fresh_stamp asked object ≡ fresh.stamp
-fresh_on-stamp state asked object fresh made = stamp_by asked object (base_of state asked object) fresh made
+    → fresh_act state asked object ≡ Some fresh → fresh_stamp asked object ≡ fresh.stamp
+fresh_on-stamp state asked object fresh made = stamp_by asked object (method_base state asked object) fresh made
 
 pub done_one : (state : ReplicaState) (asked : Asked) (parts : List (ObjectId × Method)) (object : ObjectId)
     (fresh : Candidate) (version after : ObjState) (answer : Answer)
-    → fresh_on state asked object ≡ Some fresh → base_version state asked object ≡ Some version
+    → fresh_act state asked object ≡ Some fresh → base_version state asked object ≡ Some version
     → performed_states asked.client asked.number parts (fresh.stamp ∷ []) (version ∷ []) ≡ after ∷ []
     → performed_answer parts (version.value ∷ []) ≡ answer
     → row_done state asked parts (object ∷ []) ≡ Some
@@ -77,7 +77,7 @@ done_one state asked parts object fresh version after answer is_fresh is_version
 
 pub told_one : (state : ReplicaState) (asked : Asked) (parts : List (ObjectId × Ask)) (object : ObjectId)
     (base : Candidate) (version : ObjState)
-    → base_of state asked object ≡ Some base → base_version state asked object ≡ Some version
+    → method_base state asked object ≡ Some base → base_version state asked object ≡ Some version
     → row_told state asked parts (object ∷ []) ≡ Some
     (Answers (Told ((object, base.stamp) ∷ []) (told_answer parts (version.value ∷ []))) [])
 unfolding row_told

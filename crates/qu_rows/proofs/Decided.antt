@@ -13,10 +13,10 @@ use Rattle.qu_rows.specs.declared.remedy.Remedy.TheVariants.{Nothing, Shown, Fre
 use Rattle.qu_rows.specs.declared.mend.Mend.{Mend}
 use Rattle.qu_rows.specs.declared.mending.Mending.{Mending}
 use Rattle.qu_rows.specs.declared.mending.Mending.TheVariants.{Mends, Holds, Waits}
-use Rattle.qu_rows.specs.Remedy.{fresh_on, addition_by, addition_of, wanted_by, stored_by}
+use Rattle.qu_rows.specs.Remedy.{fresh_repair, addition_by, addition_of, wanted_by, stored_by}
 use Rattle.qu_rows.specs.Table.{first_given}
-use Rattle.qu_rows.specs.Mending.{row_held, is_passed, row_current, is_sound, row_sound, row_version, row_time, row_full, row_mended, decide_mend}
-use Rattle.qu_rows.specs.Causes.{Makes, HasVersion, IsBehind, IsSpent, HasCause}
+use Rattle.qu_rows.specs.Mending.{mend_row_held, is_passed, mend_row_current, is_sound, mend_row_sound, mend_row_version, mend_row_time, mend_row_full, mend_row_mended, decide_mend}
+use Rattle.qu_rows.specs.Causes.{MakesCandidate, AddsVersion, IsBehind, IsSpent, HasCause}
 
 -- ---- the first row that fits
 
@@ -55,14 +55,14 @@ module _ (mend : Mend) where
   by_test false it candidate is = absurd cc
 
   made : (remedy : Remedy) (candidate : Candidate) → addition_by mend remedy ≡ Some candidate
-      → Makes mend remedy candidate
+      → MakesCandidate mend remedy candidate
   unfolding addition_by
   made Nothing candidate is = absurd cc
   made (Shown shown) candidate is =
       let both = by_test (leb shown.stamp.time LAST_TIME) shown candidate is in
       (both.0, leb-true shown.stamp.time LAST_TIME both.1)
   made (Fresh barrier prior) candidate is =
-      let both = by_test (ltb mend.latest.time LAST_TIME) (fresh_on mend barrier prior) candidate is in
+      let both = by_test (ltb mend.latest.time LAST_TIME) (fresh_repair mend barrier prior) candidate is in
       (both.0, ltb-true mend.latest.time LAST_TIME both.1)
 
   not_added : (test : Bool) (it : Candidate) → is_none (cond test (Some it) None) ≡ true → test ≡ false
@@ -78,7 +78,7 @@ module _ (mend : Mend) where
       leb-false shown.stamp.time LAST_TIME (not_added (leb shown.stamp.time LAST_TIME) shown none)
   spent (Fresh barrier prior) unsound none =
       ltb-false mend.latest.time LAST_TIME
-      (not_added (ltb mend.latest.time LAST_TIME) (fresh_on mend barrier prior) none)
+      (not_added (ltb mend.latest.time LAST_TIME) (fresh_repair mend barrier prior) none)
 
 is_sound_nothing : (remedy : Remedy) → is_sound remedy ≡ true → remedy ≡ Nothing
 is_sound_nothing Nothing sound = refl
@@ -103,7 +103,7 @@ value_if None test = absurd (false≢true (sym test))
 value_if (Some value) test = (value, refl)
 
 has_version : (remedy : Remedy) (version : Option ObjState) → is_sound remedy ≡ false
-    → (is_some (wanted_by remedy) && is_none version) ≡ false → HasVersion remedy version (stored_by remedy version)
+    → (is_some (wanted_by remedy) && is_none version) ≡ false → AddsVersion remedy version (stored_by remedy version)
 unfolding wanted_by stored_by
 has_version Nothing version unsound ready = absurd (false≢true (sym unsound))
 has_version (Shown candidate) version unsound ready = (
@@ -146,8 +146,8 @@ module _ (mend : Mend) (own : List Candidate) (version : Option ObjState) where
       → (is_some (wanted_by mend.remedy) && is_none version) ≡ false
       → is_none (addition_of mend) ≡ false
       → leb HISTORY_LIMIT (length own) ≡ false
-      → Fact (first_given Waits (row_mended mend version ∷ []))
-  unfolding row_mended
+      → Fact (first_given Waits (mend_row_mended mend version ∷ []))
+  unfolding mend_row_mended
   mended unsound current ready in_time room =
       let addition = value_if (addition_of mend) in_time in
       row_if_added Fact (stored_by mend.remedy version) (addition_of mend) addition.0 addition.1 (
@@ -161,7 +161,7 @@ module _ (mend : Mend) (own : List Candidate) (version : Option ObjState) where
       )
 
   pub decided_has_cause : HasCause mend own version (decide_mend mend own version)
-  unfolding decide_mend row_held row_current row_sound row_version row_time row_full
+  unfolding decide_mend mend_row_held mend_row_current mend_row_sound mend_row_version mend_row_time mend_row_full
   decided_has_cause =
       row_if_held Fact own (addition_of mend) _
       (λ candidate is held. (candidate, made mend mend.remedy candidate is, held, refl))

@@ -10,7 +10,7 @@ use Rattle.qu_history.specs.History.{ObjectHistory, latest, holds}
 use Rattle.qu_history.specs.Sets.{latest_of}
 use Rattle.qu_history.proofs.Stamps.{not_below_latest}
 use Rattle.qu_rows.specs.State.{ReplicaState, candidates_in, own_candidates}
-use Rattle.qu_rows.specs.Rows.{Asked, base_of, shown_of, fresh_stamp, is_held}
+use Rattle.qu_rows.specs.Rows.{Asked, method_base, shown_of, fresh_stamp, is_held}
 use Rattle.qu_rows.specs.State.{AreHistories}
 use Rattle.qu_rows.proofs.Own.{own_history}
 
@@ -57,7 +57,7 @@ pub spent_not_held : (state : ReplicaState) (asked : Asked) (object : ObjectId) 
     → LAST_TIME ≤ (latest_of (shown_of asked object)).time → is_held state asked object ≡ false
 unfolding is_held
 spent_not_held state asked object own spent =
-    elim (base_of state asked object) as (λ (base : Option Candidate). is_held_by state object
+    elim (method_base state asked object) as (λ (base : Option Candidate). is_held_by state object
     (option_map (λ (it : Candidate). let fresh : Candidate = record {
       stamp = fresh_stamp asked object;
       prior = it.stamp;

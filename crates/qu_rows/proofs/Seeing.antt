@@ -7,8 +7,8 @@ use Rattle.qu_history.specs.Sets.{method_at}
 use Rattle.qu_class.specs.declared.class.Class.{Class}
 use Rattle.qu_class.specs.declared.class.Class.TheVariants.{Method, InlineMethod, Copy, InlineBarrier, Barrier}
 use Rattle.qu_class.specs.Class.{is_latest, is_full, barrier_class, class_of}
-use Rattle.qu_class.specs.Repairable.{barrier_candidate, base_of}
-use Rattle.qu_class.specs.Rows.{IsGreatestOfKind, Tells}
+use Rattle.qu_class.specs.Repairable.{barrier_candidate, object_base}
+use Rattle.qu_class.specs.Rows.{IsGreatestOfKind, IsClassOf}
 use Rattle.qu_rows.specs.Seen.{method_of}
 use Rattle.qu_rows.specs.Remedy.{remedy_by, IsGrounded}
 
@@ -24,7 +24,7 @@ IsOf base (Barrier prior) = Unit {0}
 
 module _ (bounds : ℕ) (entries : List ObjectHistory) where
   abbrev base : Candidate
-  base = base_of bounds entries
+  base = object_base bounds entries
 
   without : (prior : Stamp) (found : Option Candidate) → IsOf base (barrier_class bounds entries prior found)
   unfolding barrier_class
@@ -49,11 +49,11 @@ module _ (bounds : ℕ) (entries : List ObjectHistory) where
       by_tests false false = without base.stamp (barrier_candidate bounds entries)
 
   pub method_has_base : (candidate : Candidate) → Method candidate ≡ class_of bounds entries
-      → candidate ≡ base_of bounds entries
+      → candidate ≡ object_base bounds entries
   method_has_base candidate is = subst (IsOf base) (sym is) of_class
 
   pub inline_has_base : (candidate : Candidate) → InlineMethod candidate ≡ class_of bounds entries
-      → candidate ≡ base_of bounds entries
+      → candidate ≡ object_base bounds entries
   inline_has_base candidate is = subst (IsOf base) (sym is) of_class
 
 pub ruleset class_has_base = (method_has_base, inline_has_base)
@@ -65,7 +65,8 @@ HasMethod bounds entries class =
     (candidate : Candidate) → (class ≡ Method candidate) ↔ (method_at bounds entries ≡ Some candidate)
 
 module _ (bounds : ℕ) (entries : List ObjectHistory) where
-  none_else : (class : Class) → HasMethod bounds entries class → ((candidate : Candidate) → class ≡ Method candidate → ⊥)
+  none_else : (class : Class) → HasMethod bounds entries class → ((candidate : Candidate) → class ≡ Method candidate
+      → ⊥)
       → None ≡ method_at bounds entries
   none_else class has other =
       elim (method_at bounds entries) as (λ (found : Option Candidate). method_at bounds entries ≡ found
@@ -85,7 +86,7 @@ module _ (bounds : ℕ) (entries : List ObjectHistory) where
   some_is candidate = grind arith
 
   -- what is told by a class is ground for its remedy
-  pub grounded : (class : Class) (base : Candidate) → HasMethod bounds entries class → Tells bounds entries class
+  pub grounded : (class : Class) (base : Candidate) → HasMethod bounds entries class → IsClassOf bounds entries class
       → (class ≡ Copy → IsGreatestOfKind bounds entries false base)
       → IsGrounded bounds entries (remedy_by base.stamp class)
   unfolding remedy_by

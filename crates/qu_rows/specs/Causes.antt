@@ -13,7 +13,7 @@ use Rattle.qu_rows.specs.declared.remedy.Remedy.TheVariants.{Nothing, Shown, Fre
 use Rattle.qu_rows.specs.declared.mend.Mend.{Mend}
 use Rattle.qu_rows.specs.declared.mending.Mending.{Mending}
 use Rattle.qu_rows.specs.declared.mending.Mending.TheVariants.{Mends, Holds, Refuses, Waits}
-use Rattle.qu_rows.specs.Remedy.{fresh_on, wanted_by}
+use Rattle.qu_rows.specs.Remedy.{fresh_repair, wanted_by}
 
 -- what may be added at the end of these candidates, above which the sets show the latest
 pub record MayBeAdded (mend : Mend) (own : List Candidate) (candidate : Candidate) : Type 0 where
@@ -22,23 +22,24 @@ pub record MayBeAdded (mend : Mend) (own : List Candidate) (candidate : Candidat
   pub room : length own < HISTORY_LIMIT
 
 -- the remedy makes this candidate: one that is shown is left as it is, and no other has a time after the last
-abbrev pub Makes : Mend → Remedy → Candidate → Type 0
-Makes mend Nothing candidate = ⊥
-Makes mend (Shown shown) candidate = (candidate ≡ shown) × (shown.stamp.time ≤ LAST_TIME)
-Makes mend (Fresh barrier prior) candidate = (candidate ≡ fresh_on mend barrier prior) × (mend.latest.time < LAST_TIME)
+abbrev pub MakesCandidate : Mend → Remedy → Candidate → Type 0
+MakesCandidate mend Nothing candidate = ⊥
+MakesCandidate mend (Shown shown) candidate = (candidate ≡ shown) × (shown.stamp.time ≤ LAST_TIME)
+MakesCandidate mend (Fresh barrier prior) candidate = (candidate ≡ fresh_repair mend barrier prior)
+    × (mend.latest.time < LAST_TIME)
 
 -- what is added has a version, if the replica is to have one: that which was found under the wanted stamp
-abbrev pub HasVersion : Remedy → Option ObjState → Option ObjState → Type 0
-HasVersion Nothing version stored = ⊥
-HasVersion (Shown candidate) version stored = (candidate.stamp.barrier ≡ false → IsSome version) × (stored ≡ None)
-HasVersion (Fresh true prior) version stored = stored ≡ None
-HasVersion (Fresh false prior) version stored = IsSome version × (stored ≡ version)
+abbrev pub AddsVersion : Remedy → Option ObjState → Option ObjState → Type 0
+AddsVersion Nothing version stored = ⊥
+AddsVersion (Shown candidate) version stored = (candidate.stamp.barrier ≡ false → IsSome version) × (stored ≡ None)
+AddsVersion (Fresh true prior) version stored = stored ≡ None
+AddsVersion (Fresh false prior) version stored = IsSome version × (stored ≡ version)
 
 -- the replica's latest candidate is above the sets, or what would be added is not above it
 abbrev pub IsBehind : Mend → List Candidate → Type 0
 IsBehind mend own =
     (is_below mend.latest (latest own) ≡ true)
-    ⊎ ((candidate : Candidate) × Makes mend mend.remedy candidate
+    ⊎ ((candidate : Candidate) × MakesCandidate mend mend.remedy candidate
     × (is_below (latest own) candidate.stamp ≡ false))
 
 -- what would be added would have a time after the last
@@ -62,9 +63,9 @@ RefusesFor mend own (UnknownObject object) = ⊥
 
 abbrev pub HasCause : Mend → List Candidate → Option ObjState → Mending → Type 0
 HasCause mend own version (Mends candidate stored) =
-    Makes mend mend.remedy candidate × MayBeAdded mend own candidate × HasVersion mend.remedy version stored
+    MakesCandidate mend mend.remedy candidate × MayBeAdded mend own candidate × AddsVersion mend.remedy version stored
 HasCause mend own version (Holds stamp) =
-    (candidate : Candidate) × Makes mend mend.remedy candidate × (holds candidate own ≡ true)
+    (candidate : Candidate) × MakesCandidate mend mend.remedy candidate × (holds candidate own ≡ true)
     × (candidate.stamp ≡ stamp)
 HasCause mend own version (Refuses why) = RefusesFor mend own why
 HasCause mend own version Waits = IsSome (wanted_by mend.remedy) × (version ≡ None)

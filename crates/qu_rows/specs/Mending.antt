@@ -14,8 +14,8 @@ use Rattle.qu_rows.specs.Table.{first_given, has_no_room}
 use Rattle.qu_rows.specs.Remedy.{addition_of, wanted_by, stored_by}
 
 -- what would be added is held already
-unfoldable pub row_held : Mend → List Candidate → Option Mending
-row_held mend own =
+unfoldable pub mend_row_held : Mend → List Candidate → Option Mending
+mend_row_held mend own =
     option_and_then (λ candidate. if holds candidate own then Some (Holds candidate.stamp) else None)
     (addition_of mend)
 
@@ -25,8 +25,8 @@ is_passed own None = false
 is_passed own (Some candidate) = not (is_below (latest own) candidate.stamp)
 
 -- the replica has a later candidate than the sets show, or than what would be added
-unfoldable pub row_current : Mend → List Candidate → Option Mending
-row_current mend own =
+unfoldable pub mend_row_current : Mend → List Candidate → Option Mending
+mend_row_current mend own =
     if is_below mend.latest (latest own) || is_passed own (addition_of mend)
     then Some (Refuses (NotCurrent mend.target (latest own))) else None
 
@@ -36,34 +36,35 @@ is_sound (Shown candidate) = false
 is_sound (Fresh barrier prior) = false
 
 -- there is nothing to mend
-unfoldable pub row_sound : Mend → Option Mending
-row_sound mend = if is_sound mend.remedy then Some (Refuses (Sound mend.target)) else None
+unfoldable pub mend_row_sound : Mend → Option Mending
+mend_row_sound mend = if is_sound mend.remedy then Some (Refuses (Sound mend.target)) else None
 
 -- the version upon which the mend rests is missing
-unfoldable pub row_version : Mend → Option ObjState → Option Mending
-row_version mend version = if is_some (wanted_by mend.remedy) && is_none version then Some Waits else None
+unfoldable pub mend_row_version : Mend → Option ObjState → Option Mending
+mend_row_version mend version = if is_some (wanted_by mend.remedy) && is_none version then Some Waits else None
 
 -- what would be added would have a time after the last; no sets that are sent show such a candidate
-unfoldable pub row_time : Mend → Option Mending
-row_time mend = if is_none (addition_of mend) then Some (Refuses (TimeSpent mend.target)) else None
+unfoldable pub mend_row_time : Mend → Option Mending
+mend_row_time mend = if is_none (addition_of mend) then Some (Refuses (TimeSpent mend.target)) else None
 
 -- the history of the object is full
-unfoldable pub row_full : Mend → List Candidate → Option Mending
-row_full mend own =
+unfoldable pub mend_row_full : Mend → List Candidate → Option Mending
+mend_row_full mend own =
     if has_no_room own then Some (Refuses (HistoryFull mend.target)) else None
 
 -- the candidate is added
-unfoldable pub row_mended : Mend → Option ObjState → Option Mending
-row_mended mend version = option_map (λ candidate. Mends candidate (stored_by mend.remedy version)) (addition_of mend)
+unfoldable pub mend_row_mended : Mend → Option ObjState → Option Mending
+mend_row_mended mend version = option_map (λ candidate. Mends candidate (stored_by mend.remedy version)) (addition_of
+    mend)
 
 -- upon the own candidates of the object, and the version that was found under the wanted stamp
 unfoldable pub decide_mend : Mend → List Candidate → Option ObjState → Mending
 decide_mend mend own version = first_given Waits (
-    row_held mend own
-    ∷ row_current mend own
-    ∷ row_sound mend
-    ∷ row_version mend version
-    ∷ row_time mend
-    ∷ row_full mend own
-    ∷ row_mended mend version
+    mend_row_held mend own
+    ∷ mend_row_current mend own
+    ∷ mend_row_sound mend
+    ∷ mend_row_version mend version
+    ∷ mend_row_time mend
+    ∷ mend_row_full mend own
+    ∷ mend_row_mended mend version
     ∷ [])

@@ -14,7 +14,7 @@ use Rattle.qu_objects.specs.declared.state.ObjState.{ObjState}
 use Rattle.qu_class.specs.declared.class.Class.{Class}
 use Rattle.qu_class.specs.declared.class.Class.TheVariants.{Method, InlineMethod, Copy, InlineBarrier, Barrier}
 use Rattle.qu_class.specs.Class.{class_of}
-use Rattle.qu_class.specs.Repairable.{base_of}
+use Rattle.qu_class.specs.Repairable.{object_base}
 use Rattle.qu_class.specs.Rows.{IsGreatestOfKind}
 use Rattle.qu_rows.specs.declared.remedy.Remedy.{Remedy}
 use Rattle.qu_rows.specs.declared.remedy.Remedy.TheVariants.{Nothing, Shown, Fresh}
@@ -29,7 +29,7 @@ remedy_by base (InlineBarrier candidate) = Shown candidate
 remedy_by base (Barrier prior) = Fresh true prior
 
 unfoldable pub remedy_of : ℕ → List ObjectHistory → Remedy
-remedy_of bounds entries = remedy_by (base_of bounds entries).stamp (class_of bounds entries)
+remedy_of bounds entries = remedy_by (object_base bounds entries).stamp (class_of bounds entries)
 
 -- a request to mend an object, with what its culled sets say of it
 abbrev pub mend_of : ℕ → List SetOf → Digest → ObjectId → ClientId → Mend
@@ -43,8 +43,8 @@ mend_of bounds sets set target client =
     }
 
 -- the candidate above all that the sets show, a barrier or a copy
-abbrev pub fresh_on : Mend → Bool → Stamp → Candidate
-fresh_on mend barrier prior =
+abbrev pub fresh_repair : Mend → Bool → Stamp → Candidate
+fresh_repair mend barrier prior =
     record {
       stamp = record {
         time = mend.latest.time + 1;
@@ -61,7 +61,7 @@ unfoldable pub addition_by : Mend → Remedy → Option Candidate
 addition_by mend Nothing = None
 addition_by mend (Shown candidate) = if nat_le candidate.stamp.time LAST_TIME then Some candidate else None
 addition_by mend (Fresh barrier prior) =
-    if nat_lt mend.latest.time LAST_TIME then Some (fresh_on mend barrier prior) else None
+    if nat_lt mend.latest.time LAST_TIME then Some (fresh_repair mend barrier prior) else None
 
 abbrev pub addition_of : Mend → Option Candidate
 addition_of mend = addition_by mend mend.remedy

@@ -90,8 +90,8 @@ abbrev pub shown_of : Asked → ObjectId → List ObjectHistory
 shown_of asked object = entries_of object asked.sets
 
 -- the candidate upon which an operation may rest
-abbrev pub base_of : ReplicaState → Asked → ObjectId → Option Candidate
-base_of state asked object = method_at state.keys.bounds (shown_of asked object)
+abbrev pub method_base : ReplicaState → Asked → ObjectId → Option Candidate
+method_base state asked object = method_at state.keys.bounds (shown_of asked object)
 
 -- what the sets show of an object, which all rows look at
 abbrev pub seen_of : ReplicaState → Asked → ObjectId → Seen
@@ -100,7 +100,7 @@ seen_of state asked object = seen_in state.keys.bounds asked.sets object
 -- the version upon which it rests
 abbrev pub base_version : ReplicaState → Asked → ObjectId → Option ObjState
 base_version state asked object =
-    option_and_then (λ base. version_at object base.stamp state.versions) (base_of state asked object)
+    option_and_then (λ base. version_at object base.stamp state.versions) (method_base state asked object)
 
 -- a fresh stamp has the time after the latest, and the digests of the act and of the sets
 abbrev pub fresh_stamp : Asked → ObjectId → Stamp
@@ -114,9 +114,10 @@ fresh_stamp asked object =
     }
 
 -- the candidate that the act makes on an object
-abbrev pub fresh_on : ReplicaState → Asked → ObjectId → Option Candidate
-fresh_on state asked object =
-    option_map (λ base. record { stamp = fresh_stamp asked object; prior = base.stamp }) (base_of state asked object)
+abbrev pub fresh_act : ReplicaState → Asked → ObjectId → Option Candidate
+fresh_act state asked object =
+    option_map (λ base. record { stamp = fresh_stamp asked object; prior = base.stamp }) (method_base state asked
+    object)
 
 -- the objects, each with its stamp
 abbrev pub stamps_by : (ObjectId → Option Stamp) → List ObjectId → List (ObjectId × Stamp)
@@ -124,11 +125,11 @@ stamps_by stamp objects = filter_map (λ object. option_map (λ (found : Stamp).
 
 abbrev pub fresh_stamps : ReplicaState → Asked → List ObjectId → List (ObjectId × Stamp)
 fresh_stamps state asked objects =
-    stamps_by (λ object. option_map (λ fresh. fresh.stamp) (fresh_on state asked object)) objects
+    stamps_by (λ object. option_map (λ fresh. fresh.stamp) (fresh_act state asked object)) objects
 
 abbrev pub base_stamps : ReplicaState → Asked → List ObjectId → List (ObjectId × Stamp)
 base_stamps state asked objects =
-    stamps_by (λ object. option_map (λ base. base.stamp) (base_of state asked object)) objects
+    stamps_by (λ object. option_map (λ base. base.stamp) (method_base state asked object)) objects
 
 abbrev pub base_versions : ReplicaState → Asked → List ObjectId → List ObjState
 base_versions state asked objects = filter_map (λ object. base_version state asked object) objects
@@ -168,7 +169,7 @@ row_thin state asked =
 -- the fresh candidate of an object is held already
 unfoldable pub is_held : ReplicaState → Asked → ObjectId → Bool
 is_held state asked object =
-    elim (fresh_on state asked object) [ None ↦ false | Some fresh ↦ holds fresh (own_candidates state object) ]
+    elim (fresh_act state asked object) [ None ↦ false | Some fresh ↦ holds fresh (own_candidates state object) ]
 
 -- an act that was performed before is done, with the answer that it had
 abbrev pub done_again : List (ObjectId × Stamp) → Standing → Option Decision
@@ -197,7 +198,7 @@ class_told state asked object =
 -- the object is of another class than METHOD
 unfoldable pub row_method : ReplicaState → Asked → List ObjectId → Option Decision
 row_method state asked objects =
-    refuse_first (λ object. is_none (base_of state asked object))
+    refuse_first (λ object. is_none (method_base state asked object))
     (λ object. refusal.NotMethod object (class_told state asked object)) objects
 
 -- a version upon which the operation rests is missing
@@ -231,7 +232,7 @@ row_full state asked objects =
 unfoldable pub accepted_by : ReplicaState → Asked → List ObjectId → List ObjState → List Accepted
 accepted_by state asked [] versions = []
 accepted_by state asked (object ∷ objects) [] = []
-accepted_by state asked (object ∷ objects) (version ∷ versions) = elim (fresh_on state asked object) [
+accepted_by state asked (object ∷ objects) (version ∷ versions) = elim (fresh_act state asked object) [
   | None ↦ accepted_by state asked objects versions
   | Some fresh ↦ record { object = object; candidate = fresh; state = Some version }
       ∷ accepted_by state asked objects versions

@@ -7,7 +7,7 @@ use Rattle.qu_history.specs.Sets.{entries_of, latest_of, method_at}
 use Rattle.qu_class.specs.declared.class.Class.{Class}
 use Rattle.qu_class.specs.declared.class.Class.TheVariants.{Method, InlineMethod, Copy, InlineBarrier, Barrier}
 use Rattle.qu_class.specs.Class.{class_of}
-use Rattle.qu_class.specs.Repairable.{base_of}
+use Rattle.qu_class.specs.Repairable.{object_base}
 use Rattle.qu_rows.specs.declared.seen.Seen.{Seen}
 
 -- the candidate of class METHOD
@@ -24,6 +24,6 @@ seen_in bounds sets object = record {
   object = object;
   latest = latest_of (entries_of object sets);
   class = class_of bounds (entries_of object sets);
-  base = base_of bounds (entries_of object sets);
+  base = object_base bounds (entries_of object sets);
   method = method_at bounds (entries_of object sets);
 }

@@ -4,7 +4,7 @@ ghost use Rattle.qu_base.specs.Bounds.{quorum};
 ghost use Rattle.qu_history.specs.Sets.{entries_of};
 ghost use Rattle.qu_rows.specs.Remedy.{mend_of, addition_by, addition_of, stored_by, is_copy, IsGrounded};
 ghost use Rattle.qu_rows.specs.Causes.{HasCause};
-ghost use Rattle.qu_rows.specs.Mending.{is_passed, is_sound, row_held, row_current, row_sound, row_version, row_time, row_full, row_mended, decide_mend};
+ghost use Rattle.qu_rows.specs.Mending.{is_passed, is_sound, mend_row_held, mend_row_current, mend_row_sound, mend_row_version, mend_row_time, mend_row_full, mend_row_mended, decide_mend};
 
 use super::{Mending, Remedy, Seen};
 use crate::rows::has_no_room;
@@ -99,9 +99,9 @@ impl Mend {
     }
 
     /// Is content where what it would add is held already.
-    #[tactic(auto, unfolding(crate::specs::Mending::row_held))]
+    #[tactic(auto, unfolding(crate::specs::Mending::mend_row_held))]
     fn row_held(&self, own: &History) -> Option<Mending>
-        ensures { result ≡ row_held self.now own.now.candidates }
+        ensures { result ≡ mend_row_held self.now own.now.candidates }
     {
         match self.addition() {
             Some(candidate) if own.holds(&candidate) => Some(Mending::Holds {
@@ -112,9 +112,9 @@ impl Mend {
     }
 
     /// Refuses sets that do not show the replica's own latest candidate, and what is not above it.
-    #[tactic(auto, unfolding(crate::specs::Mending::row_current))]
+    #[tactic(auto, unfolding(crate::specs::Mending::mend_row_current))]
     fn row_current(&self, own: &History) -> Option<Mending>
-        ensures { result ≡ row_current self.now own.now.candidates }
+        ensures { result ≡ mend_row_current self.now own.now.candidates }
     {
         let latest = own.latest();
         if self.latest.is_below(&latest) || is_passed(own, self.addition()) {
@@ -125,10 +125,10 @@ impl Mend {
     }
 
     /// Refuses where there is nothing to mend.
-    #[tactic(auto, unfolding(crate::specs::Mending::row_sound))]
+    #[tactic(auto, unfolding(crate::specs::Mending::mend_row_sound))]
     fn row_sound(&self) -> Option<Mending>
         ensures unsound { IfNone result (is_sound self.now.remedy ≡ false) }
-        ensures value { result ≡ row_sound self.now }
+        ensures value { result ≡ mend_row_sound self.now }
     {
         match self.remedy {
             Remedy::Nothing => Some(Mending::Refuses(Refusal::Sound(self.target))),
@@ -137,9 +137,9 @@ impl Mend {
     }
 
     /// Waits where the version is missing upon which the mend rests.
-    #[tactic(auto, unfolding(crate::specs::Mending::row_version))]
+    #[tactic(auto, unfolding(crate::specs::Mending::mend_row_version))]
     fn row_version(&self, version: Option<&ObjState>) -> Option<Mending>
-        ensures { result ≡ row_version self.now (option_copied version.entry) }
+        ensures { result ≡ mend_row_version self.now (option_copied version.entry) }
     {
         match (self.remedy.wanted(), version) {
             (Some(_), None) => Some(Mending::Waits),
@@ -148,10 +148,10 @@ impl Mend {
     }
 
     /// Refuses to add what would have a time after the last.
-    #[tactic(auto, unfolding(crate::specs::Mending::row_time, crate::specs::Remedy::addition_by))]
+    #[tactic(auto, unfolding(crate::specs::Mending::mend_row_time, crate::specs::Remedy::addition_by))]
     fn row_time(&self) -> Option<Mending>
         ensures added { IfNone result (IsSome (addition_of self.now)) }
-        ensures value { result ≡ row_time self.now }
+        ensures value { result ≡ mend_row_time self.now }
     {
         match self.addition() {
             None => Some(Mending::Refuses(Refusal::TimeSpent(self.target))),
@@ -160,9 +160,9 @@ impl Mend {
     }
 
     /// Refuses an object whose history is full.
-    #[tactic(auto, unfolding(crate::specs::Mending::row_full))]
+    #[tactic(auto, unfolding(crate::specs::Mending::mend_row_full))]
     fn row_full(&self, own: &History) -> Option<Mending>
-        ensures { result ≡ row_full self.now own.now.candidates }
+        ensures { result ≡ mend_row_full self.now own.now.candidates }
     {
         if has_no_room(own) {
             Some(Mending::Refuses(Refusal::HistoryFull(self.target)))
@@ -172,10 +172,10 @@ impl Mend {
     }
 
     /// Adds the candidate.
-    #[tactic(auto, unfolding(crate::specs::Mending::row_mended))]
+    #[tactic(auto, unfolding(crate::specs::Mending::mend_row_mended))]
     fn row_mended(&self, alloc: Global, version: Option<&ObjState>) -> Result<Mending, NoMemory>
         requires { IsSome (addition_of self.now) }
-        ensures value { IfOk result (λ mending. row_mended self.now (option_copied version.entry) ≡ Some mending) }
+        ensures value { IfOk result (λ mending. mend_row_mended self.now (option_copied version.entry) ≡ Some mending) }
         ensures memory { OnErr result (is_copy self.now.remedy ≡ true) }
     {
         let candidate = self.addition().unwrap();

@@ -2,13 +2,13 @@ ghost use Rattle.std.specs.Prelude.{◌≡◌, ◌≤◌, false, length};
 ghost use Rattle.qu_base.specs.Bounds.{quorum};
 ghost use Rattle.qu_history.specs.Sets.{entries_of};
 ghost use Rattle.qu_class.specs.Class.{class_of};
-ghost use Rattle.qu_class.specs.Repairable.{base_of};
+ghost use Rattle.qu_class.specs.Repairable.{object_base};
 ghost use Rattle.qu_class.specs.Rows.{IsGreatestOfKind};
 ghost use Rattle.qu_rows.specs.Seen.{method_of, seen_in};
 ghost use Rattle.qu_rows.specs.Remedy.{remedy_by, IsGrounded};
 
 use qu_base::{Bounds, ObjectId};
-use qu_class::{Class, base_of, classify};
+use qu_class::{Class, classify, object_base};
 use qu_history::Sets;
 use qu_stamp::{Candidate, Stamp};
 
@@ -62,14 +62,14 @@ fn method_of(class: &Class) -> Option<Candidate>
 #[tactic(auto, using(crate::proofs::Seeing::class_has_base))]
 fn base_by(class: &Class, sets: &Sets, object: ObjectId, bounds: &Bounds) -> Candidate
     requires { class.now ≡ class_of bounds.now (entries_of object sets.now) }
-    ensures value { result ≡ base_of bounds.now (entries_of object sets.now) }
+    ensures value { result ≡ object_base bounds.now (entries_of object sets.now) }
     ensures greatest { class.now ≡ Class.Copy → quorum bounds.now ≤ length (entries_of object sets.now)
         → IsGreatestOfKind bounds.now (entries_of object sets.now) false result }
 {
     match class {
         Class::Method(base) | Class::InlineMethod(base) => *base,
         Class::Copy | Class::InlineBarrier(_) | Class::Barrier { .. } => {
-            base_of(sets, object, bounds)
+            object_base(sets, object, bounds)
         }
     }
 }

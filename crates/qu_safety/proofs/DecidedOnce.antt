@@ -5,9 +5,9 @@ use Rattle.qu_chain.proofs.Updates.{decided_once, one_update}
 use Rattle.qu_trace.specs.declared.trace.Trace.{Trace}
 use Rattle.qu_claims.specs.RunSetting.{setting}
 use Rattle.qu_claims.specs.Updates.{DecidesOnce, IsOf, Update}
-use Rattle.qu_values.proofs.OneAct.{ActsAreOne}
-use Rattle.qu_values.proofs.UpdateFacts.{UpdateFacts, NoneIsRepeated}
-use Rattle.qu_values.proofs.Updates.{one_of, acts}
+use Rattle.qu_values.proofs.Updating.OneAct.{ActsAreOne}
+use Rattle.qu_values.proofs.Updating.UpdateFacts.{UpdateFacts, NoneIsRepeated}
+use Rattle.qu_values.proofs.Updating.Updates.{one_of, acts}
 
 pub decides_once : (trace : Trace) → Laws (setting trace) → Joint (setting trace) → ActsAreOne trace
     → UpdateFacts trace → NoneIsRepeated trace → DecidesOnce trace

@@ -16,8 +16,8 @@ use Rattle.qu_rounds.proofs.Completions.{WorkIsRecorded, IsOneRecord, completed}
 use Rattle.qu_rounds.proofs.Invocations.{request_of, work_of, op_of}
 use Rattle.qu_rounds.proofs.OneRound.{one_round_request}
 use Rattle.qu_shown.proofs.Views.{view_of_request}
-use Rattle.qu_values.proofs.ClientFacts.{ClientFacts}
-use Rattle.qu_points.proofs.Recorded.{recorded_op}
+use Rattle.qu_values.proofs.Requests.ClientFacts.{ClientFacts}
+use Rattle.qu_points.proofs.Operations.Recorded.{recorded_op}
 
 -- what a client has under way is an operation of the trace
 work_recorded : (trace : Trace) → IsRun trace → ArePlain trace → WorkIsRecorded trace

@@ -17,7 +17,7 @@ use Rattle.qu_world.specs.declared.fail.WorldFail.{WorldFail}
 use Rattle.qu_world.specs.State.{WorldState, numbered}
 use Rattle.qu_world.specs.Step.{world_step, is_to_faulty}
 use Rattle.qu_world.proofs.RunLaws.{Records, step_records}
-use Rattle.qu_script.specs.Events.{delivers, is_delivered, is_passed, waiting_from, ArePassed}
+use Rattle.qu_script.specs.Events.{delivers, is_delivered, is_passed_over, waiting_from, ArePassed}
 use Rattle.qu_script.specs.Player.{MayBeginAt}
 
 -- ---- numbers of letters
@@ -63,7 +63,7 @@ waits_none setup entries letter (suc count) next passed one past =
 
 waits_at : (setup : Setup) (entries : List Entry) (letter count next : ℕ) → ArePassed setup entries next → 1 ≤ letter
     → letter ≤ next → next < letter + count
-    → is_passed setup entries next ≡ false → waiting_from setup entries letter count ≡ Some next
+    → is_passed_over setup entries next ≡ false → waiting_from setup entries letter count ≡ Some next
 unfolding waiting_from
 waits_at setup entries letter zero next passed one low high waits = absurd (omega arith)
 waits_at setup entries letter (suc count) next passed one low high waits =
@@ -75,13 +75,13 @@ waits_at setup entries letter (suc count) next passed one low high waits =
       | inr above ↦
           let same : letter ≡ next = omega arith in
           ap (λ (test : Bool). cond test (waiting_from setup entries (letter + 1) count) (Some letter))
-          (ap (is_passed setup entries) same ∙ waits)
+          (ap (is_passed_over setup entries) same ∙ waits)
           ∙ ap (λ (it : ℕ). Some it) same
     ]
 
 -- a letter that waits, where flow passes over those below it
 pub waiting_found : (setup : Setup) (entries : List Entry) (next : ℕ) → MayBeginAt setup entries next
-    → next ≤ length (letters_of entries) → is_passed setup entries next ≡ false
+    → next ≤ length (letters_of entries) → is_passed_over setup entries next ≡ false
     → Some next ≡ waiting_from setup entries 1 (length (letters_of entries))
 waiting_found setup entries next may within waits =
     sym (waits_at setup entries 1 (length (letters_of entries)) next may.passed (omega arith) may.is_letter
@@ -136,12 +136,12 @@ faulty-append setup entries entry letter is =
 
 by_case : (setup : Setup) (entries : List Entry) (entry : Entry) (letter : ℕ) (faulty : Bool)
     → is_to_faulty setup (numbered (letters_of entries) letter) ≡ faulty
-    → (faulty || is_delivered entries letter) ≡ true → is_passed setup (entries ++ entry ∷ []) letter ≡ true
+    → (faulty || is_delivered entries letter) ≡ true → is_passed_over setup (entries ++ entry ∷ []) letter ≡ true
 by_case setup entries entry letter true is passed = or_left _ _ (faulty-append setup entries entry letter is)
 by_case setup entries entry letter false is passed = or_right _ _ (delivered-append entries entry letter passed)
 
 passed-append : (setup : Setup) (entries : List Entry) (entry : Entry) (letter : ℕ)
-    → is_passed setup entries letter ≡ true → is_passed setup (entries ++ entry ∷ []) letter ≡ true
+    → is_passed_over setup entries letter ≡ true → is_passed_over setup (entries ++ entry ∷ []) letter ≡ true
 passed-append setup entries entry letter is =
     by_case setup entries entry letter (is_to_faulty setup (numbered (letters_of entries) letter)) refl is
 
@@ -150,8 +150,8 @@ by_records : (old new : WorldState) (event : Event) (next : ℕ) → Records old
 by_records old new event next made may = record {
   is_letter = may.is_letter;
   passed = λ letter one below.
-      ap (λ (setup : Setup). is_passed setup new.entries letter) made.setup
-      ∙ ap (λ (entries : List Entry). is_passed old.setup entries letter) made.entries
+      ap (λ (setup : Setup). is_passed_over setup new.entries letter) made.setup
+      ∙ ap (λ (entries : List Entry). is_passed_over old.setup entries letter) made.entries
       ∙ passed-append old.setup old.entries made.entry letter (may.passed letter one below);
 }
 

@@ -68,15 +68,15 @@ unfoldable pub is_delivered : List Entry → ℕ → Bool
 is_delivered entries letter = list_any (λ entry. delivers letter entry.event) entries
 
 -- flow takes no letter to a faulty party, and none that an event has delivered
-abbrev pub is_passed : Setup → List Entry → ℕ → Bool
-is_passed setup entries letter =
+abbrev pub is_passed_over : Setup → List Entry → ℕ → Bool
+is_passed_over setup entries letter =
     is_to_faulty setup (numbered (letters_of entries) letter) || is_delivered entries letter
 
 -- the lowest of so many letters, from this one on, that flow takes
 unfoldable pub waiting_from : Setup → List Entry → ℕ → ℕ → Option ℕ
 waiting_from setup entries letter zero = None
 waiting_from setup entries letter (suc count) =
-    if is_passed setup entries letter then waiting_from setup entries (letter + 1) count else Some letter
+    if is_passed_over setup entries letter then waiting_from setup entries (letter + 1) count else Some letter
 
 -- the lowest letter that flow takes
 abbrev pub lowest_waiting : WorldState → Option ℕ
@@ -139,4 +139,4 @@ MakesWorld (Err fail) world meant = Fails fail meant
 -- flow passes over every letter below this one
 abbrev pub ArePassed : Setup → List Entry → ℕ → Type 0
 ArePassed setup entries next =
-    (letter : ℕ) → 1 ≤ letter → letter < next → is_passed setup entries letter ≡ true
+    (letter : ℕ) → 1 ≤ letter → letter < next → is_passed_over setup entries letter ≡ true

@@ -25,20 +25,20 @@ use Rattle.qu_frames.specs.Formats.{objects_in_sets}
 use Rattle.qu_adversary.specs.Sealing.{sealed_for}
 use Rattle.qu_adversary.specs.Replying.{reply_text}
 use Rattle.qu_world.specs.State.{WorldState, ring_of, history_at}
-use Rattle.qu_script.specs.declared.fake.Asked.{Asked}
+use Rattle.qu_script.specs.declared.fake.LastRequest.{LastRequest}
 use Rattle.qu_script.specs.declared.line.How.{How}
 use Rattle.qu_script.specs.declared.line.How.TheVariants.{Show, Echo, Far}
 use Rattle.qu_script.specs.Letters.{last_sent}
 
 -- ---- the request that is answered
 
-abbrev pub asked_in : Result Frame BadText → Option Asked
+abbrev pub asked_in : Result Frame BadText → Option LastRequest
 asked_in (Ok (Request client number round sets body mac)) =
     Some (record { number = number; round = round; objects = objects_in_sets sets })
 asked_in _ = None
 
 -- the last request of a client
-abbrev pub last_request : WorldState → ClientId → Option Asked
+abbrev pub last_request : WorldState → ClientId → Option LastRequest
 last_request world client = option_and_then (λ letter. asked_in (decoded letter.text))
     (last_sent (party.Client client) None world.entries)
 
@@ -61,13 +61,13 @@ as_mine me object (Some history) = record history { replica = me }
 unfoldable pub shown_now : WorldState → ReplicaId → ReplicaId → ObjectId → ObjectHistory
 shown_now world source me object = as_mine me object (history_at world source object)
 
-abbrev pub is_of : ObjectId → Sealed → Bool
-is_of object sealed = ((sealed.history).object).0 == object.0
+abbrev pub is_history_of : ObjectId → Sealed → Bool
+is_history_of object sealed = ((sealed.history).object).0 == object.0
 
 -- the history of an object among these
 unfoldable pub echoed : List Sealed → ReplicaId → ObjectId → ObjectHistory
 echoed shown me object =
-    as_mine me object (option_map (λ (sealed : Sealed). sealed.history) (find (is_of object) shown))
+    as_mine me object (option_map (λ (sealed : Sealed). sealed.history) (find (is_history_of object) shown))
 
 -- an update of client 1 at the greatest time, upon the opening candidate
 abbrev pub far_candidate : Candidate
@@ -119,14 +119,15 @@ reached bounds None = all_replicas bounds
 reached bounds (Some good) = good
 
 -- the histories with HMACs that are right for these replicas, in an answer to this request
-unfoldable pub answer_text : Ring → ReplicaId → ClientId → List ReplicaId → Asked → Verdict × List ObjectHistory
+unfoldable pub fake_reply_text : Ring → ReplicaId → ClientId → List ReplicaId → LastRequest → Verdict
+    × List ObjectHistory
     → List ℕ
-answer_text ring me client good asked told =
+fake_reply_text ring me client good asked told =
     reply_text ring me client asked.number asked.round told.0 (map (λ history. sealed_for ring me good history) told.1)
 
 -- the bytes of the made reply, if there is a request to answer, and a reply to echo
 unfoldable pub fake_of : WorldState → ReplicaId → ClientId → How → Option (List ReplicaId) → Option (List ℕ)
 fake_of world me client how good =
     option_and_then (λ asked. option_map
-    (λ told. answer_text (ring_of world.setup) me client (reached world.setup.bounds good) asked told)
+    (λ told. fake_reply_text (ring_of world.setup) me client (reached world.setup.bounds good) asked told)
     (told_of world me client asked.objects how)) (last_request world client)

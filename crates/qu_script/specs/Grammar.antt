@@ -15,8 +15,8 @@ use Rattle.qu_script.specs.declared.line.Line.{Line}
 use Rattle.qu_script.specs.declared.line.Line.TheVariants.{Call, Deliver, Flow}
 use Rattle.qu_script.specs.declared.setup.SetupLine.{SetupLine}
 use Rattle.qu_script.specs.declared.setup.SetupLine.TheVariants.{Bounds, Seed, Clients, Object}
-use Rattle.qu_script.specs.Injecting.{inject_of, fake_of}
-use Rattle.qu_script.specs.Parties.{correct_client}
+use Rattle.qu_script.specs.Injecting.{inject_of, fake_line}
+use Rattle.qu_script.specs.Parties.{correct_client_in}
 use Rattle.qu_script.specs.Text.{number_of, number_in}
 
 -- ---- numbers
@@ -108,7 +108,7 @@ call_by (Some client) (Some op) = Some (Call client op)
 -- `C OP`, of a correct client
 unfoldable pub call_of : Setup → List (List ℕ) → Option Line
 call_of setup [] = None
-call_of setup (client ∷ words) = call_by (correct_client setup client) (op_of words)
+call_of setup (client ∷ words) = call_by (correct_client_in setup client) (op_of words)
 
 -- `L L ..`, at least one letter
 unfoldable pub deliver_of : List (List ℕ) → Option Line
@@ -128,4 +128,4 @@ line_of_words setup (verb ∷ words) =
     else (if bytes_eq verb (codes "deliver") then deliver_of words
     else (if bytes_eq verb (codes "flow") then flow_of words
     else (if bytes_eq verb (codes "inject") then inject_of setup words
-    else (if bytes_eq verb (codes "fake") then fake_of setup words else None))))
+    else (if bytes_eq verb (codes "fake") then fake_line setup words else None))))

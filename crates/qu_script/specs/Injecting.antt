@@ -10,7 +10,7 @@ use Rattle.qu_script.specs.declared.line.How.{How}
 use Rattle.qu_script.specs.declared.line.How.TheVariants as how
 use Rattle.qu_script.specs.declared.line.Line.{Line}
 use Rattle.qu_script.specs.declared.line.Line.TheVariants.{Inject, Fake}
-use Rattle.qu_script.specs.Parties.{replica_in, client_in, correct_replica, party_in, replicas_of, bytes_of}
+use Rattle.qu_script.specs.Parties.{replica_in, client_in, correct_replica_in, party_in, replicas_of, hex_bytes}
 
 -- ---- given bytes
 
@@ -24,7 +24,7 @@ unfoldable pub inject_of : Setup → List (List ℕ) → Option Line
 inject_of setup [] = None
 inject_of setup (kind ∷ []) = None
 inject_of setup (kind ∷ word ∷ []) = None
-inject_of setup (kind ∷ word ∷ hex ∷ []) = inject_by (party_in setup.bounds setup.clients kind word) (bytes_of hex)
+inject_of setup (kind ∷ word ∷ hex ∷ []) = inject_by (party_in setup.bounds setup.clients kind word) (hex_bytes hex)
 inject_of setup (kind ∷ word ∷ hex ∷ more ∷ later) = None
 
 -- ---- made replies
@@ -32,7 +32,7 @@ inject_of setup (kind ∷ word ∷ hex ∷ more ∷ later) = None
 -- a correct replica, and the words behind it
 unfoldable pub source_of : Setup → List (List ℕ) → Option (ReplicaId × List (List ℕ))
 source_of setup [] = None
-source_of setup (word ∷ words) = option_map (λ source. (source, words)) (correct_replica setup word)
+source_of setup (word ∷ words) = option_map (λ source. (source, words)) (correct_replica_in setup word)
 
 -- `show S`, `echo S` or `far`, and the words behind it
 unfoldable pub how_of : Setup → List (List ℕ) → Option (How × List (List ℕ))
@@ -58,10 +58,10 @@ fake_by me client shows None = None
 fake_by me client shows (Some good) = Some (Fake me client shows good)
 
 -- `R C HOW` or `R C HOW for R R ..`
-unfoldable pub fake_of : Setup → List (List ℕ) → Option Line
-fake_of setup [] = None
-fake_of setup (me ∷ []) = None
-fake_of setup (me ∷ client ∷ words) =
+unfoldable pub fake_line : Setup → List (List ℕ) → Option Line
+fake_line setup [] = None
+fake_line setup (me ∷ []) = None
+fake_line setup (me ∷ client ∷ words) =
     option_and_then (λ me. option_and_then (λ client. option_and_then (λ found.
     fake_by me client found.0 (good_of setup.bounds found.1)) (how_of setup words))
     (client_in setup.clients client)) (replica_in setup.bounds me)

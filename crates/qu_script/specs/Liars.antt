@@ -9,11 +9,11 @@ use Rattle.qu_script.specs.Parties.{party_in}
 use Rattle.qu_script.specs.Text.{words_of}
 
 -- replicas stand before clients, and both by rising numbers
-abbrev pub is_before : Party → Party → Bool
-is_before (party.Replica one) (party.Replica other) = nat_lt one.0 other.0
-is_before (party.Replica one) (party.Client other) = true
-is_before (party.Client one) (party.Replica other) = false
-is_before (party.Client one) (party.Client other) = nat_lt one.0 other.0
+abbrev pub is_party_before : Party → Party → Bool
+is_party_before (party.Replica one) (party.Replica other) = nat_lt one.0 other.0
+is_party_before (party.Replica one) (party.Client other) = true
+is_party_before (party.Client one) (party.Replica other) = false
+is_party_before (party.Client one) (party.Client other) = nat_lt one.0 other.0
 
 -- behind these there is room for a client, and for a replica while fewer than may lie are listed
 abbrev pub has_room : ℕ → List Party → Party → Bool
@@ -22,7 +22,7 @@ has_room bounds liars (party.Client me) = true
 
 -- a party may be listed behind these
 abbrev pub may_follow : ℕ → List Party → Party → Bool
-may_follow bounds liars who = has_room bounds liars who && list_all (λ (liar : Party). is_before liar who) liars
+may_follow bounds liars who = has_room bounds liars who && list_all (λ (liar : Party). is_party_before liar who) liars
 
 abbrev pub if_may_follow : ℕ → List Party → Party → Option Party
 if_may_follow bounds liars who = if may_follow bounds liars who then Some who else None

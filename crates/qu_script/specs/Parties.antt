@@ -27,13 +27,13 @@ abbrev pub if_correct : {X : Type 0} → Setup → Party → X → Option X
 if_correct setup who me = if is_faulty setup who then None else Some me
 
 -- a correct replica
-abbrev pub correct_replica : Setup → List ℕ → Option ReplicaId
-correct_replica setup word =
+abbrev pub correct_replica_in : Setup → List ℕ → Option ReplicaId
+correct_replica_in setup word =
     option_and_then (λ me. if_correct setup (party.Replica me) me) (replica_in setup.bounds word)
 
 -- a correct client
-abbrev pub correct_client : Setup → List ℕ → Option ClientId
-correct_client setup word =
+abbrev pub correct_client_in : Setup → List ℕ → Option ClientId
+correct_client_in setup word =
     option_and_then (λ me. if_correct setup (party.Client me) me) (client_in setup.clients word)
 
 -- `replica R` or `client C`, where so many replicas may lie and there are so many clients
@@ -55,7 +55,7 @@ if_decoded (Ok bytes) = Some bytes
 if_decoded (Err why) = None
 
 -- two hexadecimal digits for each byte, or `-` for none
-unfoldable pub bytes_of : List ℕ → Option (List ℕ)
-bytes_of [] = None
-bytes_of (digit ∷ digits) =
+unfoldable pub hex_bytes : List ℕ → Option (List ℕ)
+hex_bytes [] = None
+hex_bytes (digit ∷ digits) =
     if bytes_eq (digit ∷ digits) (codes "-") then Some [] else if_decoded (decode_of (digit ∷ digits))

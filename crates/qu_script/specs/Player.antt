@@ -9,14 +9,18 @@ use Rattle.qu_script.specs.declared.bad.ScriptFail.TheVariants as fails
 use Rattle.qu_script.specs.Events.{kind_of, ArePassed}
 
 -- how a fail of the world is told of the line with this number
-abbrev pub told_of : ℕ → WorldFail → ScriptFail
-told_of number (fail.NoSuchLetter letter) =
+abbrev pub world_fail_at : ℕ → WorldFail → ScriptFail
+world_fail_at number (fail.NoSuchLetter letter) =
     fails.Bad (record { line = number; kind = kind_of (fail.NoSuchLetter letter) })
-told_of number (fail.NoSuchActor party) = fails.Bad (record { line = number; kind = kind_of (fail.NoSuchActor party) })
-told_of number fail.Busy = fails.Bad (record { line = number; kind = kind_of fail.Busy })
-told_of number fail.TooManyEvents = fails.Bad (record { line = number; kind = kind_of fail.TooManyEvents })
-told_of number fail.TooManyBytes = fails.Bad (record { line = number; kind = kind_of fail.TooManyBytes })
-told_of number fail.NoMemory = fails.NoMemory
+world_fail_at number (fail.NoSuchActor party) = fails.Bad (record {
+  line = number;
+  kind = kind_of (fail.NoSuchActor
+      party);
+})
+world_fail_at number fail.Busy = fails.Bad (record { line = number; kind = kind_of fail.Busy })
+world_fail_at number fail.TooManyEvents = fails.Bad (record { line = number; kind = kind_of fail.TooManyEvents })
+world_fail_at number fail.TooManyBytes = fails.Bad (record { line = number; kind = kind_of fail.TooManyBytes })
+world_fail_at number fail.NoMemory = fails.NoMemory
 
 -- a search for a letter that waits may begin at this one
 pub record MayBeginAt (setup : Setup) (entries : List Entry) (next : ℕ) : Type 0 where

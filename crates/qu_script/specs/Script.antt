@@ -71,6 +71,6 @@ abbrev pub Fails : {Y : Type 0} → ScriptFail → Result Y Bad → Type 0
 Fails (fails.Bad bad) meant = meant ≡ Err bad
 Fails fails.NoMemory meant = Unit {0}
 
-abbrev pub Gives : {X Y : Type 0} → (X → Y) → Result X ScriptFail → Result Y Bad → Type 0
-Gives view (Ok x) meant = meant ≡ Ok (view x)
-Gives view (Err fail) meant = Fails fail meant
+abbrev pub IsAsMeant : {X Y : Type 0} → (X → Y) → Result X ScriptFail → Result Y Bad → Type 0
+IsAsMeant view (Ok x) meant = meant ≡ Ok (view x)
+IsAsMeant view (Err fail) meant = Fails fail meant

@@ -4,7 +4,7 @@ ghost use Rattle.std.specs.Option.{option_copied};
 ghost use Rattle.qu_frames.specs.Formats.{objects_in_sets};
 ghost use Rattle.qu_adversary.specs.Sealing.{sealed_for};
 ghost use Rattle.qu_world.specs.State.{ring_of};
-ghost use Rattle.qu_script.specs.Fake.{last_request, last_reply, thin, shown_now, is_of, echoed, far_candidate, far_history, told_of, all_replicas, reached, answer_text, fake_of};
+ghost use Rattle.qu_script.specs.Fake.{last_request, last_reply, thin, shown_now, is_history_of, echoed, far_candidate, far_history, told_of, all_replicas, reached, fake_reply_text, fake_of};
 
 use super::How;
 use super::letters::last_sent;
@@ -19,7 +19,7 @@ use std::alloc::Global;
 
 /// What a made reply answers: number and round of a request, and the objects of its sets.
 #[derive(Debug, Drop)]
-pub struct Asked {
+pub struct LastRequest {
     pub number: u64,
     pub round: u8,
     pub objects: List<ObjectId>,
@@ -63,19 +63,19 @@ pub fn fake(
 }
 
 /// The bytes of the answer to a request.
-#[tactic(auto, unfolding(crate::specs::Fake::answer_text))]
+#[tactic(auto, unfolding(crate::specs::Fake::fake_reply_text))]
 fn answer(
     alloc: Global,
     keys: &KeyRing,
     me: ReplicaId,
     client: ClientId,
     good: &[ReplicaId],
-    asked: &Asked,
+    asked: &LastRequest,
     verdict: Verdict,
     histories: &List<History>,
 ) -> Result<List<u8>, NoMemory>
     ensures { IfOk result
-        (λ text. text ≡ answer_text keys.now me client good.now asked.now (verdict, histories.now)) }
+        (λ text. text ≡ fake_reply_text keys.now me client good.now asked.now (verdict, histories.now)) }
 {
     let shown = sealed_all(alloc, keys, me, good, histories.as_slice())?;
     reply_of(
@@ -99,7 +99,11 @@ fn keys_of(world: &World) -> KeyRing
 }
 
 /// What the last request of a client asks.
-fn last_request(alloc: Global, world: &World, client: ClientId) -> Result<Option<Asked>, NoMemory>
+fn last_request(
+    alloc: Global,
+    world: &World,
+    client: ClientId,
+) -> Result<Option<LastRequest>, NoMemory>
     ensures { IfOk result (λ asked. asked ≡ last_request world.now client) }
 {
     let entries = world.trace().entries.as_slice();
@@ -116,7 +120,7 @@ fn last_request(alloc: Global, world: &World, client: ClientId) -> Result<Option
             },
         ) => {
             let objects = objects_of(alloc, &sets)?;
-            Ok(Some(Asked {
+            Ok(Some(LastRequest {
                 number,
                 round,
                 objects,
@@ -268,7 +272,7 @@ fn echo(
 
 /// The first one of an object.
 fn first_of(shown: &[Sealed], object: ObjectId) -> Option<&Sealed>
-    ensures { option_copied result ≡ find (is_of object) shown.now }
+    ensures { option_copied result ≡ find (is_history_of object) shown.now }
 {
     shown
         .iter()

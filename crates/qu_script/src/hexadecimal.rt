@@ -1,5 +1,5 @@
 ghost use Rattle.std.specs.Prelude.{◌≡◌, IfOk};
-ghost use Rattle.qu_script.specs.Parties.{bytes_of};
+ghost use Rattle.qu_script.specs.Parties.{hex_bytes};
 
 use hex::FromHexError;
 use qu_base::{List, NoMemory};
@@ -7,9 +7,9 @@ use std::alloc::Global;
 
 /// The bytes that a word writes, by two hexadecimal digits each of either case, or `-` for no bytes.
 /// `None` of any other word.
-#[tactic(auto, unfolding(crate::specs::Parties::bytes_of))]
+#[tactic(auto, unfolding(crate::specs::Parties::hex_bytes))]
 pub fn read_bytes(alloc: Global, word: &[u8]) -> Result<Option<List<u8>>, NoMemory>
-    ensures { IfOk result (λ bytes. bytes ≡ bytes_of word.now) }
+    ensures { IfOk result (λ bytes. bytes ≡ hex_bytes word.now) }
 {
     if word.is_empty() {
         return Ok(None);

@@ -1,5 +1,5 @@
 ghost use Rattle.std.specs.Prelude.{◌≡◌, map, IfOk, MatchOption};
-ghost use Rattle.qu_script.specs.Injecting.{inject_of, source_of, how_of, some_replicas, good_of, fake_of};
+ghost use Rattle.qu_script.specs.Injecting.{inject_of, source_of, how_of, some_replicas, good_of, fake_line};
 
 use super::cut::next_word;
 use super::hexadecimal::read_bytes;
@@ -27,9 +27,9 @@ pub fn read_inject(alloc: Global, setup: &Setup, words: &[&[u8]]) -> Result<Opti
 }
 
 /// `R C HOW` or `R C HOW for R R ..`.
-#[tactic(auto, unfolding(crate::specs::Injecting::fake_of))]
+#[tactic(auto, unfolding(crate::specs::Injecting::fake_line))]
 pub fn read_fake(alloc: Global, setup: &Setup, words: &[&[u8]]) -> Result<Option<Line>, NoMemory>
-    ensures { IfOk result (λ line. line ≡ fake_of setup.now (map (λ word. word.now) words.now)) }
+    ensures { IfOk result (λ line. line ≡ fake_line setup.now (map (λ word. word.now) words.now)) }
 {
     let [replica, client, rest @ ..] = words else {
         return Ok(None);

@@ -2,7 +2,7 @@ ghost use Rattle.std.specs.Prelude.{◌≡◌, ◌+◌, ◌≤◌, [], length, m
 ghost use Rattle.std.specs.List.{list_all};
 ghost use Rattle.qu_trace.specs.Faulty.{is_replica};
 ghost use Rattle.qu_script.specs.Text.{lines_of};
-ghost use Rattle.qu_script.specs.Liars.{is_before, has_room, may_follow, liar_of, liars_from};
+ghost use Rattle.qu_script.specs.Liars.{is_party_before, has_room, may_follow, liar_of, liars_from};
 
 use super::cut::{cut_line, cut_words};
 use super::parties::read_party;
@@ -65,9 +65,9 @@ fn may_follow(bounds: &Bounds, liars: &[Party], who: Party) -> bool
 
 /// Whether all these stand before a party in the lines of a setup.
 fn stand_before(liars: &[Party], who: Party) -> bool
-    ensures { result ≡ list_all (λ liar. is_before liar who) liars.now }
+    ensures { result ≡ list_all (λ liar. is_party_before liar who) liars.now }
 {
-    liars.iter().all(|liar| is_before(*liar, who))
+    liars.iter().all(|liar| is_party_before(*liar, who))
 }
 
 /// Whether fewer replicas are listed than may lie, where the party is a replica.
@@ -81,8 +81,8 @@ fn has_room(bounds: &Bounds, liars: &[Party], who: Party) -> bool
 }
 
 /// Whether the one stands before the other in the lines of a setup.
-fn is_before(one: Party, other: Party) -> bool
-    ensures { result ≡ is_before one other }
+fn is_party_before(one: Party, other: Party) -> bool
+    ensures { result ≡ is_party_before one other }
 {
     match (one, other) {
         (Party::Replica(one), Party::Replica(other)) => one.0 < other.0,

@@ -1,5 +1,5 @@
 ghost use Rattle.std.specs.Prelude.{◌≡◌, map, IfOk};
-ghost use Rattle.qu_script.specs.Parties.{replica_in, client_in, correct_replica, correct_client, party_in, replicas_of};
+ghost use Rattle.qu_script.specs.Parties.{replica_in, client_in, correct_replica_in, correct_client_in, party_in, replicas_of};
 
 use super::numbers::read_number_in;
 use qu_base::{Bounds, ClientId, List, NoMemory, Party, ReplicaId};
@@ -24,7 +24,7 @@ pub fn read_client(clients: u16, word: &[u8]) -> Option<ClientId>
 
 /// A correct replica.
 pub fn read_correct_replica(setup: &Setup, word: &[u8]) -> Option<ReplicaId>
-    ensures { result ≡ correct_replica setup.now word.now }
+    ensures { result ≡ correct_replica_in setup.now word.now }
 {
     let me = read_replica(&setup.bounds, word)?;
     if setup.is_faulty(Party::Replica(me)) {
@@ -36,7 +36,7 @@ pub fn read_correct_replica(setup: &Setup, word: &[u8]) -> Option<ReplicaId>
 
 /// A correct client.
 pub fn read_correct_client(setup: &Setup, word: &[u8]) -> Option<ClientId>
-    ensures { result ≡ correct_client setup.now word.now }
+    ensures { result ≡ correct_client_in setup.now word.now }
 {
     let me = read_client(setup.clients, word)?;
     if setup.is_faulty(Party::Client(me)) {

@@ -2,7 +2,7 @@ ghost use Rattle.std.specs.Prelude.{◌≡◌, IfOk};
 ghost use Rattle.qu_world.specs.State.{opening_world};
 ghost use Rattle.qu_world.specs.Run.{IsRun, IsSetup, trace_of};
 ghost use Rattle.qu_script.specs.Events.{event_made, deliveries_made, flow_made, fake_made, line_made, lines_made, lowest_waiting, MakesWorld};
-ghost use Rattle.qu_script.specs.Player.{told_of};
+ghost use Rattle.qu_script.specs.Player.{world_fail_at};
 
 use super::fake::fake;
 use super::waiting::find_waiting;
@@ -149,7 +149,7 @@ impl Player {
 
 /// What is wrong with the line whose event does not happen for this.
 fn fail_of(line: u64, fail: WorldFail) -> ScriptFail
-    ensures { result ≡ told_of line fail }
+    ensures { result ≡ world_fail_at line fail }
 {
     let kind = match fail {
         WorldFail::NoSuchLetter(_) => BadKind::NoSuchLetter,

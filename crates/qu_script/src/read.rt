@@ -3,7 +3,7 @@ ghost use Rattle.qu_base.specs.declared.limits.TheConstants.{LAST_CLIENT, MOST_F
 ghost use Rattle.qu_trace.specs.Faulty.{is_replica};
 ghost use Rattle.qu_script.specs.Grammar.{IsInRange};
 ghost use Rattle.qu_script.specs.Text.{lines_of};
-ghost use Rattle.qu_script.specs.Script.{Gives, expect, lines_from, script_from, script_of, setup_of};
+ghost use Rattle.qu_script.specs.Script.{IsAsMeant, expect, lines_from, script_from, script_of, setup_of};
 ghost use Rattle.qu_world.specs.Run.{IsSetup};
 
 use super::call::read_event;
@@ -34,7 +34,8 @@ fn expect_setup(
     number: u64,
     text: &[u8],
 ) -> Result<(u64, &[u8]), ScriptFail>
-    ensures found { Gives (λ found. (found.0, lines_of found.1.now)) result (expect line number (lines_of text.now)) }
+    ensures found { IsAsMeant (λ found. (found.0, lines_of found.1.now)) result (expect line number (lines_of
+        text.now)) }
     ensures in_range { IfOk result (λ found. IsInRange line found.0) }
     ensures shorter { IfOk result (λ found. length found.1.now ≤ length text.now) }
 {
@@ -57,7 +58,7 @@ fn read_lines(
     text: &[u8],
 ) -> Result<List<(u64, Line)>, ScriptFail>
     requires { first + length text.now < 2 ^ 62 }
-    ensures { Gives (λ lines. lines) result (lines_from setup.now first (lines_of text.now)) }
+    ensures { IsAsMeant (λ lines. lines) result (lines_from setup.now first (lines_of text.now)) }
 {
     let mut lines = List::new(alloc);
     let mut number = first;
@@ -81,7 +82,7 @@ fn read_lines(
 /// setup line that is missing at the end counts as one.
 #[tactic(auto, unfolding(crate::specs::Script::script_of, crate::specs::Script::script_from))]
 pub fn read_script(alloc: Global, text: &[u8]) -> Result<Script, ScriptFail>
-    ensures value { Gives (λ script. script) result (script_of text.now) }
+    ensures value { IsAsMeant (λ script. script) result (script_of text.now) }
     ensures limits { IfOk result (λ script. IsSetup script.setup) }
 {
     if text.len() > SCRIPT_LIMIT {

@@ -1,6 +1,6 @@
 ghost use Rattle.std.specs.Prelude.{◌≡◌, IfOk};
 ghost use Rattle.qu_world.specs.Run.{IsRun, IsSetup};
-ghost use Rattle.qu_script.specs.Script.{Gives};
+ghost use Rattle.qu_script.specs.Script.{IsAsMeant};
 ghost use Rattle.qu_script.specs.Events.{run_of};
 
 use super::player::Player;
@@ -15,7 +15,7 @@ use std::alloc::Global;
 #[tactic(auto, unfolding(crate::specs::Events::run_of))]
 pub fn run_script(alloc: Global, script: &Script) -> Result<Trace, ScriptFail>
     requires { IsSetup script.now.setup }
-    ensures value { Gives (λ trace. trace) result (run_of script.now) }
+    ensures value { IsAsMeant (λ trace. trace) result (run_of script.now) }
     ensures run { IfOk result IsRun }
 {
     let setup = script.setup.copy(alloc)?;

@@ -2,7 +2,7 @@ ghost use Rattle.std.specs.Prelude.{◌≡◌, length, IfOk};
 ghost use Rattle.qu_trace.specs.Letters.{letters_of};
 ghost use Rattle.qu_world.specs.State.{numbered};
 ghost use Rattle.qu_world.specs.Step.{is_to_faulty};
-ghost use Rattle.qu_script.specs.Events.{delivers, is_delivered, is_passed, waiting_from};
+ghost use Rattle.qu_script.specs.Events.{delivers, is_delivered, is_passed_over, waiting_from};
 ghost use Rattle.qu_script.specs.Player.{MayBeginAt};
 
 use qu_base::NoMemory;
@@ -26,7 +26,7 @@ pub fn find_waiting(
 {
     let mut next = from;
     'search: while letter_at(entries, next).is_some() {
-        if !is_passed(setup, entries, next) {
+        if !is_passed_over(setup, entries, next) {
             return Ok((next, Some(next)));
         }
         next = next.checked_add(1).ok_or(NoMemory)?;
@@ -35,8 +35,8 @@ pub fn find_waiting(
 }
 
 /// Whether the letter goes to a faulty party, or an event has delivered it.
-fn is_passed(setup: &Setup, entries: &[Entry], letter: u64) -> bool
-    ensures { result ≡ is_passed setup.now entries.now letter }
+fn is_passed_over(setup: &Setup, entries: &[Entry], letter: u64) -> bool
+    ensures { result ≡ is_passed_over setup.now entries.now letter }
 {
     is_to_faulty(setup, entries, letter) || was_delivered(entries, letter)
 }

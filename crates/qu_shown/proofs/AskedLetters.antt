@@ -23,9 +23,9 @@ use Rattle.qu_claims.specs.Carried.{handed, Brings, Asks}
 use Rattle.qu_runs.specs.Plain.{ArePlain}
 use Rattle.qu_claims.specs.Premises.{HasSent, AreUnforged}
 use Rattle.qu_claims.specs.Times.{world_after}
-use Rattle.qu_runs.proofs.Carrying.{brings_decoded}
-use Rattle.qu_runs.proofs.OpeningReplicas.{keys_are, me_is}
-use Rattle.qu_runs.proofs.Plain.{setup_after}
+use Rattle.qu_runs.proofs.Fits.Carrying.{brings_decoded}
+use Rattle.qu_runs.proofs.Worlds.OpeningReplicas.{keys_are, me_is}
+use Rattle.qu_runs.proofs.Digests.Plain.{setup_after}
 
 -- a letter that was sent by then asks for this
 pub record AskedBy (trace : Trace) (time : ℕ) (client : ClientId) (number round : ℕ) (sets : List SetOf)

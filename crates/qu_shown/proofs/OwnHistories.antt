@@ -17,11 +17,11 @@ use Rattle.qu_rows.specs.declared.decision.Accepted.{Accepted}
 use Rattle.qu_rows.specs.declared.decision.Decision.{Decision}
 use Rattle.qu_rows.specs.declared.decision.Decision.TheVariants.{Answers, Waits}
 use Rattle.qu_rows.specs.State.{ReplicaState}
-use Rattle.qu_replica.specs.State.{with_candidate, accept, accept_all, opening_state}
+use Rattle.qu_replica.specs.State.{with_candidate, accept, accept_all, replica_at_start}
 use Rattle.qu_rows.specs.Rows.{asked_at, decision_on}
-use Rattle.qu_replica.specs.Step.{carried_out, on_frame, on_received, replica_step}
+use Rattle.qu_replica.specs.Step.{carried_out, replica_on_frame, replica_on_received, replica_step}
 use Rattle.qu_rows.proofs.Own.{IsOwn, own_history}
-use Rattle.qu_replica.proofs.Own.{opening-histories}
+use Rattle.qu_replica.proofs.States.Own.{opening-histories}
 use Rattle.qu_world.specs.State.{WorldState, opening_replicas, history_at}
 use Rattle.qu_world.proofs.Each.{set_cases}
 use Rattle.qu_frames.specs.Signing.{brought}
@@ -101,14 +101,14 @@ carried_out-in_place place state client number round sets (Answers verdict accep
 carried_out-in_place place state client number round sets Waits in_place = in_place
 
 frame-in_place : (place : ℕ) (state : ReplicaState) (received : Frame) → IsInPlace place state
-    → IsInPlace place (on_frame state received).0
+    → IsInPlace place (replica_on_frame state received).0
 frame-in_place place state (frame.Request client number round sets body mac) in_place =
     carried_out-in_place place state client number round sets
     (decision_on state (asked_at state client number sets body) body) in_place
 frame-in_place place state _ in_place = in_place
 
 brought-in_place : (place : ℕ) (state : ReplicaState) (found : Option Frame) → IsInPlace place state
-    → IsInPlace place (on_received state found).0
+    → IsInPlace place (replica_on_received state found).0
 brought-in_place place state (Some taken) in_place = frame-in_place place state taken in_place
 brought-in_place place state None in_place = in_place
 
@@ -120,11 +120,11 @@ step-in_place place state text in_place =
 -- ---- all replicas of a world
 
 opening-in_place : (me : ReplicaId) (keys : Ring) (kinds : List KindName)
-    → IsInPlace me.0 (opening_state me keys kinds)
+    → IsInPlace me.0 (replica_at_start me keys kinds)
 opening-in_place me keys kinds = record {
   me = refl;
   own = λ place history found.
-      let own : IsOwn me place history = own_history (opening_state me keys kinds) place history
+      let own : IsOwn me place history = own_history (replica_at_start me keys kinds) place history
       (opening-histories me keys kinds) found in
       record { object = own.object; replica = own.replica };
 }

@@ -34,15 +34,15 @@ use Rattle.qu_client.specs.declared.kept.Mark.TheVariants.{Unshown}
 use Rattle.qu_client.specs.declared.work.Work.{Work}
 use Rattle.qu_client.specs.declared.state.ClientState.{ClientState}
 use Rattle.qu_client.specs.declared.state.Stepped.{Stepped}
-use Rattle.qu_client.specs.State.{opening_state, is_older, same_source, keep, keep_all}
+use Rattle.qu_client.specs.State.{client_at_start, is_older, same_source, keep, keep_all}
 use Rattle.qu_client.specs.Rounds.{sets_of, request_of, requests_from, asked}
-use Rattle.qu_client.specs.Steps.{goes_on, counted_in, on_frame, on_received, client_step, client_invoke}
+use Rattle.qu_client.specs.Steps.{goes_on, counted_in, client_on_frame, client_on_received, client_step, client_invoke}
 use Rattle.qu_client.proofs.Marks.{IsRemarked, each_remarked}
 use Rattle.qu_client.proofs.Cases.{counted_cases, invoke_cases}
 use Rattle.qu_runs.specs.Plain.{HasOpParts}
 use Rattle.qu_claims.specs.Carried.{Carries}
 use Rattle.qu_world.proofs.Each.{each_weaker}
-use Rattle.qu_runs.proofs.Carrying.{AsksFit, AnswersFit, signed_carries}
+use Rattle.qu_runs.proofs.Fits.Carrying.{AsksFit, AnswersFit, signed_carries}
 use Rattle.qu_frames.specs.Signing.{brought, signed}
 use Rattle.qu_seal.specs.Keys.{Ring}
 use Rattle.qu_frames.proofs.Signed.{brought_is_decoded}
@@ -232,8 +232,8 @@ module _ (Held : Sealed → Type 0) (bounds : ℕ) where
       })
 
   client_frame-true : (state : ClientState) (received : Frame) → ShowsHeld Held received
-      → IsTrueClient Held bounds state → AsksFit (on_frame state received).state
-      → IsTrueStep Held bounds (on_frame state received)
+      → IsTrueClient Held bounds state → AsksFit (client_on_frame state received).state
+      → IsTrueStep Held bounds (client_on_frame state received)
   client_frame-true state (frame.Reply replica client number round verdict culled shown mac) true_frame client_is fits =
       let kept : List Kept = keep_all number round shown state.kept in
       cond_both _ _ _ (λ stepped. AsksFit stepped.state → IsTrueStep Held bounds stepped)
@@ -248,7 +248,7 @@ module _ (Held : Sealed → Type 0) (bounds : ℕ) where
 
   client_brought-true : (state : ClientState) (found : Option Frame)
       → ((sent : Frame) → found ≡ Some sent → ShowsHeld Held sent) → IsTrueClient Held bounds state
-      → AsksFit (on_received state found).state → IsTrueStep Held bounds (on_received state found)
+      → AsksFit (client_on_received state found).state → IsTrueStep Held bounds (client_on_received state found)
   client_brought-true state (Some taken) true_frame client_is fits =
       client_frame-true state taken (true_frame taken refl) client_is fits
   client_brought-true state None true_frame client_is fits = record { state = client_is; letters = tt }
@@ -276,7 +276,7 @@ module _ (Held : Sealed → Type 0) (bounds : ℕ) where
       })
 
   pub opening-true : (me : ClientId) (keys : Ring) → keys.bounds ≡ bounds
-      → IsTrueClient Held bounds (opening_state me keys)
+      → IsTrueClient Held bounds (client_at_start me keys)
   opening-true me keys same = record { bounds_are = same; kept = tt; work = tt }
 
 -- ---- the steps of a replica
@@ -329,8 +329,8 @@ module _ (Held : Sealed → Type 0) (bounds : ℕ) where
 
   -- a replica answers with histories that it has after its step
   replica_frame-true : (state : ReplicaState) (received : Frame) → AnswersFit state received
-      → HasHeld (replica.on_frame state received).0
-      → AllByRecursion (IsTrueLetter Held bounds) (replica.on_frame state received).1
+      → HasHeld (replica.replica_on_frame state received).0
+      → AllByRecursion (IsTrueLetter Held bounds) (replica.replica_on_frame state received).1
   replica_frame-true state (frame.Request client number round sets body mac) fits has =
       carried_out-true state client number round sets (decision_on state (asked_at state client number sets body) body)
       fits has
@@ -338,8 +338,8 @@ module _ (Held : Sealed → Type 0) (bounds : ℕ) where
 
   replica_brought-true : (state : ReplicaState) (found : Option Frame)
       → ((sent : Frame) → found ≡ Some sent → AnswersFit state sent)
-      → HasHeld (replica.on_received state found).0
-      → AllByRecursion (IsTrueLetter Held bounds) (replica.on_received state found).1
+      → HasHeld (replica.replica_on_received state found).0
+      → AllByRecursion (IsTrueLetter Held bounds) (replica.replica_on_received state found).1
   replica_brought-true state (Some taken) fits has = replica_frame-true state taken (fits taken refl) has
   replica_brought-true state None fits has = tt
 

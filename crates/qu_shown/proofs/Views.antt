@@ -38,16 +38,16 @@ use Rattle.qu_claims.specs.Carried.{Carries, Asks}
 use Rattle.qu_claims.specs.Times.{world_after}
 use Rattle.qu_shown.specs.Views.{WasHeld, IsOfKept, HeldIfCorrect}
 use Rattle.qu_runs.specs.Plain.{IsPlain, ArePlain, IsOfFaulty}
-use Rattle.qu_runs.proofs.WorldGrowth.{world_after-none, world_after-next}
+use Rattle.qu_runs.proofs.Worlds.WorldGrowth.{world_after-none, world_after-next}
 use Rattle.qu_world.proofs.Each.{each_append, each_numbered, each_with_numbered, set_here}
 use Rattle.qu_shown.proofs.OwnHistories.{IsInPlace, AreInPlace, step-in_place, opening-all_in_place, set-in_place, found_where_named}
 use Rattle.qu_shown.proofs.TrueLetters.{IsMadeOf, IsTrueFrame, IsTrueLetter, IsTrueClient, IsTrueStep, letters-more, clients-more, client_step-true, client_invoke-true, opening-true, replica_step-true, ShowsHeld, shows_held}
 use Rattle.qu_runs.proofs.Small.{some_entry}
-use Rattle.qu_runs.proofs.Carrying.{AsksFit, AnswersFit, IsFitStep, numbered_here}
-use Rattle.qu_runs.proofs.Fitting.{fit_step}
+use Rattle.qu_runs.proofs.Fits.Carrying.{AsksFit, AnswersFit, IsFitStep, numbered_here}
+use Rattle.qu_runs.proofs.Fits.Fitting.{fit_step}
 use Rattle.qu_seal.specs.Keys.{Ring}
-use Rattle.qu_runs.proofs.Handing.{injected_cases}
-use Rattle.qu_history.specs.Formats.{shown_by, shown_form, next_object}
+use Rattle.qu_runs.proofs.Events.Handing.{injected_cases}
+use Rattle.qu_history.specs.Formats.{sealed_from, shown_form, object_after}
 use Rattle.qu_trace.specs.Faulty.{is_good, is_faulty}
 use Rattle.qu_frames.specs.Formats.{frame_form, kind_form, reply_frame}
 use Rattle.qu_base.specs.Format.{FitsFrom}
@@ -55,7 +55,7 @@ use Rattle.std.proofs.lemmas.Bool.{eqb-true, false≢true}
 use Rattle.qu_frames.specs.Signing.{sender}
 use Rattle.qu_frames.proofs.Signed.{brought_is_decoded}
 use Rattle.qu_frames.proofs.Decoded.{decoded_is_spelled}
-use Rattle.qu_runs.proofs.Plain.{setup_after}
+use Rattle.qu_runs.proofs.Digests.Plain.{setup_after}
 
 -- each history in a letter or with a client was held, and what the replicas have is in its place
 pub record IsTrueWorld (Held : Sealed → Type 0) (bounds : ℕ) (world : WorldState) : Type 0 where
@@ -242,19 +242,19 @@ true-later : (trace : Trace) (count later : ℕ) (sealed : Sealed) → count ≤
 true-later trace count later sealed order was = λ good. held-later trace count later sealed.history order (was good)
 
 -- each history of a reply is of the replica that it is from
-own_history : (replica : ReplicaId) (least : ℕ) (sealed : Sealed) → (shown_by replica least).Fits sealed
+own_history : (replica : ReplicaId) (least : ℕ) (sealed : Sealed) → (sealed_from replica least).Fits sealed
     → ((sealed.history).replica).0 ≡ replica.0
-unfolding shown_by
+unfolding sealed_from
 own_history replica least sealed fits = eqb-true _ _ fits.0.1.0.1
 
 own_histories : (trace : Trace) (count : ℕ) (replica : ReplicaId) → is_good trace.setup replica.0 ≡ false
-    → (least : ℕ) (shown : List Sealed) → FitsFrom (shown_by replica) next_object least shown
+    → (least : ℕ) (shown : List Sealed) → FitsFrom (sealed_from replica) object_after least shown
     → AllByRecursion (IsTrueOf trace count) shown
 own_histories trace count replica faulty least [] fits = tt
 own_histories trace count replica faulty least (sealed ∷ later) fits = (
   λ good. absurd (false≢true (sym faulty
       ∙ ap (is_good trace.setup) (sym (own_history replica least sealed fits.0)) ∙ good)),
-  own_histories trace count replica faulty (next_object sealed) later fits.1,
+  own_histories trace count replica faulty (object_after sealed) later fits.1,
 )
 
 -- what a faulty replica shows are no histories of correct ones

@@ -16,20 +16,20 @@ abbrev pub same_bytes : List ℕ → List ℕ → Bool
 same_bytes text other = pointwise nat_eq text other
 
 -- how many replicas gave exactly this answer
-abbrev pub identical : List ℕ → Answers → ℕ
-identical text answers = count_of same_bytes text answers.votes
+abbrev pub identical_answers : List ℕ → Answers → ℕ
+identical_answers text answers = count_of same_bytes text answers.votes
 
 -- the answer is the first of its replica, and the last of the identical ones that are needed
 abbrev pub completes : Answers → ReplicaId → List ℕ → Bool
 completes answers replica text =
-    not (has_voted replica answers.votes) && (identical text answers + 1 == answers.need)
+    not (has_voted replica answers.votes) && (identical_answers text answers + 1 == answers.need)
 
 -- what the answer brings
 abbrev pub fetched : Answers → ReplicaId → List ℕ → Fetch
 fetched answers replica text = if completes answers replica text then Found text else Still
 
 -- the answers with this one; only the first of a replica is kept
-abbrev pub answered : Answers → ReplicaId → List ℕ → Answers
-answered answers replica text =
+abbrev pub with_answer : Answers → ReplicaId → List ℕ → Answers
+with_answer answers replica text =
     if has_voted replica answers.votes then answers
     else record answers { votes = answers.votes ++ record { replica = replica; value = text } ∷ [] }

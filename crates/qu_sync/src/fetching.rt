@@ -1,7 +1,7 @@
 ghost use Rattle.std.specs.Prelude.{◌≡◌, ◌<◌, ◌+◌, ℕ, List as Sequence, [], ◌∷◌, ◌++◌, IsTrue, false, Ok, IfOk, OnOk, OnErr};
 ghost use Rattle.qu_base.specs.declared.limits.TheConstants.{REPLICA_IDS};
 ghost use Rattle.qu_vote.specs.Tally.{has_voted, count_of};
-ghost use Rattle.qu_sync.specs.Fetching.{same_bytes, identical, fetched, answered};
+ghost use Rattle.qu_sync.specs.Fetching.{same_bytes, identical_answers, fetched, with_answer};
 
 use qu_base::{List, NoMemory, ReplicaId};
 use qu_vote::Tally;
@@ -63,8 +63,8 @@ impl Fetching {
         requires { replica.0 < REPLICA_IDS }
         ensures fetched { IfOk result (λ fetch. fetch ≡ fetched self.old replica text) }
         ensures enough { (given : Sequence ℕ) → result ≡ Ok (Fetch.Found given)
-            → (given ≡ text) × (identical text self.new ≡ self.old.need) }
-        ensures answered { OnOk result (self.new ≡ answered self.old replica text) }
+            → (given ≡ text) × (identical_answers text self.new ≡ self.old.need) }
+        ensures with_answer { OnOk result (self.new ≡ with_answer self.old replica text) }
         ensures twice { IsTrue (has_voted replica self.old.votes) → result ≡ Ok Fetch.Still }
         ensures err { OnErr result (self.new ≡ self.old) }
     {

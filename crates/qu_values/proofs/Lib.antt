@@ -1,14 +1,4 @@
-pub mod ClientFacts
-pub mod SentRequests
-pub mod FitActs
-pub mod OneAct
-pub mod EverAccepted
-pub mod Updates
-pub mod Values
-pub mod BegunVersions
-pub mod StoredValues
-pub mod UpdateFacts
-pub mod RisingNumbers
-pub mod PerformedUpdates
-pub mod UpdatesOfRuns
 pub mod MachineValues
+pub mod Versions
+pub mod Updating
+pub mod Requests

@@ -11,19 +11,19 @@ use Rattle.qu_objects.specs.declared.kind.KindName.{KindName}
 use Rattle.qu_objects.specs.declared.state.ObjState.{ObjState}
 use Rattle.qu_versions.specs.declared.stored.Stored.{Stored}
 use Rattle.qu_objects.specs.Kind.{opening_version}
-use Rattle.qu_versions.specs.Versions.{is_same_key, is_stored, state_at, with_state, Grows, opening_versions, opening_at}
+use Rattle.qu_versions.specs.Versions.{is_same_key, is_state_at, state_at, with_state, KeepsVersions, opening_store, opening_at}
 
 -- ---- the version under a key is that of the first such entry
 
 pub state_at-find : (object : ObjectId) (stamp : Stamp) (versions : List Stored)
     → state_at object stamp versions ≡ option_map (λ (held : Stored). held.state)
-    (find (is_stored object stamp) versions)
+    (find (is_state_at object stamp) versions)
 unfolding state_at
 state_at-find object stamp [] = refl
 state_at-find object stamp (held ∷ later) =
-    elim (is_stored object stamp held)
+    elim (is_state_at object stamp held)
     as (λ (test : Bool). cond test (Some held.state) (state_at object stamp later) ≡ option_map
-    (λ (it : Stored). it.state) (cond test (Some held) (find (is_stored object stamp) later))) [
+    (λ (it : Stored). it.state) (cond test (Some held) (find (is_state_at object stamp) later))) [
       | true ↦ refl
       | false ↦ state_at-find object stamp later
     ]
@@ -35,13 +35,13 @@ pub ruleset finds = (state_at-find)
 -- behind all others
 state_at-push : (object : ObjectId) (stamp : Stamp) (versions : List Stored) (more : Stored)
     → state_at object stamp (versions ++ more ∷ []) ≡ option_or (state_at object stamp versions)
-    (if is_stored object stamp more then Some more.state else None)
+    (if is_state_at object stamp more then Some more.state else None)
 unfolding state_at
 state_at-push object stamp [] more = refl
 state_at-push object stamp (held ∷ later) more =
-    elim (is_stored object stamp held)
+    elim (is_state_at object stamp held)
     as (λ (test : Bool). cond test (Some held.state) (state_at object stamp (later ++ more ∷ [])) ≡ option_or
-    (cond test (Some held.state) (state_at object stamp later)) (if is_stored object stamp more then Some more.state
+    (cond test (Some held.state) (state_at object stamp later)) (if is_state_at object stamp more then Some more.state
     else None)) [
       | true ↦ refl
       | false ↦ state_at-push object stamp later more
@@ -55,7 +55,7 @@ pub state_at-append : (object : ObjectId) (stamp : Stamp) (versions more : List 
 unfolding state_at
 state_at-append object stamp [] more = refl
 state_at-append object stamp (held ∷ later) more =
-    elim (is_stored object stamp held)
+    elim (is_state_at object stamp held)
     as (λ (test : Bool). cond test (Some held.state) (state_at object stamp (later ++ more)) ≡ option_or
     (cond test (Some held.state) (state_at object stamp later)) (state_at object stamp more)) [
       | true ↦ refl
@@ -67,7 +67,7 @@ pub append_held : (object : ObjectId) (stamp : Stamp) (versions more new : List 
 append_held object stamp versions more new is =
     ap (state_at object stamp) is ∙ state_at-append object stamp versions more
 
-pub append_grows : (versions more new : List Stored) → new ≡ versions ++ more → Grows versions new
+pub append_grows : (versions more new : List Stored) → new ≡ versions ++ more → KeepsVersions versions new
 append_grows versions more new is object stamp state found =
     append_held object stamp versions more new is ∙ (rw found refl)
 
@@ -118,14 +118,14 @@ put_other object stamp versions new state other at differs is =
     ∙ put_other_as (state_at object stamp versions) object stamp versions state other at refl differs
 
 put_grows_as : (found : Option ObjState) (object : ObjectId) (stamp : Stamp) (versions : List Stored) (state : ObjState)
-    → state_at object stamp versions ≡ found → Grows versions (with_state object stamp state versions)
+    → state_at object stamp versions ≡ found → KeepsVersions versions (with_state object stamp state versions)
 put_grows_as (Some held) object stamp versions state is other at given found =
     put_found (Some held) object stamp versions state other at is ∙ found
 put_grows_as None object stamp versions state is other at given found =
     put_found None object stamp versions state other at is ∙ (rw found refl)
 
 pub put_grows : (object : ObjectId) (stamp : Stamp) (versions new : List Stored) (state : ObjState)
-    → new ≡ with_state object stamp state versions → Grows versions new
+    → new ≡ with_state object stamp state versions → KeepsVersions versions new
 put_grows object stamp versions new state is other at given found =
     ap (state_at other at) is
     ∙ put_grows_as (state_at object stamp versions) object stamp versions state refl other at given found
@@ -134,8 +134,8 @@ put_grows object stamp versions new state is other at given found =
 
 -- no object below the first one
 none_below : (object : ObjectId) (stamp : Stamp) (first : ℕ) (kinds : List KindName) → object.0 < first
-    → state_at object stamp (opening_versions first kinds) ≡ None
-unfolding state_at opening_versions
+    → state_at object stamp (opening_store first kinds) ≡ None
+unfolding state_at opening_store
 none_below object stamp first [] below = refl
 none_below object stamp first (kind ∷ kinds) below =
     let differs : (first == object.0) ≡ false = grind (arith, nat_tests) in
@@ -144,9 +144,9 @@ none_below object stamp first (kind ∷ kinds) below =
 -- an object that was passed, or that comes at once
 opened_from : (object : ObjectId) (stamp : Stamp) (first place : ℕ) (kinds : List KindName)
     → object.0 ≡ first + place
-    → state_at object stamp (opening_versions first kinds) ≡
+    → state_at object stamp (opening_store first kinds) ≡
     (if same_stamp opening_stamp stamp then option_map opening_version (slice_get kinds place) else None)
-unfolding state_at opening_versions
+unfolding state_at opening_store
 opened_from object stamp first place [] is =
     elim (same_stamp opening_stamp stamp)
     as (λ (test : Bool). None ≡ (if test then option_map opening_version None else None)) [
@@ -155,9 +155,10 @@ opened_from object stamp first place [] is =
     ]
 opened_from object stamp first zero (kind ∷ kinds) is =
     let same : (first == object.0) ≡ true = grind (arith, nat_tests) in
-    let later : Option ObjState = state_at object stamp (opening_versions (first + 1) kinds) in
+    let later : Option ObjState = state_at object stamp (opening_store (first + 1) kinds) in
     rw same (elim (same_stamp opening_stamp stamp)
-    as (λ (test : Bool). cond test (Some (opening_version kind)) later ≡ (if test then Some (opening_version kind) else None)) [
+    as (λ (test : Bool). cond test (Some (opening_version kind)) later
+    ≡ (if test then Some (opening_version kind) else None)) [
       | true ↦ refl
       | false ↦ none_below object stamp (first + 1) kinds (omega arith)
     ])
@@ -166,5 +167,5 @@ opened_from object stamp first (suc place) (kind ∷ kinds) is =
     rw differs (opened_from object stamp (first + 1) place kinds (omega arith))
 
 pub opened : (object : ObjectId) (stamp : Stamp) (kinds : List KindName)
-    → state_at object stamp (opening_versions 0 kinds) ≡ opening_at kinds object stamp
+    → state_at object stamp (opening_store 0 kinds) ≡ opening_at kinds object stamp
 opened object stamp kinds = opened_from object stamp 0 object.0 kinds (omega arith)

@@ -4,7 +4,7 @@ ghost use Rattle.qu_base.specs.declared.limits.TheConstants.{OBJECT_IDS};
 ghost use Rattle.qu_base.specs.declared.party.ObjectId.{ObjectId as Object};
 ghost use Rattle.qu_stamp.specs.declared.stamp.Stamp.{Stamp as AStamp};
 ghost use Rattle.qu_versions.specs.declared.limits.TheConstants.{MOST_VERSIONS};
-ghost use Rattle.qu_versions.specs.Versions.{is_stored, is_same_key, state_at, is_held, with_state, opening_versions, opening_at, Grows};
+ghost use Rattle.qu_versions.specs.Versions.{is_state_at, is_same_key, state_at, has_state, with_state, opening_store, opening_at, KeepsVersions};
 
 use super::{MOST_VERSIONS, Prepared, Stored};
 use qu_base::{List, NoMemory, ObjectId};
@@ -36,7 +36,7 @@ impl VersionStore {
     #[tactic(auto, using(crate::proofs::Lookup::opened))]
     pub fn fresh(alloc: Global, kinds: &[KindName]) -> Result<VersionStore, NoMemory>
         requires { length kinds.now ≤ OBJECT_IDS }
-        ensures value { IfOk result (λ store. store ≡ opening_versions 0 kinds.now) }
+        ensures value { IfOk result (λ store. store ≡ opening_store 0 kinds.now) }
         ensures opening { (object : Object) (stamp : AStamp)
             → IfOk result (λ store. state_at object stamp store ≡ opening_at kinds.now object stamp) }
     {
@@ -52,7 +52,7 @@ impl VersionStore {
             (state_at object stamp self.new ≡ option_or (state_at object stamp self.old) (Some state)) }
         ensures others { (other : Object) (at : AStamp) → is_same_key object stamp other at ≡ false
             → OnOk result (state_at other at self.new ≡ state_at other at self.old) }
-        ensures grows { OnOk result (Grows self.old self.new) }
+        ensures grows { OnOk result (KeepsVersions self.old self.new) }
         ensures err { OnErr result (self.new ≡ self.old) }
     {
         self.hold(object, stamp, state)
@@ -88,7 +88,7 @@ impl VersionStore {
         ensures value { self.new ≡ self.old ++ prepared }
         ensures held { (object : Object) (at : AStamp) → state_at object at self.new
             ≡ option_or (state_at object at self.old) (state_at object at prepared) }
-        ensures grows { Grows self.old self.new }
+        ensures grows { KeepsVersions self.old self.new }
     {
         self.join(prepared)
     }
@@ -113,7 +113,7 @@ impl VersionStore {
 
     /// Those of the keys under which no version is held, in their order.
     pub fn missing(&self, keys: &[(ObjectId, Stamp)]) -> Result<List<(ObjectId, Stamp)>, NoMemory>
-        ensures { IfOk result (λ missing. missing ≡ filter (λ key. not (is_held key.0 key.1 self.now)) keys.now) }
+        ensures { IfOk result (λ missing. missing ≡ filter (λ key. not (has_state key.0 key.1 self.now)) keys.now) }
     {
         let mut missing = List::new(self.alloc);
         for key in keys {
@@ -129,7 +129,7 @@ impl VersionStore {
 #[tactic(auto, using(crate::proofs::Opening::opening_laws))]
 fn opening(alloc: Global, kinds: &[KindName]) -> Result<LinkedList<Stored>, NoMemory>
     requires { length kinds.now ≤ OBJECT_IDS }
-    ensures { IfOk result (λ versions. versions ≡ opening_versions 0 kinds.now) }
+    ensures { IfOk result (λ versions. versions ≡ opening_store 0 kinds.now) }
 {
     let mut versions = LinkedList::new(alloc);
     for (number, kind) in kinds.iter().enumerate() {
@@ -169,7 +169,7 @@ fn first_stored<'a>(
     object: ObjectId,
     stamp: &Stamp,
 ) -> Option<&'a Stored>
-    ensures { option_copied result ≡ find (is_stored object stamp.now) versions.now }
+    ensures { option_copied result ≡ find (is_state_at object stamp.now) versions.now }
 {
     versions
         .iter()

@@ -4,6 +4,6 @@ use Rattle.qu_vote.specs.declared.refusal_number.TheConstants.{TWICE}
 use Rattle.qu_vote.specs.declared.tally.VoteFail.{VoteFail}
 use Rattle.qu_vote.specs.declared.tally.VoteFail.TheVariants.{Twice, NoMemory}
 
-abbrev pub refusal_number : VoteFail → Option ℕ
-refusal_number (Twice replica) = Some TWICE
-refusal_number NoMemory = None
+abbrev pub vote_fail_number : VoteFail → Option ℕ
+vote_fail_number (Twice replica) = Some TWICE
+vote_fail_number NoMemory = None

@@ -6,11 +6,11 @@ use super::VoteFail;
 pub const TWICE: u8 = 2;
 
 impl VoteFail {
-    ghost use Rattle.qu_vote.specs.RefusalNumber.{refusal_number};
+    ghost use Rattle.qu_vote.specs.RefusalNumber.{vote_fail_number};
 
     /// The number by which a text names the refusal; want of memory has none.
     pub fn number(&self) -> Option<u8>
-        ensures { result ≡ refusal_number self.now }
+        ensures { result ≡ vote_fail_number self.now }
     {
         match self {
             VoteFail::Twice(_) => Some(TWICE),

@@ -11,7 +11,7 @@ use Rattle.qu_world.specs.State.{opening_replicas, opening_clients}
 -- the first of those that are left, and the others
 pub replicas_more : (number count at : ℕ) (keys : Ring) (kinds : ℕ → List KindName) → at < count
     → opening_replicas number (count - at) keys kinds
-    ≡ replica.opening_state (record { 0 = number }) keys (kinds number) ∷ opening_replicas (number + 1)
+    ≡ replica.replica_at_start (record { 0 = number }) keys (kinds number) ∷ opening_replicas (number + 1)
     (count - (at + 1)) keys kinds
 unfolding opening_replicas
 replicas_more number count at keys kinds more =
@@ -24,7 +24,7 @@ replicas_none number count at keys kinds none = let e : count - at ≡ 0 = omega
 
 pub clients_more : (number count at : ℕ) (keys : Ring) → at < count
     → opening_clients number (count - at) keys
-    ≡ client.opening_state (record { 0 = number }) keys ∷ opening_clients (number + 1) (count - (at + 1)) keys
+    ≡ client.client_at_start (record { 0 = number }) keys ∷ opening_clients (number + 1) (count - (at + 1)) keys
 unfolding opening_clients
 clients_more number count at keys more =
     let e : count - at ≡ suc (count - (at + 1)) = omega arith in rw e refl
@@ -38,7 +38,7 @@ clients_none number count at keys none = let e : count - at ≡ 0 = omega arith 
 pub replica_started : (started new all : List ReplicaState) (state : ReplicaState)
     (number count : ℕ) (keys : Ring) (kinds : ℕ → List KindName) → number < count
     → started ++ opening_replicas number (count - number) keys kinds ≡ all
-    → state ≡ replica.opening_state (record { 0 = number }) keys (kinds number) → new ≡ started ++ state ∷ []
+    → state ≡ replica.replica_at_start (record { 0 = number }) keys (kinds number) → new ≡ started ++ state ∷ []
     → new ++ opening_replicas (number + 1) (count - (number + 1)) keys kinds ≡ all
 replica_started started new all state number count keys kinds more so_far is new_is =
     ap (λ front. front ++ opening_replicas (number + 1) (count - (number + 1)) keys kinds) new_is
@@ -58,7 +58,7 @@ replicas_started started all number count keys kinds none so_far =
 pub client_started : (started new all : List ClientState) (state : ClientState) (before count : ℕ) (keys : Ring)
     → before < count
     → started ++ opening_clients (before + 1) (count - before) keys ≡ all
-    → state ≡ client.opening_state (record { 0 = before + 1 }) keys → new ≡ started ++ state ∷ []
+    → state ≡ client.client_at_start (record { 0 = before + 1 }) keys → new ≡ started ++ state ∷ []
     → new ++ opening_clients (before + 1 + 1) (count - (before + 1)) keys ≡ all
 client_started started new all state before count keys more so_far is new_is =
     ap (λ front. front ++ opening_clients (before + 1 + 1) (count - (before + 1)) keys) new_is

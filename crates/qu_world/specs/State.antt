@@ -40,13 +40,14 @@ kinds_at setup number = if is_faulty setup (party.Replica (record { 0 = number }
 unfoldable pub opening_replicas : ℕ → ℕ → Ring → (ℕ → List KindName) → List ReplicaState
 opening_replicas number zero keys kinds = []
 opening_replicas number (suc count) keys kinds =
-    replica.opening_state (record { 0 = number }) keys (kinds number) ∷ opening_replicas (number + 1) count keys kinds
+    replica.replica_at_start (record { 0 = number }) keys (kinds number) ∷ opening_replicas (number + 1) count keys
+    kinds
 
 -- so many clients from this number on, as they begin
 unfoldable pub opening_clients : ℕ → ℕ → Ring → List ClientState
 opening_clients number zero keys = []
 opening_clients number (suc count) keys =
-    client.opening_state (record { 0 = number }) keys ∷ opening_clients (number + 1) count keys
+    client.client_at_start (record { 0 = number }) keys ∷ opening_clients (number + 1) count keys
 
 -- the keys of a run
 abbrev pub ring_of : Setup → Ring

@@ -1,7 +1,7 @@
 ghost use Rattle.std.specs.Prelude.{◌≡◌, ◌==◌, IfOk};
 ghost use Rattle.std.specs.List.{list_any};
 ghost use Rattle.qu_client.specs.State.{unmarked};
-ghost use Rattle.qu_client.specs.Rounds.{mark_in, shown_in};
+ghost use Rattle.qu_client.specs.Rounds.{mark_in, marked_shown};
 
 use super::{Kept, Mark};
 use qu_base::{List, NoMemory, ObjectId};
@@ -23,8 +23,8 @@ pub fn unmarked(alloc: Global, kept: &[Kept]) -> Result<List<Kept>, NoMemory>
 
 /// What is kept, where a round upon these objects begins: their entries are shown, but for those
 /// that are left out.
-pub fn shown_in(objects: &[ObjectId], kept: List<Kept>) -> List<Kept>
-    ensures { result ≡ shown_in objects.now kept }
+pub fn marked_shown(objects: &[ObjectId], kept: List<Kept>) -> List<Kept>
+    ensures { result ≡ marked_shown objects.now kept }
 {
     let mut all = kept.into_vec();
     for held in all.iter_mut() {

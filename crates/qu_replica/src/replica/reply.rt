@@ -1,6 +1,6 @@
 ghost use Rattle.std.specs.Prelude.{◌≡◌, [], ◌∷◌, map, slice_get, Some, IfOk, IfSome};
 ghost use Rattle.qu_history.specs.Sealing.{sealed_by};
-ghost use Rattle.qu_replica.specs.State.{accept, accept_all, state_after};
+ghost use Rattle.qu_replica.specs.State.{accept, accept_all, with_gain};
 ghost use Rattle.qu_replica.specs.Step.{shown, named, reply, carried_out};
 ghost use Rattle.qu_rows.specs.Allowed.{MayAccept, MayAcceptAll, MayDecide};
 ghost use Rattle.qu_replica.specs.Growth.{MayGain};
@@ -24,7 +24,7 @@ impl Replica {
     ) -> Result<Planned, NoMemory>
         requires may { MayDecide self.now decision }
         requires named { culled ≡ named self.now reading.now.sets }
-        ensures state { IfOk result (λ planned. state_after self.now planned.gain
+        ensures state { IfOk result (λ planned. with_gain self.now planned.gain
             ≡ (carried_out self.now reading.now.client reading.now.number reading.now.round
             reading.now.sets decision).0) }
         ensures letters { IfOk result (λ planned. planned.letters
@@ -45,7 +45,7 @@ impl Replica {
     #[tactic(auto, unfolding(crate::specs::State::accept_all))]
     fn gain_of(&self, accepted: &[Accepted]) -> Result<Option<Gain>, NoMemory>
         requires { MayAcceptAll self.now accepted.now }
-        ensures state { IfOk result (λ gain. state_after self.now gain ≡ accept_all self.now accepted.now) }
+        ensures state { IfOk result (λ gain. with_gain self.now gain ≡ accept_all self.now accepted.now) }
         ensures may { IfOk result (λ gain. IfSome gain (MayGain self.now)) }
     {
         match accepted {
@@ -170,7 +170,7 @@ impl Replica {
     /// holds take more memory than there is.
     fn gain(&self, accepted: &Accepted) -> Result<Gain, NoMemory>
         requires { MayAccept self.now accepted.now }
-        ensures state { IfOk result (λ gain. state_after self.now (Some gain) ≡ accept self.now accepted.now) }
+        ensures state { IfOk result (λ gain. with_gain self.now (Some gain) ≡ accept self.now accepted.now) }
         ensures may { IfOk result (MayGain self.now) }
     {
         if MOST_VERSIONS <= self.versions.len() {

@@ -4,7 +4,7 @@ ghost use Rattle.qu_stamp.specs.declared.limits.TheConstants.{LAST_TIME};
 ghost use Rattle.qu_history.specs.Sets.{latest_of};
 ghost use Rattle.qu_objects.specs.Performing.{performed_answer};
 ghost use Rattle.qu_kept.specs.Performing.{performed_states};
-ghost use Rattle.qu_rows.specs.Rows.{shown_of, seen_of, class_code, class_told, base_version, fresh_on, is_held, unknown_in, unknown_refused, row_thin, standing_in, done_again, repeated, row_retry, row_current, row_method, row_version, row_kept, row_time, row_full, row_done, row_told};
+ghost use Rattle.qu_rows.specs.Rows.{shown_of, seen_of, class_code, class_told, base_version, fresh_act, is_held, unknown_in, unknown_refused, row_thin, standing_in, done_again, repeated, row_retry, row_current, row_method, row_version, row_kept, row_time, row_full, row_done, row_told};
 
 use super::{Rows, has_no_room};
 use crate::asked::Asked;
@@ -226,7 +226,7 @@ impl<'a> Rows<'a> {
     fn fresh(&self, asked: &Asked, seen: &Seen) -> Option<Candidate>
         requires seen { seen.now ≡ seen_of self.now asked.now seen.now.object }
         requires in_time { (latest_of (shown_of asked.now seen.now.object)).time < LAST_TIME }
-        ensures { result ≡ fresh_on self.now asked.now seen.now.object }
+        ensures { result ≡ fresh_act self.now asked.now seen.now.object }
     {
         let time = seen.latest.time + 1;
         match seen.method {
@@ -249,7 +249,7 @@ impl<'a> Rows<'a> {
     fn held_fresh(&self, asked: &Asked, seen: &Seen) -> Option<Candidate>
         requires seen { seen.now ≡ seen_of self.now asked.now seen.now.object }
         ensures held { IsSome result ↔ IsTrue (is_held self.now asked.now seen.now.object) }
-        ensures value { IfSome result (λ fresh. fresh_on self.now asked.now seen.now.object ≡ Some fresh) }
+        ensures value { IfSome result (λ fresh. fresh_act self.now asked.now seen.now.object ≡ Some fresh) }
     {
         let history = self.history(seen.object)?;
         if LAST_TIME <= seen.latest.time {

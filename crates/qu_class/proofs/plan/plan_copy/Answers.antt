@@ -20,7 +20,7 @@ unfolding plan_of plan_with
 returns-clause-value c =
     ap plan_with
     (c.in_ok-one.ensures
-    ∙ ap (λ (chosen : Candidate). (c.args.target, chosen) ∷ []) c.base_of-chosen.ensures.value)
+    ∙ ap (λ (chosen : Candidate). (c.args.target, chosen) ∷ []) c.object_base-chosen.ensures.value)
 
 pub returns-clause-sound : goal.returns-clause-sound
 returns-clause-sound c =
@@ -29,9 +29,10 @@ returns-clause-sound c =
     let enough : quorum c.args.bounds.now ≤ length (entries_of c.args.target c.args.sets.now) =
     copy_has_quorum c.args.bounds.now (entries_of c.args.target c.args.sets.now) c.requires.copy in
     let greatest = base_is_greatest c.args.bounds.now (entries_of c.args.target c.args.sets.now)
-    c.base_of-chosen.ensures.formed enough in
+    c.object_base-chosen.ensures.formed enough in
     subst (All sound) (sym c.in_ok-one.ensures)
-    (All-cons sound (c.args.target, c.base_of-chosen.result) []
-    (subst (λ (chosen : Candidate). MayBeRepaired c.args.bounds.now (entries_of c.args.target c.args.sets.now) false chosen)
-    (sym c.base_of-chosen.ensures.value) greatest.repairable)
+    (All-cons sound (c.args.target, c.object_base-chosen.result) []
+    (subst (λ (chosen : Candidate). MayBeRepaired c.args.bounds.now (entries_of c.args.target c.args.sets.now) false
+    chosen)
+    (sym c.object_base-chosen.ensures.value) greatest.repairable)
     (All-nil sound))

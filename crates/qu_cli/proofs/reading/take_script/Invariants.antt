@@ -1,7 +1,7 @@
 -- What was taken so far is the script so far.
 use Rattle.std.proofs.Common.{◌≡◌, ◌+◌, ◌-◌, ◌≤◌, length}
 use Rattle.std.specs.Io.KnownBytes.{Consumes}
-use Rattle.qu_io.specs.Known.{IsCalm}
+use Rattle.qu_io.specs.Streams.{IsCalm}
 use Rattle.qu_script.specs.declared.limits.TheConstants.{SCRIPT_LIMIT}
 use Rattle.qu_cli.proofs.reading.take_script.Given as goal
 

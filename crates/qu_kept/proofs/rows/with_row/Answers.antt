@@ -6,7 +6,8 @@ use Rattle.qu_kept.proofs.rows.with_row.Goals as goal
 
 pub returns-clause-own : goal.returns-clause-own
 returns-clause-own c =
-    IfOk-weaker c.replaced.result _ _ (λ new is. rw is (own_item client_of c.args.row c.args.rows.now)) c.replaced.ensures
+    IfOk-weaker c.replaced.result _ _ (λ new is. rw is (own_item client_of c.args.row c.args.rows.now))
+    c.replaced.ensures
 
 pub returns-clause-others : goal.returns-clause-others
 returns-clause-others c = λ other differs.

@@ -1,8 +1,8 @@
 use Rattle.std.proofs.Common.{◌≡◌, List, length, map, sym, ap, subst, ◌∙◌, ◌≤◌, arith}
 use Rattle.std.proofs.lemmas.List.{take_all}
 use Rattle.qu_claims.specs.Times.{world_after}
-use Rattle.qu_known.specs.Known.{Row, AreKnown}
-use Rattle.qu_known.specs.Answers.{answered_at}
+use Rattle.qu_known.specs.Known.{ShownRow, AreKnown}
+use Rattle.qu_known.specs.Answers.{rounds_answered}
 use Rattle.qu_known.proofs.Rows.{known_opening}
 use Rattle.qu_marks.specs.Tracker.{Tracks}
 use Rattle.qu_marks.proofs.AnsweredMore.{answers_more}
@@ -10,12 +10,13 @@ use Rattle.qu_marks.proofs.findings.find.Goals as goal
 
 pub begin-requires-clause-known : goal.begin-requires-clause-known
 begin-requires-clause-known c =
-    subst (λ (rows : List Row). AreKnown (world_after c.args.trace.now 0).replicas rows) (sym c.in_ok-known.ensures)
+    subst (λ (rows : List ShownRow). AreKnown (world_after c.args.trace.now 0).replicas rows) (sym
+    c.in_ok-known.ensures)
     (known_opening c.args.trace.now)
 
 pub loop-index-init : goal.loop-index-init
 loop-index-init c = record {
-  known = subst (λ (rows : List Row). AreKnown (world_after c.args.trace.now 0).replicas rows)
+  known = subst (λ (rows : List ShownRow). AreKnown (world_after c.args.trace.now 0).replicas rows)
       (sym c.in_ok-known.ensures) (known_opening c.args.trace.now);
   tracked = c.in_ok-tracker.ensures;
   answered = c.new-answers.ensures;
@@ -43,4 +44,4 @@ returns-clause-answered c =
     let all : length c.args.trace.now.entries ≤ c.loop-index.index =
     omega (arith, c.loop-index-test.false, c.loop-index.auto.index-end, c.len-index-end.ensures) in
     c.loop-index.invariant.answered
-    ∙ ap (map answered_at) (take_all c.loop-index.index c.args.trace.now.entries all)
+    ∙ ap (map rounds_answered) (take_all c.loop-index.index c.args.trace.now.entries all)

@@ -2,7 +2,7 @@ use Rattle.std.proofs.Common.{List, sym, subst}
 use Rattle.std.specs.List.{AllZip, All}
 use Rattle.qu_claims.specs.Times.{world_after}
 use Rattle.qu_known.specs.declared.tracked.Tracked.{Tracked}
-use Rattle.qu_marks.specs.Tracker.{IsSound, IsSettled, AreAccepted}
+use Rattle.qu_marks.specs.Tracker.{IsDecidedMark, IsSettled, AreAccepted}
 use Rattle.qu_marks.proofs.Marking.{all_sound_by_tells, tracks_settled}
 use Rattle.qu_marks.proofs.findings.mark.Goals as goal
 
@@ -13,7 +13,7 @@ settle-requires-clause-accepted c =
 
 pub settle-requires-clause-sound : goal.settle-requires-clause-sound
 settle-requires-clause-sound c =
-    subst (λ (it : List Tracked). All (IsSound (world_after c.args.trace.now c.args.event)) it)
+    subst (λ (it : List Tracked). All (IsDecidedMark (world_after c.args.trace.now c.args.event)) it)
     (sym (c.in_ok-add_all.ensures))
     (all_sound_by_tells c.args.trace.now c.requires.run c.args.event _ c.requires.tells)
 

@@ -5,5 +5,6 @@ use Rattle.qu_points.proofs.effects.first_mark.Given as goal
 
 abbrev pub invariant-loop-candidate : goal.invariant-loop-candidate
 invariant-loop-candidate l =
-    earlier_of l.first (first_mark l.client l.act l.digest (drop l.candidate-index l.tracked)) ≡ first_mark l.client l.act l.digest
+    earlier_of l.first (first_mark l.client l.act l.digest (drop l.candidate-index l.tracked))
+    ≡ first_mark l.client l.act l.digest
     l.tracked

@@ -2,7 +2,7 @@ use Rattle.std.proofs.Common.{◌≡◌, ℕ, List, ◌∷◌, ◌++◌, take, d
 use Rattle.std.specs.List.{position_or_len}
 use Rattle.qu_machine.specs.declared.record.Point.{Point}
 use Rattle.qu_claims.specs.Order.{is_earlier}
-use Rattle.qu_points.proofs.Sorted.{with_point-place}
+use Rattle.qu_points.proofs.Orders.Sorted.{with_point-place}
 use Rattle.qu_points.proofs.order.insert.Goals as goal
 
 pub returns : goal.returns

@@ -8,9 +8,9 @@ use Rattle.qu_trace.specs.declared.trace.Trace.{Trace}
 use Rattle.qu_trace.specs.Operation.{operations_of}
 use Rattle.qu_claims.specs.Order.{IsPrintedOrder}
 use Rattle.qu_points.specs.Points.{AreDistinct, is_query, AddsActs, ArePointsOf}
-use Rattle.qu_points.proofs.Correct.{operations_correct}
-use Rattle.qu_points.proofs.Distinct.{operations_distinct}
-use Rattle.qu_points.proofs.Printed.{printed}
+use Rattle.qu_points.proofs.Operations.Correct.{operations_correct}
+use Rattle.qu_points.proofs.Operations.Distinct.{operations_distinct}
+use Rattle.qu_points.proofs.Orders.Printed.{printed}
 use Rattle.qu_points.proofs.order.printed_order.Goals as goal
 use Rattle.qu_points.proofs.order.printed_order.Goals.{After-operations-2-1}
 

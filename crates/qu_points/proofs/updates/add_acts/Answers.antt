@@ -1,4 +1,4 @@
-use Rattle.qu_points.proofs.AddedActs.{adds_more}
+use Rattle.qu_points.proofs.Handled.AddedActs.{adds_more}
 use Rattle.qu_points.proofs.updates.add_acts.Goals as goal
 
 pub loop-index-preserved : goal.loop-index-preserved

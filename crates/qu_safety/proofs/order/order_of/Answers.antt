@@ -12,22 +12,22 @@ use Rattle.qu_chain.specs.Joint.{Joint}
 use Rattle.qu_claims.specs.RunSetting.{setting}
 use Rattle.qu_runs.specs.Plain.{HaveParts, ArePlain}
 use Rattle.qu_claims.specs.Premises.{IsUnforged, MeetsPremises}
-use Rattle.qu_runs.proofs.Plain.{plain_from}
+use Rattle.qu_runs.proofs.Digests.Plain.{plain_from}
 use Rattle.qu_claims.specs.Order.{IsPrintedOrder}
 use Rattle.qu_laws.proofs.Chained.{is_chained, decides_in_turn, decides_jointly}
 use Rattle.qu_laws.proofs.Laws.{laws}
 use Rattle.qu_laws.proofs.JointLaws.{joint_laws}
 use Rattle.qu_safety.proofs.DecidedOnce.{decides_once}
-use Rattle.qu_safety.proofs.ByQuorums.{completes_by_quorums}
+use Rattle.qu_safety.proofs.Completed.ByQuorums.{completes_by_quorums}
 use Rattle.qu_laws.proofs.Named.{stamps_name}
-use Rattle.qu_values.proofs.OneAct.{ActsAreOne, acts_are_one}
+use Rattle.qu_values.proofs.Updating.OneAct.{ActsAreOne, acts_are_one}
 use Rattle.qu_claims.specs.Updates.{NumbersRise}
-use Rattle.qu_values.proofs.UpdateFacts.{UpdateFacts, NoneIsRepeated}
-use Rattle.qu_values.proofs.UpdatesOfRuns.{update_facts, numbers_rise, none_is_repeated}
+use Rattle.qu_values.proofs.Updating.UpdateFacts.{UpdateFacts, NoneIsRepeated}
+use Rattle.qu_values.proofs.Updating.UpdatesOfRuns.{update_facts, numbers_rise, none_is_repeated}
 use Rattle.qu_safety.proofs.KnownRuns.{client_facts}
-use Rattle.qu_safety.proofs.OwnedPoints.{owned}
-use Rattle.qu_safety.proofs.SerialOrder.{serial}
-use Rattle.qu_values.proofs.ClientFacts.{ClientFacts}
+use Rattle.qu_safety.proofs.Points.OwnedPoints.{owned}
+use Rattle.qu_safety.proofs.Orders.SerialOrder.{serial}
+use Rattle.qu_values.proofs.Requests.ClientFacts.{ClientFacts}
 use Rattle.qu_safety.proofs.order.order_of.Goals as goal
 
 -- what holds whatever was returned

@@ -1,7 +1,7 @@
 -- Those that were started and those that are left are all.
 use Rattle.std.proofs.Common.{ap, ◌∙◌, arith}
 use Rattle.qu_base.specs.Bounds.{replicas}
-use Rattle.qu_replica.specs.State.{opening_state}
+use Rattle.qu_replica.specs.State.{replica_at_start}
 use Rattle.qu_world.specs.State.{kinds_at, opening_replicas}
 use Rattle.qu_world.proofs.OpeningLaws.{replica_started, replicas_started}
 use Rattle.qu_world.proofs.opening.start_replicas.Goals as goal
@@ -12,7 +12,7 @@ loop-number-preserved c =
     c.n-count.result c.args.keys (kinds_at c.args.setup.now)
     (omega arith) c.loop-number.invariant
     (c.in_ok-start.ensures.value
-    ∙ ap (opening_state (record { 0 = c.loop-number.number }) c.args.keys) c.kinds_at.ensures.value)
+    ∙ ap (replica_at_start (record { 0 = c.loop-number.number }) c.args.keys) c.kinds_at.ensures.value)
     c.in_ok-push.ensures.items
 
 pub returns : goal.returns

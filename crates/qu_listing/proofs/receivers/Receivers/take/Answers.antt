@@ -6,7 +6,7 @@ use Rattle.qu_frames.specs.declared.frame.Frame.{Frame}
 use Rattle.qu_frames.specs.Signing.{brought}
 use Rattle.qu_trace.specs.declared.trace.Setup.{Setup}
 use Rattle.qu_trace.specs.Faulty.{is_faulty}
-use Rattle.qu_listing.specs.Receivers.{keys_of, taken}
+use Rattle.qu_listing.specs.Receivers.{keys_of, frame_taken}
 use Rattle.qu_listing.proofs.ReceiverFacts.{faulty_takes, correct_takes}
 use Rattle.qu_listing.proofs.receivers.Receivers.take.Goals as goal
 
@@ -23,10 +23,11 @@ returns c =
     sym (ap (λ (setup : Setup). is_faulty setup c.args.to) c.self.view_is) ∙ sym c.is_faulty.ensures
     ∙ c.if-is_faulty.false in
     let keys : c.self.inside.keys ≡ keys_of c.args.self.now = c.self.invariant ∙ ap keys_of c.self.view_is in
-    let same : brought c.self.inside.keys c.args.to c.args.text.now ≡ taken c.args.self.now c.args.to c.args.text.now =
+    let same : brought c.self.inside.keys c.args.to c.args.text.now
+    ≡ frame_taken c.args.self.now c.args.to c.args.text.now =
     ap (λ (ring : Ring). brought ring c.args.to c.args.text.now) keys
     ∙ sym (correct_takes c.args.self.now c.args.to c.args.text.now correct) in
     IfOk-weaker c.receive.result
     (λ (frame : Option Frame). frame ≡ brought c.self.inside.keys c.args.to c.args.text.now)
-    (λ (frame : Option Frame). frame ≡ taken c.args.self.now c.args.to c.args.text.now)
+    (λ (frame : Option Frame). frame ≡ frame_taken c.args.self.now c.args.to c.args.text.now)
     (λ frame is. is ∙ same) c.receive.ensures

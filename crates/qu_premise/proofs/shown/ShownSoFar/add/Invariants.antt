@@ -1,8 +1,8 @@
 use Rattle.std.proofs.Common.{◌≡◌, ◌++◌, take}
 use Rattle.std.specs.Prelude.{map}
-use Rattle.qu_premise.specs.Forging.{shown_of}
+use Rattle.qu_premise.specs.Forging.{letter_shown}
 use Rattle.qu_premise.proofs.shown.ShownSoFar.add.Given as goal
 
 -- what the letters so far show
 abbrev pub invariant-loop-letter : goal.invariant-loop-letter
-invariant-loop-letter l = l.self-inside.shown.items ≡ l.fn.self ++ map shown_of (take l.letter-index l.letter-items)
+invariant-loop-letter l = l.self-inside.shown.items ≡ l.fn.self ++ map letter_shown (take l.letter-index l.letter-items)

@@ -2,7 +2,7 @@
 use Rattle.std.proofs.Common.{rules}
 use Rattle.qu_rows.specs.State.{AreHistories}
 use Rattle.qu_replica.specs.declared.planned.Gain.{Gain}
-use Rattle.qu_replica.proofs.Accepting.{gain_is_accepted, gain_may}
+use Rattle.qu_replica.proofs.States.Accepting.{gain_is_accepted, gain_may}
 use Rattle.qu_replica.proofs.replica.Replica.gain.Goals as goal
 
 pub returns-clause-state : goal.returns-clause-state

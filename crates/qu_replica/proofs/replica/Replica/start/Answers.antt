@@ -3,7 +3,7 @@ use Rattle.std.proofs.Common.{◌≡◌, ◌≤◌, ℕ, true, subst, ◌∙◌,
 use Rattle.qu_base.specs.declared.limits.TheConstants.{MOST_FAULTS}
 use Rattle.qu_base.specs.Bounds.{replicas, is_replica_count}
 use Rattle.qu_base.proofs.ThresholdFacts.{replicas_are_count}
-use Rattle.qu_replica.proofs.FitState.{opening-fits}
+use Rattle.qu_replica.proofs.Fits.FitState.{opening-fits}
 use Rattle.qu_replica.proofs.replica.Replica.start.Goals as goal
 
 pub returns-clause-fits : goal.returns-clause-fits

@@ -4,9 +4,9 @@ use Rattle.std.specs.List.{AllByRecursion}
 use Rattle.qu_rows.specs.State.{AreHistories}
 use Rattle.qu_replica.specs.Growth.{Grows}
 use Rattle.qu_replica.specs.Fits.{StateFits, LetterFits}
-use Rattle.qu_replica.proofs.Accepting.{after-histories}
-use Rattle.qu_replica.proofs.Growth.{step-grows}
-use Rattle.qu_replica.proofs.FitSteps.{step-fits}
+use Rattle.qu_replica.proofs.States.Accepting.{after-histories}
+use Rattle.qu_replica.proofs.States.Growth.{step-grows}
+use Rattle.qu_replica.proofs.Fits.FitSteps.{step-fits}
 use Rattle.qu_replica.proofs.replica.Replica.step_read.Goals as goal
 
 pub returns-in_err-planned-clause-histories : goal.returns-in_err-planned-clause-histories

@@ -1,0 +1,4 @@
+-- Where updates and queries took effect.
+pub mod Taking
+pub mod Firsts
+pub mod AnsweredRounds

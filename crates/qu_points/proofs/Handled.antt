@@ -1,0 +1,5 @@
+-- The acts that replicas handled.
+pub mod AddedActs
+pub mod HandledActs
+pub mod SignedActs
+pub mod Bodies

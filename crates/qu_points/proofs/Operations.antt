@@ -1,0 +1,4 @@
+-- The operations of a trace.
+pub mod Correct
+pub mod Distinct
+pub mod Recorded

@@ -1,0 +1,135 @@
+-- The histories once a candidate is accepted.
+use Rattle.std.proofs.Common.{◌≡◌, ℕ, zero, suc, ◌<◌, ◌≤◌, List, [], ◌∷◌, ◌++◌, length, length-append, set, get_or, Option, None, Some, refl, sym, subst, ap, ◌∙◌, arith}
+use Rattle.std.specs.Prelude.{◌+◌, slice_get, IfSome}
+use Rattle.std.proofs.lemmas.Option.{none-some, same_Some}
+use Rattle.std.proofs.lemmas.List.{length_push}
+use Rattle.qu_stamp.specs.declared.candidate.Candidate.{Candidate}
+use Rattle.qu_history.specs.History.{ObjectHistory}
+use Rattle.qu_objects.specs.declared.state.ObjState.{ObjState}
+use Rattle.qu_rows.specs.declared.versions.Stored.{Stored}
+use Rattle.qu_rows.specs.declared.decision.Accepted.{Accepted}
+use Rattle.qu_replica.specs.declared.planned.Gain.{Gain}
+use Rattle.qu_rows.specs.State.{ReplicaState}
+use Rattle.qu_replica.specs.State.{with_candidate, stored_if, accept, with_gain}
+use Rattle.qu_rows.specs.State.{AreHistories}
+use Rattle.qu_rows.specs.Allowed.{MayAccept}
+use Rattle.qu_replica.specs.Growth.{MayGain}
+use Rattle.qu_replica.proofs.Requests.CulledRequests.{accept_all-named}
+use Rattle.qu_replica.proofs.States.Growth.{accept_all-me, accept_all-keys, accept_all-bounds}
+use Rattle.qu_rows.proofs.Own.{own_history}
+use Rattle.qu_replica.proofs.States.Own.{accept-histories}
+
+pub other_history : (number place : ℕ) (candidate : Candidate) (histories : List ObjectHistory)
+    → (place ≡ number → ⊥) → slice_get (with_candidate number candidate histories) place ≡ slice_get histories place
+unfolding with_candidate
+other_history number place candidate [] other = refl
+other_history zero zero candidate (history ∷ later) other = absurd (other refl)
+other_history zero (suc place) candidate (history ∷ later) other = refl
+other_history (suc number) zero candidate (history ∷ later) other = refl
+other_history (suc number) (suc place) candidate (history ∷ later) other =
+    other_history number place candidate later (λ same. other (ap suc same))
+
+pub own_history_after : (number : ℕ) (candidate : Candidate) (histories : List ObjectHistory)
+    (history grown : ObjectHistory) → number < length histories → history ≡ get_or histories number history
+    → grown ≡ record history { candidates = history.candidates ++ candidate ∷ [] }
+    → slice_get (with_candidate number candidate histories) number ≡ Some grown
+unfolding with_candidate
+own_history_after number candidate [] history grown within found is_grown = absurd (omega arith)
+own_history_after zero candidate (here ∷ later) history grown within found is_grown =
+    ap (λ (it : ObjectHistory). Some (record it { candidates = it.candidates ++ candidate ∷ [] })) (sym found)
+    ∙ ap Some (sym is_grown)
+own_history_after (suc number) candidate (here ∷ later) history grown within found is_grown =
+    let inner : number < length later = omega arith in
+    own_history_after number candidate later history grown inner found is_grown
+
+-- the same of a history that was read at this place
+pub read_history_after : (number place : ℕ) (candidate : Candidate) (histories items : List ObjectHistory)
+    (read history grown : ObjectHistory) → items ≡ histories → place ≡ number → read ≡ get_or items place read
+    → history ≡ read → number < length histories
+    → grown ≡ record history { candidates = history.candidates ++ candidate ∷ [] }
+    → slice_get (with_candidate number candidate histories) number ≡ Some grown
+read_history_after number place candidate histories items read history grown same_items same_place found
+    same_history within is_grown =
+    let at_number : read ≡ get_or histories number read =
+    found ∙ ap (λ (list : List ObjectHistory). get_or list place read) same_items
+    ∙ ap (λ (index : ℕ). get_or histories index read) same_place in
+    own_history_after number candidate histories read grown within at_number
+    (is_grown ∙ ap (λ (it : ObjectHistory). record it { candidates = it.candidates ++ candidate ∷ [] }) same_history)
+
+pub put_history : (number : ℕ) (candidate : Candidate) (histories : List ObjectHistory) (history : ObjectHistory)
+    → slice_get (with_candidate number candidate histories) number ≡ Some history
+    → set histories number history ≡ with_candidate number candidate histories
+unfolding with_candidate
+put_history number candidate [] history found = absurd (none-some history found)
+put_history zero candidate (here ∷ later) history found =
+    ap (λ (it : ObjectHistory). it ∷ later) (sym (same_Some _ history found))
+put_history (suc number) candidate (here ∷ later) history found =
+    ap (λ (rest : List ObjectHistory). here ∷ rest) (put_history number candidate later history found)
+
+-- the place of the history that the candidate makes is that of its object
+grown_place : (state : ReplicaState) (accepted : Accepted) (history : ObjectHistory) → AreHistories state
+    → MayAccept state accepted
+    → slice_get (with_candidate (accepted.object).0 accepted.candidate state.histories) (accepted.object).0 ≡ Some
+    history → (history.object).0 ≡ (accepted.object).0
+grown_place state accepted history own may found =
+    (own_history (accept state accepted) (accepted.object).0 history (accept-histories state accepted own may)
+    found).object
+
+-- a history with the candidate and its version are what accepting it makes
+pub gain_is_accepted : (state : ReplicaState) (accepted : Accepted) (gain : Gain) → AreHistories state
+    → MayAccept state accepted
+    → slice_get (with_candidate (accepted.object).0 accepted.candidate state.histories) (accepted.object).0 ≡ Some
+    gain.history
+    → gain.versions ≡ stored_if accepted.object accepted.candidate.stamp accepted.state
+    → with_gain state (Some gain) ≡ accept state accepted
+gain_is_accepted state accepted gain own may found stored =
+    let place : ((gain.history).object).0 ≡ (accepted.object).0 =
+    grown_place state accepted gain.history own may found in
+    let put : set state.histories ((gain.history).object).0 gain.history
+    ≡ with_candidate (accepted.object).0 accepted.candidate state.histories =
+    ap (λ (at : ℕ). set state.histories at gain.history) place
+    ∙ put_history (accepted.object).0 accepted.candidate state.histories gain.history found in
+    ap (λ (them : List ObjectHistory). record state { histories = them; versions = state.versions ++ gain.versions })
+    put
+    ∙ ap (λ (them : List Stored). record (accept state accepted) { versions = state.versions ++ them }) stored
+
+-- at most one version is stored with a candidate
+stored_few : (versions : List Stored) (accepted : Accepted)
+    → length (versions ++ stored_if accepted.object accepted.candidate.stamp accepted.state) ≤ length versions + 1
+stored_few versions accepted = by_state accepted.state
+  where
+    by_state : (state : Option ObjState)
+        → length (versions ++ stored_if accepted.object accepted.candidate.stamp state) ≤ length versions + 1
+    by_state None = omega (arith, length-append versions [])
+    by_state (Some version) = omega (
+      arith,
+      length_push versions
+          (record { object = accepted.object; stamp = accepted.candidate.stamp; state = version }),
+    )
+
+pub gain_may : (state : ReplicaState) (accepted : Accepted) (gain : Gain) → AreHistories state
+    → MayAccept state accepted
+    → slice_get (with_candidate (accepted.object).0 accepted.candidate state.histories) (accepted.object).0 ≡ Some
+    gain.history
+    → gain.versions ≡ stored_if accepted.object accepted.candidate.stamp accepted.state
+    → length state.versions < 9223372036854775806 → MayGain state gain
+gain_may state accepted gain own may found stored room =
+    let place : ((gain.history).object).0 ≡ (accepted.object).0 =
+    grown_place state accepted gain.history own may found in
+    let few : length (state.versions ++ gain.versions) ≤ length state.versions + 1 =
+    subst (λ (them : List Stored). length (state.versions ++ them) ≤ length state.versions + 1) (sym stored)
+    (stored_few state.versions accepted) in
+    record {
+      known = rw place may.known;
+      own = subst AreHistories (sym (gain_is_accepted state accepted gain own may found stored))
+          (accept-histories state accepted own may);
+      room = omega (arith, few, room);
+    }
+
+-- what was accepted so is kept
+pub after-histories : (state : ReplicaState) (gain : Option Gain) → AreHistories state
+    → IfSome gain (MayGain state) → AreHistories (with_gain state gain)
+after-histories state None own may = own
+after-histories state (Some gain) own may = may.own
+
+pub ruleset answers = (accept_all-me, accept_all-keys, accept_all-bounds, accept_all-named)

@@ -1,0 +1,3 @@
+-- What is digested in a run.
+pub mod DigestedTexts
+pub mod Plain

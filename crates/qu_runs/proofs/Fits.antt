@@ -1,0 +1,6 @@
+-- What is sent in a run fits its format.
+pub mod FitParts
+pub mod FitRequests
+pub mod FitClients
+pub mod Fitting
+pub mod Carrying

@@ -1,0 +1,8 @@
+-- Operations that completed, and the replies behind their answers.
+pub mod CompletedActs
+pub mod CompletedQueries
+pub mod ToldAnswers
+pub mod ToldParts
+pub mod KeptParts
+pub mod Along
+pub mod ByQuorums

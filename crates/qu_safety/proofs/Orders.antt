@@ -1,0 +1,3 @@
+-- The printed order is serial.
+pub mod SerialFields
+pub mod SerialOrder

@@ -1,0 +1,6 @@
+-- The points of operations, and the events at which they stand.
+pub mod ActPoints
+pub mod PointEvents
+pub mod OwnedPoints
+pub mod EventRequests
+pub mod OwnClients

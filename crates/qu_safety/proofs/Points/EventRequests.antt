@@ -1,0 +1,169 @@
+-- What an event hands to a party: one request at most, which belongs to one operation.
+use Rattle.std.proofs.Common.{◌≡◌, ℕ, ◌<◌, ◌≤◌, true, List, length, get_or, Some, refl, sym, ap, subst, ◌∙◌, arith, Result, Ok, false}
+use Rattle.std.specs.Prelude.{◌==◌, ◌&&◌, slice_get, Contains}
+use Rattle.std.proofs.lemmas.Bool.{false≢true, and_parts, eqb-true}
+use Rattle.std.proofs.lemmas.Option.{same_Some}
+use Rattle.qu_base.specs.declared.party.ClientId.{ClientId}
+use Rattle.qu_base.specs.declared.party.ReplicaId.{ReplicaId}
+use Rattle.qu_history.specs.declared.sets.SetOf.{SetOf}
+use Rattle.qu_objects.specs.declared.op.Op.TheVariants as op
+use Rattle.qu_frames.specs.declared.frame.Body.{Body}
+use Rattle.qu_frames.specs.declared.frame.Frame.{Frame}
+use Rattle.qu_frames.specs.declared.frame.Frame.TheVariants as frame
+use Rattle.qu_frames.specs.declared.frame.Letter.{Letter}
+use Rattle.qu_frames.specs.declared.verdict.Verdict.{Verdict}
+use Rattle.qu_frames.specs.Body.{body_of}
+use Rattle.qu_machine.specs.declared.record.OpRecord.{OpRecord}
+use Rattle.qu_machine.specs.declared.record.Point.{Point}
+use Rattle.qu_machine.proofs.Equalities.{client_is}
+use Rattle.qu_trace.specs.declared.trace.Trace.{Trace}
+use Rattle.qu_trace.specs.Operation.{operations_of}
+use Rattle.qu_world.specs.Run.{IsRun}
+use Rattle.qu_rounds.specs.Invocations.{IsRequestOf}
+use Rattle.qu_claims.specs.Times.{world_after}
+use Rattle.qu_safety.proofs.Points.OwnedPoints.{IsOperationPoint}
+use Rattle.qu_points.specs.Points.{effect_of}
+use Rattle.qu_claims.specs.Answers.{is_answer, answers}
+use Rattle.qu_runs.specs.Plain.{ArePlain}
+use Rattle.qu_accepts.proofs.Accepting.{some_entry}
+use Rattle.qu_values.proofs.Requests.ClientFacts.{ClientFacts}
+use Rattle.qu_points.proofs.Operations.Recorded.{recorded_op}
+use Rattle.qu_shown.proofs.AskedLetters.{AskedBy, asked_letter}
+use Rattle.qu_shown.proofs.Views.{one_decoded}
+use Rattle.qu_safety.proofs.Points.OwnClients.{own_client}
+use Rattle.qu_trace.specs.Faulty.{is_faulty}
+use Rattle.qu_points.proofs.Effects.Taking.{effect_once}
+use Rattle.qu_runs.proofs.Fits.Carrying.{tells_as, brings_decoded}
+use Rattle.qu_runs.proofs.Small.{same_point}
+use Rattle.qu_claims.specs.Carried.{Brings, Tells, handed}
+use Rattle.qu_frames.specs.Decoding.{decoded}
+use Rattle.qu_history.specs.declared.sealed.Sealed.{Sealed}
+use Rattle.qu_base.specs.declared.bad_text.BadText.{BadText}
+use Rattle.qu_rows.specs.State.{ReplicaState}
+use Rattle.qu_base.specs.declared.party.Party.{Party}
+use Rattle.qu_base.specs.declared.party.Party.TheVariants as party
+
+-- ---- answers
+
+-- the letter is a reply to this round
+pub record IsReplyIn (client : ClientId) (number round : ℕ) (letter : Letter) : Type 0 where
+  pub replica : ReplicaId
+  pub verdict : Verdict
+  pub shown : List Sealed
+  pub is_reply : Tells letter replica client number round verdict shown
+
+reply_is : (letter : Letter) (replica : ReplicaId) (other client : ClientId) (replied number turn round : ℕ)
+    (verdict : Verdict) (shown : List Sealed)
+    → Tells letter replica other replied turn verdict shown → other ≡ client → replied ≡ number → turn ≡ round →
+    IsReplyIn client number round letter
+reply_is letter replica other client replied number turn round verdict shown is same_client same_number same_round =
+    record {
+      replica = replica;
+      verdict = verdict;
+      shown = shown;
+      is_reply = tells_as letter replica other client
+          replied number turn round verdict verdict shown same_client same_number same_round refl is;
+    }
+
+reply_in_read : (client : ClientId) (number round : ℕ) (letter : Letter) (read : Result Frame BadText)
+    → decoded letter.text ≡ read → is_answer client number round read ≡ true → IsReplyIn client number round letter
+reply_in_read client number round letter (Ok
+    (frame.Reply replica other replied turn verdict culled shown mac)) is answer =
+    let parts : ((other.0 == client.0) ≡ true) × ((replied == number && turn == round) ≡ true) = and_parts _ _ answer in
+    let more : ((replied == number) ≡ true) × ((turn == round) ≡ true) = and_parts _ _ parts.1 in
+    reply_is letter replica other client replied number turn round verdict shown
+    (record { culled = culled; mac = mac; carries = is }) (client_is other client (eqb-true _ _ parts.0))
+    (eqb-true _ _ more.0) (eqb-true _ _ more.1)
+reply_in_read client number round letter _ is answer = absurd (false≢true answer)
+
+pub reply_in : (client : ClientId) (number round : ℕ) (letter : Letter) → answers client number round letter ≡ true
+    → IsReplyIn client number round letter
+reply_in client number round letter answer = reply_in_read client number round letter (decoded letter.text) refl answer
+
+-- ---- one point
+
+-- an operation has one point
+pub one_point : (trace : Trace) (first second : Point) → IsOperationPoint trace first → IsOperationPoint trace second
+    → first.client
+    ≡ second.client → first.number ≡ second.number → first ≡ second
+one_point trace first second one two same_client same_number =
+    let same : one.operation ≡ two.operation =
+    recorded_op trace one.operation two.operation one.of_trace two.of_trace
+    (ap (λ (it : ClientId). it.0) (one.client ∙ same_client ∙ sym two.client))
+    (one.number ∙ same_number ∙ sym two.number) in
+    let effect : effect_of trace two.operation first.event two.operation.op =
+    subst (λ (it : OpRecord). effect_of trace it first.event it.op) same one.effect in
+    same_point first second
+    (effect_once trace two.operation first.event second.event two.operation.op effect two.effect)
+    same_client same_number
+    (sym one.op ∙ ap (λ (it : OpRecord). it.op) same ∙ two.op)
+    (one.mark ∙ sym two.mark)
+
+-- ---- what an event hands over
+
+-- the event of the entry with this index hands a replica a request of this client and number
+pub record IsAskedAt (trace : Trace) (time : ℕ) (client : ClientId) (number : ℕ) : Type 0 where
+  pub within : time < length trace.entries
+  pub place : ℕ
+  pub old : ReplicaState
+  pub is_old : slice_get (world_after trace time).replicas place ≡ Some old
+  pub text : List ℕ
+  pub is_handed : handed (world_after trace time) (get_or trace.entries time some_entry).event ≡ Some
+      (party.Replica (record { 0 = place }), text)
+  pub round : ℕ
+  pub sets : List SetOf
+  pub asks : Body
+  pub mac : List ℕ
+  pub brings : Brings old text (frame.Request client number round sets asks mac)
+
+same_frame : (first second : ClientId) (asked number turn round : ℕ) (sets shown : List SetOf) (asks told : Body)
+    (mac seal : List ℕ)
+    → frame.Request first asked turn sets asks mac ≡ frame.Request second number round shown told seal
+    → (first ≡ second) × (asked ≡ number) × (asks ≡ told)
+same_frame first second asked number turn round sets shown asks told mac seal same = (cc, cc, cc)
+
+-- one event hands over one text
+pub one_asked : (trace : Trace) (time : ℕ) (client other : ClientId) (number turn : ℕ)
+    (one : IsAskedAt trace time client number) (two : IsAskedAt trace time other turn)
+    → (client ≡ other) × (number ≡ turn) × (one.asks ≡ two.asks)
+one_asked trace time client other number turn one two =
+    let same : (party.Replica (record { 0 = one.place }), one.text)
+    ≡ (party.Replica (record { 0 = two.place }), two.text) = same_Some _ _ (sym one.is_handed ∙ two.is_handed) in
+    same_frame client other number turn one.round two.round one.sets two.sets one.asks two.asks one.mac two.mac
+    (one_decoded two.text (frame.Request client number one.round one.sets one.asks one.mac)
+    (frame.Request other turn two.round two.sets two.asks two.mac)
+    (ap decoded (sym (ap (λ (it : Party × List ℕ). it.1) same))
+    ∙ brings_decoded one.old one.text (frame.Request client number one.round one.sets one.asks one.mac) one.brings)
+    (brings_decoded two.old two.text (frame.Request other turn two.round two.sets two.asks two.mac) two.brings))
+
+-- a correct client sent it
+pub asked_by_letter : (trace : Trace) → ArePlain trace → (time : ℕ) (client : ClientId) (number : ℕ)
+    (asked : IsAskedAt trace time client number) → is_faulty trace.setup (party.Client client) ≡ false
+    → AskedBy trace time client number asked.round asked.sets asked.asks
+asked_by_letter trace have time client number asked correct =
+    asked_letter trace have time asked.within some_entry asked.place asked.old asked.is_old asked.text asked.is_handed
+    client number asked.round asked.sets asked.asks asked.mac asked.brings correct
+
+-- what asks for an operation of the trace asks for what it does, and after it began
+pub record AsksFor (operation : OpRecord) (time : ℕ) (asks : Body) : Type 0 where
+  pub same : asks ≡ body_of operation.op
+  pub begun : operation.invoked ≤ time
+
+pub asks_for : (trace : Trace) → IsRun trace → ArePlain trace → ClientFacts trace → (time : ℕ) (operation : OpRecord)
+    → Contains (operations_of trace) operation
+    → (asked : IsAskedAt trace time operation.client operation.number) → AsksFor operation time asked.asks
+asks_for trace is_run have clients time operation of_trace asked =
+    let within : time < length trace.entries = asked.within in
+    let letter : AskedBy trace time operation.client operation.number asked.round asked.sets asked.asks =
+    asked_by_letter trace have time operation.client operation.number asked
+    (own_client trace is_run operation of_trace) in
+    let request : IsRequestOf trace time operation.client operation.number asked.asks =
+    clients.asks time letter.asked letter.letter operation.client operation.number asked.round asked.sets asked.asks
+    (record { within = omega arith; is_letter = letter.is_letter; is_request = letter.is_request }) in
+    let same : request.operation ≡ operation =
+    recorded_op trace request.operation operation request.of_trace of_trace
+    (ap (λ (it : ClientId). it.0) request.of_client) request.of_number in
+    record {
+      same = request.asks ∙ ap (λ (it : OpRecord). body_of it.op) same;
+      begun = subst (λ (it : OpRecord). it.invoked ≤ time) same request.begun;
+    }

@@ -1,0 +1,4 @@
+-- The requests of correct clients that were handled.
+pub mod FitActs
+pub mod SentRequests
+pub mod ClientFacts

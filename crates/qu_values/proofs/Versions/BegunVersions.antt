@@ -1,0 +1,129 @@
+-- Versions that replicas store, and those with which a run begins.
+use Rattle.std.proofs.Common.{◌≡◌, ℕ, zero, suc, ◌+◌, Bool, true, false, ◌&&◌, cond, List, [], ◌∷◌, Some, inl, inr, refl, ap, subst, ◌∙◌, arith}
+use Rattle.std.specs.Prelude.{◌==◌, slice_get}
+use Rattle.std.proofs.lemmas.Bool.{false≢true, cases_Bool, or_cases, and_from, and_parts, eq-eqb, eqb-true}
+use Rattle.std.proofs.lemmas.Option.{none-some}
+use Rattle.qu_base.specs.declared.party.ObjectId.{ObjectId}
+use Rattle.qu_base.specs.declared.party.ReplicaId.{ReplicaId}
+use Rattle.qu_stamp.specs.declared.candidate.Candidate.{Candidate}
+use Rattle.qu_stamp.specs.Stamp.{opening_stamp, same_stamp}
+use Rattle.qu_stamp.specs.Candidate.{opening, same}
+use Rattle.qu_stamp.proofs.Order.{same_stamp-self, equal_by_same}
+use Rattle.qu_history.specs.History.{holds}
+use Rattle.qu_objects.specs.declared.kind.KindName.{KindName}
+use Rattle.qu_objects.specs.declared.state.ObjState.{ObjState}
+use Rattle.qu_rows.specs.State.{ReplicaState, candidates_in, own_candidates}
+use Rattle.qu_replica.specs.State.{opening_histories, opening_versions, replica_at_start}
+use Rattle.qu_objects.specs.Kind.{opening_version}
+use Rattle.qu_rows.specs.Versions.{version_at}
+use Rattle.qu_trace.specs.declared.trace.Trace.{Trace}
+use Rattle.qu_base.specs.declared.party.Party.TheVariants as party
+use Rattle.std.specs.Prelude.{if◌then◌else◌}
+use Rattle.qu_trace.specs.declared.trace.Setup.{Setup}
+use Rattle.qu_trace.specs.Faulty.{is_faulty}
+use Rattle.qu_world.specs.State.{kinds_at, ring_of}
+use Rattle.qu_claims.specs.Values.{HasVersion}
+use Rattle.qu_claims.specs.RunSetting.{setting}
+use Rattle.qu_accepts.proofs.HeldVersions.{AreOfHeld, opening_of_held}
+
+-- the replica stores the version of the candidate
+abbrev pub Stores : Trace → ObjectId → ReplicaState → Candidate → Type 0
+Stores trace object state candidate =
+    (version : ObjState) × (version_at object candidate.stamp state.versions ≡ Some version) × HasVersion trace object
+    candidate version
+
+-- a replica that stores the versions of all candidates without barrier that it holds, and no others
+pub record IsVersioned (trace : Trace) (state : ReplicaState) : Type 0 where
+  pub bounds : state.keys.bounds ≡ trace.setup.bounds
+  pub of_held : AreOfHeld state
+  pub stores : (object : ObjectId) (candidate : Candidate) → (setting trace).plain candidate ≡ true
+      → holds candidate (own_candidates state object) ≡ true → Stores trace object state candidate
+
+-- ---- at the beginning
+
+-- an object begins with the opening candidate and its version
+record IsBegun (first : ℕ) (kinds : List KindName) (object : ObjectId) (place : ℕ)
+    (candidate : Candidate) : Type 0 where
+  kind : KindName
+  is_kind : slice_get kinds place ≡ Some kind
+  alone : opening ≡ candidate
+  fresh : version_at object opening_stamp (opening_versions first kinds) ≡ Some (opening_version kind)
+
+later_begun : (first : ℕ) (kind : KindName) (kinds : List KindName) (object : ObjectId) (place : ℕ)
+    (candidate : Candidate) → object.0 ≡ first + suc place → IsBegun (first + 1) kinds object place candidate → IsBegun
+    first (kind ∷ kinds) object (suc place) candidate
+unfolding version_at opening_versions
+later_begun first kind kinds object place candidate at later =
+    let test : Bool = first == object.0 && same_stamp opening_stamp opening_stamp in
+    elim (cases_Bool test) [
+      | inl here ↦
+          let parts : ((first == object.0) ≡ true) × (same_stamp opening_stamp opening_stamp ≡ true) =
+          and_parts _ _ here in
+          let equal : first ≡ object.0 = eqb-true _ _ parts.0 in
+          absurd (omega arith)
+      | inr there ↦ record {
+        kind = later.kind;
+        is_kind = later.is_kind;
+        alone = later.alone;
+        fresh = ap (λ (b : Bool). cond b (Some (opening_version kind))
+            (version_at object opening_stamp (opening_versions (first + 1) kinds))) there ∙ later.fresh;
+      }
+    ]
+
+only_opening : (candidate : Candidate) → holds candidate (opening ∷ []) ≡ true → opening ≡ candidate
+only_opening candidate held =
+    elim (or_cases (same opening candidate) false held) [
+      | inl is ↦ equal_by_same opening candidate is
+      | inr never ↦ absurd (false≢true never)
+    ]
+
+begun_from : (me : ReplicaId) (first : ℕ) (kinds : List KindName) (object : ObjectId) (place : ℕ)
+    (candidate : Candidate) → object.0 ≡ first + place → holds candidate
+    (candidates_in (slice_get (opening_histories me first kinds) place)) ≡ true → IsBegun first kinds object place
+    candidate
+unfolding opening_histories version_at opening_versions
+begun_from me first [] object place candidate at held = absurd (false≢true held)
+begun_from me first (kind ∷ kinds) object zero candidate at held =
+    let equal : first ≡ object.0 = omega arith in
+    record {
+      kind = kind;
+      is_kind = refl;
+      alone = only_opening candidate held;
+      fresh = ap (λ (b : Bool). cond b (Some (opening_version kind))
+          (version_at object opening_stamp (opening_versions (first + 1) kinds)))
+          (and_from _ _ (eq-eqb first object.0 equal) (same_stamp-self opening_stamp));
+    }
+begun_from me first (kind ∷ kinds) object (suc place) candidate at held =
+    later_begun first kind kinds object place candidate at (begun_from me (first + 1) kinds object place candidate
+    (omega arith) held)
+
+-- what a replica keeps are objects of the setup
+kept_kinds : (setup : Setup) (number place : ℕ) (kind : KindName) → slice_get (kinds_at setup number) place ≡ Some kind
+    → slice_get setup.kinds place ≡ Some kind
+kept_kinds setup number place kind is =
+    kept (is_faulty setup (party.Replica (record { 0 = number }))) is
+  where
+    kept : (test : Bool) → slice_get (if test then [] else setup.kinds) place ≡ Some kind
+        → slice_get setup.kinds place ≡ Some kind
+    kept true found = absurd (none-some kind found)
+    kept false found = found
+
+begun_stores : (trace : Trace) (me : ReplicaId) (object : ObjectId) (candidate : Candidate)
+    → IsBegun 0 (kinds_at trace.setup me.0) object object.0 candidate → Stores trace object
+    (replica_at_start me (ring_of trace.setup) (kinds_at trace.setup me.0)) candidate
+begun_stores trace me object candidate begun =
+    subst (Stores trace object (replica_at_start me (ring_of trace.setup) (kinds_at trace.setup me.0)))
+    begun.alone (
+      opening_version begun.kind,
+      begun.fresh,
+      HasVersion.of_opening object begun.kind (kept_kinds trace.setup me.0 object.0 begun.kind begun.is_kind),
+    )
+
+pub opening-versioned : (trace : Trace) (me : ReplicaId) → IsVersioned trace
+    (replica_at_start me (ring_of trace.setup) (kinds_at trace.setup me.0))
+opening-versioned trace me = record {
+  bounds = refl;
+  of_held = opening_of_held me (ring_of trace.setup) (kinds_at trace.setup me.0);
+  stores = λ object candidate plain held. begun_stores trace me object candidate
+      (begun_from me 0 (kinds_at trace.setup me.0) object object.0 candidate (omega arith) held);
+}
