@@ -108,7 +108,7 @@ fn act_to(
 }
 
 /// The same of a text that reaches a replica. The HMAC is verified only of what would be an act.
-#[tactic(auto, unfolding(qu_frames::specs::Signing::brought), using(crate::proofs::SignedActs::signed_act, crate::proofs::SignedActs::unsigned_act, crate::proofs::SignedActs::no_act))]
+#[tactic(auto, unfolding(qu_frames::specs::Signing::brought), using(crate::proofs::Handled::SignedActs::signed_act, crate::proofs::Handled::SignedActs::unsigned_act, crate::proofs::Handled::SignedActs::no_act))]
 fn act_brought(
     alloc: Global,
     verifier: &mut Verifier,

@@ -31,7 +31,7 @@ fn event_order(first: &Point, second: &Point) -> Ordering
 }
 
 /// Whether the bytes that ask for the first operation stand before those that ask for the second.
-#[tactic(auto, using(crate::proofs::Compared::told_before))]
+#[tactic(auto, using(crate::proofs::Orders::Compared::told_before))]
 fn asks_before(alloc: Global, first: &Op, second: &Op) -> Result<bool, NoMemory>
     ensures { IfOk result
         (λ before. before ≡ is_lt (slice_cmp nat_cmp (op_bytes first.now) (op_bytes second.now))) }

@@ -94,7 +94,7 @@ fn digest_known(last: &Option<KnownDigest>, bytes: &[u8]) -> Option<Digest>
 
 impl KnownDigest {
     /// The digest, where it is that of these bytes.
-    #[tactic(auto, using(crate::proofs::SignedActs::digest_of_same))]
+    #[tactic(auto, using(crate::proofs::Handled::SignedActs::digest_of_same))]
     fn digest_if(&self, bytes: &[u8]) -> Option<Digest>
         ensures { IfSome result (λ digest. digest.0 ≡ digest_of FRAME_TAG bytes.now) }
     {

@@ -68,7 +68,7 @@ struct Handled {
 impl Replica {
     /// A replica that has accepted nothing but the opening candidates of its objects, which are
     /// numbered as their kinds stand.
-    #[tactic(auto, using(crate::proofs::Own::are_own_opening))]
+    #[tactic(auto, using(crate::proofs::States::Own::are_own_opening))]
     pub fn start(
         alloc: Global,
         me: ReplicaId,
@@ -116,7 +116,7 @@ impl Replica {
     /// Handles a text, and gives the letters that answer it: one to a request that it decides, none
     /// to one whose version it lacks, to a reply, to a text that is no frame, and to a frame whose HMAC
     /// is wrong for it. Without memory it stays as it is.
-    #[tactic(auto, using(crate::proofs::Stepped::step_laws))]
+    #[tactic(auto, using(crate::proofs::States::Stepped::step_laws))]
     pub fn step(&mut self, text: &[u8]) -> Result<List<Letter>, NoMemory>
         ensures state { OnOk result (self.new ≡ (replica_step self.old text.now).0) }
         ensures letters { IfOk result (λ letters. letters ≡ (replica_step self.old text.now).1) }
@@ -149,7 +149,7 @@ impl Replica {
     }
 
     /// What `step` will make of this text. All that the step takes of memory is taken here.
-    #[tactic(auto, using(crate::proofs::Stepped::step_laws))]
+    #[tactic(auto, using(crate::proofs::States::Stepped::step_laws))]
     pub fn plan(&self, text: &[u8]) -> Result<Planned, NoMemory>
         ensures state { IfOk result (λ planned. with_gain self.now planned.gain
             ≡ (replica_step self.now text.now).0) }
@@ -164,7 +164,7 @@ impl Replica {
     }
 
     /// The same, where this is a reading of the request that the text says.
-    #[tactic(auto, using(crate::proofs::Stepped::step_laws))]
+    #[tactic(auto, using(crate::proofs::States::Stepped::step_laws))]
     pub fn plan_read(&self, text: &[u8], reading: &Reading) -> Result<Planned, NoMemory>
         requires { before_mac text.now ≡ reading.now.front }
         ensures state { IfOk result (λ planned. with_gain self.now planned.gain
@@ -210,7 +210,7 @@ impl Replica {
     }
 
     /// What its rows look at: what it holds, and no version more.
-    #[tactic(auto, using(crate::proofs::Viewed::none_behind))]
+    #[tactic(auto, using(crate::proofs::States::Viewed::none_behind))]
     fn rows(&self) -> Rows<'_>
         ensures value { result ≡ self.now }
         ensures histories { AreHistories self.now }
@@ -228,7 +228,7 @@ impl Replica {
 
     /// What the replica makes of a request. Objects that it does not have are asked for before the sets are
     /// culled, and sets whose entries are all right are decided upon as they came.
-    #[tactic(auto, using(crate::proofs::CulledRequests::handling))]
+    #[tactic(auto, using(crate::proofs::Requests::CulledRequests::handling))]
     fn handle(&self, reading: &Reading) -> Result<Handled, NoMemory>
         ensures named { IfOk result (λ handled. handled.named ≡ named self.now reading.now.sets) }
         ensures decision { IfOk result (λ handled. handled.decision ≡ decision_on self.now
@@ -260,7 +260,7 @@ impl Replica {
     }
 
     /// What it makes of a request of objects that it has upon the culled sets, which have this digest.
-    #[tactic(auto, using(crate::proofs::CulledRequests::handling))]
+    #[tactic(auto, using(crate::proofs::Requests::CulledRequests::handling))]
     fn decide_upon(&self, reading: &Reading, sets: &Sets, set: Digest) -> Result<Decision, NoMemory>
         requires known { None ≡ unknown_refused (unknown_in self.now reading.now.sets) }
         requires culled { sets.now ≡ culled self.now.keys self.now.me reading.now.sets }

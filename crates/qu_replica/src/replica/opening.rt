@@ -11,7 +11,7 @@ use std::alloc::Global;
 use std::collections::LinkedList;
 
 /// The histories with which the objects of these kinds begin, in their order.
-#[tactic(auto, using(crate::proofs::Opening::histories_step, crate::proofs::Opening::no_histories))]
+#[tactic(auto, using(crate::proofs::States::Opening::histories_step, crate::proofs::States::Opening::no_histories))]
 pub(super) fn histories(
     alloc: Global,
     me: ReplicaId,
@@ -28,7 +28,7 @@ pub(super) fn histories(
 }
 
 /// The versions with which the objects of these kinds begin, in their order.
-#[tactic(auto, using(crate::proofs::Opening::versions_step, crate::proofs::Opening::no_versions))]
+#[tactic(auto, using(crate::proofs::States::Opening::versions_step, crate::proofs::States::Opening::no_versions))]
 pub(super) fn versions(alloc: Global, kinds: &[KindName]) -> Result<LinkedList<Stored>, NoMemory>
     requires { length kinds.now ≤ OBJECT_IDS }
     ensures { IfOk result (λ versions. versions ≡ opening_versions 0 kinds.now) }

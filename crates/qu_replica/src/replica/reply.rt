@@ -56,7 +56,7 @@ impl Replica {
     }
 
     /// The letter that answers the request, with the sealed histories as they stand once these candidates are accepted.
-    #[tactic(auto, using(crate::proofs::Accepting::answers))]
+    #[tactic(auto, using(crate::proofs::States::Accepting::answers))]
     fn reply(
         &self,
         reading: &Reading,
@@ -91,7 +91,7 @@ impl Replica {
     }
 
     /// The sealed histories of the request's objects as they stand once these candidates are accepted.
-    #[tactic(auto, using(crate::proofs::Showing::sealed_some, crate::proofs::Showing::sealed_none, crate::proofs::Showing::sealed_first))]
+    #[tactic(auto, using(crate::proofs::Requests::Showing::sealed_some, crate::proofs::Requests::Showing::sealed_none, crate::proofs::Requests::Showing::sealed_first))]
     fn shown(&self, sets: &Sets, accepted: &[Accepted]) -> Result<List<Sealed>, NoMemory>
         requires { MayAcceptAll self.now accepted.now }
         ensures { IfOk result
@@ -135,7 +135,7 @@ impl Replica {
     }
 
     /// The history of an object as it stands once this candidate is accepted.
-    #[tactic(auto, using(crate::proofs::Accepting::other_history))]
+    #[tactic(auto, using(crate::proofs::States::Accepting::other_history))]
     fn history_with(
         &self,
         object: ObjectId,
@@ -152,7 +152,7 @@ impl Replica {
     }
 
     /// The history of the accepted candidate's object, with the candidate.
-    #[tactic(auto, using(crate::proofs::Accepting::read_history_after))]
+    #[tactic(auto, using(crate::proofs::States::Accepting::read_history_after))]
     fn grown(&self, accepted: &Accepted) -> Result<History, NoMemory>
         requires { MayAccept self.now accepted.now }
         ensures { IfOk result

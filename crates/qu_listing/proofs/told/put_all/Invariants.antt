@@ -6,5 +6,5 @@ use Rattle.qu_listing.proofs.told.put_all.Given as goal
 
 abbrev pub invariant-loop-item : goal.invariant-loop-item
 invariant-loop-item g l =
-    string_bytes l.text ++ flat_map g.T.Told.text_of (drop l.item-index l.items)
-    ≡ string_bytes l.initial.text ++ flat_map g.T.Told.text_of l.items
+    string_bytes l.text ++ flat_map g.T.LinePart.text_of (drop l.item-index l.items)
+    ≡ string_bytes l.initial.text ++ flat_map g.T.LinePart.text_of l.items
