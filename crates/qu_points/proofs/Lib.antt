@@ -1,5 +1,5 @@
 pub mod Filtering
 pub mod Handled
 pub mod Orders
-pub mod Effects
+pub mod Taken
 pub mod Operations

@@ -21,7 +21,7 @@ use qu_world::letter_at;
 use std::alloc::Global;
 
 /// The first event after which a candidate of the update with this digest was decided.
-#[tactic(auto, using(crate::proofs::Effects::Firsts::first_mark_more, crate::proofs::Effects::Firsts::first_mark_end))]
+#[tactic(auto, using(crate::proofs::Taken::Firsts::first_mark_more, crate::proofs::Taken::Firsts::first_mark_end))]
 fn first_mark(tracked: &[Tracked], client: ClientId, act: &Act, digest: Digest) -> Option<u64>
     ensures { result ≡ first_mark client act.now digest tracked.now }
 {
@@ -177,7 +177,7 @@ fn entry_at(trace: &Trace, event: u64) -> Option<&Entry>
 }
 
 /// The round of the answer that a text carries.
-#[tactic(auto, using(crate::proofs::Effects::AnsweredRounds::round_of_answer))]
+#[tactic(auto, using(crate::proofs::Taken::AnsweredRounds::round_of_answer))]
 fn round_in(alloc: Global, text: &[u8]) -> Result<Option<u8>, NoMemory>
     ensures { IfOk result (λ round. round ≡ round_in (decoded text.now)) }
 {

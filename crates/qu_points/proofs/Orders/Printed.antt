@@ -20,7 +20,7 @@ use Rattle.qu_claims.specs.Order.{DecidesAt, op_bytes, is_earlier, are_in_order,
 use Rattle.qu_points.specs.Points.{NamedAct, effect_of, asks, is_query, as_operation, handled_acts, AreDistinct, IsOfCorrect, IsActOf, AddsActs, point_at, IsPointOf, ArePointsOf, AddsPoint, with_point}
 use Rattle.qu_points.proofs.Filtering.{in_filter, from_filter, passes_filter}
 use Rattle.qu_points.proofs.Handled.HandledActs.{handled_listed}
-use Rattle.qu_points.proofs.Effects.Taking.{effect_once}
+use Rattle.qu_points.proofs.Taken.Taking.{effect_once}
 use Rattle.qu_points.proofs.Orders.Sorted.{is_earlier-other, contains_with_point, with_point_contains, with_point_keeps, in_order-with_point}
 use Rattle.qu_runs.proofs.Small.{same_point}
 

@@ -21,7 +21,7 @@ use Rattle.qu_values.proofs.Updating.OneAct.{ActsAreOne}
 use Rattle.qu_claims.specs.Order.{is_earlier, are_in_order, DecidesAt}
 use Rattle.qu_safety.proofs.Points.OwnedPoints.{IsOperationPoint, IsFaultyPoint, HasOwner, IsOwnedOrder}
 use Rattle.qu_points.specs.Points.{as_operation}
-use Rattle.qu_points.proofs.Effects.Taking.{effect_once}
+use Rattle.qu_points.proofs.Taken.Taking.{effect_once}
 use Rattle.qu_runs.proofs.Small.{same_point}
 use Rattle.qu_base.specs.declared.party.ObjectId.{ObjectId}
 use Rattle.qu_objects.specs.declared.act.Method.{Method}

@@ -32,7 +32,7 @@ use Rattle.qu_shown.proofs.AskedLetters.{AskedBy, asked_letter}
 use Rattle.qu_shown.proofs.Views.{one_decoded}
 use Rattle.qu_safety.proofs.Points.OwnClients.{own_client}
 use Rattle.qu_trace.specs.Faulty.{is_faulty}
-use Rattle.qu_points.proofs.Effects.Taking.{effect_once}
+use Rattle.qu_points.proofs.Taken.Taking.{effect_once}
 use Rattle.qu_runs.proofs.Fits.Carrying.{tells_as, brings_decoded}
 use Rattle.qu_runs.proofs.Small.{same_point}
 use Rattle.qu_claims.specs.Carried.{Brings, Tells, handed}

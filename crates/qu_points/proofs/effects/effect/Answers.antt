@@ -1,5 +1,5 @@
 use Rattle.std.proofs.Common.{◌∙◌}
-use Rattle.qu_points.proofs.Effects.Taking.{act_effect_of, ask_effect_of}
+use Rattle.qu_points.proofs.Taken.Taking.{act_effect_of, ask_effect_of}
 use Rattle.qu_points.proofs.effects.effect.Goals as goal
 
 pub returns-in-Act : goal.returns-in-Act

@@ -1,8 +1,8 @@
 use Rattle.std.proofs.Common.{None, sym, ap, refl, ◌∙◌}
 use Rattle.qu_known.specs.declared.answers.Answered.{Answered}
 use Rattle.qu_points.specs.Points.{first_answer}
-use Rattle.qu_points.proofs.Effects.AnsweredRounds.{first_answered}
-use Rattle.qu_points.proofs.Effects.Taking.{answered, unanswered}
+use Rattle.qu_points.proofs.Taken.AnsweredRounds.{first_answered}
+use Rattle.qu_points.proofs.Taken.Taking.{answered, unanswered}
 use Rattle.qu_points.proofs.effects.first_answer_of.Goals as goal
 
 pub returns-in-Some : goal.returns-in-Some

@@ -1,6 +1,6 @@
 use Rattle.std.proofs.Common.{refl, subst}
 use Rattle.qu_points.proofs.Orders.Printed.{adds_some, adds_none}
-use Rattle.qu_points.proofs.Effects.Taking.{IsEffect}
+use Rattle.qu_points.proofs.Taken.Taking.{IsEffect}
 use Rattle.qu_points.proofs.order.add_point.Goals as goal
 
 pub returns-in_ok-insert : goal.returns-in_ok-insert

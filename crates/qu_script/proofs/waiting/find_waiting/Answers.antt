@@ -4,8 +4,8 @@ use Rattle.qu_trace.specs.Letters.{letters_of}
 use Rattle.qu_script.proofs.WaitingFacts.{found_within, found_past, waiting_found, waiting_none}
 use Rattle.qu_script.proofs.waiting.find_waiting.Goals as goal
 
-pub returns-then-not-is_passed-clause-found : goal.returns-then-not-is_passed_over-clause-found
-returns-then-not-is_passed-clause-found c =
+pub returns-then-not-is_passed_over-clause-found : goal.returns-then-not-is_passed_over-clause-found
+returns-then-not-is_passed_over-clause-found c =
     waiting_found c.args.setup.now c.args.entries.now c.search.next c.search.invariant
     (found_within (letters_of c.args.entries.now) c.search.next c.letter_at.result c.letter_at.ensures
     (sym c.is_some.ensures ∙ c.search-test.true))
