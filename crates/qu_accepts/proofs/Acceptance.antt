@@ -32,7 +32,7 @@ use Rattle.qu_replica.specs.State.{accept, accept_all}
 use Rattle.qu_rows.specs.Rows.{Asked, asked_at, refuse, shown_of, decision_on, row_few, decide_repair, mend_asked, wanted_version, decision_by, mending_on}
 use Rattle.qu_rows.specs.Table.{first_given}
 use Rattle.qu_replica.specs.Step.{carried_out, replica_on_frame}
-use Rattle.qu_rows.specs.Versions.{version_at}
+use Rattle.qu_versions.specs.Versions.{version_at}
 use Rattle.qu_rows.specs.Allowed.{HasParts, MayAccept, MayAcceptAll}
 use Rattle.qu_replica.proofs.States.Accepting.{other_history}
 use Rattle.qu_rows.proofs.Allowed.{decision_on-may}

@@ -42,7 +42,7 @@ use Rattle.qu_replica.specs.State.{with_candidate, accept, accept_all}
 use Rattle.qu_rows.specs.Rows.{Asked, asked_at, refuse, shown_of, method_base, base_version, fresh_stamp, fresh_act, standing_in, done_again, repeated, row_unknown, row_thin, row_retry, row_current, row_method, row_version, row_kept, row_time, row_full, row_done, row_told, decide_act, decide_ask, class_told}
 use Rattle.qu_rows.specs.Table.{first_given}
 use Rattle.qu_replica.specs.Step.{carried_out, replica_on_frame}
-use Rattle.qu_rows.specs.Versions.{version_at}
+use Rattle.qu_versions.specs.Versions.{version_at}
 use Rattle.qu_rows.specs.Allowed.{HasParts, MayAccept, MayAcceptAll, MayDecide}
 use Rattle.qu_replica.proofs.States.Accepting.{other_history}
 use Rattle.qu_rows.proofs.Allowed.{decision_on-may, no_first}

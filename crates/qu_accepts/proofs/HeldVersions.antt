@@ -17,9 +17,9 @@ use Rattle.qu_objects.specs.declared.kind.KindName.{KindName}
 use Rattle.qu_objects.specs.declared.state.ObjState.{ObjState}
 use Rattle.qu_frames.specs.declared.frame.Frame.{Frame}
 use Rattle.qu_rows.specs.State.{ReplicaState, candidates_in, own_candidates}
-use Rattle.qu_replica.specs.State.{opening_histories, opening_versions, replica_at_start}
+use Rattle.qu_replica.specs.State.{opening_histories, replica_at_start}
 use Rattle.qu_objects.specs.Kind.{opening_version}
-use Rattle.qu_rows.specs.Versions.{version_at}
+use Rattle.qu_versions.specs.Versions.{version_at, opening_store}
 use Rattle.qu_trace.specs.declared.event.Event.{Event}
 use Rattle.qu_world.specs.State.{WorldState}
 use Rattle.qu_world.specs.Step.{world_step}
@@ -50,9 +50,9 @@ record IsOpening (me : ReplicaId) (first : ℕ) (kinds : List KindName) (object 
   under : same_stamp opening_stamp stamp ≡ true
 
 opening_from : (me : ReplicaId) (first : ℕ) (kinds : List KindName) (object : ObjectId) (stamp : Stamp)
-    (version : ObjState) → version_at object stamp (opening_versions first kinds) ≡ Some version
+    (version : ObjState) → version_at object stamp (opening_store first kinds) ≡ Some version
     → IsOpening me first kinds object stamp
-unfolding version_at opening_versions opening_histories
+unfolding version_at opening_store opening_histories
 opening_from me first [] object stamp version found = absurd (none-some version found)
 opening_from me first (kind ∷ kinds) object stamp version found =
     elim (cases_Bool (first == object.0 && same_stamp opening_stamp stamp)) [
@@ -64,7 +64,7 @@ opening_from me first (kind ∷ kinds) object stamp version found =
           let inner : IsOpening me (first + 1) kinds object stamp =
           opening_from me (first + 1) kinds object stamp version
           (ap (λ (test : Bool). cond test (Some (opening_version kind))
-          (version_at object stamp (opening_versions (first + 1) kinds))) (sym there) ∙ found) in
+          (version_at object stamp (opening_store (first + 1) kinds))) (sym there) ∙ found) in
           let after : object.0 ≡ (first + 1) + inner.place = inner.at in
           record { place = suc inner.place; at = omega arith; alone = inner.alone; under = inner.under }
     ]

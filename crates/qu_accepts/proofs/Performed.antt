@@ -9,10 +9,10 @@ use Rattle.qu_stamp.specs.Stamp.{same_stamp}
 use Rattle.qu_stamp.proofs.Order.{same_stamp-self, equal_by_same_stamp}
 use Rattle.qu_objects.specs.declared.act.Method.{Method}
 use Rattle.qu_objects.specs.declared.state.ObjState.{ObjState}
-use Rattle.qu_rows.specs.declared.versions.Stored.{Stored}
+use Rattle.qu_versions.specs.declared.stored.Stored.{Stored}
 use Rattle.qu_rows.specs.State.{ReplicaState}
 use Rattle.qu_replica.specs.State.{stored_if}
-use Rattle.qu_rows.specs.Versions.{is_stored, version_at}
+use Rattle.qu_versions.specs.Versions.{is_stored, version_at}
 use Rattle.qu_claims.specs.Parts.{Names}
 use Rattle.qu_claims.specs.Grounds.{stored_of, Performs, Reasons, AddsTo}
 use Rattle.qu_rows.specs.Rows.{Asked}

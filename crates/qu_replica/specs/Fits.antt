@@ -13,7 +13,7 @@ use Rattle.qu_objects.specs.Formats.{answer_form}
 use Rattle.qu_frames.specs.declared.frame.Frame.{Frame}
 use Rattle.qu_frames.specs.declared.frame.Letter.{Letter}
 use Rattle.qu_frames.specs.Formats.{frame_form}
-use Rattle.qu_rows.specs.declared.versions.Stored.{Stored}
+use Rattle.qu_versions.specs.declared.stored.Stored.{Stored}
 use Rattle.qu_rows.specs.State.{ReplicaState}
 use Rattle.qu_rows.specs.State.{AreHistories}
 

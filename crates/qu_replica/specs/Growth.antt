@@ -2,7 +2,7 @@
 use Rattle.std.specs.Prelude.{◌≡◌, ◌<◌, List, ◌++◌, length, Some, ◌^◌}
 use Rattle.qu_base.specs.declared.party.ObjectId.{ObjectId}
 use Rattle.qu_stamp.specs.declared.candidate.Candidate.{Candidate}
-use Rattle.qu_rows.specs.declared.versions.Stored.{Stored}
+use Rattle.qu_versions.specs.declared.stored.Stored.{Stored}
 use Rattle.qu_replica.specs.declared.planned.Gain.{Gain}
 use Rattle.qu_rows.specs.State.{ReplicaState, AreHistories, own_candidates}
 use Rattle.qu_replica.specs.State.{with_gain}

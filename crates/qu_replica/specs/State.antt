@@ -5,13 +5,12 @@ use Rattle.qu_base.specs.declared.party.ReplicaId.{ReplicaId}
 use Rattle.qu_seal.specs.Keys.{Ring}
 use Rattle.qu_stamp.specs.declared.stamp.Stamp.{Stamp}
 use Rattle.qu_stamp.specs.declared.candidate.Candidate.{Candidate}
-use Rattle.qu_stamp.specs.Stamp.{opening_stamp}
 use Rattle.qu_stamp.specs.Candidate.{opening}
 use Rattle.qu_history.specs.History.{ObjectHistory}
 use Rattle.qu_objects.specs.declared.kind.KindName.{KindName}
 use Rattle.qu_objects.specs.declared.state.ObjState.{ObjState}
-use Rattle.qu_objects.specs.Kind.{fresh_value, opening_version}
-use Rattle.qu_rows.specs.declared.versions.Stored.{Stored}
+use Rattle.qu_versions.specs.declared.stored.Stored.{Stored}
+use Rattle.qu_versions.specs.Versions.{opening_store}
 use Rattle.qu_rows.specs.declared.decision.Accepted.{Accepted}
 use Rattle.qu_rows.specs.State.{ReplicaState}
 use Rattle.qu_replica.specs.declared.planned.Gain.{Gain}
@@ -54,15 +53,6 @@ opening_histories me number (kind ∷ kinds) =
     record { object = record { 0 = number }; replica = me; candidates = opening ∷ [] } ∷ opening_histories me
     (number + 1) kinds
 
-unfoldable pub opening_versions : ℕ → List KindName → List Stored
-opening_versions number [] = []
-opening_versions number (kind ∷ kinds) =
-    record {
-      object = record { 0 = number };
-      stamp = opening_stamp;
-      state = opening_version kind;
-    } ∷ opening_versions (number + 1) kinds
-
 -- a replica that has accepted nothing but the opening candidates
 abbrev pub replica_at_start : ReplicaId → Ring → List KindName → ReplicaState
 replica_at_start me keys kinds =
@@ -70,5 +60,5 @@ replica_at_start me keys kinds =
       me = me;
       keys = keys;
       histories = opening_histories me 0 kinds;
-      versions = opening_versions 0 kinds;
+      versions = opening_store 0 kinds;
     }

@@ -3,17 +3,16 @@ ghost use Rattle.std.specs.Prelude.{◌≡◌, [], None};
 use qu_base::List;
 use qu_frames::Letter;
 use qu_history::History;
-use qu_rows::Stored;
+use qu_versions::Prepared;
 use std::alloc::Global;
-use std::collections::LinkedList;
 
 /// What a replica's state gains by a step, as whole parts that are only moved in.
 #[derive(Debug, Drop)]
 pub struct Gain {
     /// The history of an object, with the candidates that are accepted.
     pub history: History,
-    /// The versions that are stored after the others.
-    pub versions: LinkedList<Stored>,
+    /// The versions that are stored after the others, with their room.
+    pub versions: Prepared,
 }
 
 /// What a step of a replica will make. To carry it out takes no memory.

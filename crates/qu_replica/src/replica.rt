@@ -4,7 +4,7 @@ ghost use Rattle.std.specs.List.{AllByRecursion};
 ghost use Rattle.qu_base.specs.Format.{AreBytes};
 ghost use Rattle.qu_base.specs.declared.limits.TheConstants.{OBJECT_IDS, REPLICA_IDS};
 ghost use Rattle.qu_rows.specs.State.{AreHistories};
-ghost use Rattle.qu_rows.specs.Versions.{version_at};
+ghost use Rattle.qu_versions.specs.Versions.{version_at};
 ghost use Rattle.qu_rows.specs.Rows.{asked_at, unknown_in, unknown_refused, decision_on};
 ghost use Rattle.qu_rows.specs.Allowed.{MayDecide};
 ghost use Rattle.qu_replica.specs.State.{replica_at_start, with_gain};
@@ -25,11 +25,11 @@ use qu_frames::Frame;
 use qu_frames::{Letter, Reading};
 use qu_history::{Culled, History, Sets};
 use qu_objects::{KindName, ObjState};
-use qu_rows::{Asked, Decision, Rows, Stored, version_at};
+use qu_rows::{Asked, Decision, Rows};
 use qu_seal::KeyRing;
 use qu_stamp::Stamp;
+use qu_versions::VersionStore;
 use std::alloc::Global;
-use std::collections::LinkedList;
 use std::marker::Model;
 
 /// One replica. It keeps a history of each object, and the versions that it accepted.
@@ -39,7 +39,7 @@ pub struct Replica {
     me: ReplicaId,
     keys: KeyRing,
     histories: Vec<History>,
-    versions: LinkedList<Stored>,
+    versions: VersionStore,
 }
 
 impl Model for Replica {
@@ -86,7 +86,7 @@ impl Replica {
             me,
             keys,
             histories: opening::histories(alloc, me, kinds)?,
-            versions: opening::versions(alloc, kinds)?,
+            versions: VersionStore::fresh(alloc, kinds)?,
         })
     }
 
@@ -110,7 +110,7 @@ impl Replica {
     pub fn version(&self, object: ObjectId, stamp: &Stamp) -> Option<&ObjState>
         ensures { option_copied result ≡ version_at object stamp.now self.now.versions }
     {
-        version_at(&self.versions, object, stamp)
+        self.versions.get(object, stamp)
     }
 
     /// Handles a text, and gives the letters that answer it: one to a request that it decides, none
@@ -198,15 +198,10 @@ impl Replica {
         requires { MayGain self.old gain }
         ensures { self.new ≡ with_gain self.old (Some gain) }
     {
-        let Gain {
-            history,
-            mut versions,
-        } = gain;
+        let Gain { history, versions } = gain;
         let place = usize::from(history.object().0);
         self.histories[place] = history;
-        if self.versions.append(&mut versions).is_err() {
-            unreachable!();
-        }
+        self.versions.put_prepared(versions);
     }
 
     /// What its rows look at: what it holds, and no version more.

@@ -28,7 +28,7 @@ use Rattle.qu_rows.specs.declared.decision.Decision.TheVariants.{Answers}
 use Rattle.qu_rows.specs.State.{ReplicaState, own_candidates}
 use Rattle.qu_rows.specs.Rows.{asked_at, decision_on}
 use Rattle.qu_replica.specs.Step.{replica_step}
-use Rattle.qu_rows.specs.Versions.{version_at}
+use Rattle.qu_versions.specs.Versions.{version_at}
 use Rattle.qu_trace.specs.declared.trace.Entry.{Entry}
 use Rattle.qu_trace.specs.declared.trace.Trace.{Trace}
 use Rattle.qu_claims.specs.Carried.{handed, Brings}

@@ -2,7 +2,6 @@ pub mod Decided
 pub mod Seeing
 pub mod Own
 pub mod Allowed
-pub mod Finding
 pub mod Held
 pub mod Carried
 pub mod Decoded

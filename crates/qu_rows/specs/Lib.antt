@@ -3,7 +3,6 @@ pub mod Seen
 pub mod Remedy
 pub mod Mending
 pub mod Causes
-pub mod Versions
 pub mod State
 pub mod Rows
 pub mod Allowed

@@ -46,7 +46,7 @@ use Rattle.qu_rows.specs.declared.decision.Decision.TheVariants.{Answers, Waits}
 use Rattle.qu_rows.specs.Seen.{seen_in}
 use Rattle.qu_rows.specs.Table.{first_given, has_no_room}
 use Rattle.qu_rows.specs.State.{ReplicaState, own_candidates, own_latest}
-use Rattle.qu_rows.specs.Versions.{version_at}
+use Rattle.qu_versions.specs.Versions.{version_at}
 
 -- the class that a refusal carries; none of METHOD does
 abbrev pub class_code : Class → Option ClassCode

@@ -7,7 +7,7 @@ use Rattle.qu_stamp.specs.declared.stamp.Stamp.{Stamp}
 use Rattle.qu_stamp.specs.declared.limits.TheConstants.{LAST_TIME}
 use Rattle.qu_stamp.specs.declared.candidate.Candidate.{Candidate}
 use Rattle.qu_history.specs.History.{ObjectHistory, is_history, latest}
-use Rattle.qu_rows.specs.declared.versions.Stored.{Stored}
+use Rattle.qu_versions.specs.declared.stored.Stored.{Stored}
 
 pub record ReplicaState : Type 0 where
   pub me : ReplicaId

@@ -18,7 +18,6 @@ pub use mending::Mending;
 pub use remedy::Remedy;
 pub use rows::Rows;
 pub use seen::Seen;
-pub use versions::{Stored, version_at};
 
 #[cfg(test)]
 mod tests;

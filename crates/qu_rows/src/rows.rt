@@ -4,7 +4,7 @@ ghost use Rattle.std.specs.Option.{option_copied, option_or};
 ghost use Rattle.qu_history.specs.History.{latest};
 ghost use Rattle.qu_objects.specs.Parts.{are_parts};
 ghost use Rattle.qu_rows.specs.State.{AreHistories, are_own, own_latest, one_more};
-ghost use Rattle.qu_rows.specs.Versions.{version_at};
+ghost use Rattle.qu_versions.specs.Versions.{version_at};
 ghost use Rattle.qu_rows.specs.Allowed.{MayDecide};
 ghost use Rattle.qu_rows.specs.Table.{has_no_room};
 ghost use Rattle.qu_rows.specs.Rows.{shown_of, seen_of, row_few, mending_on, decision_by, decide_repair, base_version, row_unknown, row_current, row_method, row_version, decide_act, decide_ask, decision_on, objects_of};
@@ -16,15 +16,15 @@ use crate::decision::{Accepted, Decision, refuse};
 use crate::mend::Mend;
 use crate::mending::Mending;
 use crate::seen::Seen;
-use crate::versions::{self, Stored};
+use crate::versions::version_of;
 use qu_base::{List, NoMemory, ObjectId, ReplicaId};
 use qu_frames::{Body, Refusal, Verdict};
 use qu_history::{HISTORY_LIMIT, History};
 use qu_objects::{Act, ObjState, Query};
 use qu_seal::KeyRing;
 use qu_stamp::Stamp;
+use qu_versions::{Stored, VersionStore};
 use std::alloc::Global;
-use std::collections::LinkedList;
 use std::marker::Model;
 
 /// What a replica looks at when it decides upon a request: its histories, its versions, and at most one version more,
@@ -35,7 +35,7 @@ pub struct Rows<'a> {
     me: ReplicaId,
     keys: &'a KeyRing,
     histories: &'a [History],
-    versions: &'a LinkedList<Stored>,
+    versions: &'a VersionStore,
     more: Option<&'a Stored>,
 }
 
@@ -65,7 +65,7 @@ impl<'a> Rows<'a> {
         me: ReplicaId,
         keys: &'a KeyRing,
         histories: &'a [History],
-        versions: &'a LinkedList<Stored>,
+        versions: &'a VersionStore,
         more: Option<&'a Stored>,
     ) -> Rows<'a>
         requires { IsTrue (are_own me 0 histories.now) }
@@ -263,13 +263,13 @@ impl<'a> Rows<'a> {
     }
 
     /// The version of an object under a stamp, where the replica has it.
-    #[tactic(auto, using(crate::proofs::Finding::finds_more))]
+    #[tactic(auto, using(qu_versions::proofs::Lookup::finds_more))]
     fn version(&self, object: ObjectId, stamp: &Stamp) -> Option<&'a ObjState>
         ensures { option_copied result ≡ version_at object stamp.now self.now.versions }
     {
-        match versions::version_at(self.versions, object, stamp) {
+        match self.versions.get(object, stamp) {
             Some(version) => Some(version),
-            None => versions::version_of(self.more, object, stamp),
+            None => version_of(self.more, object, stamp),
         }
     }
 

@@ -13,28 +13,28 @@ abbrev pub is_same_key : ObjectId → Stamp → ObjectId → Stamp → Bool
 is_same_key object stamp other at = object.0 == other.0 && same_stamp stamp at
 
 -- whether it is the version of the object under this stamp
-abbrev pub is_state_at : ObjectId → Stamp → Stored → Bool
-is_state_at object stamp held = is_same_key held.object held.stamp object stamp
+abbrev pub is_stored : ObjectId → Stamp → Stored → Bool
+is_stored object stamp held = is_same_key held.object held.stamp object stamp
 
 -- the version of an object under this stamp
-unfoldable pub state_at : ObjectId → Stamp → List Stored → Option ObjState
-state_at object stamp [] = None
-state_at object stamp (held ∷ later) =
-    if is_state_at object stamp held then Some held.state else state_at object stamp later
+unfoldable pub version_at : ObjectId → Stamp → List Stored → Option ObjState
+version_at object stamp [] = None
+version_at object stamp (held ∷ later) =
+    if is_stored object stamp held then Some held.state else version_at object stamp later
 
-abbrev pub has_state : ObjectId → Stamp → List Stored → Bool
-has_state object stamp versions = is_some (state_at object stamp versions)
+abbrev pub has_version : ObjectId → Stamp → List Stored → Bool
+has_version object stamp versions = is_some (version_at object stamp versions)
 
 -- with a version of the object under this stamp, where none is held
-abbrev pub with_state : ObjectId → Stamp → ObjState → List Stored → List Stored
-with_state object stamp state versions =
-    if has_state object stamp versions then versions
+abbrev pub with_version : ObjectId → Stamp → ObjState → List Stored → List Stored
+with_version object stamp state versions =
+    if has_version object stamp versions then versions
     else versions ++ record { object = object; stamp = stamp; state = state } ∷ []
 
 -- what was held is held
 abbrev pub KeepsVersions : List Stored → List Stored → Type 0
-KeepsVersions old new = (object : ObjectId) (stamp : Stamp) (state : ObjState) → state_at object stamp old ≡ Some state
-    → state_at object stamp new ≡ Some state
+KeepsVersions old new = (object : ObjectId) (stamp : Stamp) (state : ObjState)
+    → version_at object stamp old ≡ Some state → version_at object stamp new ≡ Some state
 
 -- ---- how objects begin
 

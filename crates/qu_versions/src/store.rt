@@ -4,7 +4,7 @@ ghost use Rattle.qu_base.specs.declared.limits.TheConstants.{OBJECT_IDS};
 ghost use Rattle.qu_base.specs.declared.party.ObjectId.{ObjectId as Object};
 ghost use Rattle.qu_stamp.specs.declared.stamp.Stamp.{Stamp as AStamp};
 ghost use Rattle.qu_versions.specs.declared.limits.TheConstants.{MOST_VERSIONS};
-ghost use Rattle.qu_versions.specs.Versions.{is_state_at, is_same_key, state_at, has_state, with_state, opening_store, opening_at, KeepsVersions};
+ghost use Rattle.qu_versions.specs.Versions.{is_stored, is_same_key, version_at, has_version, with_version, opening_store, opening_at, KeepsVersions};
 
 use super::{MOST_VERSIONS, Prepared, Stored};
 use qu_base::{List, NoMemory, ObjectId};
@@ -15,7 +15,7 @@ use std::collections::LinkedList;
 use std::marker::Model;
 
 /// The versions of objects, each under its stamp. It only grows: a version that is held is never replaced.
-#[derive(Drop)]
+#[derive(Debug, Drop)]
 pub struct VersionStore {
     alloc: Global,
     versions: LinkedList<Stored>,
@@ -38,7 +38,7 @@ impl VersionStore {
         requires { length kinds.now ≤ OBJECT_IDS }
         ensures value { IfOk result (λ store. store ≡ opening_store 0 kinds.now) }
         ensures opening { (object : Object) (stamp : AStamp)
-            → IfOk result (λ store. state_at object stamp store ≡ opening_at kinds.now object stamp) }
+            → IfOk result (λ store. version_at object stamp store ≡ opening_at kinds.now object stamp) }
     {
         let versions = opening(alloc, kinds)?;
         Ok(VersionStore { alloc, versions })
@@ -47,11 +47,11 @@ impl VersionStore {
     /// Holds a version of the object under this stamp; where there is one, that one stays. Without memory
     /// nothing changes.
     pub fn put(&mut self, object: ObjectId, stamp: Stamp, state: ObjState) -> Result<(), NoMemory>
-        ensures value { OnOk result (self.new ≡ with_state object stamp state self.old) }
+        ensures value { OnOk result (self.new ≡ with_version object stamp state self.old) }
         ensures held { OnOk result
-            (state_at object stamp self.new ≡ option_or (state_at object stamp self.old) (Some state)) }
+            (version_at object stamp self.new ≡ option_or (version_at object stamp self.old) (Some state)) }
         ensures others { (other : Object) (at : AStamp) → is_same_key object stamp other at ≡ false
-            → OnOk result (state_at other at self.new ≡ state_at other at self.old) }
+            → OnOk result (version_at other at self.new ≡ version_at other at self.old) }
         ensures grows { OnOk result (KeepsVersions self.old self.new) }
         ensures err { OnErr result (self.new ≡ self.old) }
     {
@@ -60,7 +60,7 @@ impl VersionStore {
 
     /// Puts the version behind the others, where none is held under its key.
     fn hold(&mut self, object: ObjectId, stamp: Stamp, state: ObjState) -> Result<(), NoMemory>
-        ensures value { OnOk result (self.new ≡ with_state object stamp state self.old) }
+        ensures value { OnOk result (self.new ≡ with_version object stamp state self.old) }
         ensures err { OnErr result (self.new ≡ self.old) }
     {
         if self.get(object, &stamp).is_some() {
@@ -86,8 +86,8 @@ impl VersionStore {
     pub fn put_prepared(&mut self, prepared: Prepared)
         requires place { length (self.old ++ prepared) ≤ MOST_VERSIONS }
         ensures value { self.new ≡ self.old ++ prepared }
-        ensures held { (object : Object) (at : AStamp) → state_at object at self.new
-            ≡ option_or (state_at object at self.old) (state_at object at prepared) }
+        ensures held { (object : Object) (at : AStamp) → version_at object at self.new
+            ≡ option_or (version_at object at self.old) (version_at object at prepared) }
         ensures grows { KeepsVersions self.old self.new }
     {
         self.join(prepared)
@@ -106,14 +106,14 @@ impl VersionStore {
 
     /// The version of the object under this stamp, None exactly where it is not held.
     pub fn get(&self, object: ObjectId, stamp: &Stamp) -> Option<&ObjState>
-        ensures { option_copied result ≡ state_at object stamp.now self.now }
+        ensures { option_copied result ≡ version_at object stamp.now self.now }
     {
-        state_at(&self.versions, object, stamp)
+        version_at(&self.versions, object, stamp)
     }
 
     /// Those of the keys under which no version is held, in their order.
     pub fn missing(&self, keys: &[(ObjectId, Stamp)]) -> Result<List<(ObjectId, Stamp)>, NoMemory>
-        ensures { IfOk result (λ missing. missing ≡ filter (λ key. not (has_state key.0 key.1 self.now)) keys.now) }
+        ensures { IfOk result (λ missing. missing ≡ filter (λ key. not (has_version key.0 key.1 self.now)) keys.now) }
     {
         let mut missing = List::new(self.alloc);
         for key in keys {
@@ -149,12 +149,12 @@ fn opening(alloc: Global, kinds: &[KindName]) -> Result<LinkedList<Stored>, NoMe
 
 /// The version of an object under this stamp.
 #[tactic(auto, using(crate::proofs::Lookup::finds))]
-fn state_at<'a>(
+fn version_at<'a>(
     versions: &'a LinkedList<Stored>,
     object: ObjectId,
     stamp: &Stamp,
 ) -> Option<&'a ObjState>
-    ensures { option_copied result ≡ state_at object stamp.now versions.now }
+    ensures { option_copied result ≡ version_at object stamp.now versions.now }
 {
     match first_stored(versions, object, stamp) {
         Some(held) => Some(&held.state),
@@ -169,7 +169,7 @@ fn first_stored<'a>(
     object: ObjectId,
     stamp: &Stamp,
 ) -> Option<&'a Stored>
-    ensures { option_copied result ≡ find (is_state_at object stamp.now) versions.now }
+    ensures { option_copied result ≡ find (is_stored object stamp.now) versions.now }
 {
     versions
         .iter()

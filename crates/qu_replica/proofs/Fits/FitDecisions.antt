@@ -38,7 +38,7 @@ use Rattle.qu_kept.proofs.OneObject.{performed_to}
 use Rattle.qu_objects.specs.Formats.{answer_form}
 use Rattle.qu_objects.specs.Performing.{performed_answer, told_answer}
 use Rattle.qu_frames.specs.declared.verdict.Refusal.{Refusal}
-use Rattle.qu_frames.specs.declared.verdict.Refusal.TheVariants.{UnknownObject, Thin, Needs, Stale, NotCurrent, NotMethod, TimeSpent, HistoryFull, Sound}
+use Rattle.qu_frames.specs.declared.verdict.Refusal.TheVariants.{UnknownObject, Thin, NotCurrent, NotMethod, TimeSpent, HistoryFull}
 use Rattle.qu_frames.specs.declared.verdict.Refusal.TheVariants as refusal
 use Rattle.qu_frames.specs.declared.verdict.Verdict.TheVariants.{Refused}
 use Rattle.qu_frames.specs.Formats.{verdict_form}
@@ -47,7 +47,7 @@ use Rattle.qu_rows.specs.declared.decision.Decision.TheVariants.{Answers, Waits}
 use Rattle.qu_rows.specs.State.{ReplicaState, candidates_in, own_candidates, own_latest}
 use Rattle.qu_rows.specs.Rows.{Asked, refuse, method_base, base_version, shown_of, fresh_stamp, fresh_act, fresh_stamps, standing_in, done_again, repeated, row_unknown, row_thin, row_retry, is_held, row_current, row_method, row_version, row_kept, row_time, row_full, row_done, row_told, class_told, decide_act, decide_ask}
 use Rattle.qu_rows.specs.Table.{first_given}
-use Rattle.qu_rows.specs.Versions.{version_at}
+use Rattle.qu_versions.specs.Versions.{version_at}
 use Rattle.qu_replica.specs.Fits.{ValueFits, RowFits, VersionFits, StateFits}
 use Rattle.qu_rows.proofs.Own.{own_history}
 use Rattle.qu_rows.proofs.Held.{is_held_by, own_in_time}

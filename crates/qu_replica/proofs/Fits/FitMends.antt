@@ -22,7 +22,7 @@ use Rattle.qu_rows.specs.Causes.{MakesCandidate, RefusesFor, HasCause}
 use Rattle.qu_rows.proofs.Decided.{decided_has_cause}
 use Rattle.qu_rows.specs.State.{ReplicaState, own_candidates}
 use Rattle.qu_rows.specs.Rows.{Asked, refuse, shown_of, row_few, mend_asked, wanted_version, mending_on, decision_by, decide_repair}
-use Rattle.qu_rows.specs.Versions.{version_at}
+use Rattle.qu_versions.specs.Versions.{version_at}
 use Rattle.qu_replica.specs.Fits.{VersionFits, StateFits}
 use Rattle.qu_replica.proofs.Fits.FitStamps.{CandidateFits, shown_fit}
 use Rattle.qu_replica.proofs.Fits.FitVerdicts.{thin_fits, time_fits, full_fits, current_fits, sound_fits, mended_fits}

@@ -23,11 +23,11 @@ use Rattle.qu_objects.specs.declared.kind.KindName.TheVariants as kind
 use Rattle.qu_objects.specs.declared.state.ObjState.{ObjState}
 use Rattle.qu_objects.specs.Kind.{fresh_value}
 use Rattle.qu_rows.specs.declared.decision.Accepted.{Accepted}
-use Rattle.qu_rows.specs.declared.versions.Stored.{Stored}
+use Rattle.qu_versions.specs.declared.stored.Stored.{Stored}
 use Rattle.qu_rows.specs.State.{ReplicaState, candidates_in}
-use Rattle.qu_replica.specs.State.{with_candidate, stored_if, accept, accept_all, opening_histories, opening_versions, replica_at_start}
+use Rattle.qu_replica.specs.State.{with_candidate, stored_if, accept, accept_all, opening_histories, replica_at_start}
 use Rattle.qu_rows.specs.Allowed.{MayAccept, MayAcceptAll}
-use Rattle.qu_rows.specs.Versions.{is_stored, version_at}
+use Rattle.qu_versions.specs.Versions.{is_stored, version_at, opening_store}
 use Rattle.qu_replica.specs.Fits.{ValueFits, VersionFits, VersionsFit, StateFits}
 use Rattle.qu_replica.proofs.States.Growth.{length-with_candidate}
 use Rattle.qu_rows.proofs.Own.{own_history}
@@ -176,12 +176,12 @@ opening_histories_fit me first (kind ∷ kinds) (suc place) history found =
 fresh_fits : (kind : KindName) → ValueFits (fresh_value kind)
 fresh_fits kind.Counter = omega arith
 
-opening_versions_fit : (first : ℕ) (kinds : List KindName) → VersionsFit (opening_versions first kinds)
-unfolding opening_versions
-opening_versions_fit first [] = tt
-opening_versions_fit first (kind ∷ kinds) = (
+opening_store_fits : (first : ℕ) (kinds : List KindName) → VersionsFit (opening_store first kinds)
+unfolding opening_store
+opening_store_fits first [] = tt
+opening_store_fits first (kind ∷ kinds) = (
   record { value = fresh_fits kind; kept = tt },
-  opening_versions_fit (first + 1) kinds,
+  opening_store_fits (first + 1) kinds,
 )
 
 -- a replica begins so
@@ -195,7 +195,7 @@ opening-fits me keys kinds within sized few = record {
       opening_number me 0 kinds in omega (arith, number, few);
   own = opening-histories me keys kinds;
   histories = opening_histories_fit me 0 kinds;
-  versions = opening_versions_fit 0 kinds;
+  versions = opening_store_fits 0 kinds;
 }
 
 -- ---- a version that is found

@@ -1,12 +1,11 @@
 -- The histories once a candidate is accepted.
-use Rattle.std.proofs.Common.{◌≡◌, ℕ, zero, suc, ◌<◌, ◌≤◌, List, [], ◌∷◌, ◌++◌, length, length-append, set, get_or, Option, None, Some, refl, sym, subst, ap, ◌∙◌, arith}
-use Rattle.std.specs.Prelude.{◌+◌, slice_get, IfSome}
+use Rattle.std.proofs.Common.{◌≡◌, ℕ, zero, suc, ◌<◌, ◌≤◌, List, [], ◌∷◌, ◌++◌, length, set, get_or, Option, None, Some, refl, sym, subst, ap, ◌∙◌, arith}
+use Rattle.std.specs.Prelude.{slice_get, IfSome}
 use Rattle.std.proofs.lemmas.Option.{none-some, same_Some}
-use Rattle.std.proofs.lemmas.List.{length_push}
 use Rattle.qu_stamp.specs.declared.candidate.Candidate.{Candidate}
 use Rattle.qu_history.specs.History.{ObjectHistory}
-use Rattle.qu_objects.specs.declared.state.ObjState.{ObjState}
-use Rattle.qu_rows.specs.declared.versions.Stored.{Stored}
+use Rattle.qu_versions.specs.declared.limits.TheConstants.{MOST_VERSIONS}
+use Rattle.qu_versions.specs.declared.stored.Stored.{Stored}
 use Rattle.qu_rows.specs.declared.decision.Accepted.{Accepted}
 use Rattle.qu_replica.specs.declared.planned.Gain.{Gain}
 use Rattle.qu_rows.specs.State.{ReplicaState}
@@ -93,37 +92,20 @@ gain_is_accepted state accepted gain own may found stored =
     put
     ∙ ap (λ (them : List Stored). record (accept state accepted) { versions = state.versions ++ them }) stored
 
--- at most one version is stored with a candidate
-stored_few : (versions : List Stored) (accepted : Accepted)
-    → length (versions ++ stored_if accepted.object accepted.candidate.stamp accepted.state) ≤ length versions + 1
-stored_few versions accepted = by_state accepted.state
-  where
-    by_state : (state : Option ObjState)
-        → length (versions ++ stored_if accepted.object accepted.candidate.stamp state) ≤ length versions + 1
-    by_state None = omega (arith, length-append versions [])
-    by_state (Some version) = omega (
-      arith,
-      length_push versions
-          (record { object = accepted.object; stamp = accepted.candidate.stamp; state = version }),
-    )
-
 pub gain_may : (state : ReplicaState) (accepted : Accepted) (gain : Gain) → AreHistories state
     → MayAccept state accepted
     → slice_get (with_candidate (accepted.object).0 accepted.candidate state.histories) (accepted.object).0 ≡ Some
     gain.history
     → gain.versions ≡ stored_if accepted.object accepted.candidate.stamp accepted.state
-    → length state.versions < 9223372036854775806 → MayGain state gain
+    → length (state.versions ++ gain.versions) ≤ MOST_VERSIONS → MayGain state gain
 gain_may state accepted gain own may found stored room =
     let place : ((gain.history).object).0 ≡ (accepted.object).0 =
     grown_place state accepted gain.history own may found in
-    let few : length (state.versions ++ gain.versions) ≤ length state.versions + 1 =
-    subst (λ (them : List Stored). length (state.versions ++ them) ≤ length state.versions + 1) (sym stored)
-    (stored_few state.versions accepted) in
     record {
       known = rw place may.known;
       own = subst AreHistories (sym (gain_is_accepted state accepted gain own may found stored))
           (accept-histories state accepted own may);
-      room = omega (arith, few, room);
+      room = omega (arith, room);
     }
 
 -- what was accepted so is kept

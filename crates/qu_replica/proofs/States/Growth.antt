@@ -14,7 +14,7 @@ use Rattle.qu_objects.specs.declared.state.ObjState.{ObjState}
 use Rattle.qu_frames.specs.declared.frame.Frame.{Frame}
 use Rattle.qu_frames.specs.Signing.{brought}
 use Rattle.qu_frames.specs.declared.frame.Frame.TheVariants as frame
-use Rattle.qu_rows.specs.declared.versions.Stored.{Stored}
+use Rattle.qu_versions.specs.declared.stored.Stored.{Stored}
 use Rattle.qu_rows.specs.declared.decision.Accepted.{Accepted}
 use Rattle.qu_rows.specs.declared.decision.Decision.{Decision}
 use Rattle.qu_rows.specs.declared.decision.Decision.TheVariants.{Answers, Waits}
@@ -22,9 +22,9 @@ use Rattle.qu_rows.specs.State.{ReplicaState, candidates_in, own_candidates}
 use Rattle.qu_replica.specs.State.{with_candidate, stored_if, accept, accept_all}
 use Rattle.qu_rows.specs.Rows.{asked_at, decision_on}
 use Rattle.qu_replica.specs.Step.{carried_out, replica_on_frame, replica_on_received, replica_step}
-use Rattle.qu_rows.specs.Versions.{version_at}
+use Rattle.qu_versions.specs.Versions.{version_at}
 use Rattle.qu_replica.specs.Growth.{Grows}
-use Rattle.qu_rows.proofs.Finding.{version_at-append}
+use Rattle.qu_versions.proofs.Lookup.{append_grows}
 
 pub length-with_candidate : (number : ℕ) (candidate : Candidate) (histories : List ObjectHistory)
     → length (with_candidate number candidate histories) ≡ length histories
@@ -124,5 +124,4 @@ pub version_at-grows : (old new : ReplicaState) → Grows old new → (object : 
     (version : ObjState) → version_at object stamp old.versions ≡ Some version
     → version_at object stamp new.versions ≡ Some version
 version_at-grows old new grows object stamp version found =
-    ap (λ (held : List Stored). version_at object stamp held) (grows.versions).1
-    ∙ version_at-append object stamp old.versions (grows.versions).0 version found
+    append_grows old.versions (grows.versions).0 new.versions (grows.versions).1 object stamp version found

@@ -1,13 +1,10 @@
 -- The first objects of a replica, and one more.
-use Rattle.std.proofs.Common.{◌≡◌, ℕ, zero, suc, ◌+◌, ◌<◌, List, [], ◌∷◌, ◌++◌, length, take, get_or, refl, ap, arith, zero-add, add-zero, add-one}
+use Rattle.std.proofs.Common.{◌≡◌, ℕ, zero, suc, ◌+◌, ◌<◌, List, [], ◌∷◌, ◌++◌, length, take, refl, ap, arith, zero-add, add-zero, add-one}
 use Rattle.qu_base.specs.declared.party.ReplicaId.{ReplicaId}
-use Rattle.qu_stamp.specs.Stamp.{opening_stamp}
 use Rattle.qu_stamp.specs.Candidate.{opening}
 use Rattle.qu_history.specs.History.{ObjectHistory}
 use Rattle.qu_objects.specs.declared.kind.KindName.{KindName}
-use Rattle.qu_rows.specs.declared.versions.Stored.{Stored}
-use Rattle.qu_replica.specs.State.{opening_histories, opening_versions}
-use Rattle.qu_objects.specs.Kind.{opening_version}
+use Rattle.qu_replica.specs.State.{opening_histories}
 
 histories_from : (me : ReplicaId) (first place : ℕ) (kinds : List KindName) → place < length kinds
     → opening_histories me first (take (suc place) kinds) ≡ opening_histories me first
@@ -29,39 +26,6 @@ pub histories_step : (me : ReplicaId) (place : ℕ) (kinds : List KindName) → 
     (take place kinds) ++ record { object = record { 0 = place }; replica = me; candidates = opening ∷ [] } ∷ []
 histories_step me place kinds within = rw add-one (rw zero-add at (histories_from me 0 place kinds within))
 
-versions_from : (first place : ℕ) (kinds : List KindName) (default : KindName) → place < length kinds
-    → opening_versions first (take (suc place) kinds) ≡ opening_versions first
-    (take place kinds) ++ record {
-      object = record { 0 = first + place };
-      stamp = opening_stamp;
-      state = opening_version (get_or kinds place default);
-    } ∷ []
-unfolding opening_versions
-versions_from first place [] default within = absurd (omega arith)
-versions_from first zero (kind ∷ kinds) default within = rw add-zero refl
-versions_from first (suc place) (kind ∷ kinds) default within =
-    let count : first + suc place ≡ (first + 1) + place = omega arith in
-    let inner : place < length kinds = omega arith in
-    rw count (ap (λ (later : List Stored). record {
-      object = record { 0 = first };
-      stamp = opening_stamp;
-      state = opening_version kind;
-    } ∷ later)
-    (versions_from (first + 1) place kinds default inner))
-
-pub versions_step : (place : ℕ) (kinds : List KindName) (default : KindName) → place < length kinds
-    → opening_versions 0 (take (place + 1) kinds) ≡ opening_versions 0
-    (take place kinds) ++ record {
-      object = record { 0 = place };
-      stamp = opening_stamp;
-      state = opening_version (get_or kinds place default);
-    } ∷ []
-versions_step place kinds default within = rw add-one (rw zero-add at (versions_from 0 place kinds default within))
-
 pub no_histories : (me : ReplicaId) → opening_histories me 0 [] ≡ []
 unfolding opening_histories
 no_histories me = refl
-
-pub no_versions : opening_versions 0 [] ≡ []
-unfolding opening_versions
-no_versions = refl

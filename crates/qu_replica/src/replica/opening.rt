@@ -1,14 +1,11 @@
 ghost use Rattle.std.specs.Prelude.{◌≡◌, ◌≤◌, length, IfOk};
 ghost use Rattle.qu_base.specs.declared.limits.TheConstants.{OBJECT_IDS};
-ghost use Rattle.qu_replica.specs.State.{opening_histories, opening_versions};
+ghost use Rattle.qu_replica.specs.State.{opening_histories};
 
-use qu_base::{List, NoMemory, ObjectId, ReplicaId};
+use qu_base::{NoMemory, ObjectId, ReplicaId};
 use qu_history::History;
-use qu_objects::{KindName, ObjState, Value};
-use qu_rows::Stored;
-use qu_stamp::Stamp;
+use qu_objects::KindName;
 use std::alloc::Global;
-use std::collections::LinkedList;
 
 /// The histories with which the objects of these kinds begin, in their order.
 #[tactic(auto, using(crate::proofs::States::Opening::histories_step, crate::proofs::States::Opening::no_histories))]
@@ -25,26 +22,4 @@ pub(super) fn histories(
         histories.push(History::opening(alloc, ObjectId(number as u16), me)?)?;
     }
     Ok(histories)
-}
-
-/// The versions with which the objects of these kinds begin, in their order.
-#[tactic(auto, using(crate::proofs::States::Opening::versions_step, crate::proofs::States::Opening::no_versions))]
-pub(super) fn versions(alloc: Global, kinds: &[KindName]) -> Result<LinkedList<Stored>, NoMemory>
-    requires { length kinds.now ≤ OBJECT_IDS }
-    ensures { IfOk result (λ versions. versions ≡ opening_versions 0 kinds.now) }
-{
-    let mut versions = LinkedList::new(alloc);
-    for (number, kind) in kinds.iter().enumerate() {
-        let state = ObjState {
-            value: Value::fresh(*kind),
-            kept: List::new(alloc),
-            links: List::new(alloc),
-        };
-        versions.push_back(Stored {
-            object: ObjectId(number as u16),
-            stamp: Stamp::opening(),
-            state,
-        })?;
-    }
-    Ok(versions)
 }

@@ -6,7 +6,6 @@ ghost use Rattle.qu_rows.specs.Allowed.{MayAccept, MayAcceptAll, MayDecide};
 ghost use Rattle.qu_replica.specs.Growth.{MayGain};
 
 use super::Replica;
-use crate::limits::MOST_VERSIONS;
 use crate::planned::{Gain, Planned};
 use crate::versions;
 use qu_base::{List, NoMemory, ObjectId, Party, ReplicaId};
@@ -173,10 +172,10 @@ impl Replica {
         ensures state { IfOk result (λ gain. with_gain self.now (Some gain) ≡ accept self.now accepted.now) }
         ensures may { IfOk result (MayGain self.now) }
     {
-        if MOST_VERSIONS <= self.versions.len() {
+        let versions = versions::stored(self.alloc, accepted)?;
+        if !self.versions.has_place(&versions) {
             return Err(NoMemory);
         }
-        let versions = versions::stored(self.alloc, accepted)?;
         Ok(Gain {
             history: self.grown(accepted)?,
             versions,

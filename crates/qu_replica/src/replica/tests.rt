@@ -124,11 +124,7 @@ fn time_can_be_spent(rt: HostRuntime) -> Result<(), Fail> {
         kept: List::new(rt.alloc()),
         links: List::new(rt.alloc()),
     };
-    replica.versions.push_back(Stored {
-        object: COUNTER,
-        stamp,
-        state,
-    })?;
+    replica.versions.put(COUNTER, stamp, state)?;
     let found = verdict(rt.alloc(), &mut replica, 1, stamp)?;
     assert_eq!(rt; found, Verdict::Refused(Refusal::TimeSpent(COUNTER)));
     Ok(())

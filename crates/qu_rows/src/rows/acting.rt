@@ -4,7 +4,7 @@ ghost use Rattle.qu_stamp.specs.declared.limits.TheConstants.{LAST_TIME};
 ghost use Rattle.qu_history.specs.Sets.{latest_of};
 ghost use Rattle.qu_objects.specs.Performing.{performed_answer};
 ghost use Rattle.qu_kept.specs.Performing.{performed_states};
-ghost use Rattle.qu_rows.specs.Rows.{shown_of, seen_of, class_code, class_told, base_version, fresh_act, is_held, unknown_in, unknown_refused, row_thin, standing_in, done_again, repeated, row_retry, row_current, row_method, row_version, row_kept, row_time, row_full, row_done, row_told};
+ghost use Rattle.qu_rows.specs.Rows.{shown_of, seen_of, class_code, base_version, fresh_act, is_held, unknown_in, unknown_refused, row_thin, standing_in, done_again, repeated, row_retry, row_current, row_method, row_version, row_kept, row_time, row_full, row_done, row_told};
 
 use super::{Rows, has_no_room};
 use crate::asked::Asked;

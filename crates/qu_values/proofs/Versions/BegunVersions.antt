@@ -13,9 +13,9 @@ use Rattle.qu_history.specs.History.{holds}
 use Rattle.qu_objects.specs.declared.kind.KindName.{KindName}
 use Rattle.qu_objects.specs.declared.state.ObjState.{ObjState}
 use Rattle.qu_rows.specs.State.{ReplicaState, candidates_in, own_candidates}
-use Rattle.qu_replica.specs.State.{opening_histories, opening_versions, replica_at_start}
+use Rattle.qu_replica.specs.State.{opening_histories, replica_at_start}
 use Rattle.qu_objects.specs.Kind.{opening_version}
-use Rattle.qu_rows.specs.Versions.{version_at}
+use Rattle.qu_versions.specs.Versions.{version_at, opening_store}
 use Rattle.qu_trace.specs.declared.trace.Trace.{Trace}
 use Rattle.qu_base.specs.declared.party.Party.TheVariants as party
 use Rattle.std.specs.Prelude.{if◌then◌else◌}
@@ -47,12 +47,12 @@ record IsBegun (first : ℕ) (kinds : List KindName) (object : ObjectId) (place 
   kind : KindName
   is_kind : slice_get kinds place ≡ Some kind
   alone : opening ≡ candidate
-  fresh : version_at object opening_stamp (opening_versions first kinds) ≡ Some (opening_version kind)
+  fresh : version_at object opening_stamp (opening_store first kinds) ≡ Some (opening_version kind)
 
 later_begun : (first : ℕ) (kind : KindName) (kinds : List KindName) (object : ObjectId) (place : ℕ)
     (candidate : Candidate) → object.0 ≡ first + suc place → IsBegun (first + 1) kinds object place candidate → IsBegun
     first (kind ∷ kinds) object (suc place) candidate
-unfolding version_at opening_versions
+unfolding version_at opening_store
 later_begun first kind kinds object place candidate at later =
     let test : Bool = first == object.0 && same_stamp opening_stamp opening_stamp in
     elim (cases_Bool test) [
@@ -66,7 +66,7 @@ later_begun first kind kinds object place candidate at later =
         is_kind = later.is_kind;
         alone = later.alone;
         fresh = ap (λ (b : Bool). cond b (Some (opening_version kind))
-            (version_at object opening_stamp (opening_versions (first + 1) kinds))) there ∙ later.fresh;
+            (version_at object opening_stamp (opening_store (first + 1) kinds))) there ∙ later.fresh;
       }
     ]
 
@@ -81,7 +81,7 @@ begun_from : (me : ReplicaId) (first : ℕ) (kinds : List KindName) (object : Ob
     (candidate : Candidate) → object.0 ≡ first + place → holds candidate
     (candidates_in (slice_get (opening_histories me first kinds) place)) ≡ true → IsBegun first kinds object place
     candidate
-unfolding opening_histories version_at opening_versions
+unfolding opening_histories version_at opening_store
 begun_from me first [] object place candidate at held = absurd (false≢true held)
 begun_from me first (kind ∷ kinds) object zero candidate at held =
     let equal : first ≡ object.0 = omega arith in
@@ -90,7 +90,7 @@ begun_from me first (kind ∷ kinds) object zero candidate at held =
       is_kind = refl;
       alone = only_opening candidate held;
       fresh = ap (λ (b : Bool). cond b (Some (opening_version kind))
-          (version_at object opening_stamp (opening_versions (first + 1) kinds)))
+          (version_at object opening_stamp (opening_store (first + 1) kinds)))
           (and_from _ _ (eq-eqb first object.0 equal) (same_stamp-self opening_stamp));
     }
 begun_from me first (kind ∷ kinds) object (suc place) candidate at held =

@@ -18,7 +18,7 @@ use Rattle.qu_frames.specs.declared.frame.Body.TheVariants as body
 use Rattle.qu_rows.specs.State.{ReplicaState, own_candidates}
 use Rattle.qu_replica.specs.State.{replica_at_start, stored_if}
 use Rattle.qu_replica.specs.Growth.{Grows}
-use Rattle.qu_rows.specs.Versions.{version_at}
+use Rattle.qu_versions.specs.Versions.{version_at}
 use Rattle.qu_replica.proofs.States.Growth.{version_at-grows}
 use Rattle.qu_trace.specs.declared.event.Event.{Event}
 use Rattle.qu_trace.specs.declared.trace.Entry.{Entry}

@@ -13,5 +13,5 @@ returns-clause-fits c = λ within.
     replicas_are_count c.args.keys.bounds
     (subst (λ (b : ℕ). 1 ≤ b) same c.b.ensures.in_range.0)
     (subst (λ (b : ℕ). b ≤ MOST_FAULTS) same c.b.ensures.in_range.1) in
-    rw (c.in_ok-histories.ensures, c.in_ok-versions.ensures)
+    rw (c.in_ok-histories.ensures, c.in_ok-fresh.ensures.value)
     (opening-fits c.args.me c.args.keys c.args.kinds.now (omega (arith, within)) sized c.requires)
