@@ -4,7 +4,7 @@ use super::scripts::{apply, run_text, trace_of, world_of};
 use qu_case_forms::{NoAnswer, put_hashed, put_party};
 use qu_frames::Letter;
 use qu_trace::{Entry, Event, Trace};
-use qu_world::{World, letter_at};
+use qu_world::World;
 use std::alloc::{AllocError, Global};
 
 /// A line for each letter of a script's run: number, event, sender, receiver, length, SHA-256.
@@ -41,7 +41,7 @@ fn in_place_of(alloc: Global, world: &World, event: &Event) -> Result<Event, NoA
     let Event::Deliver(number) = event else {
         return Ok(event.copy(alloc)?);
     };
-    match letter_at(world.trace().entries.as_slice(), *number) {
+    match world.sent().letter(*number) {
         Some(letter) => Ok(Event::Inject(letter.to, letter.text.copy(alloc)?)),
         None => Err(NoAnswer::Event),
     }

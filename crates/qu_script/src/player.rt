@@ -130,8 +130,8 @@ impl Player {
         ensures found { IfOk result (λ found. found ≡ lowest_waiting self.old) }
         ensures same { self.new ≡ self.old }
     {
-        let trace = self.world.trace();
-        let (next, found) = find_waiting(&trace.setup, trace.entries.as_slice(), self.next)?;
+        let setup = &self.world.trace().setup;
+        let (next, found) = find_waiting(setup, &self.world.sent(), self.next)?;
         self.next = next;
         Ok(found)
     }

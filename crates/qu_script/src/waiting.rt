@@ -7,7 +7,7 @@ ghost use Rattle.qu_script.specs.Player.{MayBeginAt};
 
 use qu_base::NoMemory;
 use qu_trace::{Entry, Event, Setup};
-use qu_world::letter_at;
+use qu_world::Sent;
 
 /// Finds the lowest letter to a correct party that no event has delivered, where each below `from`
 /// is none.
@@ -16,7 +16,7 @@ use qu_world::letter_at;
 /// as want of memory.
 pub fn find_waiting(
     setup: &Setup,
-    entries: &[Entry],
+    entries: &Sent<'_>,
     from: u64,
 ) -> Result<(u64, Option<u64>), NoMemory>
     requires { MayBeginAt setup.now entries.now from }
@@ -25,7 +25,7 @@ pub fn find_waiting(
     ensures next { IfOk result (λ found. MayBeginAt setup.now entries.now found.0) }
 {
     let mut next = from;
-    'search: while letter_at(entries, next).is_some() {
+    'search: while entries.letter(next).is_some() {
         if !is_passed_over(setup, entries, next) {
             return Ok((next, Some(next)));
         }
@@ -35,16 +35,16 @@ pub fn find_waiting(
 }
 
 /// Whether the letter goes to a faulty party, or an event has delivered it.
-fn is_passed_over(setup: &Setup, entries: &[Entry], letter: u64) -> bool
+fn is_passed_over(setup: &Setup, entries: &Sent<'_>, letter: u64) -> bool
     ensures { result ≡ is_passed_over setup.now entries.now letter }
 {
-    is_to_faulty(setup, entries, letter) || was_delivered(entries, letter)
+    is_to_faulty(setup, entries, letter) || was_delivered(entries.entries(), letter)
 }
 
-fn is_to_faulty(setup: &Setup, entries: &[Entry], letter: u64) -> bool
+fn is_to_faulty(setup: &Setup, entries: &Sent<'_>, letter: u64) -> bool
     ensures { result ≡ is_to_faulty setup.now (numbered (letters_of entries.now) letter) }
 {
-    match letter_at(entries, letter) {
+    match entries.letter(letter) {
         Some(letter) => setup.is_faulty(letter.to),
         None => false,
     }

@@ -6,3 +6,4 @@ pub mod OpeningLaws
 pub mod Steps
 pub mod RunLaws
 pub mod WorldGrowth
+pub mod StartLaws

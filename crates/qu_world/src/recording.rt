@@ -1,10 +1,12 @@
 ghost use Rattle.std.specs.Prelude.{◌≡◌, ◌≤◌, ◌+◌, ◌-◌, ◌^◌, IfOk, OnOk, OnErr};
 ghost use Rattle.qu_trace.specs.Letters.{bytes_sent};
 ghost use Rattle.qu_world.specs.Parties.{MayBegin, Receives, Steps, Makes, MakesEntry};
+ghost use Rattle.qu_world.specs.Starts.{AreStarts};
 ghost use Rattle.qu_world.specs.Step.{at_faulty};
 
-use super::letters::{bytes_in, letter_at};
+use super::letters::bytes_in;
 use super::parties::{Made, invoke_client, step_client, step_replica, tick_client};
+use super::sent::{Sent, Starts};
 use qu_base::{List, NoMemory, Party};
 use qu_client::Client;
 use qu_frames::Reading;
@@ -39,7 +41,7 @@ fn step(
     replicas: &mut Vec<Replica>,
     last: &mut Option<Reading>,
     clients: &mut Vec<Client>,
-    entries: &[Entry],
+    entries: &Sent<'_>,
     event: &Event,
 ) -> Result<Made, NoMemory>
     requires { MayBegin clients.old.items event.now }
@@ -53,7 +55,7 @@ fn step(
             let op = op.copy(alloc)?;
             invoke_client(clients, *me, op)
         }
-        Event::Deliver(number) => match letter_at(entries, *number) {
+        Event::Deliver(number) => match entries.letter(*number) {
             None => Ok(Made::nothing(alloc)),
             Some(letter) => take_text(
                 alloc,
@@ -70,12 +72,12 @@ fn step(
 }
 
 /// Whether an event happens at a faulty party.
-fn is_at_faulty(setup: &Setup, entries: &[Entry], event: &Event) -> bool
+fn is_at_faulty(setup: &Setup, entries: &Sent<'_>, event: &Event) -> bool
     ensures { result ≡ at_faulty setup.now entries.now event.now }
 {
     match event {
         Event::Invoke(me, _) | Event::Tick(me) => setup.is_faulty(Party::Client(*me)),
-        Event::Deliver(number) => match letter_at(entries, *number) {
+        Event::Deliver(number) => match entries.letter(*number) {
             None => false,
             Some(letter) => setup.is_faulty(letter.to),
         },
@@ -90,7 +92,7 @@ fn make(
     replicas: &mut Vec<Replica>,
     last: &mut Option<Reading>,
     clients: &mut Vec<Client>,
-    entries: &[Entry],
+    entries: &Sent<'_>,
     event: &Event,
 ) -> Result<Made, NoMemory>
     requires { MayBegin clients.old.items event.now }
@@ -115,9 +117,11 @@ fn push_event(
     last: &mut Option<Reading>,
     clients: &mut Vec<Client>,
     entries: &mut Vec<Entry>,
+    starts: &mut Starts,
     event: Event,
 ) -> Result<u128, NoMemory>
-    requires { MayBegin clients.old.items event }
+    requires begin { MayBegin clients.old.items event }
+    requires starts { AreStarts entries.old.items starts.old }
     ensures ok { OnOk result (MakesEntry setup.now replicas.old.items replicas.new.items clients.old.items
         clients.new.items entries.old.items entries.new.items event) }
     ensures sent { IfOk result (λ bytes. bytes_sent entries.new.items ≡ bytes_sent entries.old.items + bytes) }
@@ -125,18 +129,22 @@ fn push_event(
     ensures replicas_stay { OnErr result (replicas.new.items ≡ replicas.old.items) }
     ensures clients_stay { OnErr result (clients.new.items ≡ clients.old.items) }
     ensures entries_stay { OnErr result (entries.new.items ≡ entries.old.items) }
+    ensures starts { AreStarts entries.new.items starts.new }
 {
     entries.reserve(1)?;
+    starts.places.reserve(1)?;
     let made = make(
         alloc,
         setup,
         replicas,
         last,
         clients,
-        entries.as_slice(),
+        &Sent::new(entries.as_slice(), starts.places.as_slice()),
         &event,
     )?;
     let bytes = bytes_in(made.letters.as_slice());
+    starts.places.push_reserved(starts.next);
+    starts.next = starts.next.saturating_add(made.letters.len() as u64);
     entries.push_reserved(Entry {
         event,
         letters: made.letters,
@@ -152,9 +160,11 @@ pub fn record_event(
     last: &mut Option<Reading>,
     clients: &mut Vec<Client>,
     trace: &mut Trace,
+    starts: &mut Starts,
     event: Event,
 ) -> Result<u128, NoMemory>
-    requires { MayBegin clients.old.items event }
+    requires begin { MayBegin clients.old.items event }
+    requires starts { AreStarts trace.old.entries starts.old }
     ensures ok { OnOk result (MakesEntry trace.old.setup replicas.old.items replicas.new.items clients.old.items
         clients.new.items trace.old.entries trace.new.entries event) }
     ensures sent { IfOk result (λ bytes. bytes_sent trace.new.entries ≡ bytes_sent trace.old.entries + bytes) }
@@ -163,6 +173,7 @@ pub fn record_event(
     ensures replicas_stay { OnErr result (replicas.new.items ≡ replicas.old.items) }
     ensures clients_stay { OnErr result (clients.new.items ≡ clients.old.items) }
     ensures trace_stays { OnErr result (trace.new ≡ trace.old) }
+    ensures starts { AreStarts trace.new.entries starts.new }
 {
     let mut entries = mem::replace(&mut trace.entries, List::new(alloc)).into_vec();
     let recorded = push_event(
@@ -172,6 +183,7 @@ pub fn record_event(
         last,
         clients,
         &mut entries,
+        starts,
         event,
     );
     trace.entries = List::from(entries);

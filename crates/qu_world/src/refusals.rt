@@ -3,13 +3,12 @@ ghost use Rattle.qu_trace.specs.Letters.{letters_of};
 ghost use Rattle.qu_world.specs.State.{numbered};
 ghost use Rattle.qu_world.specs.Refusals.{limit_at, refused_invocation, refused_tick, refused_delivery, is_party, refused_injection};
 
-use super::letters::letter_at;
 use super::parties::client_at;
+use super::sent::Sent;
 use super::{BYTE_LIMIT, EVENT_LIMIT, WorldFail};
 use qu_base::{ClientId, Party};
 use qu_client::Client;
 use qu_replica::Replica;
-use qu_trace::Entry;
 
 /// Why no event happens any more in a run of so many events and so many bytes of letters.
 pub fn limit_at(events: usize, bytes: u128) -> Option<WorldFail>
@@ -25,10 +24,10 @@ pub fn limit_at(events: usize, bytes: u128) -> Option<WorldFail>
 }
 
 /// Why a letter is not delivered.
-pub fn refuse_delivery(entries: &[Entry], number: u64) -> Option<WorldFail>
+pub fn refuse_delivery(entries: &Sent<'_>, number: u64) -> Option<WorldFail>
     ensures { result ≡ refused_delivery number (numbered (letters_of entries.now) number) }
 {
-    match letter_at(entries, number) {
+    match entries.letter(number) {
         Some(_) => None,
         None => Some(WorldFail::NoSuchLetter(number)),
     }

@@ -17,6 +17,7 @@ use super::recording::record_event;
 use super::refusals::{
     limit_at, refuse_delivery, refuse_injection, refuse_invocation, refuse_tick,
 };
+use super::sent::{Sent, Starts};
 use qu_base::{ClientId, List, NoMemory, ObjectId, Party, ReplicaId};
 use qu_client::Client;
 use qu_frames::Reading;
@@ -36,6 +37,8 @@ pub struct World {
     /// The last request that a replica was handed: its client sends it to the others as well.
     last: Option<Reading>,
     clients: Vec<Client>,
+    /// Where the letters of each entry begin.
+    starts: Starts,
     /// How many bytes the letters that were sent have together, at most 2^128 - 1.
     sent: u128,
 }
@@ -45,13 +48,15 @@ impl Model for World {
     ghost use Rattle.qu_rows.specs.State.{AreHistories};
     ghost use Rattle.qu_world.specs.Growth.{GrowsTo};
     ghost use Rattle.qu_world.specs.Run.{IsCounted};
+    ghost use Rattle.qu_world.specs.Starts.{AreStarts};
 
     ghost Value = { WorldState };
 
     ghost view = { λ world. world_of world.trace.setup world.replicas.items world.clients.items world.trace.entries };
 
     ghost invariant = { λ world. IsCounted
-        (world_of world.trace.setup world.replicas.items world.clients.items world.trace.entries) world.sent };
+        (world_of world.trace.setup world.replicas.items world.clients.items world.trace.entries) world.sent
+        × AreStarts world.trace.entries world.starts };
 }
 
 impl World {
@@ -70,6 +75,7 @@ impl World {
             replicas,
             last: None,
             clients,
+            starts: Starts::none(alloc),
             sent: 0,
         })
     }
@@ -125,6 +131,7 @@ impl World {
             &mut self.last,
             &mut self.clients,
             &mut self.trace,
+            &mut self.starts,
             event,
         )?;
         self.sent = self.sent.saturating_add(bytes);
@@ -148,7 +155,7 @@ impl World {
                 Some(WorldFail::NoSuchActor(Party::Client(*me)))
             }
             Event::Invoke(me, _) => refuse_invocation(clients, *me),
-            Event::Deliver(number) => refuse_delivery(self.trace.entries.as_slice(), *number),
+            Event::Deliver(number) => refuse_delivery(&self.sent(), *number),
             Event::Tick(me) => refuse_tick(clients, *me),
             Event::Inject(who, _) => refuse_injection(self.replicas.as_slice(), clients, *who),
         }
@@ -169,6 +176,13 @@ impl World {
         ensures world { IsWorld self.now }
     {
         &self.trace
+    }
+
+    /// The entries of the record, in which a letter is found by its number at once.
+    pub fn sent(&self) -> Sent<'_>
+        ensures { result ≡ self.now.entries }
+    {
+        Sent::new(self.trace.entries.as_slice(), self.starts.places.as_slice())
     }
 
     /// The record of all events.

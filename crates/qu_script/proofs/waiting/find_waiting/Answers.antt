@@ -7,19 +7,19 @@ use Rattle.qu_script.proofs.waiting.find_waiting.Goals as goal
 pub returns-then-not-is_passed_over-clause-found : goal.returns-then-not-is_passed_over-clause-found
 returns-then-not-is_passed_over-clause-found c =
     waiting_found c.args.setup.now c.args.entries.now c.search.next c.search.invariant
-    (found_within (letters_of c.args.entries.now) c.search.next c.letter_at.result c.letter_at.ensures
+    (found_within (letters_of c.args.entries.now) c.search.next c.letter.result c.letter.ensures
     (sym c.is_some.ensures ∙ c.search-test.true))
     (sym c.is_passed_over.ensures ∙ c.if-not-is_passed_over.true)
 
 pub search-smaller : goal.search-smaller
 search-smaller c =
     let within : c.search.next ≤ length (letters_of c.args.entries.now) =
-    found_within (letters_of c.args.entries.now) c.search.next c.letter_at.result c.letter_at.ensures
+    found_within (letters_of c.args.entries.now) c.search.next c.letter.result c.letter.ensures
     (sym c.is_some.ensures ∙ c.search-test.true) in
     grind (arith, within)
 
 pub returns-clause-found : goal.returns-clause-found
 returns-clause-found c =
     waiting_none c.args.setup.now c.args.entries.now c.search.next c.search.invariant
-    (found_past (letters_of c.args.entries.now) c.search.next c.letter_at.result c.letter_at.ensures
+    (found_past (letters_of c.args.entries.now) c.search.next c.letter.result c.letter.ensures
     (sym c.is_some.ensures ∙ c.search-test.false) c.search.invariant.is_letter)
