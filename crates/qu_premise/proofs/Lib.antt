@@ -1,6 +1,7 @@
 mod Lists
 mod Equalities
 mod TextLaws
+mod Frames
 mod Forgeries
 mod Collisions
 mod Steps

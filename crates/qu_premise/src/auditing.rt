@@ -1,4 +1,4 @@
-ghost use Rattle.std.specs.Prelude.{◌≡◌, ◌<◌, ◌+◌, length, take, IfOk, MatchOption};
+ghost use Rattle.std.specs.Prelude.{◌≡◌, ◌<◌, ◌+◌, length, IfOk, MatchOption};
 ghost use Rattle.qu_world.specs.Run.{IsRun};
 ghost use Rattle.qu_trace.specs.declared.premises.Premises.{Premises as Answer};
 ghost use Rattle.qu_premise.specs.Answer.{IsAnswer};
@@ -7,6 +7,7 @@ ghost use Rattle.qu_premise.specs.Past.{IsPast};
 use super::Premises;
 use super::digests::Digests;
 use super::forging::is_forged;
+use super::reached::frame_offered;
 use super::shown::ShownSoFar;
 use super::texts::texts_at;
 use qu_base::NoMemory;
@@ -65,18 +66,22 @@ fn follow(
     let entries = trace.entries.as_slice();
     let entry = &entries[index];
     let event = index as u64 + 1;
+    let frame = frame_offered(alloc, entries, &entry.event)?;
     if is_forged(
         alloc,
         &trace.setup,
         &entries[..index],
         &past.shown,
         &entry.event,
+        frame.as_ref(),
     )? {
         return Ok(Some(Premises::Forged { event }));
     }
-    let texts = texts_at(alloc, &past.digests, trace, entry)?;
-    past.digests.note_all(alloc, event, texts.as_slice())?;
+    let before = past.shown.len();
     past.shown.add(alloc, entry)?;
+    let shown = past.shown.since(before);
+    let texts = texts_at(alloc, &past.digests, trace, entry, frame.as_ref(), shown)?;
+    past.digests.note_all(alloc, event, texts.as_slice())?;
     match past.digests.first_clash(texts.as_slice()) {
         Some(first) => Ok(Some(Premises::Collide {
             first,

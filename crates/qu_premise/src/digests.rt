@@ -1,9 +1,8 @@
 ghost use Rattle.std.specs.Prelude.{◌≡◌, [], ◌∷◌, None, OnOk, IfOk, IfSome};
-ghost use Rattle.std.specs.Option.{option_copied};
 ghost use Rattle.qu_base.specs.declared.party.Digest.{Digest as Key};
 ghost use Rattle.qu_claims.specs.Digested.{signed_text, history_text};
 ghost use Rattle.qu_premise.specs.Digesting.{digest_of_text};
-ghost use Rattle.qu_premise.specs.Digests.{look, Notes, clash_with, clash, first_clash};
+ghost use Rattle.qu_premise.specs.Digests.{look, Notes, clash, first_clash};
 
 use super::text::Text;
 use qu_base::{Digest, List, NoMemory};

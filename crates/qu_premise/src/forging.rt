@@ -1,15 +1,19 @@
 ghost use Rattle.std.specs.Prelude.{◌≡◌, Ok, IfOk, IfSome, IsTrue};
 ghost use Rattle.std.specs.List.{list_all, list_any};
+ghost use Rattle.std.specs.Option.{option_copied};
 ghost use Rattle.qu_base.specs.declared.party.Party.TheVariants as party;
+ghost use Rattle.qu_frames.specs.Decoding.{decoded};
 ghost use Rattle.qu_frames.specs.Signing.{if_signed};
 ghost use Rattle.qu_world.specs.State.{ring_of};
 ghost use Rattle.qu_world.specs.Run.{IsSetup};
+ghost use Rattle.qu_claims.specs.Carried.{offered_by};
 ghost use Rattle.qu_claims.specs.Handled.{is_of_setup, is_handler};
-ghost use Rattle.qu_premise.specs.Forging.{is_letter, is_sent_at, was_sent, is_unsent, is_unshown, has_unshown, asks_unshown, shows_unshown, is_forged_frame, is_forged_text, is_forged};
+ghost use Rattle.qu_premise.specs.Forging.{is_letter, is_sent_at, was_sent, is_unsent, is_unshown, has_unshown, shows_unshown, is_forged_frame, is_forged_text, is_forged};
+ghost use Rattle.qu_premise.specs.Reached.{frame_found, IsFrameOf};
 
 use super::shown::ShownSoFar;
-use qu_base::{NoMemory, Party, ReadFail, ReplicaId};
-use qu_frames::{Frame, Letter, decode};
+use qu_base::{NoMemory, Party, ReplicaId};
+use qu_frames::{Frame, Letter};
 use qu_history::{Sealed, SetOf, Sets};
 use qu_seal::KeyRing;
 use qu_trace::{Entry, Event, Setup};
@@ -23,7 +27,8 @@ struct Way {
     to: Party,
 }
 
-/// Whether an event behind these entries hands something forged to a correct party; `shown` is what they show.
+/// Whether an event behind these entries hands something forged to a correct party; `shown` is what they show, and the
+/// frame is that of the bytes that it brings.
 #[tactic(auto, using(crate::proofs::Forgeries::letter_sent))]
 pub fn is_forged(
     alloc: Global,
@@ -31,8 +36,10 @@ pub fn is_forged(
     entries: &[Entry],
     shown: &ShownSoFar,
     event: &Event,
+    frame: Option<&Frame>,
 ) -> Result<bool, NoMemory>
-    requires { IsSetup setup.now }
+    requires setup { IsSetup setup.now }
+    requires frame { IsFrameOf (option_copied frame) (offered_by entries.now event.now) }
     ensures { IfOk result (λ forged. forged ≡ is_forged setup.now entries.now shown.now event.now) }
 {
     match event {
@@ -42,7 +49,15 @@ pub fn is_forged(
                     from: Some(letter.from),
                     to: letter.to,
                 };
-                is_forged_text(alloc, setup, entries, shown, way, letter.text.as_slice())
+                is_forged_text(
+                    alloc,
+                    setup,
+                    entries,
+                    shown,
+                    way,
+                    letter.text.as_slice(),
+                    frame,
+                )
             }
             Some(_) | None => Ok(false),
         },
@@ -51,14 +66,14 @@ pub fn is_forged(
                 from: None,
                 to: *to,
             };
-            is_forged_text(alloc, setup, entries, shown, way, text.as_slice())
+            is_forged_text(alloc, setup, entries, shown, way, text.as_slice(), frame)
         }
         Event::Invoke(_, _) | Event::Tick(_) | Event::Inject(_, _) => Ok(false),
     }
 }
 
-/// Whether bytes that a correct party is handed are forged, or a history in them.
-#[tactic(auto, unfolding(qu_frames::specs::Signing::brought))]
+/// Whether bytes that a correct party is handed, which are this frame or none, are forged, or a history in them.
+#[tactic(auto, unfolding(qu_frames::specs::Signing::brought), using(crate::proofs::Frames::frame_laws))]
 fn is_forged_text(
     alloc: Global,
     setup: &Setup,
@@ -66,15 +81,16 @@ fn is_forged_text(
     shown: &ShownSoFar,
     way: Way,
     text: &[u8],
+    frame: Option<&Frame>,
 ) -> Result<bool, NoMemory>
     requires setup { IsSetup setup.now }
+    requires frame { option_copied frame ≡ frame_found (decoded text.now) }
     requires sent { IfSome way.from (λ from. IsTrue (was_sent entries.now from way.to text.now)) }
     ensures { IfOk result (λ forged. forged ≡ is_forged_text setup.now entries.now shown.now way.to text.now) }
 {
-    match decode(alloc, text) {
-        Ok(frame) => is_forged_frame(alloc, setup, entries, shown, way, text, &frame),
-        Err(ReadFail::Bad(_)) => Ok(false),
-        Err(ReadFail::NoMemory) => Err(NoMemory),
+    match frame {
+        Some(frame) => is_forged_frame(alloc, setup, entries, shown, way, text, frame),
+        None => Ok(false),
     }
 }
 

@@ -5,6 +5,7 @@
 mod auditing;
 mod digests;
 mod forging;
+mod reached;
 mod reading;
 mod shown;
 mod text;

@@ -1,9 +1,7 @@
 //! What an audit reads of frames and of the sets in requests.
-ghost use Rattle.std.specs.Prelude.{◌≡◌, ◌==◌, length, IfOk};
+ghost use Rattle.std.specs.Prelude.{◌≡◌, ◌==◌, IfOk};
 ghost use Rattle.std.specs.List.{list_all};
-ghost use Rattle.std.specs.Option.{option_copied};
-ghost use Rattle.qu_base.specs.Bounds.{replicas};
-ghost use Rattle.qu_history.specs.Culling.{culled, history_digest, is_right, mac_is_right};
+ghost use Rattle.qu_history.specs.Culling.{culled, history_digest, is_right};
 ghost use Rattle.qu_history.specs.Sealing.{are_right};
 ghost use Rattle.qu_history.specs.Text.{sets_text};
 

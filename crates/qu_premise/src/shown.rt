@@ -1,5 +1,5 @@
 //! The histories that the letters of a run show, each of whose letters is decoded once.
-ghost use Rattle.std.specs.Prelude.{◌≡◌, [], ◌++◌, map, IfOk, OnOk};
+ghost use Rattle.std.specs.Prelude.{◌≡◌, ◌≤◌, [], ◌++◌, map, length, drop, IfOk, OnOk};
 ghost use Rattle.std.specs.List.{list_any};
 ghost use Rattle.std.specs.Option.{option_copied};
 ghost use Rattle.qu_claims.specs.Handled.{shown_by};
@@ -43,6 +43,21 @@ impl ShownSoFar {
         }
     }
 
+    /// How many letters there were.
+    pub fn len(&self) -> usize
+        ensures { result ≡ length self.now }
+    {
+        self.shown.len()
+    }
+
+    /// What the letters behind so many show.
+    pub fn since(&self, count: usize) -> &[Shown]
+        requires { count ≤ length self.now }
+        ensures { result.now ≡ drop count self.now }
+    {
+        &self.shown.as_slice()[count..]
+    }
+
     /// Adds what the letters of an entry show.
     pub fn add(&mut self, alloc: Global, entry: &Entry) -> Result<(), NoMemory>
         ensures { OnOk result (self.new ≡ self.old ++ map letter_shown entry.now.letters) }
@@ -76,7 +91,7 @@ fn letter_shown(alloc: Global, letter: &Letter) -> Result<Shown, NoMemory>
 }
 
 /// The histories that a letter shows.
-pub fn shown_by(alloc: Global, letter: &Letter) -> Result<List<Sealed>, NoMemory>
+fn shown_by(alloc: Global, letter: &Letter) -> Result<List<Sealed>, NoMemory>
     ensures { IfOk result (λ shown. shown ≡ shown_by letter.now) }
 {
     match decode(alloc, letter.text.as_slice()) {

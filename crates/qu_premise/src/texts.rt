@@ -1,23 +1,25 @@
 //! The texts that are digested at an event.
 ghost use Rattle.std.specs.Prelude.{◌≡◌, ◌++◌, map, Ok, IfOk, IfSome, OnOk};
 ghost use Rattle.std.specs.List.{flat_map};
+ghost use Rattle.std.specs.Option.{option_copied};
 ghost use Rattle.qu_history.specs.declared.sets.SetOf.{SetOf};
 ghost use Rattle.qu_frames.specs.Decoding.{decoded};
 ghost use Rattle.qu_frames.specs.Signing.{text_digest};
 ghost use Rattle.qu_world.specs.Run.{IsSetup};
 ghost use Rattle.qu_claims.specs.Carried.{offered_by};
-ghost use Rattle.qu_claims.specs.Digested.{texts_at, sent_texts, texts_of, body_texts, signed_text, history_text};
-ghost use Rattle.qu_claims.specs.Handled.{entries_in, request_in};
+ghost use Rattle.qu_claims.specs.Digested.{texts_at, sent_texts, body_texts, signed_text, history_text};
 ghost use Rattle.qu_premise.specs.Digesting.{digest_of_text};
-ghost use Rattle.qu_premise.specs.Texts.{handler_of, request_texts, entry_texts, frame_texts, decoded_texts, reached_texts};
+ghost use Rattle.qu_premise.specs.Forging.{letter_shown};
+ghost use Rattle.qu_premise.specs.Reached.{frame_found, IsFrameOf};
+ghost use Rattle.qu_premise.specs.Texts.{handler_of, request_texts, entry_texts, decoded_texts, reached_texts};
 
 use super::digests::Digests;
 use super::forging::{are_known, is_handler, ring_of};
 use super::reading::culled_text;
-use super::shown::shown_by;
+use super::shown::Shown;
 use super::text::Text;
-use qu_base::{ClientId, Digest, List, NoMemory, Party, ReadFail, ReplicaId};
-use qu_frames::{Body, Frame, Letter, before_mac, decode};
+use qu_base::{ClientId, Digest, List, NoMemory, Party, ReplicaId};
+use qu_frames::{Body, Frame, Letter, before_mac};
 use qu_history::{Sealed, Sets};
 use qu_objects::act_text;
 use qu_seal::{ACT_TAG, FRAME_TAG, SETS_TAG};
@@ -25,20 +27,25 @@ use qu_trace::{Entry, Event, Setup, Trace};
 use qu_world::letter_at;
 use std::alloc::Global;
 
-/// The texts that are digested at the event of an entry. What was noted before is not digested anew.
+/// The texts that are digested at the event of an entry, which brings this frame or none and whose letters show this.
+/// What was noted before is not digested anew.
 #[tactic(auto, using(crate::proofs::TextLaws::texts_at_parts))]
 pub fn texts_at(
     alloc: Global,
     digests: &Digests,
     trace: &Trace,
     entry: &Entry,
+    frame: Option<&Frame>,
+    shown: &[Shown],
 ) -> Result<List<Text>, NoMemory>
-    requires { IsSetup trace.now.setup }
+    requires setup { IsSetup trace.now.setup }
+    requires frame { IsFrameOf (option_copied frame) (offered_by trace.now.entries entry.now.event) }
+    requires shown { shown.now ≡ map letter_shown entry.now.letters }
     ensures { IfOk result (λ texts. texts ≡ texts_at trace.now entry.now) }
 {
     let mut texts = List::new(alloc);
-    add_reached(alloc, digests, trace, &entry.event, &mut texts)?;
-    add_sent(alloc, digests, entry.letters.as_slice(), &mut texts)?;
+    add_reached(alloc, digests, trace, &entry.event, frame, &mut texts)?;
+    add_sent(alloc, digests, entry.letters.as_slice(), shown, &mut texts)?;
     Ok(texts)
 }
 
@@ -48,9 +55,11 @@ fn add_reached(
     digests: &Digests,
     trace: &Trace,
     event: &Event,
+    frame: Option<&Frame>,
     texts: &mut List<Text>,
 ) -> Result<(), NoMemory>
-    requires { IsSetup trace.now.setup }
+    requires setup { IsSetup trace.now.setup }
+    requires frame { IsFrameOf (option_copied frame) (offered_by trace.now.entries event.now) }
     ensures { OnOk result (texts.new ≡ texts.old
         ++ reached_texts trace.now.setup (offered_by trace.now.entries event.now)) }
 {
@@ -64,34 +73,37 @@ fn add_reached(
                     setup,
                     letter.to,
                     letter.text.as_slice(),
+                    frame,
                     texts,
                 )
             }
             Some(_) | None => Ok(()),
         },
         Event::Inject(to, text) if !setup.is_faulty(*to) => {
-            add_decoded(alloc, digests, setup, *to, text.as_slice(), texts)
+            add_decoded(alloc, digests, setup, *to, text.as_slice(), frame, texts)
         }
         Event::Invoke(_, _) | Event::Tick(_) | Event::Inject(_, _) => Ok(()),
     }
 }
 
-/// Adds what a correct party digests of bytes.
+/// Adds what a correct party digests of bytes, which are this frame or none.
+#[tactic(auto, using(crate::proofs::Frames::frame_laws))]
 fn add_decoded(
     alloc: Global,
     digests: &Digests,
     setup: &Setup,
     to: Party,
     text: &[u8],
+    frame: Option<&Frame>,
     texts: &mut List<Text>,
 ) -> Result<(), NoMemory>
-    requires { IsSetup setup.now }
+    requires setup { IsSetup setup.now }
+    requires frame { option_copied frame ≡ frame_found (decoded text.now) }
     ensures { OnOk result (texts.new ≡ texts.old ++ decoded_texts setup.now to text.now (decoded text.now)) }
 {
-    match decode(alloc, text) {
-        Ok(frame) => add_frame(alloc, digests, setup, to, text, &frame, texts),
-        Err(ReadFail::Bad(_)) => Ok(()),
-        Err(ReadFail::NoMemory) => Err(NoMemory),
+    match frame {
+        Some(frame) => add_frame(alloc, digests, setup, to, text, frame, texts),
+        None => Ok(()),
     }
 }
 
@@ -239,17 +251,19 @@ fn add_histories(
     Ok(())
 }
 
-/// Adds what is digested of letters that are sent.
+/// Adds what is digested of letters that are sent, which show this.
 fn add_sent(
     alloc: Global,
     digests: &Digests,
     letters: &[Letter],
+    shown: &[Shown],
     texts: &mut List<Text>,
 ) -> Result<(), NoMemory>
+    requires { shown.now ≡ map letter_shown letters.now }
     ensures { OnOk result (texts.new ≡ texts.old ++ flat_map sent_texts letters.now) }
 {
-    for letter in letters {
-        add_letter(alloc, digests, letter, texts)?;
+    for (place, letter) in letters.iter().enumerate() {
+        add_letter(alloc, digests, letter, &shown[place], texts)?;
     }
     Ok(())
 }
@@ -258,14 +272,15 @@ fn add_letter(
     alloc: Global,
     digests: &Digests,
     letter: &Letter,
+    shown: &Shown,
     texts: &mut List<Text>,
 ) -> Result<(), NoMemory>
+    requires { shown.now ≡ letter_shown letter.now }
     ensures { OnOk result (texts.new ≡ texts.old ++ sent_texts letter.now) }
 {
-    let shown = shown_by(alloc, letter)?;
     let frame = sent_frame(alloc, digests, letter.text.as_slice(), texts.as_slice())?;
     texts.push(frame)?;
-    add_histories(alloc, digests, shown.as_slice(), texts)
+    add_histories(alloc, digests, shown.histories.as_slice(), texts)
 }
 
 /// The text of a frame that is sent, up to its HMAC. Where the same was sent just before, to another receiver, its

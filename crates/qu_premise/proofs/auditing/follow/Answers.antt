@@ -1,10 +1,35 @@
-use Rattle.std.proofs.Common.{◌≡◌, ◌+◌, true, false, get_or, take, sym, ap, subst, ◌∙◌, Some, None}
+use Rattle.std.proofs.Common.{◌≡◌, ◌+◌, true, false, get_or, take, drop, map, sym, ap, subst, ◌∙◌, Some, None}
+use Rattle.std.proofs.lemmas.List.{drop_at}
+use Rattle.qu_claims.specs.Carried.{offered_by}
 use Rattle.qu_claims.specs.Digested.{texts_at}
 use Rattle.qu_premise.specs.declared.auditing.Past.{Past}
 use Rattle.qu_premise.specs.Digests.{look, Notes, first_clash}
-use Rattle.qu_premise.specs.Forging.{shown_in_all, is_forged}
+use Rattle.qu_premise.specs.Forging.{letter_shown, shown_in_all, is_forged}
+use Rattle.qu_premise.specs.Reached.{IsFrameOf}
+use Rattle.qu_premise.proofs.Frames.{frame_upon, frame_here}
 use Rattle.qu_premise.proofs.Steps.{forged_at, unforged_at, first_forged, past_more, collision_here}
 use Rattle.qu_premise.proofs.auditing.follow.Goals as goal
+
+pub is_forged-requires-clause-frame : goal.is_forged-requires-clause-frame
+is_forged-requires-clause-frame c =
+    let entries = c.as_slice-entries.result.now in
+    let event = (c.index-entries-index.result).event in
+    subst (λ frame. IsFrameOf frame (offered_by (take c.args.index entries) event)) (sym c.as_ref.ensures.value)
+    (frame_upon entries c.args.index event c.in_ok-frame.frame c.in_ok-frame.ensures)
+
+pub texts_at-requires-clause-frame : goal.texts_at-requires-clause-frame
+texts_at-requires-clause-frame c =
+    let event = (c.index-entries-index.result).event in
+    subst (λ frame. IsFrameOf frame (offered_by (c.args.trace.now).entries event)) (sym c.as_ref-2.ensures.value)
+    (subst (λ entries. IsFrameOf c.in_ok-frame.frame (offered_by entries event)) c.as_slice-entries.ensures
+    (frame_here c.as_slice-entries.result.now event c.in_ok-frame.frame c.in_ok-frame.ensures))
+
+pub texts_at-requires-clause-shown : goal.texts_at-requires-clause-shown
+texts_at-requires-clause-shown c =
+    let old = (c.args.past.now).shown in
+    c.since-shown.ensures ∙
+    ap (drop c.len-before.result) c.in_ok-add.ensures ∙
+    drop_at old (map letter_shown (c.index-entries-index.result).letters) c.len-before.result (sym c.len-before.ensures)
 
 pub returns-then-branch : goal.returns-then-branch
 returns-then-branch c =

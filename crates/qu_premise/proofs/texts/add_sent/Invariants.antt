@@ -4,5 +4,5 @@ use Rattle.qu_claims.specs.Digested.{sent_texts}
 use Rattle.qu_premise.proofs.texts.add_sent.Given as goal
 
 -- what is digested of the letters so far is added
-abbrev pub invariant-loop-letter : goal.invariant-loop-letter
-invariant-loop-letter l = l.texts ≡ l.initial.texts ++ flat_map sent_texts (take l.letter-index l.letters)
+abbrev pub invariant-loop-place : goal.invariant-loop-place
+invariant-loop-place l = l.texts ≡ l.initial.texts ++ flat_map sent_texts (take l.place l.letters)
