@@ -1,5 +1,5 @@
 -- What the bytes of a letter carry, and which bytes an event hands to a party.
-use Rattle.std.specs.Prelude.{◌≡◌, ℕ, if◌then◌else◌, List, Option, None, Some, Ok, option_map}
+use Rattle.std.specs.Prelude.{◌≡◌, ℕ, if◌then◌else◌, List, Option, None, Some, Ok}
 use Rattle.qu_base.specs.declared.party.ClientId.{ClientId}
 use Rattle.qu_base.specs.declared.party.ObjectId.{ObjectId}
 use Rattle.qu_base.specs.declared.party.Party.{Party}
@@ -16,31 +16,21 @@ use Rattle.qu_frames.specs.Decoding.{decoded}
 use Rattle.qu_frames.specs.Signing.{brought}
 use Rattle.qu_rows.specs.State.{ReplicaState}
 use Rattle.qu_trace.specs.declared.event.Event.{Event}
-use Rattle.qu_trace.specs.declared.event.Event.TheVariants.{Invoke, Deliver, Tick, Inject}
 use Rattle.qu_trace.specs.declared.trace.Entry.{Entry}
 use Rattle.qu_trace.specs.declared.trace.Setup.{Setup}
-use Rattle.qu_trace.specs.Letters.{letters_of}
-use Rattle.qu_world.specs.State.{WorldState, numbered}
+pub use Rattle.qu_trace.specs.Letters.{offered_by}
+use Rattle.qu_world.specs.State.{WorldState}
 use Rattle.qu_world.specs.Step.{at_faulty}
 
 -- the letter's text is decoded to this frame
 abbrev pub Carries : Letter → Frame → Type 0
 Carries letter sent = decoded letter.text ≡ Ok sent
 
--- the bytes that an event brings to a party, the letters of these entries having been sent: those of a letter to its
--- receiver, or injected ones
-abbrev pub offered_by : List Entry → Event → Option (Party × List ℕ)
-offered_by entries (Invoke client op) = None
-offered_by entries (Deliver number) =
-    option_map (λ (letter : Letter). (letter.to, letter.text)) (numbered (letters_of entries) number)
-offered_by entries (Tick client) = None
-offered_by entries (Inject to text) = Some (to, text)
-
--- those that it hands to a correct party
+-- the bytes that an event hands to a correct party
 abbrev pub handed_by : Setup → List Entry → Event → Option (Party × List ℕ)
 handed_by setup entries event = if at_faulty setup entries event then None else offered_by entries event
 
--- the same in a world
+-- what an event brings in a world, and what it hands to a correct party
 abbrev pub offered : WorldState → Event → Option (Party × List ℕ)
 offered world event = offered_by world.entries event
 

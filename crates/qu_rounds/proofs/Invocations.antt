@@ -49,7 +49,7 @@ use Rattle.qu_claims.specs.Carried.{Asks}
 use Rattle.qu_runs.specs.Plain.{IsPlain, ArePlain}
 use Rattle.qu_runs.proofs.Fits.Carrying.{AsksFit, IsFitStep, numbered_here}
 use Rattle.qu_runs.proofs.Fits.Fitting.{fit_step}
-use Rattle.qu_world.proofs.LetterLaws.{letters-push}
+use Rattle.qu_trace.proofs.LetterLaws.{letters-push}
 use Rattle.qu_machine.proofs.Equalities.{client_is}
 use Rattle.qu_seal.specs.Keys.{Ring}
 use Rattle.qu_runs.proofs.Events.Handing.{injected_cases}

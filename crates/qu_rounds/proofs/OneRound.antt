@@ -23,7 +23,7 @@ use Rattle.qu_world.specs.State.{WorldState, opening_world, numbered, with_numbe
 use Rattle.qu_world.specs.Step.{world_step, at_client}
 use Rattle.qu_world.specs.Run.{IsRun}
 use Rattle.qu_world.proofs.Each.{with_cases}
-use Rattle.qu_world.proofs.LetterLaws.{letters-push}
+use Rattle.qu_trace.proofs.LetterLaws.{letters-push}
 use Rattle.qu_claims.specs.Carried.{Asks}
 use Rattle.qu_runs.specs.Plain.{IsPlain, ArePlain}
 use Rattle.qu_claims.specs.Times.{world_after}

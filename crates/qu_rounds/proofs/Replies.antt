@@ -36,7 +36,7 @@ use Rattle.qu_trace.specs.Letters.{letters_of}
 use Rattle.qu_world.specs.State.{WorldState, opening_world, opening_replicas, numbered, letter_of, kinds_at, ring_of}
 use Rattle.qu_world.specs.Growth.{GrowsTo}
 use Rattle.qu_world.specs.Run.{IsRun}
-use Rattle.qu_world.proofs.LetterLaws.{slice_get-append_left, slice_get-append_right}
+use Rattle.qu_trace.proofs.LetterLaws.{slice_get-append_left, slice_get-append_right}
 use Rattle.qu_claims.specs.Times.{world_after}
 use Rattle.qu_runs.proofs.Worlds.WorldGrowth.{world_after-none, world_after-grows}
 use Rattle.qu_runs.proofs.Events.Recording.{entries_after, entry_cases}

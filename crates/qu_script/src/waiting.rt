@@ -6,8 +6,7 @@ ghost use Rattle.qu_script.specs.Events.{delivers, is_delivered, is_passed_over,
 ghost use Rattle.qu_script.specs.Player.{MayBeginAt};
 
 use qu_base::NoMemory;
-use qu_trace::{Entry, Event, Setup};
-use qu_world::Sent;
+use qu_trace::{Entry, Event, Sent, Setup};
 
 /// Finds the lowest letter to a correct party that no event has delivered, where each below `from`
 /// is none.

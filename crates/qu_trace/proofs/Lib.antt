@@ -1,1 +1,4 @@
 pub mod EarliestLaws
+pub mod LetterLaws
+pub mod StartLaws
+pub mod DecodedLaws

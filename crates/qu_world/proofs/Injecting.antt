@@ -19,7 +19,7 @@ use Rattle.qu_trace.specs.declared.trace.Entry.{Entry}
 use Rattle.qu_world.specs.State.{WorldState, numbered, letter_of}
 use Rattle.qu_world.specs.Step.{recorded, unchanged, at_replica, at_client, received, delivered, is_to_faulty, world_step}
 use Rattle.qu_world.specs.Effects.{DidSame}
-use Rattle.qu_world.proofs.LetterLaws.{letters-push}
+use Rattle.qu_trace.proofs.LetterLaws.{letters-push}
 
 recorded_same : (world : WorldState) (event other : Event) (letters : List Letter)
     (ended : Option (ClientId × ℕ × Outcome)) → DidSame (recorded world event letters ended)

@@ -1,9 +1,7 @@
 pub mod Each
-pub mod LetterLaws
 pub mod Injecting
 pub mod Moving
 pub mod OpeningLaws
 pub mod Steps
 pub mod RunLaws
 pub mod WorldGrowth
-pub mod StartLaws

@@ -5,4 +5,3 @@ pub mod Parties
 pub mod Refusals
 pub mod Growth
 pub mod Run
-pub mod Starts

@@ -18,6 +18,7 @@ use Rattle.qu_trace.specs.declared.trace.Setup.{Setup}
 use Rattle.qu_trace.specs.declared.trace.Entry.{Entry}
 use Rattle.qu_trace.specs.Faulty.{is_faulty}
 use Rattle.qu_trace.specs.Letters.{letters_of}
+pub use Rattle.qu_trace.specs.Letters.{numbered}
 
 pub record WorldState : Type 0 where
   pub setup : Setup
@@ -61,11 +62,6 @@ opening_world setup = record {
   clients = opening_clients 1 setup.clients (ring_of setup);
   entries = [];
 }
-
--- the item with this number, where the first has number 1
-abbrev pub numbered : {X : Type 0} → List X → ℕ → Option X
-numbered items zero = None
-numbered items (suc number) = slice_get items number
 
 -- the items with another one under this number
 abbrev pub with_numbered : {X : Type 0} → List X → ℕ → X → List X

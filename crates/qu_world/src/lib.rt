@@ -8,11 +8,8 @@ mod opening;
 mod parties;
 mod recording;
 mod refusals;
-mod sent;
 mod world;
 
 pub use fail::{BYTE_LIMIT, EVENT_LIMIT, WorldFail, limits_are_these};
-pub use letters::letter_at;
 pub use parties::Made;
-pub use sent::Sent;
 pub use world::World;

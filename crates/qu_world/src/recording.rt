@@ -1,17 +1,16 @@
 ghost use Rattle.std.specs.Prelude.{◌≡◌, ◌≤◌, ◌+◌, ◌-◌, ◌^◌, IfOk, OnOk, OnErr};
 ghost use Rattle.qu_trace.specs.Letters.{bytes_sent};
+ghost use Rattle.qu_trace.specs.Starts.{AreStarts};
 ghost use Rattle.qu_world.specs.Parties.{MayBegin, Receives, Steps, Makes, MakesEntry};
-ghost use Rattle.qu_world.specs.Starts.{AreStarts};
 ghost use Rattle.qu_world.specs.Step.{at_faulty};
 
 use super::letters::bytes_in;
 use super::parties::{Made, invoke_client, step_client, step_replica, tick_client};
-use super::sent::{Sent, Starts};
 use qu_base::{List, NoMemory, Party};
 use qu_client::Client;
 use qu_frames::Reading;
 use qu_replica::Replica;
-use qu_trace::{Entry, Event, Setup, Trace};
+use qu_trace::{Entry, Event, Sent, Setup, Starts, Trace};
 use std::alloc::Global;
 use std::mem;
 
@@ -109,7 +108,7 @@ fn make(
 
 /// Records an event with what it makes of the parties, and tells how many bytes were sent. Room for
 /// the record is made first.
-#[tactic(auto, using(crate::proofs::LetterLaws::bytes_sent_more))]
+#[tactic(auto, using(qu_trace::proofs::LetterLaws::bytes_sent_more))]
 fn push_event(
     alloc: Global,
     setup: &Setup,

@@ -4,11 +4,11 @@ ghost use Rattle.qu_world.specs.State.{numbered};
 ghost use Rattle.qu_world.specs.Refusals.{limit_at, refused_invocation, refused_tick, refused_delivery, is_party, refused_injection};
 
 use super::parties::client_at;
-use super::sent::Sent;
 use super::{BYTE_LIMIT, EVENT_LIMIT, WorldFail};
 use qu_base::{ClientId, Party};
 use qu_client::Client;
 use qu_replica::Replica;
+use qu_trace::Sent;
 
 /// Why no event happens any more in a run of so many events and so many bytes of letters.
 pub fn limit_at(events: usize, bytes: u128) -> Option<WorldFail>

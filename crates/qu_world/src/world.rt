@@ -17,14 +17,13 @@ use super::recording::record_event;
 use super::refusals::{
     limit_at, refuse_delivery, refuse_injection, refuse_invocation, refuse_tick,
 };
-use super::sent::{Sent, Starts};
 use qu_base::{ClientId, List, NoMemory, ObjectId, Party, ReplicaId};
 use qu_client::Client;
 use qu_frames::Reading;
 use qu_history::History;
 use qu_replica::Replica;
 use qu_seal::KeyRing;
-use qu_trace::{Entry, Event, Setup, Trace};
+use qu_trace::{Entry, Event, Sent, Setup, Starts, Trace};
 use std::alloc::Global;
 use std::marker::Model;
 
@@ -44,11 +43,11 @@ pub struct World {
 }
 
 impl Model for World {
+    ghost use Rattle.qu_trace.specs.Starts.{AreStarts};
     ghost use Rattle.qu_world.specs.State.{WorldState, world_of};
     ghost use Rattle.qu_rows.specs.State.{AreHistories};
     ghost use Rattle.qu_world.specs.Growth.{GrowsTo};
     ghost use Rattle.qu_world.specs.Run.{IsCounted};
-    ghost use Rattle.qu_world.specs.Starts.{AreStarts};
 
     ghost Value = { WorldState };
 

@@ -9,7 +9,7 @@ use Rattle.qu_trace.specs.declared.trace.Trace.{Trace}
 use Rattle.qu_world.specs.State.{WorldState, opening_world}
 use Rattle.qu_world.specs.Step.{world_step}
 use Rattle.qu_world.specs.Run.{run_from, events_of, IsRun}
-use Rattle.qu_world.proofs.LetterLaws.{slice_get-append_right}
+use Rattle.qu_trace.proofs.LetterLaws.{slice_get-append_right}
 use Rattle.qu_world.proofs.RunLaws.{Records, step_records}
 use Rattle.qu_claims.specs.Times.{world_after}
 

@@ -47,7 +47,7 @@ use Rattle.qu_world.proofs.Each.{each_append, each_numbered, set_cases, with_cas
 use Rattle.qu_runs.proofs.Fits.FitClients.{FitClient, fit_more, step_fit, invoke_fit, asks_fit, step_letters, invoke_letters, opening_clients-fit}
 use Rattle.qu_runs.proofs.Small.{some_entry}
 use Rattle.qu_runs.proofs.Worlds.WorldGrowth.{world_after-none, world_after-next}
-use Rattle.qu_world.proofs.LetterLaws.{letters-push}
+use Rattle.qu_trace.proofs.LetterLaws.{letters-push}
 use Rattle.qu_frames.specs.Signing.{brought}
 use Rattle.qu_seal.specs.Keys.{Ring}
 use Rattle.qu_frames.proofs.Signed.{brought_is_decoded}

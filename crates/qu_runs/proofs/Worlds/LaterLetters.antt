@@ -8,7 +8,7 @@ use Rattle.qu_trace.specs.declared.trace.Trace.{Trace}
 use Rattle.qu_trace.specs.Letters.{letters_of}
 use Rattle.qu_world.specs.State.{WorldState, numbered, letter_of}
 use Rattle.qu_world.specs.Step.{world_step}
-use Rattle.qu_world.proofs.LetterLaws.{slice_get-append_left, letters-push}
+use Rattle.qu_trace.proofs.LetterLaws.{slice_get-append_left, letters-push}
 use Rattle.qu_world.proofs.RunLaws.{Records, step_records}
 use Rattle.qu_claims.specs.Times.{world_after}
 use Rattle.qu_runs.proofs.Worlds.WorldGrowth.{world_after-next}

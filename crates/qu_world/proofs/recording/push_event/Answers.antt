@@ -1,7 +1,7 @@
 -- The letters of the new entry begin behind those of the others.
 use Rattle.std.proofs.Common.{ℕ, ◌+◌, ◌-◌, ◌^◌, min, List, [], ◌∷◌, ◌++◌, ap, ◌∙◌}
 use Rattle.qu_trace.specs.declared.trace.Entry.{Entry}
-use Rattle.qu_world.proofs.StartLaws.{are_more}
+use Rattle.qu_trace.proofs.StartLaws.{are_more}
 use Rattle.qu_world.proofs.recording.push_event.Goals as goal
 
 pub returns-clause-starts : goal.returns-clause-starts

@@ -4,10 +4,10 @@ use Rattle.std.specs.Option.{option_copied}
 use Rattle.std.specs.List.Sorted.{IsNonDecreasingBy}
 use Rattle.qu_trace.specs.declared.trace.Entry.{Entry}
 use Rattle.qu_trace.specs.Letters.{letters_of}
-use Rattle.qu_world.specs.State.{numbered}
-use Rattle.qu_world.specs.Starts.{starts_from, IsBegun}
-use Rattle.qu_world.proofs.StartLaws.{length-starts, starts_rise, numbered_found, numbered_none}
-use Rattle.qu_world.proofs.sent.Sent.letter.Goals as goal
+use Rattle.qu_trace.specs.Letters.{numbered}
+use Rattle.qu_trace.specs.Starts.{starts_from, IsBegun}
+use Rattle.qu_trace.proofs.StartLaws.{length-starts, starts_rise, numbered_found, numbered_none}
+use Rattle.qu_trace.proofs.sent.Sent.letter.Goals as goal
 
 pub begun-requires : goal.begun-requires
 begun-requires c =

@@ -1,6 +1,7 @@
 -- Where a letter stands among those of several events.
-use Rattle.std.proofs.Common.{◌≡◌, ℕ, zero, suc, ◌+◌, ◌<◌, ◌≤◌, List, [], ◌∷◌, ◌++◌, length, drop, get_or, refl, ap, ◌∙◌, add-one, append-nil, arith}
+use Rattle.std.proofs.Common.{◌≡◌, ℕ, zero, suc, ◌+◌, ◌<◌, List, [], ◌∷◌, ◌++◌, length, take, get_or, refl, sym, ap, ◌∙◌, append-nil, arith}
 use Rattle.std.specs.List.{flat_map}
+use Rattle.std.proofs.lemmas.List.{take_more}
 use Rattle.std.proofs.lemmas.Grind.{flat_map-append}
 use Rattle.std.proofs.lemmas.List.Sums.{sum_by-append}
 use Rattle.std.specs.Prelude.{slice_get}
@@ -22,27 +23,6 @@ slice_get-append_right [] ys k rest at = let e : k ≡ rest = omega arith in rw 
 slice_get-append_right (x ∷ xs) ys zero rest at = absurd (omega arith)
 slice_get-append_right (x ∷ xs) ys (suc k) rest at = slice_get-append_right xs ys k rest (omega arith)
 
-letters_step : (entries : List Entry) (index : ℕ) (entry : Entry) → index < length entries
-    → entry ≡ get_or entries index entry
-    → letters_of (drop index entries) ≡ entry.letters ++ letters_of (drop (suc index) entries)
-unfolding letters_of
-letters_step [] index entry within is = absurd (omega arith)
-letters_step (first ∷ later) zero entry within is = rw is refl
-letters_step (first ∷ later) (suc index) entry within is = letters_step later index entry (omega arith) is
-
--- the letters of the entry with this index stand before those of the later entries
-pub letters-at : (entries : List Entry) (index : ℕ) (entry : Entry) → index < length entries
-    → entry ≡ get_or entries index entry
-    → letters_of (drop index entries) ≡ entry.letters ++ letters_of (drop (index + 1) entries)
-letters-at entries index entry within is = rw add-one (letters_step entries index entry within is)
-
-pub letters-past : (entries : List Entry) (index : ℕ) → length entries ≤ index → letters_of (drop index entries) ≡ []
-unfolding letters_of
-letters-past [] zero past = refl
-letters-past [] (suc index) past = refl
-letters-past (first ∷ later) zero past = absurd (omega arith)
-letters-past (first ∷ later) (suc index) past = letters-past later index (omega arith)
-
 pub letters-push : (entries : List Entry) (entry : Entry) → letters_of (entries ++ entry ∷ []) ≡ letters_of
     entries ++ entry.letters
 unfolding letters_of
@@ -57,4 +37,16 @@ bytes_sent_more entries entry =
     ap bytes_of (letters-push entries entry) ∙ sum_by-append (λ (letter : Letter). length letter.text)
     (letters_of entries) entry.letters
 
-pub ruleset letter_laws = (slice_get-append_left, slice_get-append_right, letters-at, letters-past)
+-- ---- the first entries, with one more
+
+pub taken_more : (entries : List Entry) (index : ℕ) (entry : Entry) → index < length entries
+    → entry ≡ get_or entries index entry → take (index + 1) entries ≡ take index entries ++ entry ∷ []
+taken_more entries index entry within is =
+    take_more entries index entry within ∙ ap (λ (it : Entry). take index entries ++ it ∷ []) (sym is)
+
+pub letters-taken : (entries : List Entry) (index : ℕ) (entry : Entry) → index < length entries
+    → entry ≡ get_or entries index entry
+    → letters_of (take (index + 1) entries) ≡ letters_of (take index entries) ++ entry.letters
+letters-taken entries index entry within is =
+    ap (λ (it : List Entry). letters_of it) (taken_more entries index entry within is)
+    ∙ letters-push (take index entries) entry

@@ -1,7 +1,7 @@
 -- Where the letters of each entry begin among all letters.
 use Rattle.std.specs.Prelude.{◌≡◌, ℕ, ◌+◌, ◌-◌, ◌^◌, ◌<◌, ◌≤◌, min, List, [], ◌∷◌, length, get_or}
 use Rattle.qu_trace.specs.declared.trace.Entry.{Entry}
-use Rattle.qu_world.specs.declared.sent.Starts.{Starts}
+use Rattle.qu_trace.specs.declared.sent.Starts.{Starts}
 
 -- how many letters there are behind those of an entry, at most the greatest number of 64 bits
 abbrev pub start_behind : ℕ → Entry → ℕ

@@ -1,13 +1,13 @@
 -- A letter is found by where the letters of each entry begin.
-use Rattle.std.proofs.Common.{◌≡◌, ℕ, zero, suc, ◌+◌, ◌-◌, ◌^◌, ◌<◌, ◌≤◌, min, List, [], ◌∷◌, ◌++◌, length, get_or, refl, sym, ap, subst, ◌∙◌, append-nil, arith}
+use Rattle.std.proofs.Common.{◌≡◌, ℕ, zero, suc, ◌+◌, ◌-◌, ◌^◌, ◌<◌, ◌≤◌, min, List, [], ◌∷◌, ◌++◌, length, take, get_or, refl, sym, ap, subst, ◌∙◌, append-nil, arith}
 use Rattle.std.specs.Prelude.{slice_get, None}
 use Rattle.std.specs.List.Sorted.{IsNonDecreasingBy}
 use Rattle.qu_trace.specs.declared.trace.Entry.{Entry}
 use Rattle.qu_trace.specs.Letters.{letters_of}
-use Rattle.qu_world.specs.declared.sent.Starts.{Starts}
-use Rattle.qu_world.specs.State.{numbered}
-use Rattle.qu_world.specs.Starts.{starts_from, start_after, start_behind, AreStarts, IsBegun}
-use Rattle.qu_world.proofs.LetterLaws.{slice_get-append_left, slice_get-append_right}
+use Rattle.qu_trace.specs.declared.sent.Starts.{Starts}
+use Rattle.qu_trace.specs.Letters.{numbered}
+use Rattle.qu_trace.specs.Starts.{starts_from, start_after, start_behind, AreStarts, IsBegun}
+use Rattle.qu_trace.proofs.LetterLaws.{slice_get-append_left, slice_get-append_right}
 
 pub length-starts : (before : ℕ) (entries : List Entry) → length (starts_from before entries) ≡ length entries
 unfolding starts_from
@@ -126,3 +126,14 @@ are_more entries more entry starts new are is_more places next = record {
       ∙ sym (after_more 0 entries entry)
       ∙ ap (start_after 0) (sym is_more);
 }
+
+-- ---- the first entries
+
+pub take_starts : (before count : ℕ) (entries : List Entry)
+    → take count (starts_from before entries) ≡ starts_from before (take count entries)
+unfolding starts_from
+take_starts before zero [] = refl
+take_starts before zero (entry ∷ later) = refl
+take_starts before (suc count) [] = refl
+take_starts before (suc count) (entry ∷ later) =
+    ap (λ (those : List ℕ). before ∷ those) (take_starts (start_behind before entry) count later)

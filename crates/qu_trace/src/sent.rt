@@ -1,13 +1,13 @@
-ghost use Rattle.std.specs.Prelude.{◌≡◌, ◌<◌, ℕ, [], length, get_or};
+ghost use Rattle.std.specs.Prelude.{◌≡◌, ◌<◌, ℕ, [], length, get_or, IfOk};
 ghost use Rattle.std.specs.Option.{option_copied};
 ghost use Rattle.std.specs.List.Sorted.{IsNonDecreasingBy};
 ghost use Rattle.qu_trace.specs.declared.trace.Entry.{Entry as AnEntry};
-ghost use Rattle.qu_trace.specs.Letters.{letters_of};
-ghost use Rattle.qu_world.specs.State.{numbered};
-ghost use Rattle.qu_world.specs.Starts.{starts_from, AreStarts, IsBegun};
+ghost use Rattle.qu_trace.specs.Letters.{letters_of, numbered};
+ghost use Rattle.qu_trace.specs.Starts.{starts_from, AreStarts, IsBegun};
 
+use super::Entry;
+use qu_base::NoMemory;
 use qu_frames::Letter;
-use qu_trace::Entry;
 use std::alloc::Global;
 use std::marker::Model;
 
@@ -31,6 +31,18 @@ impl Starts {
             next: 0,
         }
     }
+
+    /// Where they begin in a run of these entries.
+    pub(crate) fn of(alloc: Global, entries: &[Entry]) -> Result<Starts, NoMemory>
+        ensures { IfOk result (AreStarts entries.now) }
+    {
+        let mut starts = Starts::none(alloc);
+        for entry in entries {
+            starts.places.push(starts.next)?;
+            starts.next = starts.next.saturating_add(entry.letters.len() as u64);
+        }
+        Ok(starts)
+    }
 }
 
 /// The entries of a run, with where the letters of each begin, so that a letter is found by its number at once.
@@ -43,7 +55,7 @@ pub struct Sent<'a> {
 impl<'a> Model for Sent<'a> {
     ghost use Rattle.std.specs.Prelude.{◌≡◌, List};
     ghost use Rattle.qu_trace.specs.declared.trace.Entry.{Entry as AnEntry};
-    ghost use Rattle.qu_world.specs.Starts.{starts_from};
+    ghost use Rattle.qu_trace.specs.Starts.{starts_from};
 
     ghost Value = { List AnEntry };
 
@@ -54,7 +66,7 @@ impl<'a> Model for Sent<'a> {
 
 impl<'a> Sent<'a> {
     /// These entries, where these are the numbers of letters before those of each.
-    pub(crate) fn new(entries: &'a [Entry], starts: &'a [u64]) -> Sent<'a>
+    pub fn new(entries: &'a [Entry], starts: &'a [u64]) -> Sent<'a>
         requires { starts.now ≡ starts_from 0 entries.now }
         ensures { result ≡ entries.now }
     {
@@ -80,7 +92,7 @@ impl<'a> Sent<'a> {
     }
 }
 
-fn start_at(starts: &[u64], index: usize) -> u64
+pub(crate) fn start_at(starts: &[u64], index: usize) -> u64
     requires { index < length starts.now }
     ensures { result ≡ get_or starts.now index 0 }
 {

@@ -2,7 +2,7 @@
 use Rattle.std.proofs.Common.{leb, leb-true, arith, rules}
 use Rattle.std.proofs.lemmas.Bool.{leb-false}
 use Rattle.std.proofs.lemmas.List.Sorted.{IsPartitionPoint-from_clause, IsPartitionedBy-leb}
-use Rattle.qu_world.proofs.sent.begun.Goals as goal
+use Rattle.qu_trace.proofs.sent.begun.Goals as goal
 
 pub returns : goal.returns
 returns c =
