@@ -22,8 +22,7 @@ use Rattle.qu_trace.specs.Letters.{letters_of}
 use Rattle.qu_world.specs.State.{WorldState, ring_of, numbered}
 use Rattle.qu_claims.specs.Handled.{is_of_setup, is_handler, shown_by, entries_in, entries_brought, entries_to}
 use Rattle.qu_claims.specs.Premises.{HasSent, WasShown, AreUnforged}
-use Rattle.qu_premise.specs.declared.shown.Shown.{Shown}
-use Rattle.qu_premise.specs.Forging.{is_letter, was_sent, is_unsent, letter_shown, shown_in_all, is_like, is_showing, was_shown, is_unshown, has_unshown, asks_unshown, shows_unshown, is_forged_frame, is_forged_text}
+use Rattle.qu_premise.specs.Forging.{ShownLetter, is_letter, was_sent, is_unsent, letter_shown, shown_in_all, is_like, is_showing, was_shown, is_unshown, has_unshown, asks_unshown, shows_unshown, is_forged_frame, is_forged_text}
 use Rattle.qu_premise.proofs.Lists.{Passing, passing, any_at, any_flat, any_mapped, any_contained, contained}
 use Rattle.qu_premise.proofs.Equalities.{decides_party, decides_mac, decides_history}
 
@@ -117,18 +116,18 @@ shown_is world me sealed it =
 
 -- ---- a frame whose entries are looked at
 
-in_sets : (setup : Setup) (shown : List Shown) (me : ReplicaId) (sets : List SetOf) → list_any
+in_sets : (setup : Setup) (shown : List ShownLetter) (me : ReplicaId) (sets : List SetOf) → list_any
     (has_unshown setup shown me) sets ≡ list_any (is_unshown setup shown me) (flat_map (λ (set : SetOf). set.entries)
     sets)
 in_sets setup shown me sets = sym (any_flat (is_unshown setup shown me) (λ (set : SetOf). set.entries) sets)
 
-asks_in : (setup : Setup) (shown : List Shown) (me : ReplicaId) (sets : List SetOf) (known : Bool)
+asks_in : (setup : Setup) (shown : List ShownLetter) (me : ReplicaId) (sets : List SetOf) (known : Bool)
     → (known && list_any (has_unshown setup shown me) sets) ≡ list_any (is_unshown setup shown me)
     (cond known (flat_map (λ (set : SetOf). set.entries) sets) [])
 asks_in setup shown me sets true = in_sets setup shown me sets
 asks_in setup shown me sets false = refl
 
-asks_entries : (setup : Setup) (shown : List Shown) (me : ReplicaId) (sent : Frame) → asks_unshown setup shown me
+asks_entries : (setup : Setup) (shown : List ShownLetter) (me : ReplicaId) (sent : Frame) → asks_unshown setup shown me
     sent ≡ list_any (is_unshown setup shown me) (entries_in setup sent)
 asks_entries setup shown me (frame.Request client number round sets body mac) =
     asks_in setup shown me sets (list_all (is_of_setup setup) sets)
@@ -136,14 +135,14 @@ asks_entries setup shown me (frame.Reply replica client number round verdict lef
 asks_entries setup shown me (frame.Fetch replica object stamp mac) = refl
 asks_entries setup shown me (frame.Fetched replica object stamp state mac) = refl
 
-handled_in : (setup : Setup) (shown : List Shown) (me : ReplicaId) (sent : Frame) (handles : Bool)
+handled_in : (setup : Setup) (shown : List ShownLetter) (me : ReplicaId) (sent : Frame) (handles : Bool)
     → (handles && asks_unshown setup shown me sent) ≡ list_any (is_unshown setup shown me)
     (cond handles (entries_brought setup (Some sent)) [])
 handled_in setup shown me sent true = asks_entries setup shown me sent
 handled_in setup shown me sent false = refl
 
 -- an entry of a correct replica that the reader keeps was shown, where none is unshown
-shown_where_none : (setup : Setup) (shown : List Shown) (me : ReplicaId) (entries : List Sealed) (sealed : Sealed)
+shown_where_none : (setup : Setup) (shown : List ShownLetter) (me : ReplicaId) (entries : List Sealed) (sealed : Sealed)
     → list_any (is_unshown setup shown me) entries ≡ false → Contains entries sealed
     → is_right (ring_of setup) me sealed ≡ true → is_faulty setup (party.Replica (sealed.history).replica) ≡ false
     → was_shown shown me sealed ≡ true
@@ -273,14 +272,14 @@ and_false : (signed : Bool) → (signed && false) ≡ false
 and_false true = refl
 and_false false = refl
 
-verified : (setup : Setup) (entries : List Entry) (shown : List Shown) (to : Party) (text : List ℕ)
+verified : (setup : Setup) (entries : List Entry) (shown : List ShownLetter) (to : Party) (text : List ℕ)
     (frame : Frame) (signed suspected : Bool)
     → (is_unsent setup entries to text frame || shows_unshown setup shown to frame) ≡ suspected
     → is_forged_frame setup entries shown to text (cond signed (Some frame) None) ≡ signed && suspected
 verified setup entries shown to text frame true suspected is = is
 verified setup entries shown to text frame false suspected is = refl
 
-pub forged_if_signed : (setup : Setup) (entries : List Entry) (shown : List Shown) (to : Party) (text : List ℕ)
+pub forged_if_signed : (setup : Setup) (entries : List Entry) (shown : List ShownLetter) (to : Party) (text : List ℕ)
     (frame : Frame) → (is_unsent setup entries to text frame || shows_unshown setup shown to frame) ≡ true
     → is_signed (ring_of setup) to text frame
     ≡ is_forged_frame setup entries shown to text (if_signed (ring_of setup) to text (Ok frame))
@@ -288,7 +287,7 @@ forged_if_signed setup entries shown to text frame suspected =
     let signed : Bool = is_signed (ring_of setup) to text frame in
     sym (verified setup entries shown to text frame signed true suspected ∙ and_true signed)
 
-pub not_forged : (setup : Setup) (entries : List Entry) (shown : List Shown) (to : Party) (text : List ℕ)
+pub not_forged : (setup : Setup) (entries : List Entry) (shown : List ShownLetter) (to : Party) (text : List ℕ)
     (frame : Frame) → (is_unsent setup entries to text frame || shows_unshown setup shown to frame) ≡ false
     → false ≡ is_forged_frame setup entries shown to text (if_signed (ring_of setup) to text (Ok frame))
 not_forged setup entries shown to text frame suspected =

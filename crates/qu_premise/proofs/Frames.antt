@@ -1,32 +1,27 @@
 -- What bytes are decoded to, by the frame that they are, and that an event brings the same at all times.
-use Rattle.std.proofs.Common.{◌≡◌, ℕ, zero, suc, List, [], ◌++◌, take, drop, Option, None, Some, Result, Ok, Err, refl, sym, ap, ◌∙◌}
-use Rattle.std.specs.Prelude.{option_map}
+use Rattle.std.proofs.Common.{◌≡◌, ℕ, zero, suc, List, [], ◌++◌, take, drop, Option, None, Some, Result, Ok, Err, refl, sym, ap, subst, ◌∙◌}
+use Rattle.std.specs.Prelude.{option_map, slice_get}
 use Rattle.std.proofs.lemmas.Grind.{flat_map-append}
 use Rattle.std.proofs.lemmas.List.{take-append-drop}
-use Rattle.std.proofs.lemmas.Option.{none-some, same_Some, slice_get_within}
+use Rattle.std.proofs.lemmas.Option.{none-some, slice_get_within}
 use Rattle.qu_base.specs.declared.bad_text.BadText.{BadText}
 use Rattle.qu_base.specs.declared.party.Party.{Party}
 use Rattle.qu_seal.specs.Keys.{Ring}
 use Rattle.qu_frames.specs.declared.frame.Frame.{Frame}
 use Rattle.qu_frames.specs.declared.frame.Letter.{Letter}
-use Rattle.qu_frames.specs.Decoding.{decoded}
 use Rattle.qu_frames.specs.Signing.{if_signed}
 use Rattle.qu_trace.specs.declared.event.Event.{Event}
 use Rattle.qu_trace.specs.declared.event.Event.TheVariants.{Invoke, Deliver, Tick, Inject}
 use Rattle.qu_trace.specs.declared.trace.Entry.{Entry}
 use Rattle.qu_trace.specs.declared.trace.Setup.{Setup}
-use Rattle.qu_trace.specs.Letters.{letters_of}
-use Rattle.qu_world.specs.State.{numbered}
-use Rattle.qu_world.proofs.LetterLaws.{slice_get-append_left}
-use Rattle.qu_claims.specs.Carried.{offered_by}
-use Rattle.qu_premise.specs.Reached.{frame_found, frame_offered, IsFrameOf}
+use Rattle.qu_trace.specs.Letters.{letters_of, numbered, offered_by}
+use Rattle.qu_trace.proofs.LetterLaws.{slice_get-append_left}
+use Rattle.qu_claims.specs.Handled.{shown_in}
+use Rattle.qu_trace.specs.Decoded.{frame_found, frame_offered, frame_brought, IsFrameOf}
+use Rattle.qu_trace.proofs.DecodedLaws.{decoded_to}
 use Rattle.qu_premise.specs.Texts.{decoded_texts}
 
 -- ---- what bytes are decoded to
-
-pub decoded_to : (found : Result Frame BadText) (frame : Frame) → frame_found found ≡ Some frame → found ≡ Ok frame
-decoded_to (Ok it) frame is = ap (λ (one : Frame). Ok one) (same_Some it frame is)
-decoded_to (Err bad) frame is = absurd (none-some frame is)
 
 pub none_signed : (ring : Ring) (to : Party) (text : List ℕ) (found : Result Frame BadText)
     → frame_found found ≡ None → if_signed ring to text found ≡ None
@@ -39,6 +34,14 @@ none_digested setup to text (Ok it) is = absurd (none-some it (sym is))
 none_digested setup to text (Err bad) is = refl
 
 pub ruleset frame_laws = (decoded_to, none_signed, none_digested)
+
+-- ---- what letters show
+
+pub none_shows : (found : Result Frame BadText) → frame_found found ≡ None → shown_in found ≡ []
+none_shows (Ok it) is = absurd (none-some it (sym is))
+none_shows (Err bad) is = refl
+
+pub ruleset shown_laws = (decoded_to, none_shows)
 
 -- ---- what an event brings
 
@@ -66,11 +69,6 @@ frame_before letters more number frame is None found = tt
 frame_before letters more number frame is (Some letter) found =
     is ∙ ap (λ (it : Option Letter). frame_offered (offered_of it)) (numbered_in_all letters more number letter found)
 
-frame_is : (frame : Option Frame) (offered : Option (Party × List ℕ)) → frame ≡ frame_offered offered
-    → IsFrameOf frame offered
-frame_is frame None is = tt
-frame_is frame (Some (to, text)) is = is
-
 -- the frame that an event brings is that of the bytes, where the entries before it have sent them
 pub frame_upon : (entries : List Entry) (index : ℕ) (event : Event) (frame : Option Frame)
     → frame ≡ frame_offered (offered_by entries event) → IsFrameOf frame (offered_by (take index entries) event)
@@ -83,6 +81,10 @@ frame_upon entries index (Deliver number) frame is =
 frame_upon entries index (Tick client) frame is = tt
 frame_upon entries index (Inject to text) frame is = is
 
-pub frame_here : (entries : List Entry) (event : Event) (frame : Option Frame)
-    → frame ≡ frame_offered (offered_by entries event) → IsFrameOf frame (offered_by entries event)
-frame_here entries event frame is = frame_is frame (offered_by entries event) is
+-- the same of the event of an entry, and those before it
+pub frame_before_entry : (entries before : List Entry) (index : ℕ) (entry : Entry) (frame : Option Frame)
+    → slice_get entries index ≡ Some entry → before ≡ take index entries
+    → frame ≡ frame_brought entries (slice_get entries index) → IsFrameOf frame (offered_by before entry.event)
+frame_before_entry entries before index entry frame found first is =
+    subst (λ (it : List Entry). IsFrameOf frame (offered_by it entry.event)) (sym first)
+    (frame_upon entries index entry.event frame (is ∙ ap (frame_brought entries) found))

@@ -17,7 +17,7 @@ use Rattle.qu_trace.specs.declared.trace.Trace.{Trace}
 use Rattle.qu_trace.specs.Letters.{letters_of}
 use Rattle.qu_world.specs.Run.{IsRun}
 use Rattle.qu_world.specs.State.{WorldState}
-use Rattle.qu_world.proofs.LetterLaws.{letters-push}
+use Rattle.qu_trace.proofs.LetterLaws.{letters-push}
 use Rattle.qu_claims.specs.Carried.{handed}
 use Rattle.qu_claims.specs.Digested.{Text, texts_at, digested, NoCollision}
 use Rattle.qu_claims.specs.Premises.{AreUnforged, IsUnforgedAt, MeetsPremises}
@@ -25,11 +25,10 @@ use Rattle.qu_claims.specs.Times.{world_after}
 use Rattle.qu_runs.proofs.Events.Recording.{entries_after}
 use Rattle.qu_runs.proofs.Worlds.WorldGrowth.{world_after-none, world_after-grows}
 use Rattle.qu_premise.specs.declared.auditing.Past.{Past}
-use Rattle.qu_premise.specs.declared.shown.Shown.{Shown}
 use Rattle.qu_premise.specs.Answer.{UnforgedAt, UnforgedBefore, texts_of_entry, texts_by, DoCollide, NoneCollideBefore, IsFirstForged, IsFirstCollision}
 use Rattle.qu_premise.specs.Digesting.{same_text}
 use Rattle.qu_premise.specs.Digests.{look, Notes, first_clash}
-use Rattle.qu_premise.specs.Forging.{letter_shown, shown_in_all, is_forged_given, is_forged}
+use Rattle.qu_premise.specs.Forging.{ShownLetter, letter_shown, shown_in_all, is_forged_given, is_forged}
 use Rattle.qu_premise.specs.Past.{IsPast, Knows}
 use Rattle.qu_premise.proofs.Collisions.{knows_more, knows_nothing, none_at, first_collision}
 use Rattle.qu_premise.proofs.Equalities.{decides_text}
@@ -216,7 +215,7 @@ past_more trace index entry old new is within at unforged notes shown none =
     knows_more trace index old.digests new.digests is.digests
     (subst (λ (it : List Text). Notes (look old.digests) (look new.digests) (index + 1) it) texts notes) in
     record {
-      shown = shown ∙ ap (λ (it : List Shown). it ++ map letter_shown entry.letters) is.shown
+      shown = shown ∙ ap (λ (it : List ShownLetter). it ++ map letter_shown entry.letters) is.shown
           ∙ sym (shown_more trace.entries index entry within at);
       digests = knows;
       unforged = unforged_more trace index is.unforged unforged;

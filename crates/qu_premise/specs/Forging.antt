@@ -23,7 +23,6 @@ use Rattle.qu_trace.specs.Letters.{letters_of}
 use Rattle.qu_world.specs.State.{ring_of}
 use Rattle.qu_claims.specs.Carried.{handed_by}
 use Rattle.qu_claims.specs.Handled.{is_of_setup, is_handler, shown_by}
-use Rattle.qu_premise.specs.declared.shown.Shown.{Shown}
 
 -- ---- letters
 
@@ -46,12 +45,16 @@ is_unsent setup entries to text frame =
 
 -- ---- histories
 
--- what a letter shows, and the party that sent it
-abbrev pub letter_shown : Letter → Shown
+-- the histories that a letter shows, and the party that sent it
+pub record ShownLetter : Type 0 where
+  pub from : Party
+  pub histories : List Sealed
+
+abbrev pub letter_shown : Letter → ShownLetter
 letter_shown letter = record { from = letter.from; histories = shown_by letter }
 
 -- what the letters of these entries show
-unfoldable pub shown_in_all : List Entry → List Shown
+unfoldable pub shown_in_all : List Entry → List ShownLetter
 shown_in_all entries = map letter_shown (letters_of entries)
 
 abbrev pub same_history : ObjectHistory → ObjectHistory → Bool
@@ -71,49 +74,49 @@ is_like me sealed other =
     same_mac (slice_get other.macs me.0) (slice_get sealed.macs me.0) && same_history other.history sealed.history
 
 -- the history's replica showed it
-abbrev pub is_showing : ReplicaId → Sealed → Shown → Bool
+abbrev pub is_showing : ReplicaId → Sealed → ShownLetter → Bool
 is_showing me sealed shown =
     is_same shown.from (party.Replica (sealed.history).replica) && list_any (is_like me sealed) shown.histories
 
-abbrev pub was_shown : List Shown → ReplicaId → Sealed → Bool
+abbrev pub was_shown : List ShownLetter → ReplicaId → Sealed → Bool
 was_shown shown me sealed = list_any (is_showing me sealed) shown
 
 -- the replica does not cull the entry, which is of a correct replica that did not show it
-abbrev pub is_unshown : Setup → List Shown → ReplicaId → Sealed → Bool
+abbrev pub is_unshown : Setup → List ShownLetter → ReplicaId → Sealed → Bool
 is_unshown setup shown me sealed =
     not (is_faulty setup (party.Replica (sealed.history).replica))
     && (not (was_shown shown me sealed) && is_right (ring_of setup) me sealed)
 
 -- one of the entries of this set
-abbrev pub has_unshown : Setup → List Shown → ReplicaId → SetOf → Bool
+abbrev pub has_unshown : Setup → List ShownLetter → ReplicaId → SetOf → Bool
 has_unshown setup shown me set = list_any (is_unshown setup shown me) set.entries
 
 -- one in the sets of a request that the replica handles
-abbrev pub asks_unshown : Setup → List Shown → ReplicaId → Frame → Bool
+abbrev pub asks_unshown : Setup → List ShownLetter → ReplicaId → Frame → Bool
 asks_unshown setup shown me (frame.Request client number round sets body mac) =
     list_all (is_of_setup setup) sets && list_any (has_unshown setup shown me) sets
 asks_unshown setup shown me _ = false
 
-abbrev pub shows_unshown : Setup → List Shown → Party → Frame → Bool
+abbrev pub shows_unshown : Setup → List ShownLetter → Party → Frame → Bool
 shows_unshown setup shown (party.Replica me) sent = is_handler setup me && asks_unshown setup shown me sent
 shows_unshown setup shown (party.Client me) sent = false
 
 -- ---- events
 
 -- the frame that these bytes brought to the party is forged, or a history in it; before it were these entries
-abbrev pub is_forged_frame : Setup → List Entry → List Shown → Party → List ℕ → Option Frame → Bool
+abbrev pub is_forged_frame : Setup → List Entry → List ShownLetter → Party → List ℕ → Option Frame → Bool
 is_forged_frame setup entries shown to text None = false
 is_forged_frame setup entries shown to text (Some sent) =
     is_unsent setup entries to text sent || shows_unshown setup shown to sent
 
-abbrev pub is_forged_text : Setup → List Entry → List Shown → Party → List ℕ → Bool
+abbrev pub is_forged_text : Setup → List Entry → List ShownLetter → Party → List ℕ → Bool
 is_forged_text setup entries shown to text =
     is_forged_frame setup entries shown to text (brought (ring_of setup) to text)
 
-abbrev pub is_forged_given : Setup → List Entry → List Shown → Option (Party × List ℕ) → Bool
+abbrev pub is_forged_given : Setup → List Entry → List ShownLetter → Option (Party × List ℕ) → Bool
 is_forged_given setup entries shown None = false
 is_forged_given setup entries shown (Some (to, text)) = is_forged_text setup entries shown to text
 
 -- the event hands something forged to a correct party
-abbrev pub is_forged : Setup → List Entry → List Shown → Event → Bool
+abbrev pub is_forged : Setup → List Entry → List ShownLetter → Event → Bool
 is_forged setup entries shown event = is_forged_given setup entries shown (handed_by setup entries event)

@@ -4,4 +4,3 @@ pub mod Texts
 pub mod Digesting
 pub mod Digests
 pub mod Past
-pub mod Reached

@@ -7,24 +7,23 @@ ghost use Rattle.qu_premise.specs.Past.{IsPast};
 use super::Premises;
 use super::digests::Digests;
 use super::forging::is_forged;
-use super::reached::frame_offered;
 use super::shown::ShownSoFar;
 use super::texts::texts_at;
 use qu_base::NoMemory;
-use qu_trace::Trace;
+use qu_trace::DecodedTrace;
 use std::alloc::Global;
 
 /// What is known of the events of a run so far.
 #[derive(Drop)]
-pub struct Past {
-    pub shown: ShownSoFar,
+pub struct Past<'a> {
+    pub shown: ShownSoFar<'a>,
     pub digests: Digests,
 }
 
 /// Whether the premises hold of a run, and else the first event that breaks one: at a tie it is what is forged.
 /// Each run has one answer.
 #[tactic(auto, using(crate::proofs::Unique::answer_only))]
-pub fn audit(alloc: Global, trace: &Trace) -> Result<Premises, NoMemory>
+pub fn audit(alloc: Global, trace: &DecodedTrace<'_>) -> Result<Premises, NoMemory>
     requires { IsRun trace.now }
     ensures answer { IfOk result (λ premises. IsAnswer trace.now premises) }
     ensures only { (other : Answer) → IsAnswer trace.now other → IfOk result (λ premises. premises ≡ other) }
@@ -34,7 +33,7 @@ pub fn audit(alloc: Global, trace: &Trace) -> Result<Premises, NoMemory>
 }
 
 /// The first event that breaks a premise, where one does.
-fn first_break(alloc: Global, trace: &Trace) -> Result<Premises, NoMemory>
+fn first_break(alloc: Global, trace: &DecodedTrace<'_>) -> Result<Premises, NoMemory>
     requires { IsRun trace.now }
     ensures { IfOk result (λ premises. IsAnswer trace.now premises) }
 {
@@ -42,7 +41,7 @@ fn first_break(alloc: Global, trace: &Trace) -> Result<Premises, NoMemory>
         shown: ShownSoFar::new(alloc),
         digests: Digests::new(alloc),
     };
-    for index in 0..trace.entries.len() {
+    for index in 0..trace.trace().entries.len() {
         if let Some(broken) = follow(alloc, trace, index, &mut past)? {
             return Ok(broken);
         }
@@ -51,11 +50,11 @@ fn first_break(alloc: Global, trace: &Trace) -> Result<Premises, NoMemory>
 }
 
 /// What the event of the entry with this index breaks; where it breaks nothing, it belongs to the past.
-fn follow(
+fn follow<'a>(
     alloc: Global,
-    trace: &Trace,
+    trace: &'a DecodedTrace<'_>,
     index: usize,
-    past: &mut Past,
+    past: &mut Past<'a>,
 ) -> Result<Option<Premises>, NoMemory>
     requires run { IsRun trace.now }
     requires within { index < length trace.now.entries }
@@ -63,24 +62,19 @@ fn follow(
     ensures { IfOk result (λ broken. MatchOption broken (IsPast trace.now (index + 1) past.new)
         (λ premises. IsAnswer trace.now premises)) }
 {
-    let entries = trace.entries.as_slice();
-    let entry = &entries[index];
+    let run = trace.trace();
+    let entry = &run.entries.as_slice()[index];
     let event = index as u64 + 1;
-    let frame = frame_offered(alloc, entries, &entry.event)?;
-    if is_forged(
-        alloc,
-        &trace.setup,
-        &entries[..index],
-        &past.shown,
-        &entry.event,
-        frame.as_ref(),
-    )? {
+    let frame = trace.brought(index);
+    let sent = trace.first(index);
+    if is_forged(alloc, &run.setup, &sent, &past.shown, &entry.event, frame)? {
         return Ok(Some(Premises::Forged { event }));
     }
     let before = past.shown.len();
-    past.shown.add(alloc, entry)?;
+    past.shown
+        .add(entry.letters.as_slice(), trace.frames_at(index))?;
     let shown = past.shown.since(before);
-    let texts = texts_at(alloc, &past.digests, trace, entry, frame.as_ref(), shown)?;
+    let texts = texts_at(alloc, &past.digests, trace, entry, frame, shown)?;
     past.digests.note_all(alloc, event, texts.as_slice())?;
     match past.digests.first_clash(texts.as_slice()) {
         Some(first) => Ok(Some(Premises::Collide {

@@ -4,20 +4,19 @@ ghost use Rattle.std.specs.Option.{option_copied};
 ghost use Rattle.qu_base.specs.declared.party.Party.TheVariants as party;
 ghost use Rattle.qu_frames.specs.Decoding.{decoded};
 ghost use Rattle.qu_frames.specs.Signing.{if_signed};
+ghost use Rattle.qu_trace.specs.Letters.{offered_by};
+ghost use Rattle.qu_trace.specs.Decoded.{frame_found, IsFrameOf};
 ghost use Rattle.qu_world.specs.State.{ring_of};
 ghost use Rattle.qu_world.specs.Run.{IsSetup};
-ghost use Rattle.qu_claims.specs.Carried.{offered_by};
 ghost use Rattle.qu_claims.specs.Handled.{is_of_setup, is_handler};
 ghost use Rattle.qu_premise.specs.Forging.{is_letter, is_sent_at, was_sent, is_unsent, is_unshown, has_unshown, shows_unshown, is_forged_frame, is_forged_text, is_forged};
-ghost use Rattle.qu_premise.specs.Reached.{frame_found, IsFrameOf};
 
 use super::shown::ShownSoFar;
 use qu_base::{NoMemory, Party, ReplicaId};
 use qu_frames::{Frame, Letter};
 use qu_history::{Sealed, SetOf, Sets};
 use qu_seal::KeyRing;
-use qu_trace::{Entry, Event, Setup};
-use qu_world::letter_at;
+use qu_trace::{Entry, Event, Sent, Setup};
 use std::alloc::Global;
 
 /// The way of bytes to a party: from the party that sent them as a letter, if they are one.
@@ -33,17 +32,17 @@ struct Way {
 pub fn is_forged(
     alloc: Global,
     setup: &Setup,
-    entries: &[Entry],
-    shown: &ShownSoFar,
+    sent: &Sent<'_>,
+    shown: &ShownSoFar<'_>,
     event: &Event,
     frame: Option<&Frame>,
 ) -> Result<bool, NoMemory>
     requires setup { IsSetup setup.now }
-    requires frame { IsFrameOf (option_copied frame) (offered_by entries.now event.now) }
-    ensures { IfOk result (λ forged. forged ≡ is_forged setup.now entries.now shown.now event.now) }
+    requires frame { IsFrameOf (option_copied frame) (offered_by sent.now event.now) }
+    ensures { IfOk result (λ forged. forged ≡ is_forged setup.now sent.now shown.now event.now) }
 {
     match event {
-        Event::Deliver(number) => match letter_at(entries, *number) {
+        Event::Deliver(number) => match sent.letter(*number) {
             Some(letter) if !setup.is_faulty(letter.to) => {
                 let way = Way {
                     from: Some(letter.from),
@@ -52,7 +51,7 @@ pub fn is_forged(
                 is_forged_text(
                     alloc,
                     setup,
-                    entries,
+                    sent.entries(),
                     shown,
                     way,
                     letter.text.as_slice(),
@@ -66,7 +65,15 @@ pub fn is_forged(
                 from: None,
                 to: *to,
             };
-            is_forged_text(alloc, setup, entries, shown, way, text.as_slice(), frame)
+            is_forged_text(
+                alloc,
+                setup,
+                sent.entries(),
+                shown,
+                way,
+                text.as_slice(),
+                frame,
+            )
         }
         Event::Invoke(_, _) | Event::Tick(_) | Event::Inject(_, _) => Ok(false),
     }
@@ -78,7 +85,7 @@ fn is_forged_text(
     alloc: Global,
     setup: &Setup,
     entries: &[Entry],
-    shown: &ShownSoFar,
+    shown: &ShownSoFar<'_>,
     way: Way,
     text: &[u8],
     frame: Option<&Frame>,
@@ -101,7 +108,7 @@ fn is_forged_frame(
     alloc: Global,
     setup: &Setup,
     entries: &[Entry],
-    shown: &ShownSoFar,
+    shown: &ShownSoFar<'_>,
     way: Way,
     text: &[u8],
     frame: &Frame,
@@ -166,7 +173,7 @@ fn is_letter(letter: &Letter, from: Party, to: Party, text: &[u8]) -> bool
 fn shows_unshown(
     alloc: Global,
     setup: &Setup,
-    shown: &ShownSoFar,
+    shown: &ShownSoFar<'_>,
     to: Party,
     frame: &Frame,
 ) -> Result<bool, NoMemory>
@@ -203,7 +210,7 @@ pub fn are_known(setup: &Setup, sets: &Sets) -> bool
 fn any_unshown(
     alloc: Global,
     setup: &Setup,
-    shown: &ShownSoFar,
+    shown: &ShownSoFar<'_>,
     me: ReplicaId,
     sets: &Sets,
 ) -> Result<bool, NoMemory>
@@ -221,7 +228,7 @@ fn any_unshown(
 fn has_unshown(
     alloc: Global,
     setup: &Setup,
-    shown: &ShownSoFar,
+    shown: &ShownSoFar<'_>,
     me: ReplicaId,
     set: &SetOf,
 ) -> Result<bool, NoMemory>
@@ -240,7 +247,7 @@ fn has_unshown(
 fn is_unshown(
     alloc: Global,
     setup: &Setup,
-    shown: &ShownSoFar,
+    shown: &ShownSoFar<'_>,
     me: ReplicaId,
     sealed: &Sealed,
 ) -> Result<bool, NoMemory>

@@ -5,7 +5,6 @@
 mod auditing;
 mod digests;
 mod forging;
-mod reached;
 mod reading;
 mod shown;
 mod text;

@@ -1,41 +1,57 @@
-//! The histories that the letters of a run show, each of whose letters is decoded once.
-ghost use Rattle.std.specs.Prelude.{◌≡◌, ◌≤◌, [], ◌++◌, map, length, drop, IfOk, OnOk};
+//! The histories that the letters of a run show.
+ghost use Rattle.std.specs.Prelude.{◌≡◌, ◌≤◌, [], ◌++◌, map, length, drop, OnOk};
 ghost use Rattle.std.specs.List.{list_any};
 ghost use Rattle.std.specs.Option.{option_copied};
-ghost use Rattle.qu_claims.specs.Handled.{shown_by};
+ghost use Rattle.qu_trace.specs.Decoded.{frame_sent};
 ghost use Rattle.qu_premise.specs.Forging.{letter_shown, same_history, same_mac, is_like, is_showing, was_shown};
 
-use qu_base::{List, NoMemory, Party, ReadFail, ReplicaId};
-use qu_frames::{Frame, Letter, decode};
+use qu_base::{NoMemory, Party, ReplicaId};
+use qu_frames::{Frame, Letter};
 use qu_history::{History, Sealed};
-use qu_trace::Entry;
 use std::alloc::Global;
 use std::marker::Model;
 
 /// The histories that a letter shows, and the party that sent it.
-#[derive(Debug, Drop)]
-pub struct Shown {
-    pub from: Party,
-    pub histories: List<Sealed>,
+#[derive(Drop)]
+pub struct Shown<'a> {
+    from: Party,
+    histories: &'a [Sealed],
+}
+
+impl<'a> Model for Shown<'a> {
+    ghost use Rattle.qu_premise.specs.Forging.{ShownLetter};
+
+    ghost Value = { ShownLetter };
+
+    ghost view = { λ shown. record { from = shown.from; histories = shown.histories.now } };
+}
+
+impl<'a> Shown<'a> {
+    /// The histories.
+    pub fn histories(&self) -> &'a [Sealed]
+        ensures { result.now ≡ self.now.histories }
+    {
+        self.histories
+    }
 }
 
 /// What the letters so far show.
 #[derive(Drop)]
-pub struct ShownSoFar {
-    shown: Vec<Shown>,
+pub struct ShownSoFar<'a> {
+    shown: Vec<Shown<'a>>,
 }
 
-impl Model for ShownSoFar {
+impl<'a> Model for ShownSoFar<'a> {
     ghost use Rattle.std.specs.Prelude.{List};
-    ghost use Rattle.qu_premise.specs.declared.shown.Shown.{Shown};
+    ghost use Rattle.qu_premise.specs.Forging.{ShownLetter};
 
-    ghost Value = { List Shown };
+    ghost Value = { List ShownLetter };
 
     ghost view = { λ so_far. so_far.shown.items };
 }
 
-impl ShownSoFar {
-    pub fn new(alloc: Global) -> ShownSoFar
+impl<'a> ShownSoFar<'a> {
+    pub fn new(alloc: Global) -> ShownSoFar<'a>
         ensures { result ≡ [] }
     {
         ShownSoFar {
@@ -51,19 +67,20 @@ impl ShownSoFar {
     }
 
     /// What the letters behind so many show.
-    pub fn since(&self, count: usize) -> &[Shown]
+    pub fn since(&self, count: usize) -> &[Shown<'a>]
         requires { count ≤ length self.now }
         ensures { result.now ≡ drop count self.now }
     {
         &self.shown.as_slice()[count..]
     }
 
-    /// Adds what the letters of an entry show.
-    pub fn add(&mut self, alloc: Global, entry: &Entry) -> Result<(), NoMemory>
-        ensures { OnOk result (self.new ≡ self.old ++ map letter_shown entry.now.letters) }
+    /// Adds what letters show, which are decoded to these frames.
+    pub fn add(&mut self, letters: &[Letter], frames: &'a [Option<Frame>]) -> Result<(), NoMemory>
+        requires { frames.now ≡ map frame_sent letters.now }
+        ensures { OnOk result (self.new ≡ self.old ++ map letter_shown letters.now) }
     {
-        for letter in entry.letters.as_slice() {
-            self.shown.push(letter_shown(alloc, letter)?)?;
+        for (place, letter) in letters.iter().enumerate() {
+            self.shown.push(letter_shown(letter, &frames[place]))?;
         }
         Ok(())
     }
@@ -80,33 +97,27 @@ impl ShownSoFar {
     }
 }
 
-/// What a letter shows.
-fn letter_shown(alloc: Global, letter: &Letter) -> Result<Shown, NoMemory>
-    ensures { IfOk result (λ shown. shown ≡ letter_shown letter.now) }
+/// What a letter shows, which is decoded to this frame.
+#[tactic(auto, using(crate::proofs::Frames::shown_laws))]
+fn letter_shown<'a>(letter: &Letter, frame: &'a Option<Frame>) -> Shown<'a>
+    requires { frame.now ≡ frame_sent letter.now }
+    ensures { result ≡ letter_shown letter.now }
 {
-    Ok(Shown {
+    let histories: &'a [Sealed] = match frame {
+        Some(Frame::Reply { shown, .. }) => shown.as_slice(),
+        Some(_) | None => &[],
+    };
+    Shown {
         from: letter.from,
-        histories: shown_by(alloc, letter)?,
-    })
-}
-
-/// The histories that a letter shows.
-fn shown_by(alloc: Global, letter: &Letter) -> Result<List<Sealed>, NoMemory>
-    ensures { IfOk result (λ shown. shown ≡ shown_by letter.now) }
-{
-    match decode(alloc, letter.text.as_slice()) {
-        Ok(Frame::Reply { shown, .. }) => Ok(shown),
-        Ok(_) | Err(ReadFail::Bad(_)) => Ok(List::new(alloc)),
-        Err(ReadFail::NoMemory) => Err(NoMemory),
+        histories,
     }
 }
 
 /// Whether the replica of the history showed it so.
-fn is_showing(me: ReplicaId, sealed: &Sealed, shown: &Shown) -> bool
+fn is_showing(me: ReplicaId, sealed: &Sealed, shown: &Shown<'_>) -> bool
     ensures { result ≡ is_showing me sealed.now shown.now }
 {
-    shown.from == Party::Replica(sealed.history.replica())
-        && has_like(shown.histories.as_slice(), me, sealed)
+    shown.from == Party::Replica(sealed.history.replica()) && has_like(shown.histories, me, sealed)
 }
 
 fn has_like(histories: &[Sealed], me: ReplicaId, sealed: &Sealed) -> bool

@@ -5,12 +5,12 @@ ghost use Rattle.std.specs.Option.{option_copied};
 ghost use Rattle.qu_history.specs.declared.sets.SetOf.{SetOf};
 ghost use Rattle.qu_frames.specs.Decoding.{decoded};
 ghost use Rattle.qu_frames.specs.Signing.{text_digest};
+ghost use Rattle.qu_trace.specs.Letters.{offered_by};
+ghost use Rattle.qu_trace.specs.Decoded.{frame_found, IsFrameOf};
 ghost use Rattle.qu_world.specs.Run.{IsSetup};
-ghost use Rattle.qu_claims.specs.Carried.{offered_by};
 ghost use Rattle.qu_claims.specs.Digested.{texts_at, sent_texts, body_texts, signed_text, history_text};
 ghost use Rattle.qu_premise.specs.Digesting.{digest_of_text};
 ghost use Rattle.qu_premise.specs.Forging.{letter_shown};
-ghost use Rattle.qu_premise.specs.Reached.{frame_found, IsFrameOf};
 ghost use Rattle.qu_premise.specs.Texts.{handler_of, request_texts, entry_texts, decoded_texts, reached_texts};
 
 use super::digests::Digests;
@@ -23,8 +23,7 @@ use qu_frames::{Body, Frame, Letter, before_mac};
 use qu_history::{Sealed, Sets};
 use qu_objects::act_text;
 use qu_seal::{ACT_TAG, FRAME_TAG, SETS_TAG};
-use qu_trace::{Entry, Event, Setup, Trace};
-use qu_world::letter_at;
+use qu_trace::{DecodedTrace, Entry, Event, Setup};
 use std::alloc::Global;
 
 /// The texts that are digested at the event of an entry, which brings this frame or none and whose letters show this.
@@ -33,10 +32,10 @@ use std::alloc::Global;
 pub fn texts_at(
     alloc: Global,
     digests: &Digests,
-    trace: &Trace,
+    trace: &DecodedTrace<'_>,
     entry: &Entry,
     frame: Option<&Frame>,
-    shown: &[Shown],
+    shown: &[Shown<'_>],
 ) -> Result<List<Text>, NoMemory>
     requires setup { IsSetup trace.now.setup }
     requires frame { IsFrameOf (option_copied frame) (offered_by trace.now.entries entry.now.event) }
@@ -53,7 +52,7 @@ pub fn texts_at(
 fn add_reached(
     alloc: Global,
     digests: &Digests,
-    trace: &Trace,
+    trace: &DecodedTrace<'_>,
     event: &Event,
     frame: Option<&Frame>,
     texts: &mut List<Text>,
@@ -63,9 +62,9 @@ fn add_reached(
     ensures { OnOk result (texts.new ≡ texts.old
         ++ reached_texts trace.now.setup (offered_by trace.now.entries event.now)) }
 {
-    let setup = &trace.setup;
+    let setup = &trace.trace().setup;
     match event {
-        Event::Deliver(number) => match letter_at(trace.entries.as_slice(), *number) {
+        Event::Deliver(number) => match trace.letter(*number) {
             Some(letter) if !setup.is_faulty(letter.to) => {
                 add_decoded(
                     alloc,
@@ -256,7 +255,7 @@ fn add_sent(
     alloc: Global,
     digests: &Digests,
     letters: &[Letter],
-    shown: &[Shown],
+    shown: &[Shown<'_>],
     texts: &mut List<Text>,
 ) -> Result<(), NoMemory>
     requires { shown.now ≡ map letter_shown letters.now }
@@ -272,7 +271,7 @@ fn add_letter(
     alloc: Global,
     digests: &Digests,
     letter: &Letter,
-    shown: &Shown,
+    shown: &Shown<'_>,
     texts: &mut List<Text>,
 ) -> Result<(), NoMemory>
     requires { shown.now ≡ letter_shown letter.now }
@@ -280,7 +279,7 @@ fn add_letter(
 {
     let frame = sent_frame(alloc, digests, letter.text.as_slice(), texts.as_slice())?;
     texts.push(frame)?;
-    add_histories(alloc, digests, shown.histories.as_slice(), texts)
+    add_histories(alloc, digests, shown.histories(), texts)
 }
 
 /// The text of a frame that is sent, up to its HMAC. Where the same was sent just before, to another receiver, its

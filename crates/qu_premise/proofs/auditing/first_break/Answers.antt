@@ -1,4 +1,5 @@
-use Rattle.std.proofs.Common.{◌≡◌, length, subst, arith}
+use Rattle.std.proofs.Common.{◌≡◌, length, ap, subst, arith}
+use Rattle.qu_trace.specs.declared.trace.Trace.{Trace}
 use Rattle.qu_premise.specs.Past.{IsPast}
 use Rattle.qu_premise.proofs.Steps.{past_none, meets_premises}
 use Rattle.qu_premise.proofs.auditing.first_break.Goals as goal
@@ -10,6 +11,12 @@ loop-index-init c =
 pub returns : goal.returns
 returns c =
     let all : c.loop-index.index ≡ length c.args.trace.now.entries =
-    omega (arith, c.loop-index-test.false, c.loop-index.auto.index-end, c.len-index-end.ensures) in
+    omega (
+      arith,
+      c.loop-index-test.false,
+      c.loop-index.auto.index-end,
+      c.len-index-end.ensures,
+      ap (λ (trace : Trace). length trace.entries) c.trace.ensures,
+    ) in
     meets_premises c.args.trace.now c.loop-index.past
     (subst (λ count. IsPast c.args.trace.now count c.loop-index.past) all c.loop-index.invariant)

@@ -4,5 +4,5 @@ use Rattle.qu_premise.specs.Forging.{letter_shown}
 use Rattle.qu_premise.proofs.shown.ShownSoFar.add.Given as goal
 
 -- what the letters so far show
-abbrev pub invariant-loop-letter : goal.invariant-loop-letter
-invariant-loop-letter l = l.self-inside.shown.items ≡ l.fn.self ++ map letter_shown (take l.letter-index l.letter-items)
+abbrev pub invariant-loop-place : goal.invariant-loop-place
+invariant-loop-place l = l.self-inside.shown.items ≡ l.fn.self ++ map letter_shown (take l.place l.letters)
