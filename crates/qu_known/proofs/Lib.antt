@@ -1,5 +1,6 @@
 pub mod Held
 pub mod Filtered
+pub mod Frames
 pub mod Rows
 pub mod Lengths
 pub mod Replies

@@ -1,11 +1,9 @@
 //! The rounds that are answered.
-ghost use Rattle.std.specs.Prelude.{◌≡◌, Ok, IfOk};
-ghost use Rattle.qu_frames.specs.Decoding.{decoded};
+ghost use Rattle.std.specs.Prelude.{◌≡◌, Ok};
 ghost use Rattle.qu_known.specs.Answers.{round_answered};
 
-use qu_base::{ClientId, NoMemory, ReadFail};
-use qu_frames::{Frame, decode};
-use std::alloc::Global;
+use qu_base::ClientId;
+use qu_frames::Frame;
 
 /// The round of an operation to which an answer was sent.
 #[derive(Clone, Copy, Debug, PartialEq, Eq)]
@@ -15,18 +13,7 @@ pub struct Answered {
     pub round: u8,
 }
 
-/// The round that a text answers, None where it is no answer.
-pub fn round_answered(alloc: Global, text: &[u8]) -> Result<Option<Answered>, NoMemory>
-    ensures { IfOk result (λ round. round ≡ round_answered (decoded text.now)) }
-{
-    match decode(alloc, text) {
-        Ok(frame) => Ok(answered_by(&frame)),
-        Err(ReadFail::Bad(_)) => Ok(None),
-        Err(ReadFail::NoMemory) => Err(NoMemory),
-    }
-}
-
-/// The round that a frame answers.
+/// The round that a frame answers, None where it is no answer.
 pub fn answered_by(frame: &Frame) -> Option<Answered>
     ensures { result ≡ round_answered (Ok frame.now) }
 {

@@ -10,13 +10,13 @@ ghost use Rattle.qu_known.specs.Known.{AreKnown, Learned, HasBytes, HaveBytes, I
 use super::known::{Known, Learnt};
 use qu_base::NoMemory;
 use qu_frames::Letter;
-use qu_trace::{Entry, Event, Trace};
+use qu_trace::{DecodedTrace, Entry, Event};
 use std::alloc::Global;
 
 /// Takes what the letters of the entry with this index show, and tells what is new of it.
 pub fn see_entry(
     alloc: Global,
-    trace: &Trace,
+    trace: &DecodedTrace<'_>,
     index: usize,
     known: &mut Known,
 ) -> Result<Learnt, NoMemory>
@@ -29,8 +29,8 @@ pub fn see_entry(
     ensures answered { IfOk result (λ told. (entry : AnEntry) → slice_get trace.now.entries index ≡ Some entry
         → told.rounds ≡ rounds_answered entry) }
 {
-    let entry = &trace.entries.as_slice()[index];
-    let told = known.see_letters(alloc, entry.letters.as_slice())?;
+    let entry = &trace.trace().entries.as_slice()[index];
+    let told = known.see_letters(alloc, entry.letters.as_slice(), trace.frames_at(index))?;
     Ok(told)
 }
 

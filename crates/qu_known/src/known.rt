@@ -2,7 +2,7 @@
 ghost use Rattle.std.specs.Prelude.{◌≡◌, ◌<◌, ◌^◌, [], ◌++◌, map, drop, count_by, Ok, IfOk, OnOk};
 ghost use Rattle.std.specs.List.{cons_option};
 ghost use Rattle.qu_base.specs.Bounds.{replicas};
-ghost use Rattle.qu_frames.specs.Decoding.{decoded};
+ghost use Rattle.qu_trace.specs.Decoded.{frame_sent};
 ghost use Rattle.qu_world.specs.State.{kinds_at};
 ghost use Rattle.qu_known.specs.Tracked.{undecided};
 ghost use Rattle.qu_known.specs.Answers.{round_answered, letter_told, rounds_told};
@@ -11,8 +11,8 @@ ghost use Rattle.qu_known.specs.Known.{beyond, known_on, knows, opening_row, ope
 
 use super::answers::{Answered, answered_by};
 use super::tracked::Tracked;
-use qu_base::{List, NoMemory, ObjectId, Party, ReadFail, ReplicaId};
-use qu_frames::{Frame, Letter, decode};
+use qu_base::{List, NoMemory, ObjectId, Party, ReplicaId};
+use qu_frames::{Frame, Letter};
 use qu_history::{History, Sealed};
 use qu_objects::KindName;
 use qu_stamp::Candidate;
@@ -197,59 +197,47 @@ impl Known {
             .count()
     }
 
-    /// Takes what letters show, and tells what is new of it and which rounds they answer. Replies of replicas alone
-    /// show something, and each is decoded once.
+    /// Takes what letters show, which are decoded to these frames, and tells what is new of it and which rounds they
+    /// answer. Replies of replicas alone show something.
     #[tactic(auto, unfolding(crate::specs::Known::see_letters, crate::specs::Answers::rounds_told))]
-    pub fn see_letters(&mut self, alloc: Global, letters: &[Letter]) -> Result<Learnt, NoMemory>
+    pub fn see_letters(
+        &mut self,
+        alloc: Global,
+        letters: &[Letter],
+        frames: &[Option<Frame>],
+    ) -> Result<Learnt, NoMemory>
+        requires { frames.now ≡ map frame_sent letters.now }
         ensures news { IfOk result (λ told. see_letters letters.now (self.old, []) ≡ (self.new, told.news)) }
         ensures rounds { IfOk result (λ told. told.rounds ≡ rounds_told letters.now) }
     {
         let mut news = List::new(alloc);
         let mut rounds = List::new(alloc);
-        for letter in letters {
-            self.see_letter(alloc, letter, &mut news, &mut rounds)?;
+        for (place, letter) in letters.iter().enumerate() {
+            self.see_letter(letter, &frames[place], &mut news, &mut rounds)?;
         }
         Ok(Learnt { news, rounds })
     }
 
+    /// Takes a letter, which tells nothing where it is no reply of a replica.
+    #[tactic(auto, unfolding(crate::specs::Known::see_shown), using(crate::proofs::Frames::told_laws))]
     fn see_letter(
         &mut self,
-        alloc: Global,
         letter: &Letter,
+        frame: &Option<Frame>,
         news: &mut List<Tracked>,
         rounds: &mut List<Answered>,
     ) -> Result<(), NoMemory>
+        requires { frame.now ≡ frame_sent letter.now }
         ensures news { OnOk result
             (see_from letter.now.from letter.now.text (self.old, news.old) ≡ (self.new, news.new)) }
         ensures rounds { OnOk result (rounds.new ≡ rounds.old ++ cons_option (letter_told letter.now) []) }
     {
-        match letter.from {
-            Party::Replica(me) => self.see_text(alloc, me, letter.text.as_slice(), news, rounds),
-            Party::Client(_) => Ok(()),
-        }
-    }
-
-    /// Takes a text of a replica, which tells nothing where it is no reply.
-    #[tactic(auto, unfolding(crate::specs::Known::see_shown))]
-    fn see_text(
-        &mut self,
-        alloc: Global,
-        me: ReplicaId,
-        text: &[u8],
-        news: &mut List<Tracked>,
-        rounds: &mut List<Answered>,
-    ) -> Result<(), NoMemory>
-        ensures news { OnOk result
-            (see_shown me (shown_in (decoded text.now)) (self.old, news.old) ≡ (self.new, news.new)) }
-        ensures rounds { OnOk result (rounds.new ≡ rounds.old ++ cons_option (round_answered (decoded text.now)) []) }
-    {
-        match decode(alloc, text) {
-            Ok(frame) => {
-                add_answered(&frame, rounds)?;
-                self.see_shown(me, shown_by(&frame), news)
+        match (letter.from, frame) {
+            (Party::Replica(me), Some(frame)) => {
+                add_answered(frame, rounds)?;
+                self.see_shown(me, shown_by(frame), news)
             }
-            Err(ReadFail::Bad(_)) => Ok(()),
-            Err(ReadFail::NoMemory) => Err(NoMemory),
+            (Party::Replica(_), None) | (Party::Client(_), _) => Ok(()),
         }
     }
 

@@ -6,7 +6,7 @@ mod entries;
 mod known;
 mod tracked;
 
-pub use answers::{Answered, round_answered};
+pub use answers::{Answered, answered_by};
 pub use entries::{are_of_bytes, see_entry};
 pub use known::{Known, Learnt};
 pub use tracked::Tracked;

@@ -10,7 +10,7 @@ ghost use Rattle.qu_marks.specs.Tracker.{with_all, TellsOf, AreAccepted, Tracks}
 use super::tracker::Tracker;
 use qu_base::{List, NoMemory};
 use qu_known::{Answered, Known, Tracked, are_of_bytes, see_entry};
-use qu_trace::Trace;
+use qu_trace::{DecodedTrace, Trace};
 use std::alloc::Global;
 
 /// What the replies of a run tell.
@@ -23,16 +23,17 @@ pub struct Findings {
 }
 
 /// What the replies of a run tell. They show all that replicas accept, so that no step of a party is done again.
-pub fn find(alloc: Global, trace: &Trace) -> Result<Findings, NoMemory>
+pub fn find(alloc: Global, trace: &DecodedTrace<'_>) -> Result<Findings, NoMemory>
     requires { IsRun trace.now }
     ensures tracked { IfOk result (λ found. Tracks trace.now (length trace.now.entries) found.tracker) }
     ensures answered { IfOk result (λ found. found.answers ≡ map rounds_answered trace.now.entries) }
 {
-    are_of_bytes(trace.entries.as_slice());
-    let mut known = Known::opening(alloc, &trace.setup)?;
+    let run = trace.trace();
+    are_of_bytes(run.entries.as_slice());
+    let mut known = Known::opening(alloc, &run.setup)?;
     let mut tracker = begin(alloc, trace, &known)?;
     let mut answers = List::new(alloc);
-    for index in 0..trace.entries.len() {
+    for index in 0..run.entries.len() {
         let rounds = follow(alloc, trace, index, &mut known, &mut tracker)?;
         answers.push(rounds)?;
     }
@@ -40,13 +41,13 @@ pub fn find(alloc: Global, trace: &Trace) -> Result<Findings, NoMemory>
 }
 
 /// What is tracked before the first event.
-fn begin(alloc: Global, trace: &Trace, known: &Known) -> Result<Tracker, NoMemory>
+fn begin(alloc: Global, trace: &DecodedTrace<'_>, known: &Known) -> Result<Tracker, NoMemory>
     requires run { IsRun trace.now }
     requires known { AreKnown (world_after trace.now 0).replicas known.now }
     ensures { IfOk result (λ tracker. Tracks trace.now 0 tracker) }
 {
     let mut tracker = Tracker::new(alloc);
-    let all = known.tracked(alloc, objects(trace))?;
+    let all = known.tracked(alloc, objects(trace.trace()))?;
     mark(trace, known, &mut tracker, all.as_slice(), 0)?;
     Ok(tracker)
 }
@@ -54,7 +55,7 @@ fn begin(alloc: Global, trace: &Trace, known: &Known) -> Result<Tracker, NoMemor
 /// Goes on by the event of the entry with this index, and gives the rounds that it answers.
 fn follow(
     alloc: Global,
-    trace: &Trace,
+    trace: &DecodedTrace<'_>,
     index: usize,
     known: &mut Known,
     tracker: &mut Tracker,
@@ -86,7 +87,7 @@ fn follow(
 
 /// Tracks what is new after this event, and marks what was decided by it.
 fn mark(
-    trace: &Trace,
+    trace: &DecodedTrace<'_>,
     known: &Known,
     tracker: &mut Tracker,
     news: &[Tracked],
@@ -99,7 +100,7 @@ fn mark(
     ensures { OnOk result (Tracks trace.now event tracker.new) }
 {
     tracker.add_all(news)?;
-    tracker.settle(trace, known, event);
+    tracker.settle(trace.trace(), known, event);
     Ok(())
 }
 

@@ -1,5 +1,5 @@
 -- The points of some operations of a trace, in their order.
-use Rattle.std.specs.Prelude.{◌≡◌, ℕ, Bool, true, false, not, ◌==◌, ◌&&◌, ◌+◌, if◌then◌else◌, List, [], ◌∷◌, position, Option, None, Some, option_map, IsTrue, Contains, ◌⊎◌}
+use Rattle.std.specs.Prelude.{◌≡◌, ℕ, Bool, true, false, not, ◌==◌, ◌&&◌, ◌+◌, if◌then◌else◌, List, [], ◌∷◌, position, Option, None, Some, option_map, Ok, IsTrue, Contains, ◌⊎◌}
 use Rattle.std.specs.List.{AllPairs, list_any, filter_map}
 use Rattle.std.specs.Option.{option_eq}
 use Rattle.qu_base.specs.declared.party.ClientId.{ClientId}
@@ -14,6 +14,7 @@ use Rattle.qu_objects.specs.Digesting.{act_digest, PartsFit}
 use Rattle.qu_objects.specs.Parts.{are_parts}
 use Rattle.qu_frames.specs.declared.frame.Body.{Body}
 use Rattle.qu_frames.specs.declared.frame.Body.TheVariants as body
+use Rattle.qu_frames.specs.declared.frame.Frame.{Frame}
 use Rattle.qu_machine.specs.declared.record.OpRecord.{OpRecord}
 use Rattle.qu_machine.specs.declared.record.Point.{Point}
 use Rattle.qu_machine.specs.PointTests.{same_op}
@@ -23,11 +24,16 @@ use Rattle.qu_trace.specs.declared.trace.Trace.{Trace}
 use Rattle.qu_trace.specs.Faulty.{is_faulty}
 use Rattle.qu_trace.specs.Earliest.{earlier_of}
 use Rattle.qu_claims.specs.Handled.{Request, handled_by}
-use Rattle.qu_claims.specs.Answers.{answers}
+use Rattle.qu_claims.specs.Answers.{answers, round_in}
 use Rattle.qu_claims.specs.Effects.{is_on}
 use Rattle.qu_known.specs.declared.answers.Answered.{Answered}
 use Rattle.qu_known.specs.declared.tracked.Tracked.{Tracked}
 use Rattle.qu_claims.specs.Order.{DecidesAt, query_effect, op_bytes, is_earlier, are_in_order}
+
+-- the round of the answer that a frame is
+abbrev pub round_by : Option Frame → Option ℕ
+round_by None = None
+round_by (Some sent) = round_in (Ok sent)
 
 -- ---- updates
 

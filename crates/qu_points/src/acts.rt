@@ -1,8 +1,12 @@
-ghost use Rattle.std.specs.Prelude.{◌≡◌, [], ◌++◌, IfOk, OnOk};
+ghost use Rattle.std.specs.Prelude.{◌≡◌, [], ◌++◌, Ok, IfOk, OnOk};
+ghost use Rattle.std.specs.Option.{option_copied};
 ghost use Rattle.std.specs.List.{list_all, list_any, cons_option};
 ghost use Rattle.qu_base.specs.declared.party.Party.TheVariants as party;
 ghost use Rattle.qu_base.specs.declared.party.ReplicaId.{ReplicaId};
+ghost use Rattle.qu_frames.specs.Decoding.{decoded};
 ghost use Rattle.qu_frames.specs.Signing.{brought};
+ghost use Rattle.qu_trace.specs.Letters.{offered_by};
+ghost use Rattle.qu_trace.specs.Decoded.{frame_found, IsFrameOf};
 ghost use Rattle.qu_world.specs.State.{ring_of};
 ghost use Rattle.qu_world.specs.Run.{IsSetup};
 ghost use Rattle.qu_claims.specs.Handled.{is_of_setup, request_in, request_brought, request_to, handled_by};
@@ -11,25 +15,29 @@ ghost use Rattle.qu_machine.specs.PointTests.{same_op};
 ghost use Rattle.qu_points.specs.Points.{act_in, handled_acts, is_named_act};
 
 use super::verifier::Verifier;
-use qu_base::{ClientId, List, NoMemory, Party, ReadFail, ReplicaId};
-use qu_frames::{Body, Frame, decode};
+use qu_base::{ClientId, List, NoMemory, Party, ReplicaId};
+use qu_frames::{Body, Frame};
 use qu_history::Sets;
 use qu_objects::Act;
 use qu_seal::KeyRing;
-use qu_trace::{Event, Setup, Trace};
-use qu_world::letter_at;
+use qu_trace::{DecodedTrace, Event, Setup};
 use std::alloc::Global;
 
 /// Each act that a replica handled, with its client and its number, in the order of the events.
 #[tactic(auto, unfolding(crate::specs::Points::handled_acts))]
-pub fn handled_acts(alloc: Global, trace: &Trace) -> Result<List<(ClientId, u64, Act)>, NoMemory>
+pub fn handled_acts(
+    alloc: Global,
+    trace: &DecodedTrace<'_>,
+) -> Result<List<(ClientId, u64, Act)>, NoMemory>
     requires { IsSetup trace.now.setup }
     ensures { IfOk result (λ acts. acts ≡ handled_acts trace.now) }
 {
+    let run = trace.trace();
     let mut acts = List::new(alloc);
-    let mut verifier = Verifier::new(ring_of(&trace.setup));
-    for entry in trace.entries.as_slice() {
-        add_act(alloc, &mut acts, &mut verifier, trace, &entry.event)?;
+    let mut verifier = Verifier::new(ring_of(&run.setup));
+    for (index, entry) in run.entries.as_slice().iter().enumerate() {
+        let frame = trace.brought(index);
+        add_act(alloc, &mut acts, &mut verifier, trace, &entry.event, frame)?;
     }
     Ok(acts)
 }
@@ -42,19 +50,21 @@ fn ring_of(setup: &Setup) -> KeyRing
     KeyRing::derive(setup.seed, &setup.bounds, setup.clients)
 }
 
-/// Adds the act that an event lets a replica handle, where it lets it handle one.
+/// Adds the act that an event, which brings this frame or none, lets a replica handle, where it lets it handle one.
 fn add_act(
     alloc: Global,
     acts: &mut List<(ClientId, u64, Act)>,
     verifier: &mut Verifier,
-    trace: &Trace,
+    trace: &DecodedTrace<'_>,
     event: &Event,
+    frame: Option<&Frame>,
 ) -> Result<(), NoMemory>
-    requires { verifier.old ≡ ring_of trace.now.setup }
+    requires keys { verifier.old ≡ ring_of trace.now.setup }
+    requires frame { IsFrameOf (option_copied frame) (offered_by trace.now.entries event.now) }
     ensures keys { verifier.new ≡ verifier.old }
     ensures acts { OnOk result (acts.new ≡ acts.old ++ cons_option (act_in (handled_by trace.now event.now)) []) }
 {
-    if let Some(act) = handled_act(alloc, verifier, trace, event)? {
+    if let Some(act) = handled_act(alloc, verifier, trace, event, frame)? {
         acts.push(act)?;
     }
     Ok(())
@@ -64,71 +74,75 @@ fn add_act(
 fn handled_act(
     alloc: Global,
     verifier: &mut Verifier,
-    trace: &Trace,
+    trace: &DecodedTrace<'_>,
     event: &Event,
+    frame: Option<&Frame>,
 ) -> Result<Option<(ClientId, u64, Act)>, NoMemory>
-    requires { verifier.old ≡ ring_of trace.now.setup }
+    requires keys { verifier.old ≡ ring_of trace.now.setup }
+    requires frame { IsFrameOf (option_copied frame) (offered_by trace.now.entries event.now) }
     ensures keys { verifier.new ≡ verifier.old }
     ensures act { IfOk result (λ act. act ≡ act_in (handled_by trace.now event.now)) }
 {
+    let setup = &trace.trace().setup;
     match event {
-        Event::Deliver(number) => match letter_at(trace.entries.as_slice(), *number) {
+        Event::Deliver(number) => match trace.letter(*number) {
             Some(letter) => act_to(
                 alloc,
                 verifier,
-                &trace.setup,
+                setup,
                 letter.text.as_slice(),
+                frame,
                 letter.to,
             ),
             None => Ok(None),
         },
-        Event::Inject(to, text) => act_to(alloc, verifier, &trace.setup, text.as_slice(), *to),
+        Event::Inject(to, text) => act_to(alloc, verifier, setup, text.as_slice(), frame, *to),
         Event::Invoke(_, _) | Event::Tick(_) => Ok(None),
     }
 }
 
-/// The same of a text that reaches a party.
+/// The same of a text that reaches a party, which is this frame or none.
+#[tactic(auto, using(qu_trace::proofs::DecodedLaws::decoded_to, crate::proofs::Handled::SignedActs::no_request))]
 fn act_to(
     alloc: Global,
     verifier: &mut Verifier,
     setup: &Setup,
     text: &[u8],
+    frame: Option<&Frame>,
     to: Party,
 ) -> Result<Option<(ClientId, u64, Act)>, NoMemory>
-    requires { verifier.old ≡ ring_of setup.now }
+    requires keys { verifier.old ≡ ring_of setup.now }
+    requires frame { option_copied frame ≡ frame_found (decoded text.now) }
     ensures keys { verifier.new ≡ verifier.old }
     ensures act { IfOk result (λ act. act ≡ act_in (request_to setup.now text.now to)) }
 {
-    match to {
-        Party::Replica(me) if me.0 < setup.bounds.n() && !setup.is_faulty(to) => {
-            act_brought(alloc, verifier, setup, text, me)
+    match (to, frame) {
+        (Party::Replica(me), Some(frame)) if me.0 < setup.bounds.n() && !setup.is_faulty(to) => {
+            act_brought(alloc, verifier, setup, text, frame, me)
         }
-        Party::Replica(_) | Party::Client(_) => Ok(None),
+        (Party::Replica(_) | Party::Client(_), _) => Ok(None),
     }
 }
 
-/// The same of a text that reaches a replica. The HMAC is verified only of what would be an act.
+/// The same of a frame that reaches a replica. The HMAC is verified only of what would be an act.
 #[tactic(auto, unfolding(qu_frames::specs::Signing::brought), using(crate::proofs::Handled::SignedActs::signed_act, crate::proofs::Handled::SignedActs::unsigned_act, crate::proofs::Handled::SignedActs::no_act))]
 fn act_brought(
     alloc: Global,
     verifier: &mut Verifier,
     setup: &Setup,
     text: &[u8],
+    frame: &Frame,
     me: ReplicaId,
 ) -> Result<Option<(ClientId, u64, Act)>, NoMemory>
-    requires { verifier.old ≡ ring_of setup.now }
+    requires keys { verifier.old ≡ ring_of setup.now }
+    requires frame { decoded text.now ≡ Ok frame.now }
     ensures keys { verifier.new ≡ verifier.old }
     ensures act { IfOk result (λ act. act ≡ act_in (request_brought setup.now me
         (brought (ring_of setup.now) (party.Replica me) text.now))) }
 {
-    let frame = match decode(alloc, text) {
-        Ok(frame) => frame,
-        Err(ReadFail::Bad(_)) => return Ok(None),
-        Err(ReadFail::NoMemory) => return Err(NoMemory),
-    };
-    match act_in(alloc, setup, &frame)? {
+    match act_in(alloc, setup, frame)? {
         Some(act) => {
-            let is_signed = verifier.is_signed(alloc, &frame, Party::Replica(me), text)?;
+            let is_signed = verifier.is_signed(alloc, frame, Party::Replica(me), text)?;
             Ok(if is_signed { Some(act) } else { None })
         }
         None => Ok(None),

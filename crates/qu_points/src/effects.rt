@@ -1,23 +1,22 @@
 ghost use Rattle.std.specs.Prelude.{◌≡◌, ℕ, map, Some, IfOk, MatchOption};
 ghost use Rattle.std.specs.Option.{option_copied};
-ghost use Rattle.qu_frames.specs.Decoding.{decoded};
-ghost use Rattle.qu_world.specs.State.{numbered};
-ghost use Rattle.qu_claims.specs.Answers.{delivered_round, round_in};
+ghost use Rattle.qu_trace.specs.Letters.{numbered};
+ghost use Rattle.qu_claims.specs.Answers.{delivered_round};
 ghost use Rattle.qu_claims.specs.Effects.{is_on};
 ghost use Rattle.qu_known.specs.Answers.{rounds_answered};
 ghost use Rattle.qu_claims.specs.Order.{query_effect, AnswersFirst};
 ghost use Rattle.qu_points.specs.Facts.{AreFacts};
-ghost use Rattle.qu_points.specs.Points.{effect_of, mark_of, first_mark, act_mark};
+ghost use Rattle.qu_points.specs.Points.{effect_of, mark_of, first_mark, act_mark, round_by};
 
 use super::acts::is_handled;
 use super::answers::first_answer;
 use super::facts::Facts;
 use qu_base::{ClientId, Digest, List, NoMemory, ObjectId};
-use qu_known::{Answered, Tracked, round_answered};
+use qu_frames::Frame;
+use qu_known::{Answered, Tracked, answered_by};
 use qu_machine::OpRecord;
 use qu_objects::{Act, Op, Outcome, act_digest};
-use qu_trace::{Entry, Event, Trace, earlier};
-use qu_world::letter_at;
+use qu_trace::{DecodedTrace, earlier};
 use std::alloc::Global;
 
 /// The first event after which a candidate of the update with this digest was decided.
@@ -54,7 +53,7 @@ fn is_on(object: ObjectId, act: &Act) -> bool
 /// The event at which an operation of a run took effect, None where it took none.
 pub fn effect(
     alloc: Global,
-    trace: &Trace,
+    trace: &DecodedTrace<'_>,
     facts: &Facts,
     operation: &OpRecord,
 ) -> Result<Option<u64>, NoMemory>
@@ -68,7 +67,7 @@ pub fn effect(
             let tracked = facts.tracker.as_slice();
             act_mark(alloc, tracked, facts.acts.as_slice(), operation, act)
         }
-        Op::Query(_) => query_effect(alloc, trace, facts.answers.as_slice(), operation),
+        Op::Query(_) => Ok(query_effect(trace, facts.answers.as_slice(), operation)),
     }
 }
 
@@ -92,95 +91,62 @@ fn act_mark(
 
 /// The event at which a query took effect, None where it did not complete.
 fn query_effect(
-    alloc: Global,
-    trace: &Trace,
+    trace: &DecodedTrace<'_>,
     answers: &[List<Answered>],
     operation: &OpRecord,
-) -> Result<Option<u64>, NoMemory>
+) -> Option<u64>
     requires answered { answers.now ≡ map rounds_answered trace.now.entries }
-    ensures { IfOk result
-        (λ found. MatchOption found
+    ensures { MatchOption result
         ((event : ℕ) → ¬ (query_effect trace.now operation.now event operation.now.reply))
-        (λ event. query_effect trace.now operation.now event operation.now.reply)) }
+        (λ event. query_effect trace.now operation.now event operation.now.reply) }
 {
     match &operation.reply {
-        Some((reply, Outcome::Done(_))) => first_answer_of(
-            alloc,
-            trace,
-            answers,
-            operation.client,
-            operation.number,
-            *reply,
-        ),
-        Some((_, Outcome::GaveUp)) | None => Ok(None),
+        Some((reply, Outcome::Done(_))) => {
+            first_answer_of(trace, answers, operation.client, operation.number, *reply)
+        }
+        Some((_, Outcome::GaveUp)) | None => None,
     }
 }
 
 /// The first event at which a replica answers the round of the answer that this event delivers.
 fn first_answer_of(
-    alloc: Global,
-    trace: &Trace,
+    trace: &DecodedTrace<'_>,
     answers: &[List<Answered>],
     client: ClientId,
     number: u64,
     reply: u64,
-) -> Result<Option<u64>, NoMemory>
+) -> Option<u64>
     requires answered { answers.now ≡ map rounds_answered trace.now.entries }
-    ensures { IfOk result
-        (λ found. MatchOption found ((event : ℕ) → ¬ (AnswersFirst trace.now client number reply event))
-        (λ event. AnswersFirst trace.now client number reply event)) }
+    ensures { MatchOption result ((event : ℕ) → ¬ (AnswersFirst trace.now client number reply event))
+        (λ event. AnswersFirst trace.now client number reply event) }
 {
-    let found = delivered_round(alloc, trace, reply)?;
-    match found {
+    match delivered_round(trace, reply) {
         Some(round) => {
             let asked = Answered {
                 client,
                 number,
                 round,
             };
-            Ok(first_answer(answers, asked))
+            first_answer(answers, asked)
         }
-        None => Ok(None),
+        None => None,
     }
 }
 
 /// The round of the answer that an event delivers, None where it delivers none.
-fn delivered_round(alloc: Global, trace: &Trace, event: u64) -> Result<Option<u8>, NoMemory>
-    ensures { IfOk result (λ round. round ≡ delivered_round trace.now (numbered trace.now.entries event)) }
-{
-    match entry_at(trace, event) {
-        Some(entry) => round_at(alloc, trace, entry),
-        None => Ok(None),
-    }
-}
-
-/// The same of the event of an entry.
-fn round_at(alloc: Global, trace: &Trace, entry: &Entry) -> Result<Option<u8>, NoMemory>
-    ensures { IfOk result (λ round. round ≡ delivered_round trace.now (Some entry.now)) }
-{
-    match &entry.event {
-        Event::Deliver(number) => match letter_at(trace.entries.as_slice(), *number) {
-            Some(letter) => round_in(alloc, letter.text.as_slice()),
-            None => Ok(None),
-        },
-        Event::Inject(_, text) => round_in(alloc, text.as_slice()),
-        Event::Invoke(_, _) | Event::Tick(_) => Ok(None),
-    }
-}
-
-/// The entry of an event.
-fn entry_at(trace: &Trace, event: u64) -> Option<&Entry>
-    ensures { option_copied result ≡ numbered trace.now.entries event }
+#[tactic(auto, using(crate::proofs::Taken::AnsweredRounds::round_brought))]
+fn delivered_round(trace: &DecodedTrace<'_>, event: u64) -> Option<u8>
+    ensures { result ≡ delivered_round trace.now (numbered trace.now.entries event) }
 {
     let index = event.checked_sub(1)?;
-    trace.entries.get(index as usize)
+    round_in(trace.brought(index as usize))
 }
 
-/// The round of the answer that a text carries.
+/// The round of the answer that a frame is.
 #[tactic(auto, using(crate::proofs::Taken::AnsweredRounds::round_of_answer))]
-fn round_in(alloc: Global, text: &[u8]) -> Result<Option<u8>, NoMemory>
-    ensures { IfOk result (λ round. round ≡ round_in (decoded text.now)) }
+fn round_in(frame: Option<&Frame>) -> Option<u8>
+    ensures { result ≡ round_by (option_copied frame.entry) }
 {
-    let found = round_answered(alloc, text)?;
-    Ok(found.map(|answer| answer.round))
+    let answer = answered_by(frame?);
+    answer.map(|answer| answer.round)
 }

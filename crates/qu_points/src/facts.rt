@@ -7,7 +7,7 @@ use qu_base::{ClientId, List, NoMemory};
 use qu_known::Answered;
 use qu_marks::{Findings, Tracker, find};
 use qu_objects::Act;
-use qu_trace::Trace;
+use qu_trace::DecodedTrace;
 use std::alloc::Global;
 
 /// What has to be known of a run to find the points of its operations.
@@ -23,7 +23,7 @@ pub struct Facts {
 
 impl Facts {
     /// The facts of a run.
-    pub fn of(alloc: Global, trace: &Trace) -> Result<Facts, NoMemory>
+    pub fn of(alloc: Global, trace: &DecodedTrace<'_>) -> Result<Facts, NoMemory>
         requires { IsRun trace.now }
         ensures { IfOk result (λ facts. AreFacts trace.now facts) }
     {

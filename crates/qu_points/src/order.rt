@@ -12,18 +12,17 @@ use super::updates::add_acts;
 use qu_base::{List, NoMemory, Party};
 use qu_machine::{OpRecord, Point};
 use qu_objects::Op;
-use qu_trace::{Trace, operations};
+use qu_trace::DecodedTrace;
 use std::alloc::Global;
 
 /// The points of a run, in their order: where each update that a replica handled and each completed query took effect.
 /// Those of faulty clients have a mark.
-pub fn printed_order(alloc: Global, trace: &Trace) -> Result<List<Point>, NoMemory>
+pub fn printed_order(alloc: Global, trace: &DecodedTrace<'_>) -> Result<List<Point>, NoMemory>
     requires { IsRun trace.now }
     ensures { IfOk result (λ order. IsPrintedOrder trace.now order) }
 {
     let facts = Facts::of(alloc, trace)?;
-    let all = operations(alloc, trace)?;
-    let mut operations = queries(alloc, all.as_slice())?;
+    let mut operations = queries(alloc, trace.operations())?;
     add_acts(alloc, facts.acts.as_slice(), &mut operations)?;
     let points = points(alloc, trace, &facts, operations.as_slice())?;
     Ok(List::from(points))
@@ -56,7 +55,7 @@ fn asks(op: &Op) -> bool
 /// The points of these operations, in their order.
 fn points(
     alloc: Global,
-    trace: &Trace,
+    trace: &DecodedTrace<'_>,
     facts: &Facts,
     operations: &[OpRecord],
 ) -> Result<Vec<Point>, NoMemory>
@@ -75,7 +74,7 @@ fn points(
 fn add_point(
     alloc: Global,
     points: &mut Vec<Point>,
-    trace: &Trace,
+    trace: &DecodedTrace<'_>,
     facts: &Facts,
     operation: &OpRecord,
 ) -> Result<(), NoMemory>
@@ -89,7 +88,10 @@ fn add_point(
             client: operation.client,
             number: operation.number,
             op: operation.op.copy(alloc)?,
-            faulty: trace.setup.is_faulty(Party::Client(operation.client)),
+            faulty: trace
+                .trace()
+                .setup
+                .is_faulty(Party::Client(operation.client)),
         };
         insert(alloc, points, point)?;
     }

@@ -14,7 +14,7 @@ use super::parts::have_parts;
 use qu_base::{List, NoMemory};
 use qu_machine::Point;
 use qu_points::printed_order;
-use qu_trace::Trace;
+use qu_trace::DecodedTrace;
 use std::alloc::Global;
 
 /// The points of a run: where each update and each completed query took effect.
@@ -23,7 +23,7 @@ use std::alloc::Global;
 /// one digest, they are a serial order of the operations, whatever up to b faulty replicas and all faulty clients send:
 /// one machine that runs whole operations in this order gives each completed one its answer, between its call and its
 /// reply, and runs each update once. Updates of faulty clients have a mark in it.
-pub fn order_of(alloc: Global, trace: &Trace) -> Result<List<Point>, NoMemory>
+pub fn order_of(alloc: Global, trace: &DecodedTrace<'_>) -> Result<List<Point>, NoMemory>
     requires { IsRun trace.now }
     ensures printed { IfOk result (λ order. IsPrintedOrder trace.now order) }
     ensures serial { IfOk result (λ order. MeetsPremises trace.now
@@ -36,6 +36,6 @@ pub fn order_of(alloc: Global, trace: &Trace) -> Result<List<Point>, NoMemory>
     ensures once { OnOk result (MeetsPremises trace.now → DecidesOnce trace.now) }
     ensures by_quorums { OnOk result (MeetsPremises trace.now → CompletesByQuorums trace.now) }
 {
-    have_parts(trace.entries.as_slice());
+    have_parts(trace.trace().entries.as_slice());
     printed_order(alloc, trace)
 }

@@ -1,17 +1,23 @@
 -- The act of a frame counts where the frame's HMAC is right, and equal bytes have one digest.
-use Rattle.std.proofs.Common.{◌≡◌, ℕ, Bool, true, false, cond, List, Option, None, Some, Ok, refl, sym, ap, ◌∙◌}
+use Rattle.std.proofs.Common.{◌≡◌, ℕ, Bool, true, false, cond, List, Option, None, Some, Result, Ok, Err, refl, sym, ap, ◌∙◌}
 use Rattle.std.specs.Prelude.{nat_eq}
 use Rattle.std.specs.Cmp.Lexicographic.{pointwise, bytes_decides}
 use Rattle.qu_base.specs.declared.party.Digest.{Digest}
+use Rattle.std.proofs.lemmas.Option.{none-some}
+use Rattle.qu_base.specs.declared.bad_text.BadText.{BadText}
 use Rattle.qu_base.specs.declared.party.Party.{Party}
+use Rattle.qu_base.specs.declared.party.Party.TheVariants as party
 use Rattle.qu_base.specs.declared.party.ReplicaId.{ReplicaId}
 use Rattle.qu_seal.specs.declared.constants.TheConstants.{FRAME_TAG}
 use Rattle.qu_seal.specs.Digesting.{digest_of}
 use Rattle.qu_seal.specs.Keys.{Ring}
 use Rattle.qu_frames.specs.declared.frame.Frame.{Frame}
-use Rattle.qu_frames.specs.Signing.{is_signed, if_signed}
+use Rattle.qu_frames.specs.Decoding.{decoded}
+use Rattle.qu_frames.specs.Signing.{is_signed, if_signed, brought}
 use Rattle.qu_trace.specs.declared.trace.Setup.{Setup}
-use Rattle.qu_claims.specs.Handled.{request_in, request_brought}
+use Rattle.qu_trace.specs.Decoded.{frame_found}
+use Rattle.qu_world.specs.State.{ring_of}
+use Rattle.qu_claims.specs.Handled.{is_handler, request_in, request_brought, request_to}
 use Rattle.qu_points.specs.Points.{NamedAct, act_in}
 
 -- the act of a frame whose HMAC is right, or is not
@@ -45,6 +51,19 @@ module _ (setup : Setup) (ring : Ring) (me : ReplicaId) (to : Party) (text : Lis
       either : (signed : Bool) → cond signed None None ≡ (let none : Option NamedAct = None in none)
       either true = refl
       either false = refl
+
+-- bytes that are no frame bring no request
+pub no_request : (setup : Setup) (text : List ℕ) (to : Party) → frame_found (decoded text) ≡ None
+    → request_to setup text to ≡ None
+unfolding brought
+no_request setup text (party.Replica me) none = without (is_handler setup me) (decoded text) none
+  where
+    without : (handles : Bool) (found : Result Frame BadText) → frame_found found ≡ None
+        → cond handles (request_brought setup me (if_signed (ring_of setup) (party.Replica me) text found)) None ≡ None
+    without true (Ok it) is = absurd (none-some it (sym is))
+    without true (Err bad) is = refl
+    without false found is = refl
+no_request setup text (party.Client me) none = refl
 
 -- the digest of bytes is that of equal ones
 pub digest_of_same : (digest : Digest) (bytes more : List ℕ) → digest.0 ≡ digest_of FRAME_TAG bytes

@@ -1,5 +1,5 @@
 -- The first answer to a round is found among the rounds that the letters of each entry answer.
-use Rattle.std.proofs.Common.{◌≡◌, ℕ, ◌+◌, Bool, not, cond, ◌||◌, List, [], ◌∷◌, length, Option, None, Some, Result, Ok, refl, ap, ◌∙◌}
+use Rattle.std.proofs.Common.{◌≡◌, ℕ, ◌+◌, Bool, not, cond, ◌||◌, List, [], ◌∷◌, length, Option, None, Some, Result, Ok, Err, refl, ap, ◌∙◌}
 use Rattle.std.specs.Prelude.{nat_lt, map, position, option_map}
 use Rattle.std.specs.List.{list_any, filter_map, cons_option, position_or_len}
 use Rattle.std.proofs.lemmas.List.{length-map}
@@ -8,17 +8,45 @@ use Rattle.qu_frames.specs.declared.frame.Frame.{Frame}
 use Rattle.qu_frames.specs.declared.frame.Frame.TheVariants as frame
 use Rattle.qu_frames.specs.declared.frame.Letter.{Letter}
 use Rattle.qu_frames.specs.Decoding.{decoded}
+use Rattle.qu_trace.specs.declared.event.Event.{Event}
+use Rattle.qu_trace.specs.declared.event.Event.TheVariants.{Invoke, Deliver, Tick, Inject}
 use Rattle.qu_trace.specs.declared.trace.Entry.{Entry}
-use Rattle.qu_claims.specs.Answers.{is_answer, answers, round_in}
+use Rattle.qu_trace.specs.declared.trace.Trace.{Trace}
+use Rattle.qu_trace.specs.Letters.{letters_of, numbered, offered_by}
+use Rattle.qu_trace.specs.Decoded.{frame_found, frame_offered, frame_brought}
+use Rattle.qu_claims.specs.Answers.{is_answer, answers, round_in, round_of, delivered_round}
 use Rattle.qu_known.specs.declared.answers.Answered.{Answered}
 use Rattle.qu_known.specs.Answers.{round_answered, letter_answered, rounds_answered}
-use Rattle.qu_points.specs.Points.{answers_in, has_answered, first_answer}
+use Rattle.qu_points.specs.Points.{round_by, answers_in, has_answered, first_answer}
 
 -- the round that is answered
 pub round_of_answer : (found : Result Frame BadText) → option_map (λ (answer : Answered). answer.round)
     (round_answered found) ≡ round_in found
 round_of_answer (Ok (frame.Reply replica client number round verdict culled shown mac)) = refl
 round_of_answer _ = refl
+
+found_round : (found : Result Frame BadText) → round_by (frame_found found) ≡ round_in found
+found_round (Ok sent) = refl
+found_round (Err bad) = refl
+
+letter_round : (found : Option Letter)
+    → round_by (frame_offered (option_map (λ (letter : Letter). (letter.to, letter.text)) found)) ≡ round_of found
+letter_round None = refl
+letter_round (Some letter) = found_round (decoded letter.text)
+
+event_round : (trace : Trace) (entry : Entry) (event : Event)
+    → round_by (frame_offered (offered_by trace.entries event))
+    ≡ delivered_round trace (Some (record entry { event = event }))
+event_round trace entry (Invoke client op) = refl
+event_round trace entry (Deliver number) = letter_round (numbered (letters_of trace.entries) number)
+event_round trace entry (Tick client) = refl
+event_round trace entry (Inject to text) = found_round (decoded text)
+
+-- the round of the answer that an event brings
+pub round_brought : (trace : Trace) (found : Option Entry)
+    → round_by (frame_brought trace.entries found) ≡ delivered_round trace found
+round_brought trace None = refl
+round_brought trace (Some entry) = event_round trace entry entry.event
 
 -- ---- one entry
 

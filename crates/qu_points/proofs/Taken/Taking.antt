@@ -345,15 +345,6 @@ pub ask_effect : (trace : Trace) (operation : OpRecord) (what : Op) (query : Lis
 ask_effect trace operation what query found is effect =
     subst (λ (it : Op). IsEffect trace operation it found) (sym is) effect
 
--- the same of a result
-pub ask_effect_of : {E : Type 0} (trace : Trace) (operation : OpRecord) (what : Op)
-    (query : List (ObjectId × Ask)) (result : Result (Option ℕ) E) → what ≡ op.Query query
-    → IfOk result
-    (λ found. MatchOption found ((event : ℕ) → ¬ (query_effect trace operation event operation.reply))
-    (λ event. query_effect trace operation event operation.reply)) → IfOk result (IsEffect trace operation what)
-ask_effect_of trace operation what query (Err missing) is effect = effect
-ask_effect_of trace operation what query (Ok found) is effect = ask_effect trace operation what query found is effect
-
 abbrev pub IsAnswer : Trace → ClientId → ℕ → ℕ → Option ℕ → Type 0
 IsAnswer trace client number reply found =
     MatchOption found ((event : ℕ) → ¬ (AnswersFirst trace client number reply event))

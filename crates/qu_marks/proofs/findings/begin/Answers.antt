@@ -1,5 +1,6 @@
-use Rattle.std.proofs.Common.{◌≡◌, List, [], sym, subst, ◌∙◌}
+use Rattle.std.proofs.Common.{◌≡◌, List, [], length, sym, ap, subst, ◌∙◌}
 use Rattle.std.specs.List.{All}
+use Rattle.qu_trace.specs.declared.trace.Trace.{Trace}
 use Rattle.qu_claims.specs.Times.{world_after}
 use Rattle.qu_known.specs.declared.tracked.Tracked.{Tracked}
 use Rattle.qu_known.specs.Known.{rows_tracked}
@@ -14,7 +15,8 @@ mark-requires-clause-accepted c =
     subst (λ (it : List Tracked). AreAccepted (world_after c.args.trace.now 0) (with_all c.as_slice.result.now it))
     (sym c.new-tracker.ensures)
     (subst (λ (it : List Tracked). AreAccepted (world_after c.args.trace.now 0) (with_all it [])) (sym all)
-    (accepted_begun c.args.trace.now c.objects.result c.args.known.now c.objects.ensures c.requires.known))
+    (accepted_begun c.args.trace.now c.objects.result c.args.known.now
+    (c.objects.ensures ∙ ap (λ (run : Trace). length run.setup.kinds) c.trace.ensures) c.requires.known))
 
 pub mark-requires-clause-tells : goal.mark-requires-clause-tells
 mark-requires-clause-tells c =

@@ -5,8 +5,8 @@ use Rattle.qu_points.specs.Points.{act_at}
 use Rattle.qu_points.proofs.acts.handled_acts.Given as goal
 
 -- the acts of the entries so far
-abbrev pub invariant-loop-entry : goal.invariant-loop-entry
-invariant-loop-entry l = record {
+abbrev pub invariant-loop-index : goal.invariant-loop-index
+invariant-loop-index l = record {
   keys : l.verifier ≡ ring_of l.trace.setup;
-  acts : l.acts ≡ filter_map (act_at l.trace) (take l.entry-index l.entry-items);
+  acts : l.acts ≡ filter_map (act_at l.trace) (take l.index l.trace.entries);
 }

@@ -1,5 +1,5 @@
 use Rattle.std.proofs.Common.{◌∙◌}
-use Rattle.qu_points.proofs.Taken.Taking.{act_effect_of, ask_effect_of}
+use Rattle.qu_points.proofs.Taken.Taking.{act_effect_of, ask_effect}
 use Rattle.qu_points.proofs.effects.effect.Goals as goal
 
 pub returns-in-Act : goal.returns-in-Act
@@ -11,5 +11,5 @@ returns-in-Act c =
 
 pub returns-in-Query : goal.returns-in-Query
 returns-in-Query c =
-    ask_effect_of c.args.trace.now c.args.operation.now c.args.operation.now.op c.in-Query.field-0
+    ask_effect c.args.trace.now c.args.operation.now c.args.operation.now.op c.in-Query.field-0
     c.query_effect.result c.in-Query.is c.query_effect.ensures

@@ -1,4 +1,7 @@
-use Rattle.std.proofs.Common.{refl, subst}
+use Rattle.std.proofs.Common.{refl, ap, subst, ◌∙◌}
+use Rattle.qu_base.specs.declared.party.Party.TheVariants as party
+use Rattle.qu_trace.specs.declared.trace.Trace.{Trace}
+use Rattle.qu_trace.specs.Faulty.{is_faulty}
 use Rattle.qu_points.proofs.Orders.Printed.{adds_some, adds_none}
 use Rattle.qu_points.proofs.Taken.Taking.{IsEffect}
 use Rattle.qu_points.proofs.order.add_point.Goals as goal
@@ -12,7 +15,8 @@ returns-in_ok-insert c =
       client = c.args.operation.now.client;
       number = c.args.operation.now.number;
       op = c.in_ok-copy.ensures i;
-      faulty = c.is_faulty.ensures i;
+      faulty = (c.is_faulty.ensures
+          ∙ ap (λ (run : Trace). is_faulty run.setup (party.Client c.args.operation.now.client)) c.trace.ensures) i;
     })
     c.in_ok-insert.ensures
 

@@ -16,7 +16,7 @@ use Rattle.qu_points.proofs.order.printed_order.Goals.{After-operations-2-1}
 
 queries_are : (c : After-operations-2-1)
     → c.in_ok-operations.operations ≡ filter is_query (operations_of c.args.trace.now)
-queries_are c = c.in_ok-operations.ensures ∙ ap (filter is_query) (c.as_slice.ensures ∙ c.in_ok-all.ensures)
+queries_are c = c.in_ok-operations.ensures ∙ ap (filter is_query) c.operations.ensures
 
 pub add_acts-requires-clause-distinct : goal.add_acts-requires-clause-distinct
 add_acts-requires-clause-distinct c =
@@ -30,7 +30,7 @@ add_acts-requires-clause-queries c =
 
 pub points-requires-clause-distinct : goal.points-requires-clause-distinct
 points-requires-clause-distinct c =
-    subst (λ (operations : List OpRecord). AllPairs AreDistinct operations) (sym c.as_slice-3.ensures)
+    subst (λ (operations : List OpRecord). AllPairs AreDistinct operations) (sym c.as_slice-2.ensures)
     c.in_ok-add_acts.ensures.distinct
 
 pub returns : goal.returns
@@ -38,12 +38,12 @@ returns c =
     let trace : Trace = c.args.trace.now in
     let operations : List OpRecord = c.add_acts.new.operations in
     let queries : c.in_ok-operations.operations ≡ filter is_query (operations_of trace) =
-    c.in_ok-operations.ensures ∙ ap (filter is_query) (c.as_slice.ensures ∙ c.in_ok-all.ensures) in
+    c.in_ok-operations.ensures ∙ ap (filter is_query) c.operations.ensures in
     subst (IsPrintedOrder trace) (sym c.from.ensures)
-    (printed trace c.as_slice-2.result.now operations (c.as_slice-2.ensures ∙ c.in_ok-facts.ensures.handled)
+    (printed trace c.as_slice.result.now operations (c.as_slice.ensures ∙ c.in_ok-facts.ensures.handled)
     (operations_correct trace)
-    (subst (λ (old : List OpRecord). AddsActs c.as_slice-2.result.now old operations) queries
+    (subst (λ (old : List OpRecord). AddsActs c.as_slice.result.now old operations) queries
     c.in_ok-add_acts.ensures)
     c.in_ok-points.points.items
-    (subst (λ (all : List OpRecord). ArePointsOf trace all c.in_ok-points.points.items) c.as_slice-3.ensures
+    (subst (λ (all : List OpRecord). ArePointsOf trace all c.in_ok-points.points.items) c.as_slice-2.ensures
     c.in_ok-points.ensures))

@@ -1,5 +1,5 @@
 -- The printed order is a serial order, and what is behind it.
-use Rattle.std.proofs.Common.{◌<◌, ◌^◌, List, length, Result, Ok, Err, subst}
+use Rattle.std.proofs.Common.{◌≡◌, ◌<◌, ◌^◌, List, length, Result, Ok, Err, ap, subst, ◌∙◌}
 use Rattle.std.specs.Result.{OnOk}
 use Rattle.std.proofs.lemmas.Result.{IfOk-weaker}
 use Rattle.qu_machine.specs.declared.record.Point.{Point}
@@ -37,8 +37,10 @@ always (Err failure) it = tt
 
 plain_run : (c : goal.After-printed_order) → IsUnforged c.args.trace.now → ArePlain c.args.trace.now
 plain_run c unforged =
-    plain_from c.args.trace.now (subst HaveParts c.as_slice.ensures c.have_parts.ensures.parts)
-    (subst (λ (entries : List Entry). length entries < 2 ^ 63) c.as_slice.ensures c.have_parts.ensures.few) unforged
+    let entries : c.as_slice.result.now ≡ c.args.trace.now.entries =
+    c.as_slice.ensures ∙ ap (λ (run : Trace). run.entries) c.trace.ensures in
+    plain_from c.args.trace.now (subst HaveParts entries c.have_parts.ensures.parts)
+    (subst (λ (it : List Entry). length it < 2 ^ 63) entries c.have_parts.ensures.few) unforged
 
 -- what the serial order rests on
 record Grounded (trace : Trace) : Type 0 where

@@ -16,13 +16,13 @@ seen_more letters index letter old new below is next =
     ∙ ap (λ (it : Letter). see_letters (it ∷ drop (index + 1) letters) old) (sym is)
     ∙ ap (see_letters (drop (index + 1) letters)) next)
 
-pub loop-letter-preserved : goal.loop-letter-preserved
-loop-letter-preserved c = record {
-  news = seen_more c.args.letters.now c.loop-letter.letter-index c.letter-item.result
-      (c.loop-letter.self, c.loop-letter.news) (c.see_letter.new.self, c.see_letter.new.news) c.loop-letter-test.true
-      c.letter-item.is c.in_ok-see_letter.ensures.news
-      ∙ c.loop-letter.invariant.news;
-  rounds = filtered_more letter_told c.args.letters.now c.loop-letter.letter-index c.letter-item.result
-      c.loop-letter.rounds c.see_letter.new.rounds c.loop-letter-test.true c.letter-item.is
-      c.loop-letter.invariant.rounds c.in_ok-see_letter.ensures.rounds;
+pub loop-place-preserved : goal.loop-place-preserved
+loop-place-preserved c = record {
+  news = seen_more c.args.letters.now c.loop-place.place c.index-letters-place.result
+      (c.loop-place.self, c.loop-place.news) (c.see_letter.new.self, c.see_letter.new.news) c.loop-place-test.true
+      c.index-letters-place.is c.in_ok-see_letter.ensures.news
+      ∙ c.loop-place.invariant.news;
+  rounds = filtered_more letter_told c.args.letters.now c.loop-place.place c.index-letters-place.result
+      c.loop-place.rounds c.see_letter.new.rounds c.loop-place-test.true c.index-letters-place.is
+      c.loop-place.invariant.rounds c.in_ok-see_letter.ensures.rounds;
 }

@@ -4,8 +4,8 @@ use Rattle.qu_known.specs.Known.{see_letters}
 use Rattle.qu_known.specs.Answers.{letter_told}
 use Rattle.qu_known.proofs.known.Known.see_letters.Given as goal
 
-abbrev pub invariant-loop-letter : goal.invariant-loop-letter
-invariant-loop-letter l = record {
-  news : see_letters (drop l.letter-index l.letters) (l.self, l.news) ≡ see_letters l.letters (l.initial.self, []);
-  rounds : l.rounds ≡ filter_map letter_told (take l.letter-index l.letters);
+abbrev pub invariant-loop-place : goal.invariant-loop-place
+invariant-loop-place l = record {
+  news : see_letters (drop l.place l.letters) (l.self, l.news) ≡ see_letters l.letters (l.initial.self, []);
+  rounds : l.rounds ≡ filter_map letter_told (take l.place l.letters);
 }
