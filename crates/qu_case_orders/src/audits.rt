@@ -8,7 +8,7 @@ use qu_base::{ClientId, List, NoMemory, Party};
 use qu_case_forms::{Case, Named, NoAnswer, party};
 use qu_case_runs::{make_lines, script_of, setup_and_lines, start};
 use qu_premise::audit;
-use qu_trace::{Premises, Setup, Trace};
+use qu_trace::{DecodedTrace, Premises, Setup, Trace};
 use qu_world::World;
 use std::alloc::{AllocError, Global};
 
@@ -101,7 +101,8 @@ fn with_faulty_client(setup: Setup, client: ClientId) -> Result<Setup, NoMemory>
 fn premises_of(alloc: Global, trace: &Trace) -> Result<Premises, NoMemory>
     requires { IsRun trace.now }
 {
-    audit(alloc, trace)
+    let run = DecodedTrace::of(alloc, trace)?;
+    audit(alloc, &run)
 }
 
 fn put_premises(premises: Premises, out: &mut String) -> Result<(), AllocError> {

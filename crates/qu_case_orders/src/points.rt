@@ -7,7 +7,7 @@ use qu_case_forms::{Named, NoAnswer};
 use qu_case_runs::{make_lines, run_text, setup_and_lines, world_with};
 use qu_machine::{Point, is_judgeable, judge};
 use qu_safety::order_of;
-use qu_trace::{Trace, operations};
+use qu_trace::{DecodedTrace, Trace};
 use std::alloc::{AllocError, Global};
 
 /// Makes the events of lines behind a setup, and tells what each of them made, and the points at the end.
@@ -29,7 +29,7 @@ pub fn order(alloc: Global, script: &[u8], out: &mut String) -> Result<(), NoAns
 }
 
 /// `order_of` without what it promises, so that the functions that call it know nothing of it, and are proved fast.
-fn printed(alloc: Global, trace: &Trace) -> Result<List<Point>, NoMemory>
+fn printed(alloc: Global, trace: &DecodedTrace<'_>) -> Result<List<Point>, NoMemory>
     requires { IsRun trace.now }
 {
     order_of(alloc, trace)
@@ -40,9 +40,10 @@ fn printed(alloc: Global, trace: &Trace) -> Result<List<Point>, NoMemory>
 pub fn points(alloc: Global, trace: &Trace, out: &mut String) -> Result<(), NoMemory>
     requires { IsRun trace.now }
 {
-    let order = printed(alloc, trace)?;
+    let run = DecodedTrace::of(alloc, trace)?;
+    let order = printed(alloc, &run)?;
     put_points(order.as_slice(), out)?;
-    put_judged(alloc, trace, order.as_slice(), out)
+    put_judged(alloc, &run, order.as_slice(), out)
 }
 
 fn put_points(order: &[Point], out: &mut String) -> Result<(), AllocError> {
@@ -60,16 +61,15 @@ fn put_points(order: &[Point], out: &mut String) -> Result<(), AllocError> {
 
 fn put_judged(
     alloc: Global,
-    trace: &Trace,
+    trace: &DecodedTrace<'_>,
     order: &[Point],
     out: &mut String,
 ) -> Result<(), NoMemory> {
-    let kinds = trace.setup.kinds.as_slice();
+    let kinds = trace.trace().setup.kinds.as_slice();
     if !is_judgeable(kinds, order) {
         return Ok(out.push_str("not judgeable")?);
     }
-    let operations = operations(alloc, trace)?;
-    match judge(alloc, kinds, operations.as_slice(), order) {
+    match judge(alloc, kinds, trace.operations(), order) {
         Ok(()) => Ok(out.push_str("serial")?),
         Err(fault) => Ok(write!(out, "{fault:?}")?),
     }

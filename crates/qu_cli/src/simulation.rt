@@ -2,7 +2,7 @@ ghost use Rattle.std.specs.Prelude.{IfOk};
 ghost use Rattle.qu_world.specs.Run.{IsRun};
 ghost use Rattle.qu_script.specs.Script.{IsAsMeant};
 ghost use Rattle.qu_script.specs.Events.{sim_of};
-ghost use Rattle.qu_cli.specs.Ends.{TellsRun};
+ghost use Rattle.qu_cli.specs.Ends.{Reports, TellsRun};
 ghost use Rattle.qu_cli.specs.Output.{IsOutput};
 
 use super::Command;
@@ -14,7 +14,7 @@ use qu_premise::audit;
 use qu_print::report_text;
 use qu_safety::order_of;
 use qu_script::{ScriptFail, read_script, run_script};
-use qu_trace::Trace;
+use qu_trace::{DecodedTrace, Trace};
 use std::alloc::Global;
 
 /// Runs a script and tells what the command tells of the run, or why there is none.
@@ -38,9 +38,7 @@ fn told_text(alloc: Global, command: Command, trace: &Trace) -> Result<List<u8>,
 {
     match command {
         Command::Sim => {
-            let premises = audit(alloc, trace)?;
-            let order = order_of(alloc, trace)?;
-            let text = report_text(alloc, trace, &premises, order.as_slice())?;
+            let text = sim_text(alloc, trace)?;
             Ok(text)
         }
         Command::Events => {
@@ -52,6 +50,18 @@ fn told_text(alloc: Global, command: Command, trace: &Trace) -> Result<List<u8>,
             Ok(text)
         }
     }
+}
+
+/// The report of a run, which is decoded once for all that reads it.
+fn sim_text(alloc: Global, trace: &Trace) -> Result<List<u8>, NoMemory>
+    requires { IsRun trace.now }
+    ensures { IfOk result (Reports trace.now) }
+{
+    let run = DecodedTrace::of(alloc, trace)?;
+    let premises = audit(alloc, &run)?;
+    let order = order_of(alloc, &run)?;
+    let text = report_text(alloc, &run, &premises, order.as_slice())?;
+    Ok(text)
 }
 
 /// The run of the script that a text spells.

@@ -7,7 +7,7 @@ use super::ends::put_ends;
 use super::timeline::put_timeline;
 use qu_base::{Bounds, List, NoMemory};
 use qu_machine::Point;
-use qu_trace::{Premises, Trace, operations};
+use qu_trace::{DecodedTrace, Premises, Trace};
 use std::alloc::Global;
 
 /// The report of a run, of which `order` tells at which points its operations took effect. No point is told where
@@ -15,16 +15,16 @@ use std::alloc::Global;
 #[tactic(auto, using(crate::proofs::ReportFacts::report_parts))]
 pub fn report_text(
     alloc: Global,
-    trace: &Trace,
+    trace: &DecodedTrace<'_>,
     premises: &Premises,
     order: &[Point],
 ) -> Result<List<u8>, NoMemory>
     ensures { IfOk result (λ text. text ≡ report_of trace.now premises.now order.now) }
 {
-    let records = operations(alloc, trace)?;
+    let run = trace.trace();
     let mut text = String::new(alloc);
-    put_events(&mut text, trace, told_order(premises, order))?;
-    put_ends(&mut text, trace.setup.clients, records.as_slice(), premises)?;
+    put_events(&mut text, run, told_order(premises, order))?;
+    put_ends(&mut text, run.setup.clients, trace.operations(), premises)?;
     Ok(List::from(text.into_bytes()))
 }
 

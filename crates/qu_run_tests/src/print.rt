@@ -3,7 +3,7 @@ use qu_machine::Point;
 use qu_objects::{Act, Answer, Ask, Item, Method, OVER, Op, Outcome, Query, UNDER, WRONG_KIND};
 use qu_print::{put_answer, put_op, report_text};
 use qu_testing::holds;
-use qu_trace::{Entry, Event, Premises, Setup, Trace};
+use qu_trace::{DecodedTrace, Entry, Event, Premises, Setup, Trace};
 use std::alloc::Global;
 use std::test::Fail;
 
@@ -28,7 +28,8 @@ fn order(alloc: Global) -> Result<List<Point>, Fail> {
 fn one_operation_is_refused_and_one_gives_up(rt: HostRuntime) -> Result<(), Fail> {
     let trace = one_refused_and_one_given_up(rt.alloc())?;
     let order = order(rt.alloc())?;
-    let text = report_text(rt.alloc(), &trace, &Premises::Hold, order.as_slice())?;
+    let run = DecodedTrace::of(rt.alloc(), &trace)?;
+    let text = report_text(rt.alloc(), &run, &Premises::Hold, order.as_slice())?;
     holds(text.as_slice() == REPORT.as_bytes(), "the report")
 }
 

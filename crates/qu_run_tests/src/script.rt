@@ -1,8 +1,7 @@
 use qu_base::{ClientId, Party, ReplicaId};
 use qu_script::{Bad, BadKind, Line, Script, ScriptFail, read_script, run_script};
 use qu_testing::holds;
-use qu_trace::{Setup, Trace};
-use qu_world::letter_at;
+use qu_trace::{DecodedTrace, Setup, Trace};
 use std::alloc::Global;
 use std::test::Fail;
 
@@ -95,8 +94,10 @@ fn a_liar_is_listed(rt: HostRuntime) -> Result<(), Fail> {
 }
 
 /// How many bytes the letter with this number has.
-fn length(trace: &Trace, number: u64) -> Option<usize> {
-    Some(letter_at(trace.entries.as_slice(), number)?.text.len())
+fn length(alloc: Global, trace: &Trace, number: u64) -> Result<usize, Fail> {
+    let run = DecodedTrace::of(alloc, trace)?;
+    let letter = run.letter(number).ok_or("no such letter")?;
+    Ok(letter.text.len())
 }
 
 /// No letter to the faulty replica is delivered, and the made reply is one event. The request of the update shows
@@ -106,7 +107,7 @@ fn a_liar_shows_an_old_history(rt: HostRuntime) -> Result<(), Fail> {
     let trace = trace(rt.alloc(), LIAR)?;
     let events = trace.entries.len();
     holds(
-        events == 33 && length(&trace, 23) == Some(1784),
+        events == 33 && length(rt.alloc(), &trace, 23)? == 1784,
         "33 events, and six histories",
     )
 }
