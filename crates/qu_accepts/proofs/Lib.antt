@@ -5,8 +5,6 @@ pub mod ActAcceptance
 pub mod Acceptance
 pub mod Happenings
 pub mod Performed
-pub mod HeldVersions
 pub mod Accepting
-pub mod HeldInRuns
 pub mod KnownObjects
 pub mod Handled

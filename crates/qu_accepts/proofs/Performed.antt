@@ -14,7 +14,7 @@ use Rattle.qu_rows.specs.State.{ReplicaState}
 use Rattle.qu_replica.specs.State.{stored_if}
 use Rattle.qu_versions.specs.Versions.{is_stored, version_at}
 use Rattle.qu_claims.specs.Parts.{Names}
-use Rattle.qu_claims.specs.Grounds.{stored_of, Performs, Reasons, AddsTo}
+use Rattle.qu_claims.specs.Grounds.{stored_of, Performs, Reasons, AddsTo, IsRemedy}
 use Rattle.qu_rows.specs.Rows.{Asked}
 use Rattle.qu_frames.specs.declared.frame.Body.{Body}
 use Rattle.qu_frames.specs.declared.frame.Body.TheVariants as body
@@ -163,17 +163,45 @@ among_mended target object stamp under (Some state) version found =
           (sym (ap (λ (test : Bool). cond test (Some state) None) there) ∙ found))
     ]
 
--- what a replica finds after a request it found before, or it is of what it adds
+-- a version comes with a remedy to a candidate without barrier alone
+remedy_plain : (state : ReplicaState) (asked : Asked) (target : ObjectId) (candidate : Candidate)
+    (stored : Option ObjState) → IsRemedy state asked target candidate stored → (object : ObjectId) (under : Stamp)
+    (version : ObjState) → version_at object under (stored_if target candidate.stamp stored) ≡ Some version
+    → candidate.stamp.barrier ≡ false
+unfolding version_at
+remedy_plain state asked target candidate stored (IsRemedy.inline_barrier barrier is_found) object under version found =
+    absurd (none-some version found)
+remedy_plain state asked target candidate stored (IsRemedy.inline_method its plain is_found is) object under version
+    found = plain
+remedy_plain state asked target candidate stored (IsRemedy.barrier barrier made) object under version found =
+    absurd (none-some version found)
+remedy_plain state asked target candidate stored (IsRemedy.copy latest its plain made barrier is_latest full is) object
+    under version found = plain
+
+-- a candidate without barrier, with this stamp, that a request adds to the object
+pub record IsAddedUnder (asks : Body) (candidates : ObjectId → Candidate) (object : ObjectId) (stamp : Stamp)
+    : Type 0 where
+  pub adds : AddsTo asks object
+  pub under : (candidates object).stamp ≡ stamp
+  pub plain : (candidates object).stamp.barrier ≡ false
+
+-- what a replica finds after a request it found before, or it is of what the request adds
 pub stored_before : (old new : ReplicaState) (asked : Asked) (asks : Body) (candidates : ObjectId → Candidate)
     → Reasons old new asked asks candidates → (object : ObjectId) (stamp : Stamp) (version : ObjState)
     → version_at object stamp new.versions ≡ Some version
-    → (version_at object stamp old.versions ≡ Some version)
-    ⊎ (AddsTo asks object × ((candidates object).stamp ≡ stamp))
+    → (version_at object stamp old.versions ≡ Some version) ⊎ IsAddedUnder asks candidates object stamp
 stored_before old new asked (body.Act parts) candidates reasons object stamp version found =
     elim (stored_cases object stamp old.versions _ version
     (ap (version_at object stamp) (sym reasons.stored) ∙ found)) [
       | inl before ↦ inl before
-      | inr newest ↦ inr (among_stored candidates reasons.versions parts object stamp version newest)
+      | inr newest ↦
+          let both : Names parts object × ((candidates object).stamp ≡ stamp) =
+          among_stored candidates reasons.versions parts object stamp version newest in
+          inr (record {
+            adds = both.0;
+            under = both.1;
+            plain = ap (λ (it : Stamp). it.barrier) (reasons.grounds object both.0).stamp;
+          })
     ]
 stored_before old new asked (body.Ask parts) candidates reasons object stamp version found = absurd reasons
 stored_before old new asked (body.Mend target) candidates reasons object stamp version found =
@@ -183,5 +211,12 @@ stored_before old new asked (body.Mend target) candidates reasons object stamp v
       | inr newest ↦
           let both : (target ≡ object) × ((candidates target).stamp ≡ stamp) =
           among_mended target object (candidates target).stamp stamp reasons.version version newest in
-          inr (both.0, ap (λ (it : ObjectId). (candidates it).stamp) (sym both.0) ∙ both.1)
+          let plain : (candidates target).stamp.barrier ≡ false =
+          remedy_plain old asked target (candidates target) reasons.version reasons.remedy object stamp version newest
+          in
+          inr (record {
+            adds = both.0;
+            under = ap (λ (it : ObjectId). (candidates it).stamp) (sym both.0) ∙ both.1;
+            plain = ap (λ (it : ObjectId). (candidates it).stamp.barrier) (sym both.0) ∙ plain;
+          })
     ]

@@ -22,3 +22,4 @@ pub mod Values
 pub mod Quorums
 pub mod Handled
 pub mod Groups
+pub mod Truth

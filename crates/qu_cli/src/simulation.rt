@@ -8,12 +8,13 @@ ghost use Rattle.qu_cli.specs.Output.{IsOutput};
 use super::Command;
 use super::output::Output;
 use super::refusal::refusal_line;
+use super::script::run_script;
 use qu_base::{List, NoMemory};
 use qu_listing::{digests_text, events_text};
 use qu_premise::audit;
 use qu_print::report_text;
 use qu_safety::order_of;
-use qu_script::{ScriptFail, read_script, run_script};
+use qu_script::{ScriptFail, read_script};
 use qu_trace::{DecodedTrace, Trace};
 use std::alloc::Global;
 

@@ -1,5 +1,5 @@
 -- What the replies of a run say is true of the replicas that sent them.
-use Rattle.std.proofs.Common.{◌≡◌, ℕ, ◌<◌, ◌≤◌, true, List, [], ◌∷◌, length, IsTrue, refl, sym, subst, ap, ◌∙◌, arith, None, Some}
+use Rattle.std.proofs.Common.{◌≡◌, ℕ, ◌<◌, ◌≤◌, true, List, [], ◌∷◌, length, IsTrue, inl, refl, sym, subst, ap, ◌∙◌, arith, None, Some}
 use Rattle.std.proofs.lemmas.Bool.{false≢true}
 use Rattle.qu_base.specs.declared.party.ClientId.{ClientId}
 use Rattle.qu_base.specs.declared.party.ObjectId.{ObjectId}
@@ -30,10 +30,9 @@ use Rattle.qu_accepts.proofs.Handled.{handled_upon}
 use Rattle.qu_claims.specs.Handled.{IsHandled}
 use Rattle.qu_replies.specs.Replies.{culled_in, TellsDone, TellsAlready, TellsQuery, IsOfUpdate, IsReplyTo}
 use Rattle.qu_runs.specs.Plain.{ArePlain}
-use Rattle.qu_accepts.proofs.HeldInRuns.{held_versions}
-use Rattle.qu_accepts.proofs.HeldVersions.{AreOfHeld}
+use Rattle.qu_claims.specs.Parts.{Names}
 use Rattle.qu_replies.proofs.QueryReplies.{told_is_true, query_is_no_update, mend_is_not_told, mend_is_no_update}
-use Rattle.qu_replies.proofs.TrueReplies.{done_is_true, already_is_true, act_is_not_told, update_is_known}
+use Rattle.qu_replies.proofs.TrueReplies.{AddsWhatIsFound, done_is_true, already_is_true, act_is_not_told, update_is_known}
 use Rattle.qu_claims.specs.Carried.{Brings}
 use Rattle.qu_frames.specs.declared.frame.Frame.TheVariants as frame
 
@@ -51,32 +50,32 @@ pub record IsAskOf (body_is : Body) : Type 0 where
   pub is_ask : body_is ≡ body.Ask query
 
 -- what is told of an act or of a query, whatever number of parts a request may have
-module _ (state : ReplicaState) (client : ClientId) (number : ℕ) (sets : List SetOf) (accepted : List Accepted)
-    (are : AreOfHeld state) where
+module _ (state : ReplicaState) (client : ClientId) (number : ℕ) (sets : List SetOf) (accepted : List Accepted) where
   abbrev Decides : Body → Verdict → Type 0
   Decides asks given = decision_on state (asked_of client number sets asks) asks ≡ Answers given accepted
 
   done_of_act : (stamps : List (ObjectId × Stamp)) (answer : Answer) (parts : List (ObjectId × Method))
+      → ((object : ObjectId) → Names parts object → AddsWhatIsFound state object accepted)
       → IsTrue (has_parts (body.Act parts)) → Decides (body.Act parts) (verdict.Done stamps answer)
       → TellsDone (accept_all state accepted) client number (act_digest client number parts) parts stamps answer
-  done_of_act stamps answer [] some decided = absurd (false≢true some)
-  done_of_act stamps answer ((object, method) ∷ []) some decided =
-      done_is_true state client number sets object method accepted answer are stamps decided
-  done_of_act stamps answer (first ∷ second ∷ later) some decided = absurd (false≢true some)
+  done_of_act stamps answer [] adds some decided = absurd (false≢true some)
+  done_of_act stamps answer ((object, method) ∷ []) adds some decided =
+      done_is_true state client number sets object method accepted answer (adds object (inl refl)) stamps decided
+  done_of_act stamps answer (first ∷ second ∷ later) adds some decided = absurd (false≢true some)
 
   already_of_act : (answer : Answer) (parts : List (ObjectId × Method)) → IsTrue (has_parts (body.Act parts))
       → Decides (body.Act parts) (verdict.Already answer)
       → TellsAlready state client number (act_digest client number parts) sets parts answer
   already_of_act answer [] some decided = absurd (false≢true some)
   already_of_act answer ((object, method) ∷ []) some decided =
-      already_is_true state client number sets object method accepted answer are decided
+      already_is_true state client number sets object method accepted answer decided
   already_of_act answer (first ∷ second ∷ later) some decided = absurd (false≢true some)
 
   act_not_told : (stamps : List (ObjectId × Stamp)) (answer : Answer) (parts : List (ObjectId × Method))
       → IsTrue (has_parts (body.Act parts)) → Decides (body.Act parts) (verdict.Told stamps answer) → ⊥
   act_not_told stamps answer [] some decided = absurd (false≢true some)
   act_not_told stamps answer ((object, method) ∷ []) some decided =
-      act_is_not_told state client number sets object method accepted answer are stamps decided
+      act_is_not_told state client number sets object method accepted answer stamps decided
   act_not_told stamps answer (first ∷ second ∷ later) some decided = absurd (false≢true some)
 
   told_of_query : (stamps : List (ObjectId × Stamp)) (answer : Answer) (query : List (ObjectId × Ask))
@@ -117,7 +116,7 @@ module _ (state : ReplicaState) (client : ClientId) (number : ℕ) (sets : List 
 -- ---- replies
 
 -- what the replica becomes, where its decision is known
-after_decision : (old new : ReplicaState) (text : List ℕ) (client : ClientId) (number round : ℕ)
+pub after_decision : (old new : ReplicaState) (text : List ℕ) (client : ClientId) (number round : ℕ)
     (sets : List SetOf) (asks : Body) (given : Verdict) (accepted : List Accepted)
     → new ≡ (replica_step old text).0 → (mac : List ℕ)
     → Brings old text (frame.Request client number round sets asks mac)
@@ -133,19 +132,16 @@ module _ (trace : Trace) (is_run : IsRun trace) (have : ArePlain trace) (at : �
       → IsTrue (has_parts reply.body)
   body_has_parts given reply = reply_parts trace is_run have at below replica client number round given reply
 
-  old_of_held : (given : Verdict) (reply : IsReplyTo trace at replica client number round given) → AreOfHeld reply.old
-  old_of_held given reply = held_versions trace is_run have at (omega arith) replica reply.old reply.is_old
-
   module _ (given : Verdict) (of_update : IsOfUpdate given)
       (reply : IsReplyTo trace at replica client number round given) where
     -- that an update is done, now or before, is told to an act
     pub act_of_update : IsActOn reply.body
     act_of_update =
-        update_to_act reply.old client number (culled_in reply.old reply.sets) reply.accepted
-        (old_of_held given reply) given of_update reply.body (body_has_parts given reply) reply.decided
+        update_to_act reply.old client number (culled_in reply.old reply.sets) reply.accepted given of_update reply.body
+        (body_has_parts given reply) reply.decided
 
     decided_act : Decides reply.old client number (culled_in reply.old reply.sets) reply.accepted
-        (old_of_held given reply) (body.Act act_of_update.parts) given
+        (body.Act act_of_update.parts) given
     decided_act =
         ap (λ (it : Body). decision_on reply.old (asked_at reply.old client number reply.sets it) it)
         (sym act_of_update.is_act) ∙ reply.decided
@@ -178,10 +174,12 @@ module _ (trace : Trace) (is_run : IsRun trace) (have : ArePlain trace) (at : �
   module _ (stamps : List (ObjectId × Stamp)) (answer : Answer) where
     -- where Done is told the replica has the act's candidates afterwards
     pub done_in_run : (reply : IsReplyTo trace at replica client number round (verdict.Done stamps answer))
+        → ((object : ObjectId) → Names (act_of_update (verdict.Done stamps answer) tt reply).parts object
+        → AddsWhatIsFound reply.old object reply.accepted)
         → TellsDone reply.new client number
         (act_digest client number (act_of_update (verdict.Done stamps answer) tt reply).parts)
         (act_of_update (verdict.Done stamps answer) tt reply).parts stamps answer
-    done_in_run reply =
+    done_in_run reply adds =
         let given : Verdict = verdict.Done stamps answer in
         let act : IsActOn reply.body = act_of_update given tt reply in
         let is_new : reply.new ≡ accept_all reply.old reply.accepted =
@@ -189,23 +187,21 @@ module _ (trace : Trace) (is_run : IsRun trace) (have : ArePlain trace) (at : �
         reply.step reply.mac reply.brings reply.decided in
         subst (λ (it : ReplicaState).
         TellsDone it client number (act_digest client number act.parts) act.parts stamps answer) (sym is_new)
-        (done_of_act reply.old client number (culled_in reply.old reply.sets) reply.accepted (old_of_held given reply)
-        stamps answer act.parts (act_has_parts given tt reply) (decided_act given tt reply))
+        (done_of_act reply.old client number (culled_in reply.old reply.sets) reply.accepted
+        stamps answer act.parts adds (act_has_parts given tt reply) (decided_act given tt reply))
 
     -- an answer is told to a query, from what the replica has
     pub ask_of_told : (reply : IsReplyTo trace at replica client number round (verdict.Told stamps answer))
         → IsAskOf reply.body
     ask_of_told reply =
-        told_to_ask reply.old client number (culled_in reply.old reply.sets) reply.accepted
-        (old_of_held (verdict.Told stamps answer) reply) stamps answer reply.body
+        told_to_ask reply.old client number (culled_in reply.old reply.sets) reply.accepted stamps answer reply.body
         (body_has_parts (verdict.Told stamps answer) reply) reply.decided
 
     pub told_in_run : (reply : IsReplyTo trace at replica client number round (verdict.Told stamps answer))
         → TellsQuery reply.old (culled_in reply.old reply.sets) (ask_of_told reply).query stamps answer
     told_in_run reply =
         let asked : IsAskOf reply.body = ask_of_told reply in
-        told_of_query reply.old client number (culled_in reply.old reply.sets) reply.accepted
-        (old_of_held (verdict.Told stamps answer) reply) stamps answer asked.query
+        told_of_query reply.old client number (culled_in reply.old reply.sets) reply.accepted stamps answer asked.query
         (subst (λ (it : Body). IsTrue (has_parts it)) asked.is_ask (body_has_parts (verdict.Told stamps answer) reply))
         (ap (λ (it : Body). decision_on reply.old (asked_at reply.old client number reply.sets it) it)
         (sym asked.is_ask)
@@ -219,5 +215,5 @@ module _ (trace : Trace) (is_run : IsRun trace) (have : ArePlain trace) (at : �
       (culled_in reply.old reply.sets) (act_of_update (verdict.Already answer) tt reply).parts answer
   already_in_run answer reply =
       let given : Verdict = verdict.Already answer in
-      already_of_act reply.old client number (culled_in reply.old reply.sets) reply.accepted (old_of_held given reply)
+      already_of_act reply.old client number (culled_in reply.old reply.sets) reply.accepted
       answer (act_of_update given tt reply).parts (act_has_parts given tt reply) (decided_act given tt reply)

@@ -1,5 +1,5 @@
 -- What a verdict says is true of the replica that gives it.
-use Rattle.std.proofs.Common.{◌≡◌, ℕ, ◌<◌, Bool, true, false, ◌&&◌, cond, List, [], ◌∷◌, length, Option, None, Some, refl, sym, subst, ap, ◌∙◌}
+use Rattle.std.proofs.Common.{◌≡◌, ℕ, ◌<◌, Bool, true, false, ◌&&◌, cond, List, [], ◌∷◌, ◌++◌, length, Option, None, Some, refl, sym, subst, ap, ◌∙◌}
 use Rattle.std.specs.List.{cons_option}
 use Rattle.std.specs.Prelude.{option_map}
 use Rattle.std.proofs.lemmas.List.Elements.{All-nil, All-cons}
@@ -39,15 +39,15 @@ use Rattle.qu_rows.specs.Rows.{asked_of, Asked, method_base, base_version, fresh
 use Rattle.qu_rows.specs.Table.{first_given}
 use Rattle.qu_versions.specs.Versions.{is_stored, version_at}
 use Rattle.qu_rows.proofs.Carried.{versions_one, done_one}
-use Rattle.qu_claims.specs.Grounds.{IsGround}
+use Rattle.qu_versions.specs.declared.stored.Stored.{Stored}
+use Rattle.qu_versions.proofs.Lookup.{append_grows}
 use Rattle.qu_replies.specs.Replies.{Keeps, HasDone, TellsDone, HasKept, TellsAlready, IsOfUpdate}
 use Rattle.qu_replies.proofs.KeptActs.{kept_where}
-use Rattle.qu_accepts.proofs.Grounds.{is_base, above_held}
-use Rattle.qu_accepts.proofs.HeldVersions.{AreOfHeld, none_under}
+use Rattle.qu_accepts.proofs.Grounds.{is_base}
 use Rattle.qu_runs.proofs.Small.{single}
 use Rattle.qu_accepts.proofs.ActAcceptance.{candidates_after}
 use Rattle.qu_accepts.proofs.Performed.{version_at-push}
-use Rattle.qu_replies.proofs.QueryReplies.{Gives, unknown, current, method, version, act_cases, known_by_base, passed_unknown, passed_current, passed_method, passed_version, version_of_base}
+use Rattle.qu_replies.proofs.QueryReplies.{Gives, unknown, current, method, version, act_cases, known_by_base, passed_unknown, passed_method, passed_version, version_of_base}
 
 -- ---- an act
 
@@ -71,10 +71,19 @@ one_done state client number act object method stamps answer done =
           (All-nil (HasDone state client number act answer));
     })
 
+-- where a replica adds one version to an object, and found one under its stamp before, it is the same
+abbrev pub AddsWhatIsFound : ReplicaState → ObjectId → List Accepted → Type 0
+AddsWhatIsFound state object accepted = (stamp : Stamp) (before after : ObjState)
+    → version_at object stamp state.versions ≡ Some before
+    → (accept_all state accepted).versions
+    ≡ state.versions ++ (record { object = object; stamp = stamp; state = after }) ∷ []
+    → before ≡ after
+
 -- what is done is held, with its version; what was done before is kept by the version on which the act would rest
 abbrev ActTells : ReplicaState → Asked → Digest → ObjectId → Decision → Type 0
 ActTells state asked act object (Answers (verdict.Done stamps answer) accepted) =
-    DoneOnOne (accept_all state accepted) asked.client asked.number act object stamps answer
+    AddsWhatIsFound state object accepted
+    → DoneOnOne (accept_all state accepted) asked.client asked.number act object stamps answer
 ActTells state asked act object (Answers (verdict.Told stamps answer) accepted) = ⊥
 ActTells state asked act object (Answers (verdict.Already answer) accepted) =
     HasKept state asked.client asked.number act asked.sets answer object
@@ -157,7 +166,7 @@ module _ (state : ReplicaState) (asked : Asked) (object : ObjectId) (method : Me
         absurd (none-some decision given)
     again_tells base version is_held is_stored (Already answer) stands decision given =
         subst (ActTells state asked act object) (same_Some _ decision given)
-        (record {
+        (λ adds. record {
           stamp = fresh_stamp asked object;
           stamps_are = refl;
           has = record {
@@ -229,16 +238,30 @@ module _ (state : ReplicaState) (asked : Asked) (object : ObjectId) (method : Me
         (ap (λ (versions : List ObjState). repeated (standing_in asked one_part versions))
         (sym (versions_one state asked object stored.0 stored.1)) ∙ given)
 
+-- a version that is added is found, where none other was found under its stamp before
+found_after : (object : ObjectId) (stamp : Stamp) (versions : List Stored) (version : ObjState)
+    → ((before : ObjState) → version_at object stamp versions ≡ Some before → before ≡ version)
+    → (found : Option ObjState) → version_at object stamp versions ≡ found
+    → version_at object stamp (versions ++ (record { object = object; stamp = stamp; state = version }) ∷ [])
+    ≡ Some version
+found_after object stamp versions version only None none = version_at-push object stamp versions version none
+found_after object stamp versions version only (Some before) is =
+    append_grows versions (record { object = object; stamp = stamp; state = version } ∷ []) _ refl object stamp before
+    is
+    ∙ ap (λ (it : ObjState). Some it) (only before is)
+
 -- the replica holds what it accepted, and finds the version that it stored
 accepted_tells : (state : ReplicaState) (asked : Asked) (act : Digest) → asked.act ≡ Some act
     → (object : ObjectId) (base : Candidate) (version : ObjState) (answer : Answer)
     → Keeps asked.client asked.number act answer version
-    → object.0 < length state.histories → version_at object (fresh_stamp asked object) state.versions ≡ None
+    → object.0 < length state.histories
+    → AddsWhatIsFound state object
+    (record { object = object; candidate = fresh_of asked object base; state = Some version } ∷ [])
     → DoneOnOne (accept_all state
     (record { object = object; candidate = fresh_of asked object base; state = Some version } ∷ [])) asked.client
     asked.number act object ((object, fresh_stamp asked object) ∷ []) answer
 unfolding accept_all
-accepted_tells state asked act is_act object base version answer keeps known none =
+accepted_tells state asked act is_act object base version answer keeps known adds =
     let fresh : Candidate = fresh_of asked object base in
     record {
       stamp = fresh_stamp asked object;
@@ -251,18 +274,20 @@ accepted_tells state asked act is_act object base version answer keeps known non
         of_client = refl;
         of_act = is_act;
         version = version;
-        of_candidate = version_at-push object (fresh_stamp asked object) state.versions version none;
+        of_candidate = found_after object (fresh_stamp asked object) state.versions version
+            (λ before is. adds (fresh_stamp asked object) before version is refl)
+            (version_at object (fresh_stamp asked object) state.versions) refl;
         keeps = keeps;
       };
     }
 
 done_tells : (state : ReplicaState) (asked : Asked) (object : ObjectId) (method : Method)
-    → asked.act ≡ Some (act_digest asked.client asked.number ((object, method) ∷ [])) → AreOfHeld state
+    → asked.act ≡ Some (act_digest asked.client asked.number ((object, method) ∷ []))
     → row_unknown state asked ≡ None → row_current state asked (object ∷ []) ≡ None
     → row_method state asked (object ∷ []) ≡ None → row_version state asked (object ∷ []) ≡ None
     → Gives (ActTells state asked (act_digest asked.client asked.number ((object, method) ∷ [])) object)
     (row_done state asked ((object, method) ∷ []) (object ∷ []))
-done_tells state asked object method is_act are is_known is_current is_method is_version decision given =
+done_tells state asked object method is_act is_known is_current is_method is_version decision given =
     let parts : List (ObjectId × Method) = (object, method) ∷ [] in
     let act : Digest = act_digest asked.client asked.number parts in
     let found : (it : Candidate) × (method_base state asked object ≡ Some it) =
@@ -277,8 +302,6 @@ done_tells state asked object method is_act are is_known is_current is_method is
     let after : ObjState = state_after row value.0 [] before.0 in
     let fresh : Candidate = fresh_of asked object base in
     let is_fresh : fresh_act state asked object ≡ Some fresh = ap (option_map (fresh_of asked object)) found.1 in
-    let grounds : IsGround state asked object fresh base =
-    record { method = found.1; prior = refl; stamp = refl; current = passed_current state asked object is_current } in
     let known : object.0 < length state.histories =
     known_by_base (length state.histories) state.keys.bounds asked.sets object base
     (passed_unknown state asked object is_known) found.1 in
@@ -287,20 +310,19 @@ done_tells state asked object method is_act are is_known is_current is_method is
     (sym (done_one state asked parts object fresh before.0 after answer is_fresh before.1
     (performed_to asked.client asked.number parts (fresh_stamp asked object ∷ []) before.0 value.0 refl refl value.1)
     refl) ∙ given))
-    (accepted_tells state asked act is_act object base after answer (own_item client_of row (before.0).kept) known
-    (none_under are object fresh.stamp (above_held grounds)))
+    (accepted_tells state asked act is_act object base after answer (own_item client_of row (before.0).kept) known)
 
 act_tells : (state : ReplicaState) (asked : Asked) (object : ObjectId) (method : Method)
-    → asked.act ≡ Some (act_digest asked.client asked.number ((object, method) ∷ [])) → AreOfHeld state
+    → asked.act ≡ Some (act_digest asked.client asked.number ((object, method) ∷ []))
     → ActTells state asked (act_digest asked.client asked.number ((object, method) ∷ [])) object
     (decision_on state asked (body.Act ((object, method) ∷ [])))
-act_tells state asked object method is_act are =
+act_tells state asked object method is_act =
     let act : Digest = act_digest asked.client asked.number ((object, method) ∷ []) in
     act_cases (ActTells state asked act object) (λ why. tt) tt state asked ((object, method) ∷ [])
     (object ∷ [])
     (retry_tells state asked object method act is_act (method_base state asked object) refl)
     (already_tells state asked object method act is_act)
-    (done_tells state asked object method is_act are)
+    (done_tells state asked object method is_act)
 
 -- what is no refusal
 abbrev IsRefusing : Decision → Type 0
@@ -336,19 +358,19 @@ update_is_known state asked parts objects given accepted of_update decided =
     (update_refuses_none given accepted of_update) (unknown IsRefusing (λ why. tt) tt state asked) decided
 
 module _ (state : ReplicaState) (client : ClientId) (number : ℕ) (sets : List SetOf) (object : ObjectId)
-    (method : Method) (accepted : List Accepted) (answer : Answer) (are : AreOfHeld state) where
+    (method : Method) (accepted : List Accepted) (answer : Answer) where
   abbrev it_asks : Asked
   it_asks = asked_of client number sets (body.Act ((object, method) ∷ []))
 
   -- where Done is told, the replica has the candidate afterwards, and the answer is the kept one
-  pub done_is_true : (stamps : List (ObjectId × Stamp))
+  pub done_is_true : AddsWhatIsFound state object accepted → (stamps : List (ObjectId × Stamp))
       → decision_on state it_asks (body.Act ((object, method) ∷ [])) ≡ Answers (verdict.Done stamps answer) accepted
       → TellsDone (accept_all state accepted) client number (act_digest client number ((object, method) ∷ []))
       ((object, method) ∷ []) stamps answer
-  done_is_true stamps decided =
+  done_is_true adds stamps decided =
       let act : Digest = act_digest client number ((object, method) ∷ []) in
       one_done (accept_all state accepted) client number act object method stamps answer
-      (subst (ActTells state it_asks act object) decided (act_tells state it_asks object method refl are))
+      (subst (ActTells state it_asks act object) decided (act_tells state it_asks object method refl) adds)
 
   -- where Already is told, the version of the base keeps the act with its answer
   pub already_is_true : decision_on state it_asks (body.Act ((object, method) ∷ []))
@@ -358,7 +380,7 @@ module _ (state : ReplicaState) (client : ClientId) (number : ℕ) (sets : List 
   already_is_true decided =
       let act : Digest = act_digest client number ((object, method) ∷ []) in
       All-cons (λ (part : ObjectId × Method). HasKept state client number act sets answer part.0) (object, method) []
-      (subst (ActTells state it_asks act object) decided (act_tells state it_asks object method refl are))
+      (subst (ActTells state it_asks act object) decided (act_tells state it_asks object method refl))
       (All-nil (λ (part : ObjectId × Method). HasKept state client number act sets answer part.0))
 
   pub act_is_not_told : (stamps : List (ObjectId × Stamp))
@@ -366,4 +388,4 @@ module _ (state : ReplicaState) (client : ClientId) (number : ℕ) (sets : List 
       → ⊥
   act_is_not_told stamps decided =
       let act : Digest = act_digest client number ((object, method) ∷ []) in
-      subst (ActTells state it_asks act object) decided (act_tells state it_asks object method refl are)
+      subst (ActTells state it_asks act object) decided (act_tells state it_asks object method refl)

@@ -1,5 +1,5 @@
 use qu_base::{ClientId, Party, ReplicaId};
-use qu_script::{Bad, BadKind, Line, Script, ScriptFail, read_script, run_script};
+use qu_script::{Bad, BadKind, Line, Script, ScriptFail, play_script, read_script};
 use qu_testing::holds;
 use qu_trace::{DecodedTrace, Setup, Trace};
 use std::alloc::Global;
@@ -22,7 +22,7 @@ fn script(alloc: Global, lines: &str) -> Result<Script, Fail> {
 fn run(alloc: Global, lines: &str) -> Result<Result<Trace, ScriptFail>, Fail> {
     let text = text(alloc, lines)?;
     match read_script(alloc, text.as_bytes()) {
-        Ok(script) => Ok(run_script(alloc, &script)),
+        Ok(script) => Ok(play_script(alloc, &script)),
         Err(_) => Err("the script is refused".into()),
     }
 }

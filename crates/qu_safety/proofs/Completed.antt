@@ -4,5 +4,6 @@ pub mod CompletedQueries
 pub mod ToldAnswers
 pub mod ToldParts
 pub mod KeptParts
+pub mod AddedOnce
 pub mod Along
 pub mod ByQuorums

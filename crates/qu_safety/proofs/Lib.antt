@@ -1,4 +1,5 @@
 pub mod KnownRuns
+pub mod Grounded
 pub mod DecidedOnce
 pub mod Completed
 pub mod Points

@@ -3,5 +3,7 @@
 
 mod order;
 mod parts;
+mod versions;
 
 pub use order::order_of;
+pub use versions::versions_are_true;

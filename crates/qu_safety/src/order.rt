@@ -8,9 +8,11 @@ ghost use Rattle.qu_claims.specs.Named.{StampsNameHistories};
 ghost use Rattle.qu_claims.specs.Order.{IsPrintedOrder};
 ghost use Rattle.qu_claims.specs.Quorums.{CompletesByQuorums};
 ghost use Rattle.qu_claims.specs.Updates.{DecidesOnce, NumbersRise};
+ghost use Rattle.qu_claims.specs.Truth.{VersionsAreTrue};
 ghost use Rattle.qu_claims.specs.Turns.{DecidesInTurn, DecidesJointly};
 
 use super::parts::have_parts;
+use super::versions::versions_are_true;
 use qu_base::{List, NoMemory};
 use qu_machine::Point;
 use qu_points::printed_order;
@@ -34,8 +36,11 @@ pub fn order_of(alloc: Global, trace: &DecodedTrace<'_>) -> Result<List<Point>, 
     ensures in_turn { OnOk result (MeetsPremises trace.now → DecidesInTurn trace.now) }
     ensures numbers { OnOk result (MeetsPremises trace.now → NumbersRise trace.now) }
     ensures once { OnOk result (MeetsPremises trace.now → DecidesOnce trace.now) }
+    ensures versions { OnOk result (MeetsPremises trace.now → VersionsAreTrue trace.now) }
     ensures by_quorums { OnOk result (MeetsPremises trace.now → CompletesByQuorums trace.now) }
 {
-    have_parts(trace.trace().entries.as_slice());
+    let run = trace.trace();
+    have_parts(run.entries.as_slice());
+    versions_are_true(run);
     printed_order(alloc, trace)
 }

@@ -24,5 +24,5 @@ pub use bad::{Bad, BadKind, ScriptFail};
 pub use limits::{SCRIPT_LIMIT, limits_are_these};
 pub use line::{How, Line, Script};
 pub use read::read_script;
-pub use run::run_script;
+pub use run::play_script;
 pub use setup::SetupLine;

@@ -8,12 +8,12 @@ use super::{Script, ScriptFail};
 use qu_trace::Trace;
 use std::alloc::Global;
 
-/// Runs a script: its lines make events one after another, and the trace records them.
+/// Plays a script: its lines make events one after another, and the trace records them.
 ///
 /// The first line with an event that the world refuses, or with a reply that cannot be made, ends the
 /// run, and is told with the reason.
 #[tactic(auto, unfolding(crate::specs::Events::run_of))]
-pub fn run_script(alloc: Global, script: &Script) -> Result<Trace, ScriptFail>
+pub fn play_script(alloc: Global, script: &Script) -> Result<Trace, ScriptFail>
     requires { IsSetup script.now.setup }
     ensures value { IsAsMeant (λ trace. trace) result (run_of script.now) }
     ensures run { IfOk result IsRun }

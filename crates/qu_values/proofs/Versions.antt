@@ -1,5 +1,7 @@
 -- The versions that replicas store.
 pub mod BegunVersions
+pub mod SteppedVersions
 pub mod StoredValues
+pub mod TrueVersions
 pub mod Values
 pub mod EverAccepted

@@ -48,6 +48,7 @@ use Rattle.qu_values.proofs.Versions.EverAccepted.{place_ever, held_ever}
 use Rattle.qu_rounds.proofs.Members.{is_among, members_count}
 use Rattle.qu_replies.proofs.RepliesInRuns.{IsActOn, act_of_update, done_in_run, already_in_run}
 use Rattle.qu_safety.proofs.Completed.KeptParts.{KeptPart, kept_part}
+use Rattle.qu_safety.proofs.Completed.AddedOnce.{adds_what_is_found}
 use Rattle.qu_values.proofs.Versions.StoredValues.{version_is}
 use Rattle.qu_values.proofs.Updating.UpdateFacts.{UpdateFacts}
 use Rattle.qu_rounds.proofs.Verdicts.{fits_act, equal_done, equal_already}
@@ -84,7 +85,9 @@ module _ (trace : Trace) (is_run : IsRun trace) (have : ArePlain trace) (clients
         let done : TellsDone reply.new client number act parts stamps answer =
         subst (λ (it : List (ObjectId × Method)).
         TellsDone reply.new client number (act_digest client number it) it stamps answer) these
-        (done_in_run trace is_run have at below replica client number round stamps answer reply) in
+        (done_in_run trace is_run have at below replica client number round stamps answer reply
+        (λ object names. adds_what_is_found trace is_run have laws joint facts at below replica client number round
+        given reply object)) in
         let handled : IsHandled trace client number parts =
         told_handled trace is_run have clients operation among parts is_act at below replica round given tt reply in
         record {
@@ -100,10 +103,8 @@ module _ (trace : Trace) (is_run : IsRun trace) (have : ArePlain trace) (clients
                 version = it.version;
                 has = version_is trace laws joint is_run have (at + 1) (omega arith) replica reply.new
                     reply.is_new told.0 it.candidate
-                    (facts.plain told.0 it.candidate
                     (held_ever trace laws (at + 1) (omega arith) replica reply.new reply.is_new told.0 it.candidate
-                    it.held)
-                    (rw it.of_act refl)) it.held it.version it.of_candidate;
+                    it.held) it.version it.of_candidate;
                 keeps = it.keeps;
               }) stamps done.each;
         }

@@ -61,8 +61,6 @@ use Rattle.qu_claims.specs.Values.{HasVersion}
 use Rattle.qu_runs.specs.Plain.{ArePlain}
 use Rattle.qu_shown.specs.Views.{IsOfKept}
 use Rattle.qu_laws.proofs.Acceptors.{method_is_shown}
-use Rattle.qu_accepts.proofs.HeldInRuns.{held_versions}
-use Rattle.qu_accepts.proofs.HeldVersions.{AreOfHeld, HoldsUnder}
 use Rattle.qu_runs.proofs.Worlds.LaterLetters.{letter_later}
 use Rattle.qu_rounds.proofs.Members.{is_among, members_count}
 use Rattle.qu_shown.proofs.AskedLetters.{AskedBy}
@@ -259,19 +257,8 @@ module _ (trace : Trace) (is_run : IsRun trace) (have : ArePlain trace) (clients
         let object : ObjectId = told.0 in
         let base : Candidate = has.base in
         let mine = tells.reply in
-        let are : AreOfHeld mine.old = held_versions trace is_run have at (omega arith) member mine.old mine.is_old in
-        let under : HoldsUnder mine.old object base.stamp = are.of_held object base.stamp has.version has.of_base in
-        let held : Candidate = under.held in
-        let is_base : held ≡ base =
-        same_accepted trace laws joint object held base (held_ever trace laws at (omega arith) member mine.old
-        mine.is_old object held under.is_held) accepted
-        under.under in
-        version_is trace laws joint is_run have at (omega arith) member mine.old mine.is_old object base
-        (facts.plain_base object base (entries_of object (culled_in mine.old mine.sets))
-        (ap (λ (bounds : ℕ). method_at bounds (entries_of object (culled_in mine.old mine.sets)))
-        (sym (bounds_are trace at member mine.old mine.is_old)) ∙ has.method) accepted)
-        (ap (λ (it : Candidate). holds it (own_candidates mine.old object)) (sym is_base) ∙ under.is_held) has.version
-        has.of_base
+        version_is trace laws joint is_run have at (omega arith) member mine.old mine.is_old object base accepted
+        has.version has.of_base
 
     -- what the member was asked is the operation's query
     pub query_asked : (operation : OpRecord) → Contains (operations_of trace) operation

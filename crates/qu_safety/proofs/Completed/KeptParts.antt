@@ -33,8 +33,6 @@ use Rattle.qu_runs.specs.Plain.{ArePlain}
 use Rattle.qu_claims.specs.RunSetting.{setting}
 use Rattle.qu_claims.specs.Times.{world_after}
 use Rattle.qu_runs.proofs.Worlds.OpeningReplicas.{bounds_are}
-use Rattle.qu_accepts.proofs.HeldInRuns.{held_versions}
-use Rattle.qu_accepts.proofs.HeldVersions.{HoldsUnder, AreOfHeld}
 use Rattle.qu_laws.proofs.KeptEntries.{base_accepted}
 use Rattle.qu_replies.specs.Replies.{Keeps, HasKept, IsReplyTo, culled_in}
 use Rattle.qu_claims.specs.Updates.{IsEverAccepted}
@@ -42,7 +40,8 @@ use Rattle.qu_claims.specs.Values.{HasVersion}
 use Rattle.qu_values.proofs.Versions.EverAccepted.{held_ever, quorum_ever}
 use Rattle.qu_replies.proofs.RepliesInRuns.{act_of_update, update_brings, update_had}
 use Rattle.qu_values.proofs.Versions.StoredValues.{version_is}
-use Rattle.qu_values.proofs.Updating.UpdateFacts.{IsUpTo, IsWritten, UpdateFacts}
+use Rattle.qu_values.proofs.Updating.UpdateFacts.{UpdateFacts}
+use Rattle.qu_claims.specs.Truth.{IsAncestorOrSelf, IsWritten}
 use Rattle.qu_values.proofs.Updating.Updates.{same_accepted}
 
 -- on an object, a candidate of the act that was decided by this time, whose version keeps the answer, and the
@@ -56,7 +55,7 @@ pub record KeptPart (trace : Trace) (client : ClientId) (number : ℕ) (parts : 
   pub keeps : Keeps client number (act_digest client number parts) answer version
   pub decided : IsDecided (setting trace) time object candidate
   pub complete : Candidate
-  pub upon : IsUpTo trace object candidate complete
+  pub upon : IsAncestorOrSelf trace object candidate complete
   pub established : IsEstablished (setting trace) time object complete
 
 module _ (trace : Trace) (is_run : IsRun trace) (have : ArePlain trace) (laws : Laws (setting trace))
@@ -68,7 +67,7 @@ module _ (trace : Trace) (is_run : IsRun trace) (have : ArePlain trace) (laws : 
     base_decided : IsDecided (setting trace) time object base
     base_decided = IsDecided.established base plain established
 
-    up_to_decided : (first : Candidate) → IsEverAccepted trace object first → IsUpTo trace object first base
+    up_to_decided : (first : Candidate) → IsEverAccepted trace object first → IsAncestorOrSelf trace object first base
         → IsDecided (setting trace) time object first
     up_to_decided first accepted (inl same) = subst (IsDecided (setting trace) time object) (sym same) base_decided
     up_to_decided first accepted (inr under) =
@@ -124,18 +123,8 @@ module _ (trace : Trace) (is_run : IsRun trace) (have : ArePlain trace) (laws : 
     -- the version that is found under its stamp is its own
     base_version : HasVersion trace object kept.base kept.version
     base_version =
-        let are : AreOfHeld reply.old = held_versions trace is_run have at (omega arith) replica reply.old
-        reply.is_old in
-        let under : HoldsUnder reply.old object (kept.base).stamp =
-        are.of_held object (kept.base).stamp kept.version kept.of_base in
-        let is_base : under.held ≡ kept.base =
-        same_accepted trace laws joint object under.held kept.base
-        (held_ever trace laws at (omega arith) replica reply.old reply.is_old object under.held under.is_held)
-        base_ever under.under in
         version_is trace laws joint is_run have at (omega arith) replica reply.old reply.is_old object kept.base
-        base_plain
-        (subst (λ (it : Candidate). holds it (own_candidates reply.old object) ≡ true) is_base under.is_held)
-        kept.version kept.of_base
+        base_ever kept.version kept.of_base
 
     pub kept_part : KeptPart trace client number parts answer at object
     unfolding setting

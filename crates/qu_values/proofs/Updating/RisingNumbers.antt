@@ -22,7 +22,8 @@ use Rattle.qu_claims.specs.RunSetting.{setting}
 use Rattle.qu_claims.specs.Updates.{Update, IsOf, IsEverAccepted, NumbersRise}
 use Rattle.qu_claims.specs.Values.{RestsOn, HasVersion}
 use Rattle.qu_values.proofs.Updating.OneAct.{ActsAreOne}
-use Rattle.qu_values.proofs.Updating.UpdateFacts.{IsUnder, IsUpTo, IsWritten, NoneIsRepeated}
+use Rattle.qu_values.proofs.Updating.UpdateFacts.{IsUnder, NoneIsRepeated}
+use Rattle.qu_claims.specs.Truth.{IsAncestorOrSelf, IsWritten}
 use Rattle.qu_values.proofs.Updating.Updates.{acts, opening_no_act, one_of, same_accepted}
 use Rattle.qu_values.proofs.Versions.Values.{row_upon, IsUpdated, version_induction, version_cases, own_row, other_row, own_rest, own_prior, updated, not_opening, IsCopyOf}
 use Rattle.qu_stamp.specs.Stamp.{is_below}
@@ -45,7 +46,7 @@ module _ (trace : Trace) (laws : Laws (setting trace)) (joint : Joint (setting t
 
     by_base : (object : ObjectId) (first candidate base : Candidate) → IsEverAccepted trace object first
         → IsEverAccepted trace object base → candidate.prior ≡ base.stamp → IsUnder trace object first candidate
-        → IsUpTo trace object first base
+        → IsAncestorOrSelf trace object first base
     by_base object first candidate base accepted base_accepted prior (IsAncestor.direct _ rests_on) =
         inl (same_accepted trace laws joint object first base accepted base_accepted (sym rests_on ∙ prior))
     by_base object first candidate base accepted base_accepted prior
@@ -78,7 +79,7 @@ module _ (trace : Trace) (laws : Laws (setting trace)) (joint : Joint (setting t
     -- so it is made for no update
     none_up_to_opening : (object : ObjectId) (first candidate : Candidate) (update : Update)
         → IsEverAccepted trace object first → IsOf trace update object first
-        → IsEverAccepted trace object candidate → candidate ≡ opening → IsUpTo trace object first candidate → ⊥
+        → IsEverAccepted trace object candidate → candidate ≡ opening → IsAncestorOrSelf trace object first candidate → ⊥
     none_up_to_opening object first candidate update accepted is_of also begins (inl same) =
         opening_no_act trace first (same ∙ begins) (acts trace update object first is_of)
     none_up_to_opening object first candidate update accepted is_of also begins (inr under) =
@@ -90,7 +91,7 @@ module _ (trace : Trace) (laws : Laws (setting trace)) (joint : Joint (setting t
     -- the version of a candidate keeps the number of each update up to it, or a later one of its client
     abbrev pub KeepsAll : ObjectId → Candidate → ObjState → Type 0
     KeepsAll object candidate state = (first : Candidate) (update : Update) → IsEverAccepted trace object first
-        → IsOf trace update object first → IsUpTo trace object first candidate
+        → IsOf trace update object first → IsAncestorOrSelf trace object first candidate
         → KeepsFrom update.client update.number state
 
     module _ (object : ObjectId) (candidate : Candidate) (state : ObjState)
@@ -102,7 +103,7 @@ module _ (trace : Trace) (laws : Laws (setting trace)) (joint : Joint (setting t
       before = made.befores object
 
       up_to_base : (first : Candidate) → IsEverAccepted trace object first → IsUnder trace object first candidate
-          → IsUpTo trace object first base
+          → IsAncestorOrSelf trace object first base
       up_to_base first accepted under =
           by_base object first candidate base accepted (own_rest trace object candidate state made).base_accepted
           (own_prior trace object candidate state made) under
@@ -245,7 +246,7 @@ module _ (trace : Trace) (laws : Laws (setting trace)) (joint : Joint (setting t
       on_base : (object : ObjectId) (candidate lower first : Candidate) → IsEverAccepted trace object candidate
           → (setting trace).plain candidate ≡ true → is_below candidate.prior candidate.stamp ≡ true
           → IsEverAccepted trace object lower → (setting trace).plain lower ≡ true → candidate.prior ≡ lower.stamp
-          → IsUpTo trace object first lower → IsUnder trace object first candidate
+          → IsAncestorOrSelf trace object first lower → IsUnder trace object first candidate
       on_base object candidate lower first accepted plain below base_accepted plain_base prior (inl same) =
           IsAncestor.direct candidate (prior ∙ ap (λ (it : Candidate). it.stamp) (sym same))
       on_base object candidate lower first accepted plain below base_accepted plain_base prior (inr under) =
@@ -258,7 +259,7 @@ module _ (trace : Trace) (laws : Laws (setting trace)) (joint : Joint (setting t
 
       -- what wrote a row of the base wrote it of what rests on the base
       written_under : (object : ObjectId) (lower candidate : Candidate) (client : ClientId) (row : KeptRow)
-          → ((first : Candidate) → IsUpTo trace object first lower → IsUnder trace object first candidate)
+          → ((first : Candidate) → IsAncestorOrSelf trace object first lower → IsUnder trace object first candidate)
           → IsWritten trace object lower client row → IsWritten trace object candidate client row
       written_under object lower candidate client row under it = record {
         first = it.first;
@@ -290,7 +291,7 @@ module _ (trace : Trace) (laws : Laws (setting trace)) (joint : Joint (setting t
         abbrev rest : RestsOn trace object candidate object (made.bases object)
         rest = own_rest trace object candidate state made
 
-        under_base : (first : Candidate) → IsUpTo trace object first (made.bases object)
+        under_base : (first : Candidate) → IsAncestorOrSelf trace object first (made.bases object)
             → IsUnder trace object first candidate
         under_base first up_to =
             on_base object candidate (made.bases object) first accepted

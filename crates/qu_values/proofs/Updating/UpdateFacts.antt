@@ -2,7 +2,6 @@
 -- it has to show again, and nothing above it.
 use Rattle.std.proofs.Common.{◌≡◌, ◌⊎◌, true, false, List, [], ◌∷◌, Some}
 use Rattle.qu_base.specs.declared.party.ClientId.{ClientId}
-use Rattle.qu_objects.specs.Digesting.{act_digest}
 use Rattle.std.specs.List.{AllZip}
 use Rattle.qu_claims.specs.Groups.{IsOneAct}
 use Rattle.qu_chain.specs.Joint.{HasMember}
@@ -22,6 +21,7 @@ use Rattle.qu_trace.specs.declared.trace.Trace.{Trace}
 use Rattle.qu_claims.specs.RunSetting.{setting}
 use Rattle.qu_claims.specs.Updates.{Update, IsOf, IsEverAccepted}
 use Rattle.qu_claims.specs.Values.{HasVersion}
+use Rattle.qu_claims.specs.Truth.{IsWritten}
 
 -- the candidate's version has this value
 pub record HasValue (trace : Trace) (object : ObjectId) (candidate : Candidate) (value : Value) : Type 0 where
@@ -78,26 +78,6 @@ pub record IsPerformed (trace : Trace) (update : Update) (object : ObjectId) (ca
 -- the first candidate is an ancestor of the second
 abbrev pub IsUnder : Trace → ObjectId → Candidate → Candidate → Type 0
 IsUnder trace object first second = IsAncestor (setting trace) (setting trace).last object first second
-
--- it is the second one itself or an ancestor of it
-abbrev pub IsUpTo : Trace → ObjectId → Candidate → Candidate → Type 0
-IsUpTo trace object first second = (first ≡ second) ⊎ IsUnder trace object first second
-
--- the update that wrote a row of a version: its candidate is that of the version or an ancestor, and its own version
--- keeps the row already
-pub record IsWritten (trace : Trace) (object : ObjectId) (candidate : Candidate) (client : ClientId) (row : KeptRow)
-    : Type 0 where
-  pub first : Candidate
-  pub up_to : IsUpTo trace object first candidate
-  pub accepted : IsEverAccepted trace object first
-  pub update : Update
-  pub is_of : IsOf trace update object first
-  pub of_client : update.client ≡ client
-  pub of_number : update.number ≡ row.number
-  pub of_act : row.act ≡ act_digest update.client update.number update.parts
-  pub its : ObjState
-  pub has : HasVersion trace object first its
-  pub keeps : row_of client its.kept ≡ Some row
 
 -- ---- the facts
 

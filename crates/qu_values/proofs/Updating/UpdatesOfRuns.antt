@@ -35,7 +35,8 @@ use Rattle.qu_values.proofs.Updating.OneAct.{ActsAreOne}
 use Rattle.qu_values.proofs.Requests.FitActs.{fit}
 use Rattle.qu_laws.proofs.Origins.{accepted_from}
 use Rattle.qu_values.proofs.Updating.RisingNumbers.{numbers_rise as rising, none_repeated, rows_are_true}
-use Rattle.qu_values.proofs.Versions.StoredValues.{version_held, plain_of_method}
+use Rattle.qu_values.proofs.Versions.StoredValues.{version_held}
+use Rattle.qu_values.proofs.Versions.SteppedVersions.{plain_of_method}
 use Rattle.qu_values.proofs.Updating.Updates.{opening_no_act, same_accepted}
 use Rattle.qu_values.proofs.Updating.UpdateFacts.{HasValue, MadeFor, UpdateFacts, NoneIsRepeated}
 use Rattle.qu_values.proofs.Versions.Values.{one_version}

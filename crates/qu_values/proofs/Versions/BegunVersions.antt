@@ -1,14 +1,14 @@
 -- Versions that replicas store, and those with which a run begins.
-use Rattle.std.proofs.Common.{◌≡◌, ℕ, zero, suc, ◌+◌, Bool, true, false, ◌&&◌, cond, List, [], ◌∷◌, Some, inl, inr, refl, ap, subst, ◌∙◌, arith}
+use Rattle.std.proofs.Common.{◌≡◌, ℕ, zero, suc, ◌+◌, Bool, true, false, ◌&&◌, cond, List, [], ◌∷◌, Some, inl, inr, refl, sym, ap, subst, ◌∙◌, arith, Option, zero-add}
 use Rattle.std.specs.Prelude.{◌==◌, slice_get}
-use Rattle.std.proofs.lemmas.Bool.{false≢true, cases_Bool, or_cases, and_from, and_parts, eq-eqb, eqb-true}
-use Rattle.std.proofs.lemmas.Option.{none-some}
+use Rattle.std.proofs.lemmas.Bool.{false≢true, cases_Bool, or_cases, or_left, and_from, and_parts, eq-eqb, eqb-true}
+use Rattle.std.proofs.lemmas.Option.{none-some, same_Some}
 use Rattle.qu_base.specs.declared.party.ObjectId.{ObjectId}
 use Rattle.qu_base.specs.declared.party.ReplicaId.{ReplicaId}
 use Rattle.qu_stamp.specs.declared.candidate.Candidate.{Candidate}
 use Rattle.qu_stamp.specs.Stamp.{opening_stamp, same_stamp}
 use Rattle.qu_stamp.specs.Candidate.{opening, same}
-use Rattle.qu_stamp.proofs.Order.{same_stamp-self, equal_by_same}
+use Rattle.qu_stamp.proofs.Order.{same_stamp-self, same-self, equal_by_same, equal_by_same_stamp}
 use Rattle.qu_history.specs.History.{holds}
 use Rattle.qu_objects.specs.declared.kind.KindName.{KindName}
 use Rattle.qu_objects.specs.declared.state.ObjState.{ObjState}
@@ -24,7 +24,10 @@ use Rattle.qu_trace.specs.Faulty.{is_faulty}
 use Rattle.qu_world.specs.State.{kinds_at, ring_of}
 use Rattle.qu_claims.specs.Values.{HasVersion}
 use Rattle.qu_claims.specs.RunSetting.{setting}
-use Rattle.qu_accepts.proofs.HeldVersions.{AreOfHeld, opening_of_held}
+use Rattle.qu_claims.specs.Truth.{IsVersionOf}
+use Rattle.qu_claims.specs.Times.{world_after}
+use Rattle.qu_stamp.specs.declared.stamp.Stamp.{Stamp}
+use Rattle.qu_values.proofs.Versions.EverAccepted.{held_accepted}
 
 -- the replica stores the version of the candidate
 abbrev pub Stores : Trace → ObjectId → ReplicaState → Candidate → Type 0
@@ -32,10 +35,12 @@ Stores trace object state candidate =
     (version : ObjState) × (version_at object candidate.stamp state.versions ≡ Some version) × HasVersion trace object
     candidate version
 
--- a replica that stores the versions of all candidates without barrier that it holds, and no others
-pub record IsVersioned (trace : Trace) (state : ReplicaState) : Type 0 where
+-- a replica that stores the versions of all candidates without barrier that it holds; whatever it stores is the version
+-- of its stamp
+pub record IsVersioned (trace : Trace) (time : ℕ) (state : ReplicaState) : Type 0 where
   pub bounds : state.keys.bounds ≡ trace.setup.bounds
-  pub of_held : AreOfHeld state
+  pub of_stamps : (object : ObjectId) (stamp : Stamp) (version : ObjState)
+      → version_at object stamp state.versions ≡ Some version → IsVersionOf trace time object stamp version
   pub stores : (object : ObjectId) (candidate : Candidate) → (setting trace).plain candidate ≡ true
       → holds candidate (own_candidates state object) ≡ true → Stores trace object state candidate
 
@@ -119,11 +124,88 @@ begun_stores trace me object candidate begun =
       HasVersion.of_opening object begun.kind (kept_kinds trace.setup me.0 object.0 begun.kind begun.is_kind),
     )
 
-pub opening-versioned : (trace : Trace) (me : ReplicaId) → IsVersioned trace
-    (replica_at_start me (ring_of trace.setup) (kinds_at trace.setup me.0))
-opening-versioned trace me = record {
-  bounds = refl;
-  of_held = opening_of_held me (ring_of trace.setup) (kinds_at trace.setup me.0);
-  stores = λ object candidate plain held. begun_stores trace me object candidate
-      (begun_from me 0 (kinds_at trace.setup me.0) object object.0 candidate (omega arith) held);
-}
+-- ---- what is found at the beginning
+
+record IsOpeningVersion (me : ReplicaId) (first : ℕ) (kinds : List KindName) (object : ObjectId) (stamp : Stamp)
+    (version : ObjState) : Type 0 where
+  place : ℕ
+  at : object.0 ≡ first + place
+  kind : KindName
+  is_kind : slice_get kinds place ≡ Some kind
+  alone : candidates_in (slice_get (opening_histories me first kinds) place) ≡ opening ∷ []
+  under : opening_stamp ≡ stamp
+  is_version : opening_version kind ≡ version
+
+opening_from : (me : ReplicaId) (first : ℕ) (kinds : List KindName) (object : ObjectId) (stamp : Stamp)
+    (version : ObjState) → version_at object stamp (opening_store first kinds) ≡ Some version
+    → IsOpeningVersion me first kinds object stamp version
+unfolding version_at opening_store opening_histories
+opening_from me first [] object stamp version found = absurd (none-some version found)
+opening_from me first (kind ∷ kinds) object stamp version found =
+    let later : Option ObjState = version_at object stamp (opening_store (first + 1) kinds) in
+    elim (cases_Bool (first == object.0 && same_stamp opening_stamp stamp)) [
+      | inl here ↦
+          let parts : ((first == object.0) ≡ true) × (same_stamp opening_stamp stamp ≡ true) = and_parts _ _ here in
+          let equal : first ≡ object.0 = eqb-true _ _ parts.0 in
+          record {
+            place = 0;
+            at = omega arith;
+            kind = kind;
+            is_kind = refl;
+            alone = refl;
+            under = equal_by_same_stamp opening_stamp stamp parts.1;
+            is_version = same_Some (opening_version kind) version
+                (ap (λ (test : Bool). cond test (Some (opening_version kind)) later) (sym here) ∙ found);
+          }
+      | inr there ↦
+          let inner : IsOpeningVersion me (first + 1) kinds object stamp version =
+          opening_from me (first + 1) kinds object stamp version
+          (ap (λ (test : Bool). cond test (Some (opening_version kind)) later) (sym there) ∙ found) in
+          let after : object.0 ≡ (first + 1) + inner.place = inner.at in
+          record {
+            place = suc inner.place;
+            at = omega arith;
+            kind = inner.kind;
+            is_kind = inner.is_kind;
+            alone = inner.alone;
+            under = inner.under;
+            is_version = inner.is_version;
+          }
+    ]
+
+opening_plain : (trace : Trace) → (setting trace).plain opening ≡ true
+unfolding setting
+opening_plain trace = refl
+
+module _ (trace : Trace) (me : ReplicaId) where
+  abbrev pub at_start : ReplicaState
+  at_start = replica_at_start me (ring_of trace.setup) (kinds_at trace.setup me.0)
+
+  module _ (is_state : slice_get (world_after trace 0).replicas me.0 ≡ Some at_start) where
+    begun_of_stamp : (object : ObjectId) (stamp : Stamp) (version : ObjState)
+        → version_at object stamp at_start.versions ≡ Some version → IsVersionOf trace 0 object stamp version
+    begun_of_stamp object stamp version found =
+        let kinds : List KindName = kinds_at trace.setup me.0 in
+        let it : IsOpeningVersion me 0 kinds object stamp version = opening_from me 0 kinds object stamp version found
+        in
+        let place : object.0 ≡ it.place = it.at ∙ zero-add it.place in
+        let held : holds opening (own_candidates at_start object) ≡ true =
+        ap (λ (at : ℕ). holds opening (candidates_in (slice_get (opening_histories me 0 kinds) at))) place
+        ∙ ap (holds opening) it.alone ∙ or_left (same opening opening) false (same-self opening) in
+        subst (IsVersionOf trace 0 object stamp) it.is_version
+        (record {
+          candidate = opening;
+          under = it.under;
+          plain = opening_plain trace;
+          accepted = held_accepted trace 0 me.0 at_start is_state object opening held;
+          has = HasVersion.of_opening object it.kind
+              (kept_kinds trace.setup me.0 object.0 it.kind (ap (slice_get kinds) place ∙ it.is_kind));
+        })
+
+    pub opening-versioned : IsVersioned trace 0 at_start
+    opening-versioned = record {
+      bounds = refl;
+      of_stamps = begun_of_stamp;
+      stores = λ object candidate plain held. begun_stores trace me object candidate
+          (begun_from me 0 (kinds_at trace.setup me.0) object object.0 candidate (omega arith) held);
+    }

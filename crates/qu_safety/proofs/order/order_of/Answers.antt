@@ -7,27 +7,18 @@ use Rattle.qu_machine.specs.Serial.{IsSerial}
 use Rattle.qu_trace.specs.declared.trace.Entry.{Entry}
 use Rattle.qu_trace.specs.declared.trace.Trace.{Trace}
 use Rattle.qu_trace.specs.Operation.{operations_of}
-use Rattle.qu_chain.specs.Laws.{Laws}
-use Rattle.qu_chain.specs.Joint.{Joint}
-use Rattle.qu_claims.specs.RunSetting.{setting}
 use Rattle.qu_runs.specs.Plain.{HaveParts, ArePlain}
 use Rattle.qu_claims.specs.Premises.{IsUnforged, MeetsPremises}
+use Rattle.qu_claims.specs.Truth.{VersionsAreTrue}
 use Rattle.qu_runs.proofs.Digests.Plain.{plain_from}
 use Rattle.qu_claims.specs.Order.{IsPrintedOrder}
 use Rattle.qu_laws.proofs.Chained.{is_chained, decides_in_turn, decides_jointly}
-use Rattle.qu_laws.proofs.Laws.{laws}
-use Rattle.qu_laws.proofs.JointLaws.{joint_laws}
 use Rattle.qu_safety.proofs.DecidedOnce.{decides_once}
 use Rattle.qu_safety.proofs.Completed.ByQuorums.{completes_by_quorums}
 use Rattle.qu_laws.proofs.Named.{stamps_name}
-use Rattle.qu_values.proofs.Updating.OneAct.{ActsAreOne, acts_are_one}
-use Rattle.qu_claims.specs.Updates.{NumbersRise}
-use Rattle.qu_values.proofs.Updating.UpdateFacts.{UpdateFacts, NoneIsRepeated}
-use Rattle.qu_values.proofs.Updating.UpdatesOfRuns.{update_facts, numbers_rise, none_is_repeated}
-use Rattle.qu_safety.proofs.KnownRuns.{client_facts}
+use Rattle.qu_safety.proofs.Grounded.{Grounded, grounded}
 use Rattle.qu_safety.proofs.Points.OwnedPoints.{owned}
 use Rattle.qu_safety.proofs.Orders.SerialOrder.{serial}
-use Rattle.qu_values.proofs.Requests.ClientFacts.{ClientFacts}
 use Rattle.qu_safety.proofs.order.order_of.Goals as goal
 
 -- what holds whatever was returned
@@ -35,41 +26,20 @@ always : {T E : Type 0} {P : Type 0} (result : Result T E) → P → OnOk result
 always (Ok value) it = it
 always (Err failure) it = tt
 
+entries_of : (c : goal.After-printed_order) → c.as_slice.result.now ≡ c.args.trace.now.entries
+entries_of c = c.as_slice.ensures ∙ ap (λ (run : Trace). run.entries) c.trace.ensures
+
+parts_of : (c : goal.After-printed_order) → HaveParts c.args.trace.now.entries
+parts_of c = subst HaveParts (entries_of c) c.have_parts.ensures.parts
+
+few_of : (c : goal.After-printed_order) → length c.args.trace.now.entries < 2 ^ 63
+few_of c = subst (λ (entries : List Entry). length entries < 2 ^ 63) (entries_of c) c.have_parts.ensures.few
+
 plain_run : (c : goal.After-printed_order) → IsUnforged c.args.trace.now → ArePlain c.args.trace.now
-plain_run c unforged =
-    let entries : c.as_slice.result.now ≡ c.args.trace.now.entries =
-    c.as_slice.ensures ∙ ap (λ (run : Trace). run.entries) c.trace.ensures in
-    plain_from c.args.trace.now (subst HaveParts entries c.have_parts.ensures.parts)
-    (subst (λ (it : List Entry). length it < 2 ^ 63) entries c.have_parts.ensures.few) unforged
+plain_run c unforged = plain_from c.args.trace.now (parts_of c) (few_of c) unforged
 
--- what the serial order rests on
-record Grounded (trace : Trace) : Type 0 where
-  plain : ArePlain trace
-  clients : ClientFacts trace
-  one_act : ActsAreOne trace
-  laws : Laws (setting trace)
-  joint : Joint (setting trace)
-  facts : UpdateFacts trace
-  numbers : NumbersRise trace
-  once : NoneIsRepeated trace
-
-grounded : (c : goal.After-printed_order) → MeetsPremises c.args.trace.now → Grounded c.args.trace.now
-grounded c premises =
-    let trace : Trace = c.args.trace.now in
-    let plain : ArePlain trace = plain_run c premises.unforged in
-    let one_act : ActsAreOne trace = acts_are_one trace c.requires plain premises.no_collision in
-    let law : Laws (setting trace) = laws trace c.requires plain in
-    let joint : Joint (setting trace) = joint_laws trace c.requires plain premises.no_collision in
-    record {
-      plain = plain;
-      clients = client_facts trace c.requires plain;
-      one_act = one_act;
-      laws = law;
-      joint = joint;
-      facts = update_facts trace c.requires plain one_act law joint;
-      numbers = numbers_rise trace c.requires plain one_act law joint;
-      once = none_is_repeated trace c.requires plain one_act law joint;
-    }
+its_grounds : (c : goal.After-printed_order) → MeetsPremises c.args.trace.now → Grounded c.args.trace.now
+its_grounds c premises = grounded c.args.trace.now c.requires (parts_of c) (few_of c) premises
 
 pub returns-clause-serial : goal.returns-clause-serial
 returns-clause-serial c =
@@ -77,7 +47,7 @@ returns-clause-serial c =
     (λ (order : List Point). MeetsPremises c.args.trace.now
     → IsSerial c.args.trace.now.setup.kinds (operations_of c.args.trace.now) order)
     (λ order printed premises.
-    let it : Grounded c.args.trace.now = grounded c premises in
+    let it : Grounded c.args.trace.now = its_grounds c premises in
     serial c.args.trace.now c.requires it.plain it.clients it.one_act it.laws it.joint it.facts it.once order
     (owned c.args.trace.now c.requires it.plain it.clients order printed))
     c.printed_order.ensures
@@ -105,17 +75,22 @@ returns-clause-in_turn c =
 pub returns-clause-once : goal.returns-clause-once
 returns-clause-once c =
     always c.printed_order.result (λ premises.
-    let it : Grounded c.args.trace.now = grounded c premises in
+    let it : Grounded c.args.trace.now = its_grounds c premises in
     decides_once c.args.trace.now it.laws it.joint it.one_act it.facts it.once)
 
 pub returns-clause-numbers : goal.returns-clause-numbers
 returns-clause-numbers c =
     always c.printed_order.result (λ premises.
-    let it : Grounded c.args.trace.now = grounded c premises in
+    let it : Grounded c.args.trace.now = its_grounds c premises in
     it.numbers)
+
+pub returns-clause-versions : goal.returns-clause-versions
+returns-clause-versions c =
+    always c.printed_order.result
+    (subst (λ (run : Trace). MeetsPremises run → VersionsAreTrue run) c.trace.ensures c.versions_are_true.ensures)
 
 pub returns-clause-by_quorums : goal.returns-clause-by_quorums
 returns-clause-by_quorums c =
     always c.printed_order.result (λ premises.
-    let it : Grounded c.args.trace.now = grounded c premises in
+    let it : Grounded c.args.trace.now = its_grounds c premises in
     completes_by_quorums c.args.trace.now c.requires it.plain it.clients it.laws it.joint it.facts)
