@@ -53,12 +53,13 @@ use Rattle.qu_shown.proofs.Views.{true_world}
 use Rattle.qu_runs.proofs.Worlds.WorldGrowth.{world_after-next}
 use Rattle.qu_claims.specs.Carried.{Tells, Carries, Brings, handed}
 use Rattle.qu_frames.specs.Formats.{frame_form}
+use Rattle.qu_history.specs.Formats.{sets_form}
 use Rattle.qu_history.specs.declared.sealed.Sealed.{Sealed}
 use Rattle.qu_runs.proofs.Fits.Carrying.{AnswersFit, no_reply, signed_spelled, signed_carries, brings_decoded}
 use Rattle.qu_runs.proofs.Fits.Fitting.{fit_step, handed_fits}
 use Rattle.qu_frames.specs.Signing.{brought, signed, signature}
 use Rattle.qu_seal.specs.Keys.{Ring}
-use Rattle.qu_replica.proofs.Fits.FitSteps.{blank_sized}
+use Rattle.qu_replica.proofs.Fits.FitSteps.{blank_sized, request-fits}
 use Rattle.qu_runs.proofs.Events.Handing.{letter_handed, offered_handed}
 use Rattle.qu_runs.proofs.Fits.FitParts.{fits_parts}
 use Rattle.qu_rows.specs.Allowed.{has_parts}
@@ -383,15 +384,22 @@ module _ (trace : Trace) (is_run : IsRun trace) (have : ArePlain trace) (at : �
       ap (λ (it : Entry). handed (world_after trace at) it.event)
       (get_or_from_slice_get trace.entries at reply.entry reply.entry reply.is_entry) ∙ reply.is_handed
 
-  -- it asks for what an operation may ask for
-  pub reply_parts : IsTrue (has_parts reply.body)
-  reply_parts =
-      fits_parts (frame.Request client number round reply.sets reply.body reply.mac)
-      (handed_fits trace is_run have at reply.entry below (party.Replica (record { 0 = replica })) reply.text
+  -- it fits its format
+  reply_fits : frame_form.Fits (frame.Request client number round reply.sets reply.body reply.mac)
+  reply_fits =
+      handed_fits trace is_run have at reply.entry below (party.Replica (record { 0 = replica })) reply.text
       reply_handed
       (frame.Request client number round reply.sets reply.body reply.mac)
       (brings_decoded reply.old reply.text (frame.Request client number round reply.sets reply.body reply.mac)
-      reply.brings))
+      reply.brings)
+
+  -- and so do its sets
+  pub reply_sets : sets_form.Fits reply.sets
+  reply_sets = (request-fits client number round reply.sets reply.body reply.mac reply_fits).shown
+
+  -- it asks for what an operation may ask for
+  pub reply_parts : IsTrue (has_parts reply.body)
+  reply_parts = fits_parts (frame.Request client number round reply.sets reply.body reply.mac) reply_fits
 
   -- a correct client sent it
   pub reply_letter : is_faulty trace.setup (party.Client client) ≡ false

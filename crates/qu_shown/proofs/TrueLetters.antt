@@ -1,6 +1,6 @@
 -- A client that keeps only histories that were held, as their replicas sealed them, sends only those; so does a
 -- replica that shows its own.
-use Rattle.std.proofs.Common.{◌≡◌, ℕ, zero, suc, ◌+◌, List, [], ◌∷◌, map, Option, None, Some, IfSome, Ok, refl, sym, ap, subst}
+use Rattle.std.proofs.Common.{◌≡◌, ℕ, zero, suc, ◌+◌, List, [], ◌∷◌, map, Option, None, Some, Ok, refl, sym, subst}
 use Rattle.std.specs.Prelude.{slice_get}
 use Rattle.std.specs.List.{AllByRecursion, cons_option}
 use Rattle.std.proofs.lemmas.Bool.{cond_both}
@@ -12,12 +12,10 @@ use Rattle.qu_history.specs.declared.sets.SetOf.{SetOf}
 use Rattle.qu_history.specs.declared.sealed.Sealed.{Sealed}
 use Rattle.qu_history.specs.History.{ObjectHistory}
 use Rattle.qu_objects.specs.declared.op.Op.{Op}
-use Rattle.qu_frames.specs.declared.frame.Body.{Body}
 use Rattle.qu_frames.specs.declared.frame.Frame.{Frame}
 use Rattle.qu_frames.specs.declared.frame.Frame.TheVariants as frame
 use Rattle.qu_frames.specs.declared.frame.Letter.{Letter}
 use Rattle.qu_frames.specs.declared.verdict.Verdict.{Verdict}
-use Rattle.qu_frames.specs.Body.{body_of}
 use Rattle.qu_history.specs.Sealing.{sealed_by}
 use Rattle.qu_frames.specs.Formats.{frame_form}
 use Rattle.qu_frames.specs.Decoding.{decoded}
@@ -34,14 +32,15 @@ use Rattle.qu_client.specs.declared.kept.Mark.TheVariants.{Unshown}
 use Rattle.qu_client.specs.declared.work.Work.{Work}
 use Rattle.qu_client.specs.declared.state.ClientState.{ClientState}
 use Rattle.qu_client.specs.declared.state.Stepped.{Stepped}
-use Rattle.qu_client.specs.State.{client_at_start, is_older, same_source, keep, keep_all}
-use Rattle.qu_client.specs.Rounds.{sets_of, request_of, requests_from, asked}
+use Rattle.qu_client.specs.State.{client_at_start, is_older, same_source, keep, keep_all, kept_of}
+use Rattle.qu_client.specs.Rounds.{operation_objects, entries_from, set_of, sets_of, request_of, requests_from, asked}
 use Rattle.qu_client.specs.Steps.{goes_on, counted_in, client_on_frame, client_on_received, client_step, client_invoke}
 use Rattle.qu_client.proofs.Marks.{IsRemarked, each_remarked}
 use Rattle.qu_client.proofs.Cases.{counted_cases, invoke_cases}
-use Rattle.qu_runs.specs.Plain.{HasOpParts}
 use Rattle.qu_claims.specs.Carried.{Carries}
+use Rattle.qu_shown.specs.Views.{EachEntry}
 use Rattle.qu_world.proofs.Each.{each_weaker}
+use Rattle.qu_runs.proofs.Fits.FitRequests.{entries_with, entries_next, entries_none, found_among}
 use Rattle.qu_runs.proofs.Fits.Carrying.{AsksFit, AnswersFit, signed_carries}
 use Rattle.qu_frames.specs.Signing.{brought, signed}
 use Rattle.qu_seal.specs.Keys.{Ring}
@@ -49,86 +48,62 @@ use Rattle.qu_frames.proofs.Signed.{brought_is_decoded}
 use Rattle.qu_base.specs.declared.party.Party.{Party}
 use Rattle.qu_base.specs.declared.party.ObjectId.{ObjectId}
 
--- the sets and the body of a request: made of kept histories that were held
-pub record IsMadeOf (Held : Sealed → Type 0) (bounds : ℕ) (sets : List SetOf) (body : Body) : Type 0 where
-  pub kept : List Kept
-  pub op : Op
-  pub parts : HasOpParts op
-  pub held : AllByRecursion (λ (it : Kept). Held it.sealed) kept
-  pub sets_are : sets ≡ sets_of bounds kept op
-  pub body_is : body ≡ body_of op
-
 -- each history in the frame was held
-abbrev pub IsTrueFrame : (Sealed → Type 0) → ℕ → Frame → Type 0
-IsTrueFrame Held bounds (frame.Request client number round sets body mac) = IsMadeOf Held bounds sets body
-IsTrueFrame Held bounds (frame.Reply replica client number round verdict culled shown mac) =
-    AllByRecursion Held shown
-IsTrueFrame Held bounds _ = Unit {0}
+abbrev pub IsTrueFrame : (Sealed → Type 0) → Frame → Type 0
+IsTrueFrame Held (frame.Request client number round sets body mac) = EachEntry Held sets
+IsTrueFrame Held (frame.Reply replica client number round verdict culled shown mac) = AllByRecursion Held shown
+IsTrueFrame Held _ = Unit {0}
 
 -- each history that a reply shows was held
 abbrev pub ShowsHeld : (Sealed → Type 0) → Frame → Type 0
 ShowsHeld Held (frame.Reply replica client number round verdict culled shown mac) = AllByRecursion Held shown
 ShowsHeld Held _ = Unit {0}
 
-pub shows_held : (Held : Sealed → Type 0) (bounds : ℕ) (sent : Frame) → IsTrueFrame Held bounds sent
-    → ShowsHeld Held sent
-shows_held Held bounds (frame.Reply replica client number round verdict culled shown mac) true_frame = true_frame
-shows_held Held bounds _ true_frame = tt
+pub shows_held : (Held : Sealed → Type 0) (sent : Frame) → IsTrueFrame Held sent → ShowsHeld Held sent
+shows_held Held (frame.Reply replica client number round verdict culled shown mac) true_frame = true_frame
+shows_held Held _ true_frame = tt
 
-abbrev pub IsTrueLetter : (Sealed → Type 0) → ℕ → Letter → Type 0
-IsTrueLetter Held bounds letter = (sent : Frame) → Carries letter sent → IsTrueFrame Held bounds sent
+abbrev pub IsTrueLetter : (Sealed → Type 0) → Letter → Type 0
+IsTrueLetter Held letter = (sent : Frame) → Carries letter sent → IsTrueFrame Held sent
 
 -- each history that the client keeps was held
-pub record IsTrueClient (Held : Sealed → Type 0) (bounds : ℕ) (state : ClientState) : Type 0 where
-  pub bounds_are : state.keys.bounds ≡ bounds
+pub record IsTrueClient (Held : Sealed → Type 0) (state : ClientState) : Type 0 where
   pub kept : AllByRecursion (λ (it : Kept). Held it.sealed) state.kept
-  pub work : IfSome state.work (λ (work : Work). HasOpParts work.op)
 
-pub record IsTrueStep (Held : Sealed → Type 0) (bounds : ℕ) (stepped : Stepped) : Type 0 where
-  pub state : IsTrueClient Held bounds stepped.state
-  pub letters : AllByRecursion (IsTrueLetter Held bounds) stepped.letters
+pub record IsTrueStep (Held : Sealed → Type 0) (stepped : Stepped) : Type 0 where
+  pub state : IsTrueClient Held stepped.state
+  pub letters : AllByRecursion (IsTrueLetter Held) stepped.letters
 
 -- ---- what was held stays so
 
-module _ (Old New : Sealed → Type 0) (bounds : ℕ) (more : (sealed : Sealed) → Old sealed → New sealed) where
-  made_of-more : (sets : List SetOf) (body : Body) → IsMadeOf Old bounds sets body → IsMadeOf New bounds sets body
-  made_of-more sets body made = record {
-    kept = made.kept;
-    op = made.op;
-    parts = made.parts;
-    held = each_weaker (λ (it : Kept). Old it.sealed) (λ (it : Kept). New it.sealed) made.kept
-        (λ it. more it.sealed) made.held;
-    sets_are = made.sets_are;
-    body_is = made.body_is;
-  }
-
-  frame-more : (sent : Frame) → IsTrueFrame Old bounds sent → IsTrueFrame New bounds sent
-  frame-more (frame.Request client number round sets body mac) true_frame = made_of-more sets body true_frame
+module _ (Old New : Sealed → Type 0) (more : (sealed : Sealed) → Old sealed → New sealed) where
+  frame-more : (sent : Frame) → IsTrueFrame Old sent → IsTrueFrame New sent
+  frame-more (frame.Request client number round sets body mac) true_frame =
+      each_weaker (λ (set : SetOf). AllByRecursion Old set.entries) (λ (set : SetOf). AllByRecursion New set.entries)
+      sets (λ set. each_weaker Old New set.entries more) true_frame
   frame-more (frame.Reply replica client number round verdict culled shown mac) true_frame =
       each_weaker Old New shown more true_frame
   frame-more _ true_frame = tt
 
-  pub letters-more : (letters : List Letter) → AllByRecursion (IsTrueLetter Old bounds) letters
-      → AllByRecursion (IsTrueLetter New bounds) letters
+  pub letters-more : (letters : List Letter) → AllByRecursion (IsTrueLetter Old) letters
+      → AllByRecursion (IsTrueLetter New) letters
   letters-more letters each =
-      each_weaker (IsTrueLetter Old bounds) (IsTrueLetter New bounds) letters
+      each_weaker (IsTrueLetter Old) (IsTrueLetter New) letters
       (λ letter is_true sent carries. frame-more sent (is_true sent carries)) each
 
-  client-more : (state : ClientState) → IsTrueClient Old bounds state → IsTrueClient New bounds state
+  client-more : (state : ClientState) → IsTrueClient Old state → IsTrueClient New state
   client-more state client = record {
-    bounds_are = client.bounds_are;
     kept = each_weaker (λ (it : Kept). Old it.sealed) (λ (it : Kept). New it.sealed)
         state.kept (λ it. more it.sealed) client.kept;
-    work = client.work;
   }
 
-  pub clients-more : (states : List ClientState) → AllByRecursion (IsTrueClient Old bounds) states
-      → AllByRecursion (IsTrueClient New bounds) states
-  clients-more states each = each_weaker (IsTrueClient Old bounds) (IsTrueClient New bounds) states client-more each
+  pub clients-more : (states : List ClientState) → AllByRecursion (IsTrueClient Old) states
+      → AllByRecursion (IsTrueClient New) states
+  clients-more states each = each_weaker (IsTrueClient Old) (IsTrueClient New) states client-more each
 
 -- ---- the steps of a client
 
-module _ (Held : Sealed → Type 0) (bounds : ℕ) where
+module _ (Held : Sealed → Type 0) where
   abbrev IsHeld : Kept → Type 0
   IsHeld it = Held it.sealed
 
@@ -151,133 +126,115 @@ module _ (Held : Sealed → Type 0) (bounds : ℕ) where
       let new : Kept = record { sealed = sealed; number = number; round = round; mark = Unshown } in
       keep_all-held number round later (keep new kept) held.1 (keep-held new kept held.0 each)
 
+  -- ---- what the client sends
+
+  with-held : (found : Option Sealed) (later : List Sealed)
+      → ((sealed : Sealed) → found ≡ Some sealed → Held sealed) → AllByRecursion Held later
+      → AllByRecursion Held (entries_with found later)
+  with-held None later here each = each
+  with-held (Some sealed) later here each = (here sealed refl, each)
+
+  entries-held : (object : ObjectId) (replica count : ℕ) (kept : List Kept) → AllByRecursion IsHeld kept
+      → AllByRecursion Held (entries_from object replica count kept)
+  entries-held object replica zero kept each =
+      subst (AllByRecursion Held) (sym (entries_none object replica kept)) tt
+  entries-held object replica (suc count) kept each =
+      subst (AllByRecursion Held) (sym (entries_next object replica count kept))
+      (with-held (kept_of object replica kept) (entries_from object (replica + 1) count kept)
+      (λ sealed found. (found_among Held object replica kept sealed each found).is)
+      (entries-held object (replica + 1) count kept each))
+
+  -- sets of what is kept show what was held
+  sets-held : (size : ℕ) (kept : List Kept) (objects : List ObjectId) → AllByRecursion IsHeld kept
+      → EachEntry Held (map (λ (object : ObjectId). set_of size kept object) objects)
+  sets-held size kept [] each = tt
+  sets-held size kept (object ∷ later) each =
+      (entries-held object 0 (replicas size) kept each, sets-held size kept later each)
+
   requests-true : (keys : Ring) (replica count : ℕ) (me : ClientId) (work : Work) (sets : List SetOf)
-      → frame_form.Fits (request_of me work sets) → IsMadeOf Held bounds sets (body_of work.op)
-      → AllByRecursion (IsTrueLetter Held bounds) (requests_from keys replica count me work sets)
+      → frame_form.Fits (request_of me work sets) → EachEntry Held sets
+      → AllByRecursion (IsTrueLetter Held) (requests_from keys replica count me work sets)
   unfolding requests_from
-  requests-true keys replica zero me work sets fits made = tt
-  requests-true keys replica (suc count) me work sets fits made =
+  requests-true keys replica zero me work sets fits held = tt
+  requests-true keys replica (suc count) me work sets fits held =
       let to : Party = party.Replica (record { 0 = replica }) in
       let asks : Frame = request_of me work sets in (
-        λ sent carries. subst (IsTrueFrame Held bounds)
+        λ sent carries. subst (IsTrueFrame Held)
             (sym (signed_carries (record { from = party.Client me; to = to; text = signed keys to asks }) keys to
-            asks sent fits refl carries)) made,
-        requests-true keys (replica + 1) count me work sets fits made,
+            asks sent fits refl carries)) held,
+        requests-true keys (replica + 1) count me work sets fits held,
       )
 
   -- all replicas are asked, by the sets of what is kept
   asked-true : (state : ClientState) (work : Work)
       → frame_form.Fits (request_of state.me work (sets_of state.keys.bounds state.kept work.op))
-      → IsTrueClient Held bounds state → HasOpParts work.op
-      → IsTrueStep Held bounds (goes_on (asked state work (sets_of state.keys.bounds state.kept work.op)))
-  asked-true state work fits client parts = record {
-    state = record { bounds_are = client.bounds_are; kept = client.kept; work = parts };
+      → IsTrueClient Held state
+      → IsTrueStep Held (goes_on (asked state work (sets_of state.keys.bounds state.kept work.op)))
+  asked-true state work fits client = record {
+    state = record { kept = client.kept };
     letters = requests-true state.keys 0 (replicas state.keys.bounds) state.me work
-        (sets_of state.keys.bounds state.kept work.op) fits (record {
-          kept = state.kept;
-          op = work.op;
-          parts = parts;
-          held = client.kept;
-          sets_are = ap (λ (size : ℕ). sets_of size state.kept work.op) client.bounds_are;
-          body_is = refl;
-        });
+        (sets_of state.keys.bounds state.kept work.op) fits
+        (sets-held state.keys.bounds state.kept (operation_objects work.op) client.kept);
   }
-
-  work_parts : (state : ClientState) (work : Work) → IsTrueClient Held bounds state → state.work ≡ Some work
-      → HasOpParts work.op
-  work_parts state work client is =
-      subst (λ (found : Option Work). IfSome found (λ (it : Work). HasOpParts it.op)) is client.work
 
   -- other marks change nothing of what is kept
   remarked-true : (state : ClientState) (kept : List Kept) → IsRemarked state.kept kept
-      → IsTrueClient Held bounds state → IsTrueClient Held bounds (record state { kept = kept })
-  remarked-true state kept marked client = record {
-    bounds_are = client.bounds_are;
-    kept = each_remarked Held state.kept kept marked client.kept;
-    work = client.work;
-  }
+      → IsTrueClient Held state → IsTrueClient Held (record state { kept = kept })
+  remarked-true state kept marked client = record { kept = each_remarked Held state.kept kept marked client.kept }
 
   counted-true : (state : ClientState) (replica : ReplicaId) (number round : ℕ) (verdict : Verdict)
-      (culled : List (ObjectId × ReplicaId)) → IsTrueClient Held bounds state
+      (culled : List (ObjectId × ReplicaId)) → IsTrueClient Held state
       → AsksFit (counted_in state state.work replica number round verdict culled).state
-      → IsTrueStep Held bounds (counted_in state state.work replica number round verdict culled)
+      → IsTrueStep Held (counted_in state state.work replica number round verdict culled)
   counted-true state replica number round verdict culled client =
       counted_cases state replica number round verdict culled
-      (λ stepped. AsksFit stepped.state → IsTrueStep Held bounds stepped)
+      (λ stepped. AsksFit stepped.state → IsTrueStep Held stepped)
       (λ fits. record { state = client; letters = tt })
-      (λ work is _ fits.
-      record {
-        state = record {
-          bounds_are = client.bounds_are;
-          kept = client.kept;
-          work = work_parts state work client is;
-        };
-        letters = tt;
-      })
-      (λ work answer is _ _ _ fits.
-      record { state = record { bounds_are = client.bounds_are; kept = client.kept; work = tt }; letters = tt })
-      (λ work is _ _ fits.
-      record { state = record { bounds_are = client.bounds_are; kept = client.kept; work = tt }; letters = tt })
+      (λ work is _ fits. record { state = record { kept = client.kept }; letters = tt })
+      (λ work answer is _ _ _ fits. record { state = record { kept = client.kept }; letters = tt })
+      (λ work is _ _ fits. record { state = record { kept = client.kept }; letters = tt })
       (λ kept work acted marked is _ _ fits.
-      asked-true (record state { kept = kept }) _ (fits _ refl) (remarked-true state kept marked client)
-      (work_parts state work client is))
+      asked-true (record state { kept = kept }) _ (fits _ refl) (remarked-true state kept marked client))
       (λ kept work marked is _ _ fits.
-      record {
-        state = record {
-          bounds_are = client.bounds_are;
-          kept = each_remarked Held state.kept kept marked client.kept;
-          work = work_parts state work client is;
-        };
-        letters = tt;
-      })
+      record { state = record { kept = each_remarked Held state.kept kept marked client.kept }; letters = tt })
 
   client_frame-true : (state : ClientState) (received : Frame) → ShowsHeld Held received
-      → IsTrueClient Held bounds state → AsksFit (client_on_frame state received).state
-      → IsTrueStep Held bounds (client_on_frame state received)
+      → IsTrueClient Held state → AsksFit (client_on_frame state received).state
+      → IsTrueStep Held (client_on_frame state received)
   client_frame-true state (frame.Reply replica client number round verdict culled shown mac) true_frame client_is fits =
       let kept : List Kept = keep_all number round shown state.kept in
-      cond_both _ _ _ (λ stepped. AsksFit stepped.state → IsTrueStep Held bounds stepped)
-      (λ _. counted-true (record state { kept = kept }) replica number round verdict culled (record {
-        bounds_are = client_is.bounds_are;
-        kept = keep_all-held number round shown state.kept true_frame client_is.kept;
-        work = client_is.work;
-      }))
+      cond_both _ _ _ (λ stepped. AsksFit stepped.state → IsTrueStep Held stepped)
+      (λ _. counted-true (record state { kept = kept }) replica number round verdict culled
+      (record { kept = keep_all-held number round shown state.kept true_frame client_is.kept }))
       (λ _ fit. record { state = client_is; letters = tt })
       fits
   client_frame-true state _ true_frame client_is fits = record { state = client_is; letters = tt }
 
   client_brought-true : (state : ClientState) (found : Option Frame)
-      → ((sent : Frame) → found ≡ Some sent → ShowsHeld Held sent) → IsTrueClient Held bounds state
-      → AsksFit (client_on_received state found).state → IsTrueStep Held bounds (client_on_received state found)
+      → ((sent : Frame) → found ≡ Some sent → ShowsHeld Held sent) → IsTrueClient Held state
+      → AsksFit (client_on_received state found).state → IsTrueStep Held (client_on_received state found)
   client_brought-true state (Some taken) true_frame client_is fits =
       client_frame-true state taken (true_frame taken refl) client_is fits
   client_brought-true state None true_frame client_is fits = record { state = client_is; letters = tt }
 
   pub client_step-true : (state : ClientState) (text : List ℕ)
-      → ((sent : Frame) → decoded text ≡ Ok sent → ShowsHeld Held sent) → IsTrueClient Held bounds state
-      → AsksFit (client_step state text).state → IsTrueStep Held bounds (client_step state text)
+      → ((sent : Frame) → decoded text ≡ Ok sent → ShowsHeld Held sent) → IsTrueClient Held state
+      → AsksFit (client_step state text).state → IsTrueStep Held (client_step state text)
   client_step-true state text true_frame =
       client_brought-true state (brought state.keys (party.Client state.me) text)
       (λ sent brings. true_frame sent (brought_is_decoded state.keys (party.Client state.me) text sent brings))
 
-  pub client_invoke-true : (state : ClientState) (op : Op) → HasOpParts op → IsTrueClient Held bounds state
-      → AsksFit (client_invoke state op).state → IsTrueStep Held bounds (client_invoke state op)
-  client_invoke-true state op parts client =
-      invoke_cases state op (λ stepped. AsksFit stepped.state → IsTrueStep Held bounds stepped)
+  pub client_invoke-true : (state : ClientState) (op : Op) → IsTrueClient Held state
+      → AsksFit (client_invoke state op).state → IsTrueStep Held (client_invoke state op)
+  client_invoke-true state op client =
+      invoke_cases state op (λ stepped. AsksFit stepped.state → IsTrueStep Held stepped)
       (λ kept acted marked fits.
-      asked-true (record state { kept = kept }) _ (fits _ refl) (remarked-true state kept marked client) parts)
-      (λ kept marked fits. record {
-        state = record {
-          bounds_are = client.bounds_are;
-          kept = each_remarked Held state.kept kept marked client.kept;
-          work = parts;
-        };
-        letters = tt;
-      })
+      asked-true (record state { kept = kept }) _ (fits _ refl) (remarked-true state kept marked client))
+      (λ kept marked fits.
+      record { state = record { kept = each_remarked Held state.kept kept marked client.kept }; letters = tt })
 
-  pub opening-true : (me : ClientId) (keys : Ring) → keys.bounds ≡ bounds
-      → IsTrueClient Held bounds (client_at_start me keys)
-  opening-true me keys same = record { bounds_are = same; kept = tt; work = tt }
+  pub opening-true : (me : ClientId) (keys : Ring) → IsTrueClient Held (client_at_start me keys)
+  opening-true me keys = record { kept = tt }
 
 -- ---- the steps of a replica
 
@@ -297,7 +254,7 @@ module _ (Has : ObjectHistory → Type 0) where
       found-held (slice_get state.histories (set.object).0) (shown state later) (has (set.object).0)
       (shown-held state later has)
 
-module _ (Held : Sealed → Type 0) (bounds : ℕ) where
+module _ (Held : Sealed → Type 0) where
   sealed-held : (keys : Ring) (each : List ObjectHistory)
       → AllByRecursion (λ (history : ObjectHistory). Held (sealed_by keys history)) each
       → AllByRecursion Held (map (sealed_by keys) each)
@@ -315,10 +272,10 @@ module _ (Held : Sealed → Type 0) (bounds : ℕ) where
       → ((verdict : Verdict) (accepted : List Accepted) → decision ≡ Answers verdict accepted
       → frame_form.Fits (answer_frame (accept_all state accepted) client number round sets verdict))
       → HasHeld (carried_out state client number round sets decision).0
-      → AllByRecursion (IsTrueLetter Held bounds) (carried_out state client number round sets decision).1
+      → AllByRecursion (IsTrueLetter Held) (carried_out state client number round sets decision).1
   carried_out-true state client number round sets (Answers verdict accepted) fits has =
       let new : ReplicaState = accept_all state accepted in (
-        λ sent carries. subst (IsTrueFrame Held bounds)
+        λ sent carries. subst (IsTrueFrame Held)
             (sym (signed_carries (reply new client number round sets verdict) new.keys (party.Client client)
             (answer_frame new client number round sets verdict) sent (fits verdict accepted refl) refl carries))
             (sealed-held new.keys (shown new sets)
@@ -330,7 +287,7 @@ module _ (Held : Sealed → Type 0) (bounds : ℕ) where
   -- a replica answers with histories that it has after its step
   replica_frame-true : (state : ReplicaState) (received : Frame) → AnswersFit state received
       → HasHeld (replica.replica_on_frame state received).0
-      → AllByRecursion (IsTrueLetter Held bounds) (replica.replica_on_frame state received).1
+      → AllByRecursion (IsTrueLetter Held) (replica.replica_on_frame state received).1
   replica_frame-true state (frame.Request client number round sets body mac) fits has =
       carried_out-true state client number round sets (decision_on state (asked_at state client number sets body) body)
       fits has
@@ -339,7 +296,7 @@ module _ (Held : Sealed → Type 0) (bounds : ℕ) where
   replica_brought-true : (state : ReplicaState) (found : Option Frame)
       → ((sent : Frame) → found ≡ Some sent → AnswersFit state sent)
       → HasHeld (replica.replica_on_received state found).0
-      → AllByRecursion (IsTrueLetter Held bounds) (replica.replica_on_received state found).1
+      → AllByRecursion (IsTrueLetter Held) (replica.replica_on_received state found).1
   replica_brought-true state (Some taken) fits has = replica_frame-true state taken (fits taken refl) has
   replica_brought-true state None fits has = tt
 
@@ -347,7 +304,7 @@ module _ (Held : Sealed → Type 0) (bounds : ℕ) where
       → ((sent : Frame) → decoded text ≡ Ok sent → AnswersFit state sent)
       → ((place : ℕ) (history : ObjectHistory) → slice_get (replica_step state text).0.histories place ≡ Some
       history → Held (sealed_by (replica_step state text).0.keys history))
-      → AllByRecursion (IsTrueLetter Held bounds) (replica_step state text).1
+      → AllByRecursion (IsTrueLetter Held) (replica_step state text).1
   replica_step-true state text fits =
       replica_brought-true state (brought state.keys (party.Replica state.me) text)
       (λ sent brings. fits sent (brought_is_decoded state.keys (party.Replica state.me) text sent brings))

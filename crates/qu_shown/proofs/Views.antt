@@ -1,7 +1,7 @@
 -- In every run each history that stands in a letter or with a client was held by its replica before, if that is
 -- correct.
 use Rattle.qu_world.proofs.Steps.{AtCorrect, step_cases}
-use Rattle.qu_world.specs.Step.{moved}
+use Rattle.qu_world.specs.Step.{moved, world_step, unchanged, at_replica, at_client, received, delivered}
 use Rattle.std.proofs.Common.{◌≡◌, ℕ, zero, suc, ◌+◌, ◌<◌, ◌≤◌, List, [], ◌∷◌, ◌++◌, length, get_or, Option, None, Some, Ok, refl, sym, ap, subst, ◌∙◌, arith, add-one, true, false}
 use Rattle.std.specs.Prelude.{slice_get, not}
 use Rattle.std.specs.List.{AllByRecursion}
@@ -32,16 +32,15 @@ use Rattle.qu_trace.specs.declared.trace.Setup.{Setup}
 use Rattle.qu_trace.specs.declared.trace.Trace.{Trace}
 use Rattle.qu_trace.specs.Letters.{letters_of}
 use Rattle.qu_world.specs.State.{WorldState, opening_world, opening_clients, numbered, letter_of, history_at, kinds_at, ring_of}
-use Rattle.qu_world.specs.Step.{world_step, unchanged, at_replica, at_client, received, delivered}
 use Rattle.qu_world.specs.Run.{IsRun}
 use Rattle.qu_claims.specs.Carried.{Carries, Asks}
 use Rattle.qu_claims.specs.Times.{world_after}
-use Rattle.qu_shown.specs.Views.{WasHeld, IsOfKept, HeldIfCorrect}
+use Rattle.qu_shown.specs.Views.{WasHeld, HeldIfCorrect, AreHeld}
 use Rattle.qu_runs.specs.Plain.{IsPlain, ArePlain, IsOfFaulty}
 use Rattle.qu_runs.proofs.Worlds.WorldGrowth.{world_after-none, world_after-next}
 use Rattle.qu_world.proofs.Each.{each_append, each_numbered, each_with_numbered, set_here}
 use Rattle.qu_shown.proofs.OwnHistories.{IsInPlace, AreInPlace, step-in_place, opening-all_in_place, set-in_place, found_where_named}
-use Rattle.qu_shown.proofs.TrueLetters.{IsMadeOf, IsTrueFrame, IsTrueLetter, IsTrueClient, IsTrueStep, letters-more, clients-more, client_step-true, client_invoke-true, opening-true, replica_step-true, ShowsHeld, shows_held}
+use Rattle.qu_shown.proofs.TrueLetters.{IsTrueFrame, IsTrueLetter, IsTrueClient, IsTrueStep, letters-more, clients-more, client_step-true, client_invoke-true, opening-true, replica_step-true, ShowsHeld, shows_held}
 use Rattle.qu_runs.proofs.Small.{some_entry}
 use Rattle.qu_runs.proofs.Fits.Carrying.{AsksFit, AnswersFit, IsFitStep, numbered_here}
 use Rattle.qu_runs.proofs.Fits.Fitting.{fit_step}
@@ -58,18 +57,17 @@ use Rattle.qu_frames.proofs.Decoded.{decoded_is_spelled}
 use Rattle.qu_runs.proofs.Digests.Plain.{setup_after}
 
 -- each history in a letter or with a client was held, and what the replicas have is in its place
-pub record IsTrueWorld (Held : Sealed → Type 0) (bounds : ℕ) (world : WorldState) : Type 0 where
+pub record IsTrueWorld (Held : Sealed → Type 0) (world : WorldState) : Type 0 where
   pub replicas : AreInPlace world.replicas
-  pub clients : AllByRecursion (IsTrueClient Held bounds) world.clients
-  pub letters : AllByRecursion (IsTrueLetter Held bounds) (letters_of world.entries)
+  pub clients : AllByRecursion (IsTrueClient Held) world.clients
+  pub letters : AllByRecursion (IsTrueLetter Held) (letters_of world.entries)
 
-world-more : (Old New : Sealed → Type 0) (bounds : ℕ) (world : WorldState)
-    → ((sealed : Sealed) → Old sealed → New sealed) → IsTrueWorld Old bounds world
-    → IsTrueWorld New bounds world
-world-more Old New bounds world more before = record {
+world-more : (Old New : Sealed → Type 0) (world : WorldState) → ((sealed : Sealed) → Old sealed → New sealed)
+    → IsTrueWorld Old world → IsTrueWorld New world
+world-more Old New world more before = record {
   replicas = before.replicas;
-  clients = clients-more Old New bounds more world.clients before.clients;
-  letters = letters-more Old New bounds more (letters_of world.entries) before.letters;
+  clients = clients-more Old New more world.clients before.clients;
+  letters = letters-more Old New more (letters_of world.entries) before.letters;
 }
 
 -- ---- a step of the world
@@ -83,45 +81,45 @@ letters_of-push P entries entry each here =
     subst (AllByRecursion P) (sym (flat_map-append (λ (it : Entry). it.letters) entries (entry ∷ [])))
     (each_append P (letters_of entries) (entry.letters ++ []) each (each_append P entry.letters [] here tt))
 
-module _ (Held : Sealed → Type 0) (bounds : ℕ) where
+module _ (Held : Sealed → Type 0) where
   -- what the replicas have, as they seal it, counts as held
   abbrev HasHeld : WorldState → Type 0
   HasHeld world =
       (place : ℕ) (state : ReplicaState) (history : ObjectHistory) → slice_get world.replicas place ≡ Some state
       → history_at world history.replica history.object ≡ Some history → Held (sealed_by state.keys history)
 
-  unchanged-true : (world : WorldState) (event : Event) → IsTrueWorld Held bounds world
-      → IsTrueWorld Held bounds (unchanged world event)
+  unchanged-true : (world : WorldState) (event : Event) → IsTrueWorld Held world
+      → IsTrueWorld Held (unchanged world event)
   unchanged-true world event before = record {
     replicas = before.replicas;
     clients = before.clients;
-    letters = letters_of-push (IsTrueLetter Held bounds) world.entries
+    letters = letters_of-push (IsTrueLetter Held) world.entries
         (record { event = event; letters = []; ended = None }) before.letters tt;
   }
 
   at_client-true : (world : WorldState) (event : Event) (me : ClientId) (move : ClientState → Stepped)
       (found : Option ClientState) → numbered world.clients me.0 ≡ found
-      → ((state : ClientState) → IsTrueClient Held bounds state → AsksFit (move state).state
-      → IsTrueStep Held bounds (move state))
-      → IsFitStep world (at_client world event me move found) → IsTrueWorld Held bounds world
-      → IsTrueWorld Held bounds (at_client world event me move found)
+      → ((state : ClientState) → IsTrueClient Held state → AsksFit (move state).state
+      → IsTrueStep Held (move state))
+      → IsFitStep world (at_client world event me move found) → IsTrueWorld Held world
+      → IsTrueWorld Held (at_client world event me move found)
   at_client-true world event me move None is moves fits before = unchanged-true world event before
   at_client-true world event me move (Some state) is moves fits before =
-      let step : IsTrueStep Held bounds (move state) =
-      moves state (each_numbered (IsTrueClient Held bounds) world.clients me.0 state before.clients is)
+      let step : IsTrueStep Held (move state) =
+      moves state (each_numbered (IsTrueClient Held) world.clients me.0 state before.clients is)
       (fits.asks me.0 (move state).state (numbered_here world.clients me.0 state (move state).state is)) in
       record {
         replicas = before.replicas;
-        clients = each_with_numbered (IsTrueClient Held bounds) world.clients me.0 (move state).state
+        clients = each_with_numbered (IsTrueClient Held) world.clients me.0 (move state).state
             before.clients step.state;
-        letters = letters_of-push (IsTrueLetter Held bounds) world.entries _ before.letters step.letters;
+        letters = letters_of-push (IsTrueLetter Held) world.entries _ before.letters step.letters;
       }
 
   at_replica-true : (world : WorldState) (event : Event) (me : ReplicaId) (text : List ℕ)
       (found : Option ReplicaState) → slice_get world.replicas me.0 ≡ found
       → ((state : ReplicaState) (sent : Frame) → found ≡ Some state → decoded text ≡ Ok sent
-      → AnswersFit state sent) → IsTrueWorld Held bounds world
-      → HasHeld (at_replica world event me text found) → IsTrueWorld Held bounds (at_replica world event me text found)
+      → AnswersFit state sent) → IsTrueWorld Held world
+      → HasHeld (at_replica world event me text found) → IsTrueWorld Held (at_replica world event me text found)
   at_replica-true world event me text None is fits before now = unchanged-true world event before
   at_replica-true world event me text (Some state) is fits before now =
       let new : ReplicaState = (replica_step state text).0 in
@@ -135,61 +133,61 @@ module _ (Held : Sealed → Type 0) (bounds : ℕ) where
       record {
         replicas = set-in_place world.replicas me.0 new before.replicas in_place;
         clients = before.clients;
-        letters = letters_of-push (IsTrueLetter Held bounds) world.entries _ before.letters
-            (replica_step-true Held bounds state text (λ sent is_sent. fits state sent refl is_sent) has);
+        letters = letters_of-push (IsTrueLetter Held) world.entries _ before.letters
+            (replica_step-true Held state text (λ sent is_sent. fits state sent refl is_sent) has);
       }
 
   received-true : (world : WorldState) (event : Event) (to : Party) (text : List ℕ)
       → ((sent : Frame) → decoded text ≡ Ok sent → ShowsHeld Held sent)
       → ((sent : Frame) → decoded text ≡ Ok sent → frame_form.Fits sent)
-      → IsFitStep world (received world event to text) → IsTrueWorld Held bounds world
-      → HasHeld (received world event to text) → IsTrueWorld Held bounds (received world event to text)
+      → IsFitStep world (received world event to text) → IsTrueWorld Held world
+      → HasHeld (received world event to text) → IsTrueWorld Held (received world event to text)
   received-true world event (party.Replica me) text shows fits_so fits before now =
       at_replica-true world event me text (slice_get world.replicas me.0) refl
       (λ state sent found is. fits.answers me state found sent (fits_so sent is)) before now
   received-true world event (party.Client me) text shows fits_so fits before now =
       at_client-true world event me (λ (state : ClientState). client_step state text) (numbered world.clients me.0) refl
-      (λ state client. client_step-true Held bounds state text shows client) fits before
+      (λ state client. client_step-true Held state text shows client) fits before
 
   -- a letter that was sent reaches its receiver
   letter-true : (world : WorldState) (event : Event) (number : ℕ) (letter : Letter)
       → letter_of world number ≡ Some letter → IsFitStep world (received world event letter.to letter.text)
-      → IsTrueWorld Held bounds world → HasHeld (received world event letter.to letter.text)
-      → IsTrueWorld Held bounds (received world event letter.to letter.text)
+      → IsTrueWorld Held world → HasHeld (received world event letter.to letter.text)
+      → IsTrueWorld Held (received world event letter.to letter.text)
   letter-true world event number letter is fits before now =
       received-true world event letter.to letter.text
-      (λ sent carries. shows_held Held bounds sent (each_numbered (IsTrueLetter Held bounds) (letters_of world.entries)
+      (λ sent carries. shows_held Held sent (each_numbered (IsTrueLetter Held) (letters_of world.entries)
       number letter before.letters is sent carries))
       (λ sent carries. fits.carried number letter sent is carries) fits before now
 
   delivered-true : (world : WorldState) (event : Event) (number : ℕ) (letter : Option Letter)
       → letter_of world number ≡ letter → IsFitStep world (delivered world event letter)
-      → IsTrueWorld Held bounds world
-      → HasHeld (delivered world event letter) → IsTrueWorld Held bounds (delivered world event letter)
+      → IsTrueWorld Held world
+      → HasHeld (delivered world event letter) → IsTrueWorld Held (delivered world event letter)
   delivered-true world event number None is fits before now = unchanged-true world event before
   delivered-true world event number (Some letter) is fits before now =
       letter-true world event number letter is fits before now
 
-  step_true : (world : WorldState) (event : Event) → IsTrueWorld Held bounds world
+  step_true : (world : WorldState) (event : Event) → IsTrueWorld Held world
       → (AtCorrect world event → IsFitStep world (moved world event) → HasHeld (moved world event)
-      → IsTrueWorld Held bounds (moved world event))
+      → IsTrueWorld Held (moved world event))
       → IsFitStep world (world_step world event) → HasHeld (world_step world event)
-      → IsTrueWorld Held bounds (world_step world event)
+      → IsTrueWorld Held (world_step world event)
   step_true world event before step =
-      step_cases (λ (made : WorldState). IsFitStep world made → HasHeld made → IsTrueWorld Held bounds made) world event
+      step_cases (λ (made : WorldState). IsFitStep world made → HasHeld made → IsTrueWorld Held made) world event
       (λ fits now. unchanged-true world event before) step
 
   -- `now` says that what the replicas have after the step counts as held, and `of_faulty` so of what faulty ones show
   world_step-true : (world : WorldState) (event : Event) → IsPlain world event
       → ((to : Party) (text : List ℕ) → IsOfFaulty world to text → (sent : Frame) → decoded text ≡ Ok sent
       → ShowsHeld Held sent)
-      → IsFitStep world (world_step world event) → IsTrueWorld Held bounds world
-      → HasHeld (world_step world event) → IsTrueWorld Held bounds (world_step world event)
+      → IsFitStep world (world_step world event) → IsTrueWorld Held world
+      → HasHeld (world_step world event) → IsTrueWorld Held (world_step world event)
   world_step-true world (Invoke client op) parts of_faulty fits before now =
       step_true world (Invoke client op) before (λ correct fits has.
       at_client-true world (Invoke client op) client (λ (state : ClientState). client_invoke state op)
       (numbered world.clients client.0) refl
-      (λ state is. client_invoke-true Held bounds state op parts.1 is) fits before) fits now
+      (λ state is. client_invoke-true Held state op is) fits before) fits now
   world_step-true world (Deliver number) parts of_faulty fits before now =
       step_true world (Deliver number) before (λ correct fits.
       delivered-true world (Deliver number) number (letter_of world number) refl fits before) fits now
@@ -199,7 +197,7 @@ module _ (Held : Sealed → Type 0) (bounds : ℕ) where
       (λ state is fit. record { state = is; letters = tt }) fits before) fits now
   world_step-true world (Inject to text) plain of_faulty fits before now =
       injected_cases world to text
-      (λ (event : Event) (new : WorldState). IsFitStep world new → HasHeld new → IsTrueWorld Held bounds new)
+      (λ (event : Event) (new : WorldState). IsFitStep world new → HasHeld new → IsTrueWorld Held new)
       (λ fit has. unchanged-true world (Inject to text) before)
       (λ number letter sent hands fit has.
       letter-true world (Inject letter.to letter.text) number letter sent fit before has)
@@ -208,20 +206,18 @@ module _ (Held : Sealed → Type 0) (bounds : ℕ) where
       (λ sent is. (decoded_is_spelled text sent made.bytes is).0) fit before has)
       plain fits now
 
-  opening_clients-true : (keys : Ring) → keys.bounds ≡ bounds → (number count : ℕ)
-      → AllByRecursion (IsTrueClient Held bounds)
-      (opening_clients number count keys)
+  opening_clients-true : (keys : Ring) (number count : ℕ)
+      → AllByRecursion (IsTrueClient Held) (opening_clients number count keys)
   unfolding opening_clients
-  opening_clients-true keys same number zero = tt
-  opening_clients-true keys same number (suc count) =
-      (opening-true Held bounds (record { 0 = number }) keys same, opening_clients-true keys same (number + 1) count)
+  opening_clients-true keys number zero = tt
+  opening_clients-true keys number (suc count) =
+      (opening-true Held (record { 0 = number }) keys, opening_clients-true keys (number + 1) count)
 
-opening_world-true : (Held : Sealed → Type 0) (setup : Setup) → IsTrueWorld Held setup.bounds
-    (opening_world setup)
+opening_world-true : (Held : Sealed → Type 0) (setup : Setup) → IsTrueWorld Held (opening_world setup)
 unfolding letters_of
 opening_world-true Held setup = record {
   replicas = opening-all_in_place (replicas setup.bounds) (ring_of setup) (kinds_at setup);
-  clients = opening_clients-true Held setup.bounds (ring_of setup) refl 1 setup.clients;
+  clients = opening_clients-true Held (ring_of setup) 1 setup.clients;
   letters = tt;
 }
 
@@ -289,18 +285,18 @@ shown_of_faulty trace count later to text made sent is =
     (decoded_is_spelled text sent made.bytes is).0
 
 true_next : (trace : Trace) (count : ℕ) → IsRun trace → ArePlain trace → count < length trace.entries
-    → IsTrueWorld (IsTrueOf trace count) trace.setup.bounds (world_after trace count)
-    → IsTrueWorld (IsTrueOf trace (count + 1)) trace.setup.bounds (world_after trace (count + 1))
+    → IsTrueWorld (IsTrueOf trace count) (world_after trace count)
+    → IsTrueWorld (IsTrueOf trace (count + 1)) (world_after trace (count + 1))
 true_next trace count is_run parts below before =
     let default : Entry = some_entry trace.entries (omega arith) in
     let event : Event = (get_or trace.entries count default).event in
     let next : world_after trace (count + 1) ≡ world_step (world_after trace count) event =
     world_after-next trace count default below in
-    subst (IsTrueWorld (IsTrueOf trace (count + 1)) trace.setup.bounds) (sym next)
-    (world_step-true (IsTrueOf trace (count + 1)) trace.setup.bounds (world_after trace count) event
+    subst (IsTrueWorld (IsTrueOf trace (count + 1))) (sym next)
+    (world_step-true (IsTrueOf trace (count + 1)) (world_after trace count) event
     (parts.plain_at count default below) (shown_of_faulty trace count (count + 1))
     (subst (IsFitStep (world_after trace count)) next (fit_step trace is_run parts count below))
-    (world-more (IsTrueOf trace count) (IsTrueOf trace (count + 1)) trace.setup.bounds (world_after trace count)
+    (world-more (IsTrueOf trace count) (IsTrueOf trace (count + 1)) (world_after trace count)
     (λ sealed was. true-later trace count (count + 1) sealed (omega arith) was) before)
     (λ place state history is_state found good. record {
       past = count + 1;
@@ -309,12 +305,12 @@ true_next trace count is_run parts below before =
     }))
 
 pub true_world : (trace : Trace) → IsRun trace → ArePlain trace → (count : ℕ) → count ≤ length trace.entries
-    → IsTrueWorld (IsTrueOf trace count) trace.setup.bounds (world_after trace count)
+    → IsTrueWorld (IsTrueOf trace count) (world_after trace count)
 true_world trace is_run parts zero within =
-    subst (IsTrueWorld (IsTrueOf trace 0) trace.setup.bounds) (sym (world_after-none trace))
+    subst (IsTrueWorld (IsTrueOf trace 0)) (sym (world_after-none trace))
     (opening_world-true (IsTrueOf trace 0) trace.setup)
 true_world trace is_run parts (suc count) within =
-    subst (λ (at : ℕ). IsTrueWorld (IsTrueOf trace at) trace.setup.bounds (world_after trace at)) (add-one count)
+    subst (λ (at : ℕ). IsTrueWorld (IsTrueOf trace at) (world_after trace at)) (add-one count)
     (true_next trace count is_run parts (omega arith) (true_world trace is_run parts count (omega arith)))
 
 -- ---- what letters show
@@ -323,24 +319,14 @@ module _ (trace : Trace) (is_run : IsRun trace) (have : ArePlain trace) (count :
     (within : count ≤ length trace.entries) (number : ℕ) (letter : Letter)
     (sent : letter_of (world_after trace count) number ≡ Some letter) where
   true_frame : (carried : Frame) → Carries letter carried
-      → IsTrueFrame (IsTrueOf trace count) trace.setup.bounds carried
+      → IsTrueFrame (IsTrueOf trace count) carried
   true_frame =
-      each_numbered (IsTrueLetter (IsTrueOf trace count) trace.setup.bounds)
+      each_numbered (IsTrueLetter (IsTrueOf trace count))
       (letters_of (world_after trace count).entries) number letter
       (true_world trace is_run have count within).letters sent
 
   module _ (client : ClientId) (asked round : ℕ) (sets : List SetOf) (body : Body)
       (is : Asks letter client asked round sets body) where
-    -- the sets of a request show what its client kept, and all of that was held, where it is of correct replicas
-    pub view_of_request : IsOfKept trace count sets body
-    view_of_request =
-        let made : IsMadeOf (IsTrueOf trace count) trace.setup.bounds sets body =
-        true_frame (frame.Request client asked round sets body is.mac) is.carries in
-        record {
-          kept = made.kept;
-          op = made.op;
-          parts = made.parts;
-          held = made.held;
-          sets_are = made.sets_are;
-          body_is = made.body_is;
-        }
+    -- what the sets of a request show was held, where it is of correct replicas
+    pub view_of_request : AreHeld trace count sets
+    view_of_request = true_frame (frame.Request client asked round sets body is.mac) is.carries

@@ -1,18 +1,13 @@
 -- What a request shows: histories that their replicas, where those are correct, had at an earlier moment of the run.
 use Rattle.std.specs.Prelude.{◌≡◌, true, ℕ, ◌≤◌, List, Some}
 use Rattle.std.specs.List.{AllByRecursion}
+use Rattle.qu_history.specs.declared.sealed.Sealed.{Sealed}
 use Rattle.qu_history.specs.declared.sets.SetOf.{SetOf}
 use Rattle.qu_history.specs.History.{ObjectHistory}
-use Rattle.qu_objects.specs.declared.op.Op.{Op}
-use Rattle.qu_frames.specs.declared.frame.Body.{Body}
-use Rattle.qu_frames.specs.Body.{body_of}
-use Rattle.qu_client.specs.declared.kept.Kept.{Kept}
-use Rattle.qu_client.specs.Rounds.{sets_of}
 use Rattle.qu_trace.specs.declared.trace.Trace.{Trace}
 use Rattle.qu_trace.specs.Faulty.{is_good}
 use Rattle.qu_world.specs.State.{history_at}
 use Rattle.qu_claims.specs.Times.{world_after}
-use Rattle.qu_runs.specs.Plain.{HasOpParts}
 
 -- the replica of this history had it at an earlier moment of the run
 pub record WasHeld (trace : Trace) (count : ℕ) (history : ObjectHistory) : Type 0 where
@@ -24,12 +19,10 @@ pub record WasHeld (trace : Trace) (count : ℕ) (history : ObjectHistory) : Typ
 abbrev pub HeldIfCorrect : Trace → ℕ → ObjectHistory → Type 0
 HeldIfCorrect trace count history = is_good trace.setup (history.replica).0 ≡ true → WasHeld trace count history
 
--- the sets and the body of a request: made of what its client kept, each history of which was held by its replica, if
--- that is correct
-pub record IsOfKept (trace : Trace) (count : ℕ) (sets : List SetOf) (body : Body) : Type 0 where
-  pub kept : List Kept
-  pub op : Op
-  pub parts : HasOpParts op
-  pub held : AllByRecursion (λ (it : Kept). HeldIfCorrect trace count (it.sealed).history) kept
-  pub sets_are : sets ≡ sets_of trace.setup.bounds kept op
-  pub body_is : body ≡ body_of op
+-- it holds of each entry of the sets
+abbrev pub EachEntry : (Sealed → Type 0) → List SetOf → Type 0
+EachEntry P sets = AllByRecursion (λ (set : SetOf). AllByRecursion P set.entries) sets
+
+-- what the sets show of correct replicas, these had by then, whatever else a client keeps and does not show
+abbrev pub AreHeld : Trace → ℕ → List SetOf → Type 0
+AreHeld trace count sets = EachEntry (λ (it : Sealed). HeldIfCorrect trace count it.history) sets

@@ -59,13 +59,13 @@ use Rattle.qu_replies.specs.Replies.{culled_in, HasTold}
 use Rattle.qu_claims.specs.Updates.{IsEverAccepted}
 use Rattle.qu_claims.specs.Values.{HasVersion}
 use Rattle.qu_runs.specs.Plain.{ArePlain}
-use Rattle.qu_shown.specs.Views.{IsOfKept}
+use Rattle.qu_shown.specs.Views.{AreHeld}
 use Rattle.qu_laws.proofs.Acceptors.{method_is_shown}
 use Rattle.qu_runs.proofs.Worlds.LaterLetters.{letter_later}
 use Rattle.qu_rounds.proofs.Members.{is_among, members_count}
 use Rattle.qu_shown.proofs.AskedLetters.{AskedBy}
 use Rattle.qu_trace.specs.Faulty.{is_faulty}
-use Rattle.qu_replies.proofs.Replying.{reply_letter}
+use Rattle.qu_replies.proofs.Replying.{reply_letter, reply_sets}
 use Rattle.qu_safety.proofs.Completed.Along.{objects_in, zip_along, zip_weaker, zip_at}
 use Rattle.qu_values.proofs.Versions.StoredValues.{version_is}
 use Rattle.qu_values.proofs.Updating.UpdateFacts.{HasValue, UpdateFacts}
@@ -223,7 +223,7 @@ module _ (trace : Trace) (is_run : IsRun trace) (have : ArePlain trace) (clients
         let same : (first.sets ≡ mine.sets) × (first.body ≡ mine.body) =
         clients.alike at asked.asked again.asked asked.letter again.letter client number round first.sets mine.sets
         first.body mine.body one other in
-        let view : IsOfKept trace time first.sets first.body =
+        let view : AreHeld trace time first.sets =
         clients.held time asked.asked asked.letter client number round first.sets first.body (record {
           within = within;
           is_letter = asked.is_letter;
@@ -236,7 +236,9 @@ module _ (trace : Trace) (is_run : IsRun trace) (have : ArePlain trace) (clients
         (sym (bounds_are trace at member mine.old mine.is_old)) ∙ has.method in (
           entries_of object culled_first,
           method,
-          method_is_shown trace time first.sets first.body view (mine.old).keys (mine.old).me object base method,
+          method_is_shown trace time first.sets
+              (reply_sets trace is_run have time answered.below answered.replica client number round answered.told first)
+              view (mine.old).keys (bounds_are trace at member mine.old mine.is_old) (mine.old).me object base method,
         )
 
     established_by : (object : ObjectId) (base : Candidate)

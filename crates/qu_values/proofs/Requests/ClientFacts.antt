@@ -13,7 +13,7 @@ use Rattle.qu_trace.specs.Operation.{operations_of}
 use Rattle.qu_world.specs.State.{letter_of}
 use Rattle.qu_claims.specs.Carried.{Asks}
 use Rattle.qu_claims.specs.Times.{world_after}
-use Rattle.qu_shown.specs.Views.{IsOfKept}
+use Rattle.qu_shown.specs.Views.{AreHeld}
 use Rattle.qu_claims.specs.Completions.{IsCompleted}
 use Rattle.qu_rounds.specs.Invocations.{IsRequestOf}
 
@@ -35,7 +35,7 @@ pub record ClientFacts (trace : Trace) : Type 0 where
       → IsAskedBy trace count second b client number round others other → (sets ≡ others) × (body ≡ other)
   -- what the sets show of correct replicas, these had when the client asked
   pub held : (count at : ℕ) (letter : Letter) (client : ClientId) (number round : ℕ) (sets : List SetOf) (body : Body)
-      → IsAskedBy trace count at letter client number round sets body → IsOfKept trace count sets body
+      → IsAskedBy trace count at letter client number round sets body → AreHeld trace count sets
   -- an operation completes by the first answers to one of its rounds, which are a quorum and agree
   pub completes : (operation : OpRecord) → Contains (operations_of trace) operation
       → (event : ℕ) (answer : Answer) → operation.reply ≡ Some (event, outcome.Done answer)
