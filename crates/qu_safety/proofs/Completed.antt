@@ -2,6 +2,7 @@
 pub mod CompletedActs
 pub mod CompletedQueries
 pub mod ToldAnswers
+pub mod QueryRounds
 pub mod ToldParts
 pub mod KeptParts
 pub mod AddedOnce

@@ -1,9 +1,8 @@
 -- In every run a quorum stands behind the answer of each completed operation.
-use Rattle.std.proofs.Common.{◌≡◌, ℕ, ◌-◌, ◌≤◌, true, false, List, length, refl, sym, ap, subst, ◌∙◌, arith, ◌+◌, ◌<◌}
-use Rattle.std.specs.Prelude.{All, Contains}
+use Rattle.std.proofs.Common.{◌≡◌, ℕ, ◌-◌, true, false, List, refl, sym, ap, subst, ◌∙◌}
+use Rattle.std.specs.Prelude.{Contains}
 use Rattle.std.proofs.lemmas.List.Elements.{All-weaker}
 use Rattle.qu_base.specs.declared.party.ObjectId.{ObjectId}
-use Rattle.qu_base.specs.Bounds.{quorum}
 use Rattle.qu_stamp.specs.declared.stamp.Stamp.{Stamp}
 use Rattle.qu_stamp.specs.declared.candidate.Candidate.{Candidate}
 use Rattle.qu_stamp.specs.Stamp.{is_below}
@@ -14,7 +13,6 @@ use Rattle.qu_objects.specs.declared.answer.Answer.{Answer}
 use Rattle.qu_objects.specs.declared.op.Op.{Op}
 use Rattle.qu_objects.specs.declared.op.Op.TheVariants as op
 use Rattle.qu_objects.specs.declared.query.Ask.{Ask}
-use Rattle.qu_client.specs.Steps.{fitting}
 use Rattle.qu_machine.specs.declared.record.OpRecord.{OpRecord}
 use Rattle.qu_machine.specs.Serial.{Completes}
 use Rattle.qu_rows.specs.State.{own_candidates}
@@ -23,18 +21,17 @@ use Rattle.qu_trace.specs.Operation.{operations_of}
 use Rattle.qu_world.specs.Run.{IsRun}
 use Rattle.qu_objects.specs.declared.act.Method.{Method}
 use Rattle.qu_replies.specs.Replies.{culled_in, HasTold}
-use Rattle.qu_claims.specs.Completions.{Replied, IsCompleted}
+use Rattle.qu_claims.specs.Completions.{IsCompleted}
 use Rattle.qu_claims.specs.RunSetting.{setting}
 use Rattle.qu_claims.specs.Quorums.{ActOfQuorum, ToldFrom, QueryOfQuorum, IsOfQuorum, CompletesByQuorums}
 use Rattle.qu_runs.specs.Plain.{ArePlain}
 use Rattle.qu_safety.proofs.Completed.ToldParts.{CompletedAct}
 use Rattle.qu_safety.proofs.Completed.CompletedActs.{completed_act}
-use Rattle.qu_safety.proofs.Completed.ToldAnswers.{IsTold, told_by_fit, ToldBefore, tells_by_reply}
-use Rattle.qu_safety.proofs.Completed.CompletedQueries.{query_asked}
+use Rattle.qu_safety.proofs.Completed.ToldAnswers.{ToldBefore}
+use Rattle.qu_safety.proofs.Completed.QueryRounds.{ToldRound, told_round}
 use Rattle.qu_values.proofs.Requests.ClientFacts.{ClientFacts}
 use Rattle.qu_safety.proofs.Completed.Along.{objects_in, all_beside}
 use Rattle.qu_values.proofs.Updating.UpdateFacts.{UpdateFacts}
-use Rattle.qu_runs.proofs.Small.{some_member, quorum_outnumbers}
 use Rattle.qu_frames.specs.declared.verdict.Verdict.{Verdict}
 
 module _ (trace : Trace) (is_run : IsRun trace) (have : ArePlain trace) (clients : ClientFacts trace)
@@ -64,33 +61,21 @@ module _ (trace : Trace) (is_run : IsRun trace) (have : ArePlain trace) (clients
       → (query : List (ObjectId × Ask)) → operation.op ≡ op.Query query
       → QueryOfQuorum trace operation query reply answer
   query_of_quorum operation among reply answer done query is =
-      let told : IsTold done.verdict answer =
-      told_by_fit query done.verdict answer (ap (λ (it : Op). fitting it done.verdict) (sym is) ∙ done.fits) in
-      let P : ℕ → Type 0 =
-      ToldBefore trace operation.client operation.number done.round (reply - 1) told.stamps answer in
-      let all : All P done.members =
-      All-weaker (Replied trace (reply - 1) operation.client operation.number done.round done.verdict) P
-      (tells_by_reply trace is_run have operation.client operation.number done.round (reply - 1) done.verdict answer
-      told) done.members done.replied in
-      let some : trace.setup.bounds < quorum trace.setup.bounds =
-      quorum_outnumbers trace.setup.bounds (is_run.setup).some_faults in
-      let enough : quorum trace.setup.bounds ≤ length done.members + trace.setup.bounds = done.enough in
-      let one : (member : ℕ) × P member = some_member P done.members (omega (arith, some, enough)) all in
-      let first : P one.0 = one.1 in
-      let these : first.query ≡ query =
-      query_asked trace is_run have clients laws joint facts operation.client operation.number done.round (reply - 1)
-      told.stamps answer 0 operation among refl refl query is one.0 first in
+      let told : ToldRound trace operation query done.round (reply - 1) answer done.members =
+      told_round trace is_run have clients operation among query is reply answer done in
       record {
         round = done.round;
         stamps = told.stamps;
-        of_parts = (first.tells).of_parts ∙ ap objects_in these;
+        of_parts = ((told.tells).tells).of_parts ∙ ap objects_in told.asked;
         members = done.members;
         different = done.different;
         within = done.within;
         correct = done.correct;
         enough = done.enough;
-        told = All-weaker P (ToldFrom trace operation reply done.round told.stamps answer)
-            (told_from operation reply done.round answer told.stamps) done.members all;
+        told = All-weaker
+            (ToldBefore trace operation.client operation.number done.round (reply - 1) told.stamps answer)
+            (ToldFrom trace operation reply done.round told.stamps answer)
+            (told_from operation reply done.round answer told.stamps) done.members told.all;
       }
 
   act_of_quorum : (operation : OpRecord) (reply : ℕ) (told : Verdict) (answer : Answer)

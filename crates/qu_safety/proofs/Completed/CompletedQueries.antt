@@ -2,7 +2,7 @@
 use Rattle.std.proofs.Common.{◌≡◌, ◌≢◌, ℕ, suc, ◌+◌, ◌-◌, ◌<◌, ◌≤◌, Bool, true, false, ◌==◌, List, length, Some, refl, sym, ap, subst, ◌∙◌, arith, inl, inr, slice_get, All, AllPairs, Contains}
 use Rattle.std.specs.List.{Any, AllZip}
 use Rattle.std.proofs.lemmas.Bool.{false≢true, cases_lt, eqb-true}
-use Rattle.std.proofs.lemmas.List.Elements.{All-contains, All-weaker}
+use Rattle.std.proofs.lemmas.List.Elements.{All-contains}
 use Rattle.std.proofs.lemmas.List.Folds.{Any-from_list_any}
 use Rattle.qu_base.specs.declared.party.ClientId.{ClientId}
 use Rattle.qu_base.specs.declared.party.Party.TheVariants as party
@@ -25,28 +25,22 @@ use Rattle.qu_chain.proofs.Ancestry.{Acceptor, acceptor, accepted-later, some-la
 use Rattle.qu_chain.proofs.Counting.{count-le, Shared, shared, test_at-here}
 use Rattle.qu_chain.proofs.Tops.{top}
 use Rattle.qu_objects.specs.declared.answer.Answer.{Answer}
-use Rattle.qu_objects.specs.declared.op.Op.{Op}
 use Rattle.qu_objects.specs.declared.op.Op.TheVariants as op
 use Rattle.qu_objects.specs.declared.op.Outcome.TheVariants as outcome
 use Rattle.qu_objects.specs.declared.kind.Value.{Value}
 use Rattle.qu_objects.specs.declared.query.Ask.{Ask}
 use Rattle.qu_objects.specs.Performing.{told_answer}
-use Rattle.qu_frames.specs.declared.frame.Body.TheVariants as body
 use Rattle.qu_frames.specs.declared.verdict.Verdict.TheVariants as verdict
-use Rattle.qu_frames.specs.Body.{body_of}
 use Rattle.qu_rows.specs.State.{ReplicaState, own_candidates}
-use Rattle.qu_client.specs.Steps.{fitting}
 use Rattle.qu_machine.specs.declared.record.OpRecord.{OpRecord}
 use Rattle.qu_machine.specs.declared.record.Point.{Point}
 use Rattle.qu_machine.specs.Serial.{Stands}
 use Rattle.qu_trace.specs.declared.trace.Trace.{Trace}
 use Rattle.qu_trace.specs.Operation.{operations_of}
 use Rattle.qu_world.specs.Run.{IsRun}
-use Rattle.qu_points.proofs.Operations.Recorded.{recorded_op}
-use Rattle.qu_claims.specs.Completions.{Replied, IsCompleted}
+use Rattle.qu_claims.specs.Completions.{IsCompleted}
 use Rattle.qu_claims.specs.Accepted.{accepts}
 use Rattle.qu_claims.specs.RunSetting.{setting}
-use Rattle.qu_rounds.specs.Invocations.{IsRequestOf}
 use Rattle.qu_claims.specs.Answers.{answers_at}
 use Rattle.qu_claims.specs.Times.{world_after}
 use Rattle.qu_runs.proofs.Worlds.Settings.{acceptors_counted}
@@ -72,9 +66,9 @@ use Rattle.qu_values.proofs.Updating.UpdateFacts.{HasValue, UpdateFacts}
 use Rattle.qu_values.proofs.Requests.ClientFacts.{IsAskedBy, ClientFacts}
 use Rattle.qu_values.proofs.Updating.Updates.{same_accepted}
 use Rattle.qu_values.proofs.Versions.EverAccepted.{held_ever}
-use Rattle.qu_runs.proofs.Small.{some_member, quorum_outnumbers}
 use Rattle.qu_runs.proofs.Worlds.OpeningReplicas.{bounds_are}
-use Rattle.qu_safety.proofs.Completed.ToldAnswers.{FirstTrue, first_true, IsAnsweredAt, answered_at, answered_after, IsTold, told_by_fit, ToldBefore, tells_by_reply, asks_in}
+use Rattle.qu_safety.proofs.Completed.ToldAnswers.{FirstTrue, first_true, IsAnsweredAt, answered_at, answered_after, ToldBefore}
+use Rattle.qu_safety.proofs.Completed.QueryRounds.{ToldRound, told_round}
 
 -- ---- the point of the query
 
@@ -262,32 +256,6 @@ module _ (trace : Trace) (is_run : IsRun trace) (have : ArePlain trace) (clients
         version_is trace laws joint is_run have at (omega arith) member mine.old mine.is_old object base accepted
         has.version has.of_base
 
-    -- what the member was asked is the operation's query
-    pub query_asked : (operation : OpRecord) → Contains (operations_of trace) operation
-        → operation.client ≡ client → operation.number ≡ number → (query : List (ObjectId × Ask))
-        → operation.op ≡ op.Query query → (member : ℕ) (tells : Member member)
-        → tells.query ≡ query
-    query_asked operation among of_client of_number query is_query member tells =
-        let mine = tells.reply in
-        let below : tells.at < length trace.entries = tells.below in
-        let correct : is_faulty trace.setup (party.Client client) ≡ false =
-        ap (λ (it : ClientId). is_faulty trace.setup (party.Client it)) (sym of_client)
-        ∙ own_client trace is_run operation among in
-        let letter : AskedBy trace tells.at client number round mine.sets mine.body =
-        reply_letter trace is_run have tells.at below member client number round (verdict.Told stamps answer) mine
-        correct in
-        let request : IsRequestOf trace tells.at client number mine.body =
-        clients.asks tells.at letter.asked letter.letter client number round mine.sets mine.body (record {
-          within = omega arith;
-          is_letter = letter.is_letter;
-          is_request = letter.is_request;
-        }) in
-        let same : request.operation ≡ operation =
-        recorded_op trace request.operation operation request.of_trace among
-        (ap (λ (it : ClientId). it.0) (request.of_client ∙ sym of_client)) (request.of_number ∙ sym of_number) in
-        ap asks_in
-        (sym tells.is_ask ∙ request.asks ∙ ap (λ (it : OpRecord). body_of it.op) same ∙ ap body_of is_query)
-
   -- what no established candidate is above, no decided one is
   top_by : (time : ℕ) → time ≤ (setting trace).last → (object : ObjectId) (base : Candidate)
       → (setting trace).known object ≡ true → (setting trace).plain base ≡ true
@@ -368,20 +336,11 @@ module _ (trace : Trace) (is_run : IsRun trace) (have : ArePlain trace) (clients
         let number : ℕ = operation.number in
         let done : IsCompleted trace operation reply answer = clients.completes operation among reply answer replied in
         let round : ℕ = done.round in
-        let told : IsTold done.verdict answer =
-        told_by_fit query done.verdict answer (ap (λ (it : Op). fitting it done.verdict) (sym is_query) ∙ done.fits) in
+        let told : ToldRound trace operation query round (reply - 1) answer done.members =
+        told_round trace is_run have clients operation among query is_query reply answer done in
         let stamps : List (ObjectId × Stamp) = told.stamps in
-        let P : ℕ → Type 0 = ToldBefore trace client number round (reply - 1) stamps answer in
-        let enough : quorum trace.setup.bounds ≤ length done.members + trace.setup.bounds = done.enough in
-        let all : All P done.members =
-        All-weaker (Replied trace (reply - 1) client number round done.verdict) P
-        (tells_by_reply trace is_run have client number round (reply - 1) done.verdict answer told) done.members
-        done.replied in
-        let one : (member : ℕ) × P member =
-        some_member P done.members
-        (omega (arith, enough, quorum_outnumbers trace.setup.bounds (is_run.setup).some_faults)) all in
-        let member : ℕ = one.0 in
-        let tells : P member = one.1 in
+        let member : ℕ = told.member in
+        let tells : ToldBefore trace client number round (reply - 1) stamps answer member = told.tells in
         let first : FirstTrue (answers_at trace client number round) (suc tells.at) =
         first_true (answers_at trace client number round) (suc tells.at) tells.answered in
         let after : (time : ℕ) × (first.first ≡ suc time) =
@@ -396,9 +355,6 @@ module _ (trace : Trace) (is_run : IsRun trace) (have : ArePlain trace) (clients
         let answered : IsAnsweredAt trace client number round time =
         answered_at trace is_run have client number round time
         (ap (answers_at trace client number round) (sym is_after) ∙ first.passed) in
-        let these : tells.query ≡ query =
-        query_asked client number round (reply - 1) stamps answer time operation among refl refl query is_query member
-        tells in
         record {
           parts = query;
           is_query = is_query;
@@ -414,16 +370,16 @@ module _ (trace : Trace) (is_run : IsRun trace) (have : ArePlain trace) (clients
           before = omega arith;
           values = (tells.tells).values;
           each = zip_along (HasTopValue trace time) stamps query (tells.tells).values
-              ((tells.tells).of_parts ∙ ap objects_in these)
+              ((tells.tells).of_parts ∙ ap objects_in told.asked)
               (zip_weaker (HasTold (tells.reply).old (culled_in (tells.reply).old (tells.reply).sets))
               (λ (told : ObjectId × Stamp) (value : Value). HasTopValue trace time told.0 value) stamps
               (tells.tells).values
               (from_top client number round (reply - 1) stamps answer time within
               (own_client trace is_run operation among) answered
               (not_earlier client number round first.first time is_after first.not_before) done.members done.different
-              done.enough done.within all member tells) (tells.tells).each);
+              done.enough done.within told.all member tells) (tells.tells).each);
           answer_is = (tells.tells).answer_is
-              ∙ ap (λ (it : List (ObjectId × Ask)). told_answer it (tells.tells).values) these;
+              ∙ ap (λ (it : List (ObjectId × Ask)). told_answer it (tells.tells).values) told.asked;
         }
       where
         -- no answer is sent before the first

@@ -1,5 +1,5 @@
 -- The answers that a completed round had, and what the replicas that sent them told.
-use Rattle.std.proofs.Common.{◌≡◌, ◌≢◌, ℕ, zero, suc, ◌-◌, ◌<◌, ◌≤◌, Bool, true, false, List, [], length, Option, None, Some, refl, sym, ap, subst, ◌∙◌, arith, inl, inr, slice_get, Contains}
+use Rattle.std.proofs.Common.{◌≡◌, ℕ, zero, suc, ◌<◌, ◌≤◌, Bool, true, false, List, length, Option, None, Some, refl, sym, ap, subst, ◌∙◌, arith, inl, inr, slice_get, Contains}
 use Rattle.std.specs.List.{Any}
 use Rattle.std.proofs.lemmas.Bool.{false≢true, cases_Bool, and_from, eq-eqb}
 use Rattle.std.proofs.lemmas.List.Folds.{Any-from_list_any, list_any-from_Any}
@@ -11,7 +11,6 @@ use Rattle.qu_stamp.specs.declared.stamp.Stamp.{Stamp}
 use Rattle.qu_objects.specs.declared.answer.Answer.{Answer}
 use Rattle.qu_objects.specs.declared.op.Op.TheVariants as op
 use Rattle.qu_objects.specs.declared.query.Ask.{Ask}
-use Rattle.qu_frames.specs.declared.frame.Body.{Body}
 use Rattle.qu_frames.specs.declared.frame.Body.TheVariants as body
 use Rattle.qu_frames.specs.declared.frame.Letter.{Letter}
 use Rattle.qu_frames.specs.declared.verdict.Verdict.{Verdict}
@@ -186,8 +185,3 @@ tells_by_reply trace is_run have client number round before given answer told re
       is_ask = query.is_ask;
       tells = told_in_run trace is_run have at below replica client number round told.stamps answer reply;
     }
-
-abbrev pub asks_in : Body → List (ObjectId × Ask)
-asks_in (body.Act parts) = []
-asks_in (body.Ask parts) = parts
-asks_in (body.Mend target) = []

@@ -6,13 +6,11 @@ use Rattle.std.proofs.lemmas.Option.{same_Some}
 use Rattle.qu_base.specs.declared.party.ClientId.{ClientId}
 use Rattle.qu_base.specs.declared.party.ReplicaId.{ReplicaId}
 use Rattle.qu_history.specs.declared.sets.SetOf.{SetOf}
-use Rattle.qu_objects.specs.declared.op.Op.TheVariants as op
 use Rattle.qu_frames.specs.declared.frame.Body.{Body}
 use Rattle.qu_frames.specs.declared.frame.Frame.{Frame}
 use Rattle.qu_frames.specs.declared.frame.Frame.TheVariants as frame
 use Rattle.qu_frames.specs.declared.frame.Letter.{Letter}
 use Rattle.qu_frames.specs.declared.verdict.Verdict.{Verdict}
-use Rattle.qu_frames.specs.Body.{body_of}
 use Rattle.qu_machine.specs.declared.record.OpRecord.{OpRecord}
 use Rattle.qu_machine.specs.declared.record.Point.{Point}
 use Rattle.qu_machine.proofs.Equalities.{client_is}
@@ -101,8 +99,8 @@ one_point trace first second one two same_client same_number =
 
 -- ---- what an event hands over
 
--- the event of the entry with this index hands a replica a request of this client and number
-pub record IsAskedAt (trace : Trace) (time : ℕ) (client : ClientId) (number : ℕ) : Type 0 where
+-- the event of the entry with this index hands a replica a request of this client, number and round
+pub record IsAskedAt (trace : Trace) (time : ℕ) (client : ClientId) (number round : ℕ) : Type 0 where
   pub within : time < length trace.entries
   pub place : ℕ
   pub old : ReplicaState
@@ -110,7 +108,6 @@ pub record IsAskedAt (trace : Trace) (time : ℕ) (client : ClientId) (number : 
   pub text : List ℕ
   pub is_handed : handed (world_after trace time) (get_or trace.entries time some_entry).event ≡ Some
       (party.Replica (record { 0 = place }), text)
-  pub round : ℕ
   pub sets : List SetOf
   pub asks : Body
   pub mac : List ℕ
@@ -123,47 +120,40 @@ same_frame : (first second : ClientId) (asked number turn round : ℕ) (sets sho
 same_frame first second asked number turn round sets shown asks told mac seal same = (cc, cc, cc)
 
 -- one event hands over one text
-pub one_asked : (trace : Trace) (time : ℕ) (client other : ClientId) (number turn : ℕ)
-    (one : IsAskedAt trace time client number) (two : IsAskedAt trace time other turn)
+pub one_asked : (trace : Trace) (time : ℕ) (client other : ClientId) (number turn round further : ℕ)
+    (one : IsAskedAt trace time client number round) (two : IsAskedAt trace time other turn further)
     → (client ≡ other) × (number ≡ turn) × (one.asks ≡ two.asks)
-one_asked trace time client other number turn one two =
+one_asked trace time client other number turn round further one two =
     let same : (party.Replica (record { 0 = one.place }), one.text)
     ≡ (party.Replica (record { 0 = two.place }), two.text) = same_Some _ _ (sym one.is_handed ∙ two.is_handed) in
-    same_frame client other number turn one.round two.round one.sets two.sets one.asks two.asks one.mac two.mac
-    (one_decoded two.text (frame.Request client number one.round one.sets one.asks one.mac)
-    (frame.Request other turn two.round two.sets two.asks two.mac)
+    same_frame client other number turn round further one.sets two.sets one.asks two.asks one.mac two.mac
+    (one_decoded two.text (frame.Request client number round one.sets one.asks one.mac)
+    (frame.Request other turn further two.sets two.asks two.mac)
     (ap decoded (sym (ap (λ (it : Party × List ℕ). it.1) same))
-    ∙ brings_decoded one.old one.text (frame.Request client number one.round one.sets one.asks one.mac) one.brings)
-    (brings_decoded two.old two.text (frame.Request other turn two.round two.sets two.asks two.mac) two.brings))
+    ∙ brings_decoded one.old one.text (frame.Request client number round one.sets one.asks one.mac) one.brings)
+    (brings_decoded two.old two.text (frame.Request other turn further two.sets two.asks two.mac) two.brings))
 
 -- a correct client sent it
-pub asked_by_letter : (trace : Trace) → ArePlain trace → (time : ℕ) (client : ClientId) (number : ℕ)
-    (asked : IsAskedAt trace time client number) → is_faulty trace.setup (party.Client client) ≡ false
-    → AskedBy trace time client number asked.round asked.sets asked.asks
-asked_by_letter trace have time client number asked correct =
+pub asked_by_letter : (trace : Trace) → ArePlain trace → (time : ℕ) (client : ClientId) (number round : ℕ)
+    (asked : IsAskedAt trace time client number round) → is_faulty trace.setup (party.Client client) ≡ false
+    → AskedBy trace time client number round asked.sets asked.asks
+asked_by_letter trace have time client number round asked correct =
     asked_letter trace have time asked.within some_entry asked.place asked.old asked.is_old asked.text asked.is_handed
-    client number asked.round asked.sets asked.asks asked.mac asked.brings correct
+    client number round asked.sets asked.asks asked.mac asked.brings correct
 
--- what asks for an operation of the trace asks for what it does, and after it began
-pub record AsksFor (operation : OpRecord) (time : ℕ) (asks : Body) : Type 0 where
-  pub same : asks ≡ body_of operation.op
-  pub begun : operation.invoked ≤ time
-
-pub asks_for : (trace : Trace) → IsRun trace → ArePlain trace → ClientFacts trace → (time : ℕ) (operation : OpRecord)
-    → Contains (operations_of trace) operation
-    → (asked : IsAskedAt trace time operation.client operation.number) → AsksFor operation time asked.asks
-asks_for trace is_run have clients time operation of_trace asked =
+-- what is asked under the number of an operation is asked after it began
+pub asked_begun : (trace : Trace) → IsRun trace → ArePlain trace → ClientFacts trace → (time : ℕ) (operation : OpRecord)
+    → Contains (operations_of trace) operation → (round : ℕ)
+    → IsAskedAt trace time operation.client operation.number round → operation.invoked ≤ time
+asked_begun trace is_run have clients time operation of_trace round asked =
     let within : time < length trace.entries = asked.within in
-    let letter : AskedBy trace time operation.client operation.number asked.round asked.sets asked.asks =
-    asked_by_letter trace have time operation.client operation.number asked
+    let letter : AskedBy trace time operation.client operation.number round asked.sets asked.asks =
+    asked_by_letter trace have time operation.client operation.number round asked
     (own_client trace is_run operation of_trace) in
     let request : IsRequestOf trace time operation.client operation.number asked.asks =
-    clients.asks time letter.asked letter.letter operation.client operation.number asked.round asked.sets asked.asks
+    clients.asks time letter.asked letter.letter operation.client operation.number round asked.sets asked.asks
     (record { within = omega arith; is_letter = letter.is_letter; is_request = letter.is_request }) in
     let same : request.operation ≡ operation =
     recorded_op trace request.operation operation request.of_trace of_trace
     (ap (λ (it : ClientId). it.0) request.of_client) request.of_number in
-    record {
-      same = request.asks ∙ ap (λ (it : OpRecord). body_of it.op) same;
-      begun = subst (λ (it : OpRecord). it.invoked ≤ time) same request.begun;
-    }
+    subst (λ (it : OpRecord). it.invoked ≤ time) same request.begun

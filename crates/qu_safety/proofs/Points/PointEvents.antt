@@ -1,8 +1,8 @@
 -- Points are at different events, each after its operation began.
-use Rattle.std.proofs.Common.{◌≡◌, ℕ, zero, suc, ◌<◌, ◌≤◌, true, List, length, Option, None, Some, refl, sym, ap, subst, ◌∙◌, arith, inl, inr, false}
+use Rattle.std.proofs.Common.{◌≡◌, ℕ, zero, suc, ◌<◌, ◌≤◌, true, List, length, Option, None, Some, refl, sym, ap, subst, ◌∙◌, arith, inl, inr}
 use Rattle.std.specs.Prelude.{slice_get, Contains}
 use Rattle.std.proofs.lemmas.Bool.{false≢true}
-use Rattle.std.proofs.lemmas.Option.{slice_get_within, get_or_from_slice_get}
+use Rattle.std.proofs.lemmas.Option.{slice_get_within, get_or_from_slice_get, same_Some}
 use Rattle.qu_base.specs.declared.party.ClientId.{ClientId}
 use Rattle.qu_base.specs.declared.party.ObjectId.{ObjectId}
 use Rattle.qu_stamp.specs.declared.candidate.Candidate.{Candidate}
@@ -20,7 +20,6 @@ use Rattle.qu_frames.specs.declared.frame.Body.{Body}
 use Rattle.qu_frames.specs.declared.frame.Body.TheVariants as body
 use Rattle.qu_frames.specs.declared.frame.Frame.{Frame}
 use Rattle.qu_frames.specs.declared.verdict.Verdict.{Verdict}
-use Rattle.qu_frames.specs.Body.{body_of}
 use Rattle.qu_machine.specs.declared.record.OpRecord.{OpRecord}
 use Rattle.qu_machine.specs.declared.record.Point.{Point}
 use Rattle.qu_machine.proofs.Equalities.{Passes, passes_from_any}
@@ -38,18 +37,20 @@ use Rattle.qu_values.proofs.Updating.UpdateFacts.{UpdateFacts, NoneIsRepeated}
 use Rattle.qu_values.proofs.Updating.OneAct.{ActsAreOne, one_made_for}
 use Rattle.qu_claims.specs.Handled.{IsMadeFor}
 use Rattle.qu_claims.specs.Grounds.{Accepts, IsDelivered, AddsTo}
-use Rattle.qu_rounds.specs.Invocations.{IsRequestOf}
 use Rattle.qu_claims.specs.Times.{world_after}
 use Rattle.qu_claims.specs.Order.{AnswersFirst, query_effect}
 use Rattle.qu_safety.proofs.Points.OwnedPoints.{IsOperationPoint, IsFaultyPoint, HasOwner}
 use Rattle.qu_points.specs.Points.{effect_of}
-use Rattle.qu_claims.specs.Answers.{answers, sends_answer}
+use Rattle.qu_claims.specs.Answers.{answers, sends_answer, delivered_round}
+use Rattle.qu_world.specs.State.{numbered}
+use Rattle.qu_objects.specs.declared.answer.Answer.{Answer}
 use Rattle.qu_replies.specs.Replies.{IsReplyTo}
 use Rattle.qu_runs.specs.Plain.{ArePlain}
 use Rattle.qu_accepts.proofs.Accepting.{some_entry, Acceptance}
 use Rattle.qu_laws.proofs.ShownWhenAccepted.{acceptance_of}
-use Rattle.qu_values.proofs.Requests.ClientFacts.{ClientFacts}
-use Rattle.qu_points.proofs.Operations.Recorded.{recorded_op}
+use Rattle.qu_values.proofs.Requests.ClientFacts.{IsAskedBy, ClientFacts}
+use Rattle.qu_safety.proofs.Completed.QueryRounds.{query_round_asks}
+use Rattle.qu_claims.specs.Completions.{IsCompleted}
 use Rattle.qu_replies.proofs.Replying.{reply_sent}
 use Rattle.qu_shown.proofs.AskedLetters.{AskedBy}
 use Rattle.qu_safety.proofs.Points.OwnClients.{own_client}
@@ -62,14 +63,14 @@ use Rattle.qu_laws.proofs.Origins.{origin}
 use Rattle.qu_chain.proofs.Counting.{Found, found_at}
 use Rattle.qu_values.proofs.Updating.UpdatesOfRuns.{of_act, made_so}
 use Rattle.qu_claims.specs.Accepted.{accepts}
-use Rattle.qu_safety.proofs.Points.EventRequests.{IsReplyIn, reply_in, one_point, IsAskedAt, one_asked, asked_by_letter, asks_for}
+use Rattle.qu_safety.proofs.Points.EventRequests.{IsReplyIn, reply_in, one_point, IsAskedAt, one_asked, asked_by_letter, asked_begun}
 
 module _ (trace : Trace) (is_run : IsRun trace) (have : ArePlain trace) (clients : ClientFacts trace) where
   -- ---- queries
 
   -- a reply is sent where its request is delivered
   asked_by_reply : (time : ℕ) (replica : ℕ) (client : ClientId) (number round : ℕ) (verdict : Verdict)
-      → IsReplyTo trace time replica client number round verdict → IsAskedAt trace time client number
+      → IsReplyTo trace time replica client number round verdict → IsAskedAt trace time client number round
   asked_by_reply time replica client number round verdict reply = record {
     within = slice_get_within trace.entries time reply.entry reply.is_entry;
     place = replica;
@@ -78,7 +79,6 @@ module _ (trace : Trace) (is_run : IsRun trace) (have : ArePlain trace) (clients
     text = reply.text;
     is_handed = ap (λ (it : Entry). handed (world_after trace time) it.event)
         (get_or_from_slice_get trace.entries time reply.entry some_entry reply.is_entry) ∙ reply.is_handed;
-    round = round;
     sets = reply.sets;
     asks = reply.body;
     mac = reply.mac;
@@ -86,7 +86,7 @@ module _ (trace : Trace) (is_run : IsRun trace) (have : ArePlain trace) (clients
   }
 
   sends_asked : (client : ClientId) (number round time : ℕ) (found : Option Entry) → slice_get trace.entries time
-      ≡ found → sends_answer client number round found ≡ true → IsAskedAt trace time client number
+      ≡ found → sends_answer client number round found ≡ true → IsAskedAt trace time client number round
   sends_asked client number round time None is sends = absurd (false≢true sends)
   sends_asked client number round time (Some entry) is sends =
       let one : Passes (answers client number round) entry.letters =
@@ -96,8 +96,9 @@ module _ (trace : Trace) (is_run : IsRun trace) (have : ArePlain trace) (clients
       (reply_sent trace is_run have time (slice_get_within trace.entries time entry is) entry is one.found one.of_list
       it.replica client number round it.verdict it.shown it.is_reply)
 
-  answers_asked : (client : ClientId) (number reply event : ℕ) → AnswersFirst trace client number reply event
-      → (time : ℕ) × (event ≡ suc time) × IsAskedAt trace time client number
+  answers_asked : (client : ClientId) (number reply event : ℕ)
+      → (first : AnswersFirst trace client number reply event)
+      → (time : ℕ) × (event ≡ suc time) × IsAskedAt trace time client number first.round
   answers_asked client number reply zero first = absurd (false≢true first.by_then)
   answers_asked client number reply (suc time) first = (
     time,
@@ -121,7 +122,8 @@ module _ (trace : Trace) (is_run : IsRun trace) (have : ArePlain trace) (clients
   record TakesRequest (time : ℕ) : Type 0 where
     client : ClientId
     number : ℕ
-    asked : IsAskedAt trace time client number
+    round : ℕ
+    asked : IsAskedAt trace time client number round
     no_query : IsNoQuery asked.asks
 
   accepts_asked : (time : ℕ) (object : ObjectId) (place : ℕ) (candidate : Candidate)
@@ -135,6 +137,7 @@ module _ (trace : Trace) (is_run : IsRun trace) (have : ArePlain trace) (clients
       record {
         client = one.client;
         number = one.number;
+        round = one.round;
         asked = record {
           within = within;
           place = place;
@@ -142,7 +145,6 @@ module _ (trace : Trace) (is_run : IsRun trace) (have : ArePlain trace) (clients
           is_old = accepted.is_old;
           text = delivered.text;
           is_handed = ap (handed (world_after trace time)) (sym accepted.event_is) ∙ delivered.is_handed;
-          round = one.round;
           sets = one.sent;
           asks = one.asks;
           mac = one.mac;
@@ -155,8 +157,9 @@ module _ (trace : Trace) (is_run : IsRun trace) (have : ArePlain trace) (clients
   record MakesAct (time : ℕ) (candidate : Candidate) : Type 0 where
     client : ClientId
     number : ℕ
+    round : ℕ
     parts : List (ObjectId × Method)
-    asked : IsAskedAt trace time client number
+    asked : IsAskedAt trace time client number round
     made : IsMadeFor trace candidate client number parts
 
   makes_asked : (object : ObjectId) (candidate : Candidate) (count : ℕ) → count ≤ length trace.entries
@@ -168,6 +171,7 @@ module _ (trace : Trace) (is_run : IsRun trace) (have : ArePlain trace) (clients
       record {
         client = one.client;
         number = one.number;
+        round = one.round;
         parts = (of_act trace is_run have count within object candidate came is_act).parts;
         asked = record {
           within = omega arith;
@@ -178,7 +182,6 @@ module _ (trace : Trace) (is_run : IsRun trace) (have : ArePlain trace) (clients
           is_handed = ap (λ (it : Entry). handed (world_after trace came.past) it.event)
               (get_or_from_slice_get trace.entries came.past came.entry some_entry came.is_entry)
               ∙ ap (handed (world_after trace came.past)) (sym came.event_is) ∙ (came.delivered).is_handed;
-          round = one.round;
           sets = one.sent;
           asks = one.asks;
           mac = one.mac;
@@ -230,27 +233,14 @@ module _ (trace : Trace) (is_run : IsRun trace) (have : ArePlain trace) (clients
         let past : ℕ = made.0 in
         let earlier : past < suc time = made.1 in
         let upon : MakesAct past it.candidate = made.2 in
-        let asked : IsAskedAt trace past upon.client upon.number = upon.asked in
         let same =
         one_made_for trace one_act it.candidate upon.client operation.client upon.number operation.number
         upon.parts parts upon.made (it.is_of).made in
-        let letter : AskedBy trace past upon.client upon.number asked.round asked.sets asked.asks =
-        asked_by_letter trace have past upon.client upon.number asked
-        (ap (λ (who : ClientId). is_faulty trace.setup (party.Client who)) same.0
-        ∙ own_client trace is_run operation among) in
-        let request : IsRequestOf trace past upon.client upon.number asked.asks =
-        clients.asks past letter.asked letter.letter upon.client upon.number asked.round asked.sets
-        asked.asks (record {
-          within = omega (arith, last_is trace, within, earlier);
-          is_letter = letter.is_letter;
-          is_request = letter.is_request;
-        }) in
-        let begun : (request.operation).invoked ≤ past = request.begun in
-        let records : request.operation ≡ operation =
-        recorded_op trace request.operation operation request.of_trace among
-        (ap (λ (who : ClientId). who.0) (request.of_client ∙ same.0)) (request.of_number ∙ same.1) in
+        let asked : IsAskedAt trace past operation.client operation.number upon.round =
+        subst (λ (who : ClientId). IsAskedAt trace past who operation.number upon.round) same.0
+        (subst (λ (number : ℕ). IsAskedAt trace past upon.client number upon.round) same.1 upon.asked) in
         let invoked : operation.invoked ≤ past =
-        subst (λ (one : OpRecord). one.invoked ≤ past) records begun in
+        asked_begun trace is_run have clients past operation among upon.round asked in
         omega arith
 
     -- ---- points
@@ -259,8 +249,9 @@ module _ (trace : Trace) (is_run : IsRun trace) (have : ArePlain trace) (clients
     data Takes (time : ℕ) (operation : OpRecord) : Type 0 where
       decided : (parts : List (ObjectId × Method))
           → IsTurnOf trace laws joint one_act facts once time (update_of operation parts) → Takes time operation
-      answered : (query : List (ObjectId × Ask)) → operation.op ≡ op.Query query
-          → IsAskedAt trace time operation.client operation.number → Takes time operation
+      answered : (query : List (ObjectId × Ask)) (round : ℕ)
+          (asked : IsAskedAt trace time operation.client operation.number round) → asked.asks ≡ body.Ask query
+          → Takes time operation
 
     record TakesAt (event : ℕ) (operation : OpRecord) : Type 0 where
       time : ℕ
@@ -268,19 +259,45 @@ module _ (trace : Trace) (is_run : IsRun trace) (have : ArePlain trace) (clients
       within : time < length trace.entries
       takes : Takes time operation
 
-    query_takes : (operation : OpRecord) (event : ℕ) (query : List (ObjectId × Ask)) → operation.op ≡ op.Query query
-        → (reply : Option (ℕ × Outcome)) → query_effect trace operation event reply → TakesAt event operation
-    query_takes operation event query is None effect = absurd effect
-    query_takes operation event query is (Some (reply, outcome.GaveUp)) effect = absurd effect
-    query_takes operation event query is (Some (reply, outcome.Done answer)) effect =
-        let it : (time : ℕ) × (event ≡ suc time) × IsAskedAt trace time operation.client operation.number =
-        answers_asked operation.client operation.number reply event effect in
-        let asked : IsAskedAt trace it.0 operation.client operation.number = it.2 in
-        record { time = it.0; is_after = it.1; within = asked.within; takes = Takes.answered query is it.2 }
+    module _ (operation : OpRecord) (among : Contains (operations_of trace) operation)
+        (query : List (ObjectId × Ask)) (is_query : operation.op ≡ op.Query query) where
+      -- what is asked in the round that completed it
+      asks_query : (reply : ℕ) (answer : Answer) → operation.reply ≡ Some (reply, outcome.Done answer)
+          → (round : ℕ) → delivered_round trace (numbered trace.entries reply) ≡ Some round → (time : ℕ)
+          → (asked : IsAskedAt trace time operation.client operation.number round) → asked.asks ≡ body.Ask query
+      asks_query reply answer replied round completed time asked =
+          let within : time < length trace.entries = asked.within in
+          let done : IsCompleted trace operation reply answer = clients.completes operation among reply answer replied in
+          let letter : AskedBy trace time operation.client operation.number round asked.sets asked.asks =
+          asked_by_letter trace have time operation.client operation.number round asked
+          (own_client trace is_run operation among) in
+          query_round_asks trace is_run have clients operation among query is_query reply answer done time letter.asked
+          letter.letter asked.sets asked.asks
+          (subst (λ (turn : ℕ). IsAskedBy trace time letter.asked letter.letter operation.client operation.number turn
+          asked.sets asked.asks) (same_Some round done.round (sym completed ∙ done.delivered))
+          (record { within = omega arith; is_letter = letter.is_letter; is_request = letter.is_request }))
 
-    takes_at : (operation : OpRecord) (event : ℕ) (what : Op) → operation.op ≡ what
-        → effect_of trace operation event what → TakesAt event operation
-    takes_at operation event (op.Act parts) is effect =
+      query_takes : (event : ℕ) (replied : Option (ℕ × Outcome)) → operation.reply ≡ replied
+          → query_effect trace operation event replied → TakesAt event operation
+      query_takes event None is effect = absurd effect
+      query_takes event (Some (reply, outcome.GaveUp)) is effect = absurd effect
+      query_takes event (Some (reply, outcome.Done answer)) is effect =
+          let first : AnswersFirst trace operation.client operation.number reply event = effect in
+          let it : (time : ℕ) × (event ≡ suc time)
+          × IsAskedAt trace time operation.client operation.number first.round =
+          answers_asked operation.client operation.number reply event first in
+          let asked : IsAskedAt trace it.0 operation.client operation.number first.round = it.2 in
+          record {
+            time = it.0;
+            is_after = it.1;
+            within = asked.within;
+            takes = Takes.answered query first.round asked
+                (asks_query reply answer is first.round first.completed it.0 asked);
+          }
+
+    takes_at : (operation : OpRecord) → Contains (operations_of trace) operation → (event : ℕ) (what : Op)
+        → operation.op ≡ what → effect_of trace operation event what → TakesAt event operation
+    takes_at operation among event (op.Act parts) is effect =
         let it : (time : ℕ) × (event ≡ suc time)
         × IsTurnOf trace laws joint one_act facts once time (update_of operation parts) =
         turn_at trace laws joint one_act facts once (update_of operation parts) event effect in
@@ -291,16 +308,17 @@ module _ (trace : Trace) (is_run : IsRun trace) (have : ArePlain trace) (clients
           within = omega (arith, last_is trace, within);
           takes = Takes.decided parts it.2;
         }
-    takes_at operation event (op.Query query) is effect = query_takes operation event query is operation.reply effect
+    takes_at operation among event (op.Query query) is effect =
+        query_takes operation among query is event operation.reply refl effect
 
     point_takes : (point : Point) → (is : IsOperationPoint trace point) → TakesAt point.event is.operation
-    point_takes point is = takes_at is.operation point.event is.operation.op refl is.effect
+    point_takes point is = takes_at is.operation is.of_trace point.event is.operation.op refl is.effect
 
     begun : (time : ℕ) (operation : OpRecord) → Contains (operations_of trace) operation
         → Takes time operation → operation.invoked ≤ time
     begun time operation among (Takes.decided parts turn) = turn_begun time operation among parts turn
-    begun time operation among (Takes.answered query is asked) =
-        (asks_for trace is_run have clients time operation among asked).begun
+    begun time operation among (Takes.answered query round asked asks) =
+        asked_begun trace is_run have clients time operation among round asked
 
     -- the operation of a point began before
     pub begun_before : (point : Point) → (is : IsOperationPoint trace point) → is.operation.invoked < point.event
@@ -312,14 +330,12 @@ module _ (trace : Trace) (is_run : IsRun trace) (have : ArePlain trace) (clients
 
     -- an event that decides an update answers no query
     not_both : (time : ℕ) (update : Update) → IsTurnOf trace laws joint one_act facts once time update
-        → (operation : OpRecord) → Contains (operations_of trace) operation
-        → (query : List (ObjectId × Ask)) → operation.op ≡ op.Query query
-        → IsAskedAt trace time operation.client operation.number → ⊥
-    not_both time update turn operation among query is asked =
+        → (client : ClientId) (number round : ℕ) (asked : IsAskedAt trace time client number round)
+        → (query : List (ObjectId × Ask)) → asked.asks ≡ body.Ask query → ⊥
+    not_both time update turn client number round asked query asks =
         let upon : TakesRequest time = turn_asked time update turn in
         upon.no_query query
-        ((one_asked trace time upon.client operation.client upon.number operation.number upon.asked asked).2
-        ∙ (asks_for trace is_run have clients time operation among asked).same ∙ ap body_of is)
+        ((one_asked trace time upon.client client upon.number number upon.round round upon.asked asked).2 ∙ asks)
 
     one_takes : (time : ℕ) (first second : OpRecord) → Contains (operations_of trace) first
         → Contains (operations_of trace) second → Takes time first → Takes time second
@@ -330,12 +346,14 @@ module _ (trace : Trace) (is_run : IsRun trace) (have : ArePlain trace) (clients
         facts.spread once (acts trace) (update_of first parts) (update_of second others)
         time turn.object other.object turn.candidate other.candidate turn.is_of other.is_of turn.turn other.turn in
         (ap (λ (it : Update). it.client) same, ap (λ (it : Update). it.number) same)
-    one_takes time first second one two (Takes.decided parts turn) (Takes.answered query is asked) =
-        absurd (not_both time (update_of first parts) turn second two query is asked)
-    one_takes time first second one two (Takes.answered query is asked) (Takes.decided parts turn) =
-        absurd (not_both time (update_of second parts) turn first one query is asked)
-    one_takes time first second one two (Takes.answered query is asked) (Takes.answered other are besides) =
-        let same = one_asked trace time first.client second.client first.number second.number asked besides in
+    one_takes time first second one two (Takes.decided parts turn) (Takes.answered query round asked asks) =
+        absurd (not_both time (update_of first parts) turn second.client second.number round asked query asks)
+    one_takes time first second one two (Takes.answered query round asked asks) (Takes.decided parts turn) =
+        absurd (not_both time (update_of second parts) turn first.client first.number round asked query asks)
+    one_takes time first second one two (Takes.answered query round asked asks)
+        (Takes.answered other further besides are) =
+        let same =
+        one_asked trace time first.client second.client first.number second.number round further asked besides in
         (same.0, same.1)
 
     -- ---- points of faulty clients
@@ -381,8 +399,8 @@ module _ (trace : Trace) (is_run : IsRun trace) (have : ArePlain trace) (clients
         other.candidate turn.is_of other.is_of turn.turn other.turn in
         false≢true (sym (own_client trace is_run operation among)
         ∙ ap (λ (it : Update). is_faulty trace.setup (party.Client it.client)) (sym same) ∙ declared)
-    not_of_both time update turn declared operation among (Takes.answered query is asked) =
-        not_both time update turn operation among query is asked
+    not_of_both time update turn declared operation among (Takes.answered query round asked asks) =
+        not_both time update turn operation.client operation.number round asked query asks
 
     apart_from_faulty : (first second : Point) → (one : IsOperationPoint trace first)
         → (two : IsFaultyPoint trace second)
