@@ -39,7 +39,7 @@ use Rattle.qu_world.specs.Step.{world_step, at_client, at_replica, received, del
 use Rattle.qu_world.specs.Run.{bar_of, IsRun}
 use Rattle.qu_runs.proofs.Digests.Plain.{setup_after}
 use Rattle.qu_claims.specs.Times.{world_after}
-use Rattle.qu_rounds.specs.Invocations.{IsRequestOf}
+use Rattle.qu_rounds.specs.Invocations.{IsFor, IsRequestOf}
 use Rattle.qu_runs.proofs.Worlds.WorldGrowth.{world_after-next, world_after-none}
 use Rattle.qu_runs.proofs.Events.Beginning.{operation_begun, begun_one, begun_same, happens, IsFree, may_invoke}
 use Rattle.qu_rounds.proofs.Requesting.{IsAsked, asked_later, replica_asked, IsUnderWay, IsAtWork, IsClientAt, client_later, client_steps, client_step-asked, client_begins, client_begins-asked}
@@ -280,7 +280,7 @@ module _ (trace : Trace) (count : ℕ) (world : WorldState) (shown : IsShown tra
           of_trace = operation_begun trace count default client what correct below is;
           of_client = refl;
           of_number = sym (ap (λ (many : ℕ). many + 1) begun);
-          asks = refl;
+          asks = inl refl;
           begun = omega arith;
         })) fits
 
@@ -406,7 +406,13 @@ same_op (op.Act parts) (op.Query others) same = absurd cc
 same_op (op.Query parts) (op.Act others) same = absurd cc
 same_op (op.Query parts) (op.Query others) same = cc
 
+-- what asks for an act or a query asks for no other operation, and for no repair
+pub op_for : (what other : Op) → IsFor other (body_of what) → other ≡ what
+op_for what other (inl same) = same_op other what (sym same)
+op_for (op.Act parts) other (inr mends) = absurd mends
+op_for (op.Query parts) other (inr mends) = absurd mends
+
 -- what asks for an operation is a request of this operation alone
 pub op_of : (trace : Trace) (count : ℕ) (client : ClientId) (number : ℕ) (what : Op)
     → (request : IsRequestOf trace count client number (body_of what)) → request.operation.op ≡ what
-op_of trace count client number what request = same_op request.operation.op what (sym request.asks)
+op_of trace count client number what request = op_for what request.operation.op request.asks

@@ -1,4 +1,5 @@
--- What the round that completed a query asked, and what was told in it: each of its requests is the query.
+-- What the round that completed a query asked, and what was told in it: each of its requests is the query, whatever
+-- other requests its client sent under the number.
 use Rattle.std.proofs.Common.{◌≡◌, ℕ, ◌+◌, ◌-◌, ◌<◌, ◌≤◌, List, length, sym, ap, subst, ◌∙◌, arith, All, Contains}
 use Rattle.std.proofs.lemmas.List.Elements.{All-weaker}
 use Rattle.qu_base.specs.declared.party.ClientId.{ClientId}
@@ -12,7 +13,6 @@ use Rattle.qu_objects.specs.declared.op.Op.TheVariants as op
 use Rattle.qu_objects.specs.declared.query.Ask.{Ask}
 use Rattle.qu_frames.specs.declared.frame.Body.{Body}
 use Rattle.qu_frames.specs.declared.frame.Body.TheVariants as body
-use Rattle.qu_frames.specs.Body.{body_of}
 use Rattle.qu_frames.specs.declared.frame.Letter.{Letter}
 use Rattle.qu_frames.specs.declared.verdict.Verdict.TheVariants as verdict
 use Rattle.qu_client.specs.Steps.{fitting}
@@ -24,7 +24,8 @@ use Rattle.qu_claims.specs.Completions.{Replied, IsCompleted}
 use Rattle.qu_runs.specs.Plain.{ArePlain}
 use Rattle.qu_runs.proofs.Small.{some_member, quorum_outnumbers}
 use Rattle.qu_runs.proofs.Worlds.LaterLetters.{letter_later}
-use Rattle.qu_rounds.specs.Invocations.{IsRequestOf}
+use Rattle.qu_rounds.specs.Invocations.{IsFor, IsRequestOf}
+use Rattle.qu_rounds.proofs.Invocations.{op_for}
 use Rattle.qu_points.proofs.Operations.Recorded.{recorded_op}
 use Rattle.qu_shown.proofs.AskedLetters.{AskedBy}
 use Rattle.qu_values.proofs.Requests.ClientFacts.{IsAskedBy, ClientFacts}
@@ -41,7 +42,7 @@ pub record ToldRound (trace : Trace) (operation : OpRecord) (query : List (Objec
   pub tells : ToldBefore trace operation.client operation.number round before stamps answer member
   pub asked : tells.query ≡ query
 
-same_queries : (first second : List (ObjectId × Ask)) → body.Ask first ≡ body.Ask second → first ≡ second
+same_queries : (first second : List (ObjectId × Ask)) → op.Query first ≡ op.Query second → first ≡ second
 same_queries first second same = cc
 
 module _ (trace : Trace) (is_run : IsRun trace) (have : ArePlain trace) (clients : ClientFacts trace)
@@ -78,8 +79,9 @@ module _ (trace : Trace) (is_run : IsRun trace) (have : ArePlain trace) (clients
         let same : request.operation ≡ operation =
         recorded_op trace request.operation operation request.of_trace among
         (ap (λ (it : ClientId). it.0) request.of_client) request.of_number in
-        same_queries tells.query query
-        (sym tells.is_ask ∙ request.asks ∙ ap (λ (it : OpRecord). body_of it.op) same ∙ ap body_of is_query)
+        let is_for : IsFor operation.op (body.Ask tells.query) =
+        subst (IsFor operation.op) tells.is_ask (subst (λ (it : OpRecord). IsFor it.op asked) same request.asks) in
+        same_queries tells.query query (sym (op_for (op.Query tells.query) operation.op is_for) ∙ is_query)
 
   module _ (reply : ℕ) (answer : Answer) (done : IsCompleted trace operation reply answer) where
     pub told_round : ToldRound trace operation query done.round (reply - 1) answer done.members

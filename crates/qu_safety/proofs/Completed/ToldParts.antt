@@ -1,5 +1,5 @@
 -- Replies that tell of an update tell of its parts, and the replicas handled it.
-use Rattle.std.proofs.Common.{◌≡◌, ◌≢◌, ℕ, ◌-◌, ◌<◌, ◌≤◌, true, List, [], ◌∷◌, length, refl, sym, ap, subst, ◌∙◌, arith, inl, inr, All}
+use Rattle.std.proofs.Common.{◌≡◌, ℕ, ◌-◌, ◌<◌, ◌≤◌, true, List, [], ◌∷◌, length, refl, sym, ap, subst, ◌∙◌, arith, inl, inr, All}
 use Rattle.std.specs.Prelude.{Contains}
 use Rattle.std.proofs.lemmas.Bool.{false≢true, or_cases, eqb-true}
 use Rattle.std.proofs.lemmas.List.Elements.{All-head, All-tail}
@@ -14,18 +14,18 @@ use Rattle.qu_objects.specs.declared.answer.Answer.{Answer}
 use Rattle.qu_objects.specs.declared.op.Op.TheVariants as op
 use Rattle.qu_objects.specs.declared.state.ObjState.{ObjState}
 use Rattle.qu_frames.specs.declared.verdict.Verdict.{Verdict}
-use Rattle.qu_frames.specs.Body.{body_of}
+use Rattle.qu_frames.specs.declared.frame.Body.TheVariants as body
 use Rattle.qu_machine.specs.declared.record.OpRecord.{OpRecord}
 use Rattle.qu_trace.specs.declared.trace.Trace.{Trace}
 use Rattle.qu_trace.specs.Operation.{operations_of}
 use Rattle.qu_world.specs.Run.{IsRun}
 use Rattle.qu_objects.specs.Digesting.{act_digest}
 use Rattle.qu_safety.proofs.Completed.Along.{objects_in}
-use Rattle.qu_values.proofs.Updating.OneAct.{act_by}
 use Rattle.qu_claims.specs.Handled.{IsHandled, IsMadeFor}
 use Rattle.qu_claims.specs.Completions.{RepliedAt, Replied}
 use Rattle.qu_claims.specs.RunSetting.{setting}
-use Rattle.qu_rounds.specs.Invocations.{IsRequestOf}
+use Rattle.qu_rounds.specs.Invocations.{IsFor, IsRequestOf}
+use Rattle.qu_rounds.proofs.Invocations.{op_for}
 use Rattle.qu_replies.specs.Replies.{Keeps, IsOfUpdate, IsReplyTo}
 use Rattle.qu_claims.specs.Quorums.{ActOfQuorum}
 use Rattle.qu_claims.specs.Updates.{IsOf}
@@ -121,8 +121,9 @@ module _ (trace : Trace) (is_run : IsRun trace) (have : ArePlain trace) (clients
       let same : request.operation ≡ operation =
       recorded_op trace request.operation operation request.of_trace among
       (ap (λ (it : ClientId). it.0) request.of_client) request.of_number in
-      same_acts asks.parts parts (sym (act_by asks.parts operation.op
-      (sym asks.is_act ∙ request.asks ∙ ap (λ (it : OpRecord). body_of it.op) same)) ∙ is_act)
+      let is_for : IsFor operation.op (body.Act asks.parts) =
+      subst (IsFor operation.op) asks.is_act (subst (λ (it : OpRecord). IsFor it.op reply.body) same request.asks) in
+      same_acts asks.parts parts (sym (op_for (op.Act asks.parts) operation.op is_for) ∙ is_act)
 
   -- and so the replica handled it
   pub told_handled : (at : ℕ) (below : at < length trace.entries) (replica round : ℕ) (given : Verdict)

@@ -27,6 +27,7 @@ use Rattle.qu_claims.specs.Handled.{IsHandled, IsMadeFor}
 use Rattle.qu_claims.specs.RunSetting.{setting}
 use Rattle.qu_runs.specs.Plain.{ArePlain}
 use Rattle.qu_rounds.specs.Invocations.{IsRequestOf}
+use Rattle.qu_rounds.proofs.Invocations.{op_for}
 use Rattle.qu_world.specs.Run.{IsRun}
 use Rattle.qu_trace.specs.Faulty.{is_faulty}
 use Rattle.qu_base.specs.declared.party.ClientId.{ClientId}
@@ -45,7 +46,6 @@ use Rattle.qu_values.proofs.Updating.Updates.{last_is, acts, one_of, opening_no_
 use Rattle.qu_values.proofs.Updating.UpdateFacts.{MadeFor, UpdateFacts, NoneIsRepeated}
 use Rattle.qu_values.proofs.Requests.ClientFacts.{ClientFacts}
 use Rattle.qu_values.proofs.Requests.SentRequests.{made_for_operation, asked_by_handled}
-use Rattle.qu_values.proofs.Updating.OneAct.{act_by}
 
 -- the operation has a point, which is before the event of its reply
 pub record StandsBefore (trace : Trace) (operation : OpRecord) (reply : ℕ) : Type 0 where
@@ -292,7 +292,7 @@ module _ (trace : Trace) (laws : Laws (setting trace)) (joint : Joint (setting t
             asked_by_handled trace is_run have clients update.client update.number update.parts (is_of.made).handled
             correct in
             let asks : (request.operation).op ≡ op.Act update.parts =
-            act_by update.parts (request.operation).op request.asks in
+            op_for (op.Act update.parts) (request.operation).op request.asks in
             record {
               point = point_at trace.setup request.operation (suc time);
               is_point = inl (turn_point request.operation request.of_trace

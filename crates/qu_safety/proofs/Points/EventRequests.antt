@@ -141,7 +141,7 @@ asked_by_letter trace have time client number round asked correct =
     asked_letter trace have time asked.within some_entry asked.place asked.old asked.is_old asked.text asked.is_handed
     client number round asked.sets asked.asks asked.mac asked.brings correct
 
--- what is asked under the number of an operation is asked after it began
+-- what is asked under the number of an operation, be it a repair, is asked after it began
 pub asked_begun : (trace : Trace) → IsRun trace → ArePlain trace → ClientFacts trace → (time : ℕ) (operation : OpRecord)
     → Contains (operations_of trace) operation → (round : ℕ)
     → IsAskedAt trace time operation.client operation.number round → operation.invoked ≤ time

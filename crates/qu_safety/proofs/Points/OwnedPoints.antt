@@ -1,6 +1,6 @@
 -- Whose points stand in the printed order, where the premises hold: the operations of correct clients, and updates of
 -- faulty ones.
-use Rattle.std.proofs.Common.{◌≡◌, ◌⊎◌, ℕ, true, false, List, length, refl, sym, ap, subst, ◌∙◌, inl, inr}
+use Rattle.std.proofs.Common.{◌≡◌, ◌⊎◌, ℕ, true, false, List, length, refl, sym, subst, ◌∙◌, inl, inr}
 use Rattle.std.specs.Prelude.{Contains, IsTrue}
 use Rattle.std.proofs.lemmas.Bool.{cases_Bool}
 use Rattle.qu_base.specs.declared.party.ClientId.{ClientId}
@@ -19,10 +19,10 @@ use Rattle.qu_world.specs.Run.{IsRun}
 use Rattle.qu_claims.specs.Order.{DecidesAt, are_in_order, IsUpdatePoint, IsQueryPoint, IsPoint, IsPrintedOrder}
 use Rattle.qu_runs.specs.Plain.{ArePlain}
 use Rattle.qu_rounds.specs.Invocations.{IsRequestOf}
+use Rattle.qu_rounds.proofs.Invocations.{op_for}
 use Rattle.qu_points.specs.Points.{effect_of}
 use Rattle.qu_values.proofs.Requests.ClientFacts.{ClientFacts}
 use Rattle.qu_values.proofs.Requests.SentRequests.{asked_by_handled}
-use Rattle.qu_values.proofs.Updating.OneAct.{act_by}
 
 -- a point of an operation of a correct client, at the event at which it took effect
 pub record IsOperationPoint (trace : Trace) (point : Point) : Type 0 where
@@ -105,7 +105,7 @@ module _ (trace : Trace) where
         let request : IsRequestOf trace (length trace.entries) point.client point.number (body.Act it.parts) =
         asked_by_handled trace is_run have clients point.client point.number it.parts (it.effect).handled correct in
         let asks : (request.operation).op ≡ op.Act it.parts =
-        act_by it.parts (request.operation).op request.asks in
+        op_for (op.Act it.parts) (request.operation).op request.asks in
         record {
           operation = request.operation;
           of_trace = request.of_trace;

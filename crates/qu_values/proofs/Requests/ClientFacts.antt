@@ -25,10 +25,10 @@ pub record IsAskedBy (trace : Trace) (count at : ℕ) (letter : Letter) (client 
   pub is_request : Asks letter client number round sets body
 
 pub record ClientFacts (trace : Trace) : Type 0 where
-  -- a request is one of an operation, which began before
+  -- a request is one of an operation, which began before: it asks for this, or for a repair
   pub asks : (count at : ℕ) (letter : Letter) (client : ClientId) (number round : ℕ) (sets : List SetOf) (body : Body)
       → IsAskedBy trace count at letter client number round sets body → IsRequestOf trace count client number body
-  -- in a round a client asks all replicas the same
+  -- in a round a client asks one thing, of whichever replicas and at whichever events
   pub alike : (count first second : ℕ) (a b : Letter) (client : ClientId) (number round : ℕ)
       (sets others : List SetOf) (body other : Body)
       → IsAskedBy trace count first a client number round sets body

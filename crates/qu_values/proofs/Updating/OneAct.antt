@@ -9,12 +9,9 @@ use Rattle.qu_seal.specs.declared.constants.TheConstants.{ACT_TAG}
 use Rattle.qu_seal.specs.Digesting.{digest_of}
 use Rattle.qu_stamp.specs.declared.candidate.Candidate.{Candidate}
 use Rattle.qu_objects.specs.declared.act.Method.{Method}
-use Rattle.qu_objects.specs.declared.op.Op.{Op}
-use Rattle.qu_objects.specs.declared.op.Op.TheVariants as op
 use Rattle.qu_objects.specs.Digesting.{act_text, act_digest}
 use Rattle.qu_objects.proofs.Text.{act_text-one}
 use Rattle.qu_frames.specs.declared.frame.Body.TheVariants as body
-use Rattle.qu_frames.specs.Body.{body_of}
 use Rattle.qu_trace.specs.declared.trace.Trace.{Trace}
 use Rattle.qu_world.specs.Run.{IsRun}
 use Rattle.qu_claims.specs.Handled.{Request, IsHandled, IsMadeFor}
@@ -34,11 +31,6 @@ text_digested trace client number parts it =
     let request : Request = record { client = client; number = number; sets = it.sets; body = body.Act parts } in
     let among : Contains (texts_of (Some request)) (text_of client number parts) = (1, omega arith, refl) in
     request_digested trace it.entry (Some request) (text_of client number parts) it.of_trace it.handled among
-
--- an operation that asks for an act is one
-pub act_by : (parts : List (ObjectId × Method)) (what : Op) → body.Act parts ≡ body_of what → what ≡ op.Act parts
-act_by parts (op.Act act) same = cc
-act_by parts (op.Query query) same = absurd (cc)
 
 -- ---- acts of one digest
 
