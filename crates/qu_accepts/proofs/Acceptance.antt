@@ -14,14 +14,11 @@ use Rattle.qu_history.specs.declared.sets.SetOf.{SetOf}
 use Rattle.qu_history.specs.Culling.{culled}
 use Rattle.qu_history.specs.History.{ObjectHistory}
 use Rattle.qu_history.specs.Sets.{latest_of, entries_of, order_of}
-use Rattle.qu_objects.specs.declared.act.Method.{Method}
-use Rattle.qu_objects.specs.declared.query.Ask.{Ask}
 use Rattle.qu_objects.specs.declared.state.ObjState.{ObjState}
 use Rattle.qu_kept.specs.declared.repeats.Standing.TheVariants.{Fresh}
 use Rattle.qu_frames.specs.declared.frame.Body.TheVariants as body
 use Rattle.qu_frames.specs.declared.frame.Frame.{Frame}
 use Rattle.qu_frames.specs.declared.frame.Frame.TheVariants as frame
-use Rattle.qu_frames.specs.declared.verdict.ClassCode.TheVariants.{Barrier}
 use Rattle.qu_frames.specs.declared.verdict.Refusal.{Refusal}
 use Rattle.qu_frames.specs.declared.verdict.Refusal.TheVariants as refusal
 use Rattle.qu_rows.specs.declared.decision.Accepted.{Accepted}
@@ -51,7 +48,7 @@ use Rattle.qu_base.specs.Bounds.{quorum, repair}
 use Rattle.qu_class.specs.Class.{class_of}
 use Rattle.qu_class.proofs.ClassRows.{class_tells, prior_of_barrier}
 use Rattle.qu_rows.proofs.Decided.{decided_has_cause}
-use Rattle.qu_accepts.proofs.ActAcceptance.{accepted_in, AcceptsNothing, unknown, thin, current, version, time, full, past, ask_accepts, carried, may_accept, candidates_after, stays, act_moves}
+use Rattle.qu_accepts.proofs.ActAcceptance.{accepted_in, AcceptsNothing, unknown, thin, version, full, past, ask_accepts, carried, may_accept, candidates_after, stays, act_moves}
 
 -- ---- a repair
 

@@ -1,5 +1,5 @@
 -- The steps of a run at which replicas accept candidates.
-use Rattle.std.proofs.Common.{◌≡◌, ℕ, suc, ◌<◌, true, false, [], ◌∷◌, ◌++◌, length, get_or, None, Some, refl, sym, ap, ◌∙◌, inl, inr, ◌⊎◌, add-one}
+use Rattle.std.proofs.Common.{◌+◌, ◌≡◌, ℕ, suc, ◌<◌, true, false, [], ◌∷◌, ◌++◌, length, get_or, None, Some, sym, ap, ◌∙◌, inl, inr, ◌⊎◌, add-one, List}
 use Rattle.std.specs.Prelude.{◌||◌, slice_get}
 use Rattle.std.proofs.lemmas.Bool.{false≢true, or_cases}
 use Rattle.std.proofs.lemmas.List.Folds.{list_any-append}
@@ -23,7 +23,8 @@ use Rattle.qu_claims.specs.Times.{world_after}
 use Rattle.qu_runs.specs.Plain.{ArePlain}
 use Rattle.qu_claims.specs.Grounds.{IsDelivered}
 use Rattle.qu_runs.proofs.Worlds.Befores.{WasBefore, was_before}
-use Rattle.qu_accepts.proofs.Happenings.{hands_parts, event_accepts}
+use Rattle.qu_accepts.proofs.Happenings.{accepts_at}
+use Rattle.qu_accepts.proofs.Handling.{mid_candidates}
 use Rattle.qu_runs.proofs.Worlds.WorldGrowth.{world_after-next}
 use Rattle.qu_runs.proofs.Worlds.OpeningReplicas.{opening_holds}
 
@@ -42,33 +43,28 @@ opening_alone trace place state object candidate found holding =
 pub some_entry : Entry
 some_entry = record { event = Tick (record { 0 = 0 }); letters = []; ended = None }
 
--- what the event of an entry adds to a replica
+-- what an event adds to a replica
 pub record StepAt (trace : Trace) (at place : ℕ) (new : ReplicaState) (object : ObjectId) : Type 0 where
-  pub event : Event
-  pub event_is : event ≡ (get_or trace.entries at some_entry).event
   pub old : ReplicaState
   pub is_old : slice_get (world_after trace at).replicas place ≡ Some old
-  pub adds : (own_candidates new object ≡ own_candidates old object) ⊎ IsDelivered (world_after trace at) event
-      place old new object
+  pub adds : (own_candidates new object ≡ own_candidates old object) ⊎ IsDelivered trace at place old new object
 
 pub step_at : (trace : Trace) → IsRun trace → ArePlain trace → (at : ℕ) → at < length trace.entries
     → (place : ℕ) (new : ReplicaState) → slice_get (world_after trace (suc at)).replicas place ≡ Some new
     → (object : ObjectId) → StepAt trace at place new object
 step_at trace is_run have at within place new is_new object =
     let event : Event = (get_or trace.entries at some_entry).event in
-    let next : world_after trace (suc at) ≡ world_step (world_after trace at) event =
-    ap (world_after trace) (sym (add-one at)) ∙ world_after-next trace at some_entry within in
+    let is_next : slice_get (world_after trace (at + 1)).replicas place ≡ Some new =
+    ap (λ (count : ℕ). slice_get (world_after trace count).replicas place) (add-one at) ∙ is_new in
     let found : slice_get (world_step (world_after trace at) event).replicas place ≡ Some new =
-    ap (λ (world : WorldState). slice_get world.replicas place) (sym next) ∙ is_new in
+    ap (λ (world : WorldState). slice_get world.replicas place) (sym (world_after-next trace at some_entry within))
+    ∙ is_next in
     let before : WasBefore (world_after trace at).replicas place new =
     was_before (world_after trace at) event place new found in
     record {
-      event = event;
-      event_is = refl;
       old = before.old;
       is_old = before.is_old;
-      adds = event_accepts (world_after trace at) event place before.old new before.is_old found
-          (hands_parts trace is_run have at some_entry within) object;
+      adds = accepts_at trace is_run have at within place before.old new before.is_old is_next object;
     }
 
 -- what is held now and was not before is what was added
@@ -88,14 +84,20 @@ added_is old new object added candidate more after before =
 
 -- the step at which a replica accepts the candidate
 pub record Acceptance (trace : Trace) (at : ℕ) (object : ObjectId) (place : ℕ) (candidate : Candidate) : Type 0 where
-  pub event : Event
-  pub event_is : event ≡ (get_or trace.entries at some_entry).event
   pub old : ReplicaState
   pub new : ReplicaState
-  pub is_old : slice_get (world_after trace at).replicas place ≡ Some old
   pub is_new : slice_get (world_after trace (suc at)).replicas place ≡ Some new
-  pub delivered : IsDelivered (world_after trace at) event place old new object
+  pub delivered : IsDelivered trace at place old new object
   pub candidate_is : (delivered.accepts).candidates object ≡ candidate
+
+-- it adds this candidate to what the replica had
+pub delivered_adds : (trace : Trace) (at place : ℕ) (old new : ReplicaState) (object : ObjectId)
+    (delivered : IsDelivered trace at place old new object)
+    → own_candidates new object ≡ own_candidates old object ++ (delivered.accepts).candidates object ∷ []
+delivered_adds trace at place old new object delivered =
+    (delivered.accepts).added object delivered.adds
+    ∙ ap (λ (held : List Candidate). held ++ (delivered.accepts).candidates object ∷ [])
+    (mid_candidates trace at old (delivered.handles).mid (delivered.handles).learns object)
 
 pub acceptance : (trace : Trace) → IsRun trace → ArePlain trace → (at : ℕ) → at < length trace.entries
     → (object : ObjectId) (place : ℕ) (candidate : Candidate)
@@ -113,14 +115,11 @@ acceptance trace is_run have at within object place candidate after before =
     elim (step.adds) [
       | inl same ↦ absurd (false≢true (sym not_before ∙ ap (holds candidate) (sym same) ∙ found.passed))
       | inr delivered ↦ record {
-        event = step.event;
-        event_is = step.event_is;
         old = step.old;
         new = found.item;
-        is_old = step.is_old;
         is_new = found.is_at;
         delivered = delivered;
         candidate_is = added_is step.old found.item object ((delivered.accepts).candidates object) candidate
-            ((delivered.accepts).added object delivered.adds) found.passed not_before;
+            (delivered_adds trace at place step.old found.item object delivered) found.passed not_before;
       }
     ]

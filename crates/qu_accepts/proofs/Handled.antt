@@ -4,13 +4,12 @@ use Rattle.qu_claims.specs.Carried.{offered}
 use Rattle.qu_runs.proofs.Events.Handing.{handed_offers, handed_correct}
 use Rattle.qu_claims.specs.Handled.{is_handler}
 use Rattle.qu_runs.proofs.Digests.Plain.{setup_after}
-use Rattle.std.proofs.Common.{false}
-use Rattle.std.proofs.Common.{◌≡◌, ℕ, ◌<◌, ◌≤◌, Bool, true, not, cond, List, [], ◌∷◌, length, Option, None, Some, refl, sym, ap, ◌∙◌, arith}
-use Rattle.std.specs.Prelude.{slice_get, nat_le, nat_lt, Contains, option_map}
+use Rattle.std.proofs.Common.{false, subst}
+use Rattle.std.proofs.Common.{◌≡◌, ℕ, ◌<◌, ◌≤◌, Bool, true, not, cond, List, length, Option, None, Some, refl, sym, ap, ◌∙◌, arith}
+use Rattle.std.specs.Prelude.{slice_get, nat_lt, Contains, option_map}
 use Rattle.std.specs.List.{list_all}
-use Rattle.std.proofs.lemmas.Bool.{and_parts, and_from, lt-ltb}
-use Rattle.std.proofs.lemmas.Bool.Decides.{nat_tests}
-use Rattle.std.proofs.lemmas.Option.{none-some, slice_get_within, same_Some}
+use Rattle.std.proofs.lemmas.Bool.{and_from, lt-ltb}
+use Rattle.std.proofs.lemmas.Option.{none-some, slice_get_within, same_Some, get_or_from_slice_get}
 use Rattle.qu_base.specs.declared.party.ClientId.{ClientId}
 use Rattle.qu_base.specs.declared.party.ObjectId.{ObjectId}
 use Rattle.qu_base.specs.declared.party.Party.{Party}
@@ -33,15 +32,17 @@ use Rattle.qu_trace.specs.declared.trace.Entry.{Entry}
 use Rattle.qu_trace.specs.declared.trace.Setup.{Setup}
 use Rattle.qu_trace.specs.declared.trace.Trace.{Trace}
 use Rattle.qu_world.specs.State.{letter_of, ring_of}
-use Rattle.qu_world.specs.Step.{world_step}
 use Rattle.qu_world.specs.Run.{IsRun}
 use Rattle.qu_claims.specs.Handled.{Request, is_of_setup, request_to, request_by, handled_by, IsHandled, IsMadeFor, request_brought}
 use Rattle.qu_claims.specs.Grounds.{Accepts, IsDelivered, Performs}
 use Rattle.qu_claims.specs.Parts.{Names}
 use Rattle.qu_claims.specs.Times.{world_after}
 use Rattle.qu_runs.proofs.Worlds.OpeningReplicas.{all_replicas, keys_are, me_is}
-use Rattle.qu_accepts.proofs.KnownObjects.{are_had, delivered_had}
-use Rattle.qu_runs.proofs.Worlds.Objects.{run_has, found_within}
+use Rattle.qu_accepts.proofs.KnownObjects.{delivered_known}
+use Rattle.qu_claims.specs.Handling.{Handles}
+use Rattle.qu_claims.specs.Digested.{Text, texts_of, texts_at}
+use Rattle.std.proofs.lemmas.List.Elements.{Contains-append_left}
+use Rattle.qu_accepts.proofs.Handling.{same_culled}
 use Rattle.qu_runs.proofs.Events.Recording.{letter_stays}
 use Rattle.qu_claims.specs.Carried.{Brings, handed}
 use Rattle.qu_frames.specs.Signing.{brought}
@@ -51,19 +52,6 @@ use Rattle.qu_runs.proofs.Events.Handing.{hand}
 use Rattle.qu_frames.specs.declared.frame.Body.{Body}
 
 -- ---- what is accepted was handled
-
-one_known : (size number count : ℕ) → size ≤ count → not (nat_le size number) ≡ true → nat_lt number count ≡ true
-one_known size number count few had = grind (arith, nat_tests)
-
-all_known : (setup : Setup) (size : ℕ) → size ≤ length setup.kinds → (sets : List SetOf)
-    → list_all (λ (set : SetOf). not (nat_le size (set.object).0)) sets ≡ true → list_all (is_of_setup setup) sets
-    ≡ true
-all_known setup size few [] had = refl
-all_known setup size few (set ∷ sets) had =
-    let parts : (not (nat_le size (set.object).0) ≡ true)
-    × (list_all (λ (it : SetOf). not (nat_le size (it.object).0)) sets ≡ true) = and_parts _ _ had in
-    and_from _ _ (one_known size (set.object).0 (length setup.kinds) few parts.0)
-    (all_known setup size few sets parts.1)
 
 -- the request that an event hands to a replica
 request_of_letter : (trace : Trace) → IsRun trace → (time : ℕ) → time ≤ length trace.entries
@@ -100,25 +88,15 @@ handler_at trace time event place old is_old text hands =
     ∙ handed_correct (world_after trace time) event (party.Replica (record { 0 = place })) text hands in
     and_from _ _ among (ap not correct)
 
--- the objects that it has are the setup's
-pub known_sent : (trace : Trace) (time place : ℕ) (old : ReplicaState)
-    → slice_get (world_after trace time).replicas place ≡ Some old → (sent : List SetOf) → are_had old sent ≡ true
-    → list_all (is_of_setup trace.setup) sent ≡ true
-known_sent trace time place old is_old sent had =
-    all_known trace.setup (length old.histories)
-    (found_within (length trace.setup.kinds) (world_after trace time).replicas place old (run_has trace time) is_old)
-    sent had
-
 -- a replica handles a request that shows it objects that it has, with its sets culled
 pub request_handled : (trace : Trace) → IsRun trace → (time : ℕ) → time < length trace.entries → (event : Event)
     → (place : ℕ) (old : ReplicaState) → slice_get (world_after trace time).replicas place ≡ Some old
     → (text : List ℕ) → handed (world_after trace time) event ≡ Some (party.Replica (record { 0 = place }), text)
     → (request : Request) (round : ℕ) (sent : List SetOf) (mac : List ℕ)
     → Brings old text (frame.Request request.client request.number round sent request.body mac)
-    → are_had old sent ≡ true → culled old.keys old.me sent ≡ request.sets
+    → list_all (is_of_setup trace.setup) sent ≡ true → culled old.keys old.me sent ≡ request.sets
     → handled_by trace event ≡ Some request
-request_handled trace is_run time within event place old is_old text hands request round sent mac brings had culls =
-    let known : list_all (is_of_setup trace.setup) sent ≡ true = known_sent trace time place old is_old sent had in
+request_handled trace is_run time within event place old is_old text hands request round sent mac brings known culls =
     let handles : is_handler trace.setup (record { 0 = place }) ≡ true =
     handler_at trace time event place old is_old text hands in
     request_offered trace is_run time (omega arith) event (party.Replica (record { 0 = place })) text
@@ -143,10 +121,11 @@ pub handled_upon : (trace : Trace) → IsRun trace → (time : ℕ) → time < l
     → (place : ℕ) (old : ReplicaState) → slice_get (world_after trace time).replicas place ≡ Some old
     → (text : List ℕ) → handed (world_after trace time) entry.event ≡ Some (party.Replica (record { 0 = place }), text)
     → (client : ClientId) (number round : ℕ) (sent : List SetOf) (parts : List (ObjectId × Method)) (mac : List ℕ)
-    → Brings old text (frame.Request client number round sent (body.Act parts) mac) → are_had old sent ≡ true
+    → Brings old text (frame.Request client number round sent (body.Act parts) mac)
+    → list_all (is_of_setup trace.setup) sent ≡ true
     → IsHandled trace client number parts
 handled_upon trace is_run time within entry of_trace place old is_old text hands client number round sent
-    parts mac brings had =
+    parts mac brings known =
     let sets : List SetOf = culled old.keys old.me sent in
     record {
       entry = entry;
@@ -154,53 +133,85 @@ handled_upon trace is_run time within entry of_trace place old is_old text hands
       sets = sets;
       handled =
           request_handled trace is_run time within entry.event place old is_old text hands
-          (record { client = client; number = number; sets = sets; body = body.Act parts }) round sent mac brings had
+          (record { client = client; number = number; sets = sets; body = body.Act parts }) round sent mac brings known
           refl;
     }
 
+-- what is digested of a request when it is handled was digested at the event at which it came, so that handling it
+-- later, or anew, digests nothing new
+pub digested_when_it_came : (trace : Trace) → IsRun trace → (at : ℕ) → at < length trace.entries → (place : ℕ)
+    (old new : ReplicaState) (handles : Handles trace at place old new) (client : ClientId) (number round : ℕ)
+    (sent : List SetOf) (asks : Body) (mac : List ℕ)
+    → handles.carried ≡ frame.Request client number round sent asks mac
+    → list_all (is_of_setup trace.setup) sent ≡ true → (text : Text)
+    → Contains (texts_of (Some (record {
+      client = client;
+      number = number;
+      sets = culled (handles.mid).keys (handles.mid).me sent;
+      body = asks;
+    }))) text → (handles.since ≤ at) × Contains (texts_at trace handles.entry) text
+unfolding texts_at
+digested_when_it_came trace is_run at below place old new handles client number round sent asks mac is_request known
+    text among =
+    let request : Request = record {
+      client = client;
+      number = number;
+      sets = culled (handles.mid).keys (handles.mid).me sent;
+      body = asks;
+    } in
+    let handled : handled_by trace (handles.entry).event ≡ Some request =
+    request_handled trace is_run handles.since (omega (arith, below, handles.came)) (handles.entry).event place
+    handles.receiver handles.is_receiver handles.text handles.is_handed request round sent mac
+    (handles.brings ∙ ap (λ (it : Frame). Some it) is_request) known
+    (same_culled trace at place old new handles sent) in (
+      handles.came,
+      Contains-append_left (texts_of (handled_by trace (handles.entry).event)) _ text
+          (subst (λ (it : Option Request). Contains (texts_of it) text) (sym handled) among),
+    )
+
 -- the request upon which a replica accepts a candidate
-abbrev pub request_upon : (old new : ReplicaState) (received : Frame) → Accepts old new received → Request
-request_upon old new received one =
+abbrev pub request_upon : (mid new : ReplicaState) (received : Frame) → Accepts mid new received → Request
+request_upon mid new received one =
     record { client = one.client; number = one.number; sets = one.sets; body = one.asks }
 
--- a replica handled it
-pub upon_handled : (trace : Trace) → IsRun trace → (time : ℕ) → time < length trace.entries → (event : Event)
-    → (place : ℕ) (old new : ReplicaState)
-    → slice_get (world_after trace time).replicas place ≡ Some old
-    → slice_get (world_step (world_after trace time) event).replicas place ≡ Some new
-    → (object : ObjectId) (delivered : IsDelivered (world_after trace time) event place old new object)
-    → handled_by trace event ≡ Some (request_upon old new delivered.carried delivered.accepts)
-upon_handled trace is_run time within event place old new is_old is_new object delivered =
-    let one : Accepts old new delivered.carried = delivered.accepts in
-    let had : are_had old one.sent ≡ true =
-    delivered_had (world_after trace time) event place old new object delivered is_old is_new in
-    request_handled trace is_run time within event place old is_old delivered.text delivered.is_handed
-    (request_upon old new delivered.carried one) one.round one.sent one.mac
-    (delivered.brings ∙ ap (λ (it : Frame). Some it) one.is_request) had one.culls
+module _ (trace : Trace) (is_run : IsRun trace) (at : ℕ) (below : at < length trace.entries) (place : ℕ)
+    (old new : ReplicaState) (object : ObjectId) (delivered : IsDelivered trace at place old new object) where
+  abbrev handles : Handles trace at place old new
+  handles = delivered.handles
 
-pub handled : (trace : Trace) → IsRun trace → (time : ℕ) → time < length trace.entries → (entry : Entry)
-    → Contains trace.entries entry → (event : Event) → event ≡ entry.event → (place : ℕ) (old new : ReplicaState)
-    → slice_get (world_after trace time).replicas place ≡ Some old
-    → slice_get (world_step (world_after trace time) event).replicas place ≡ Some new
-    → (object : ObjectId) (delivered : IsDelivered (world_after trace time) event place old new object)
-    → (parts : List (ObjectId × Method)) → (delivered.accepts).asks ≡ body.Act parts
-    → IsHandled trace (delivered.accepts).client (delivered.accepts).number parts
-handled trace is_run time within entry of_trace event event_is place old new is_old is_new object delivered parts
-    is_act =
-    let one : Accepts old new delivered.carried = delivered.accepts in
-    record {
-      entry = entry;
-      of_trace = of_trace;
+  abbrev one : Accepts handles.mid new handles.carried
+  one = delivered.accepts
+
+  -- what the replica keeps of the sets in culling, it kept when they came
+  pub culls_so : culled (handles.receiver).keys (handles.receiver).me one.sent ≡ one.sets
+  culls_so = same_culled trace at place old new handles one.sent ∙ one.culls
+
+  -- the replica handled it at the event at which it came
+  pub upon_handled : handled_by trace (handles.entry).event ≡ Some (request_upon handles.mid new handles.carried one)
+  upon_handled =
+      request_handled trace is_run handles.since (omega (arith, below, handles.came)) (handles.entry).event place
+      handles.receiver handles.is_receiver handles.text handles.is_handed
+      (request_upon handles.mid new handles.carried one) one.round one.sent one.mac
+      (handles.brings ∙ ap (λ (it : Frame). Some it) one.is_request)
+      (delivered_known trace at place old new object delivered) culls_so
+
+  pub handled : (parts : List (ObjectId × Method)) → one.asks ≡ body.Act parts
+      → IsHandled trace one.client one.number parts
+  handled parts is_act = record {
+    entry = handles.entry;
+    of_trace = (
+      handles.since,
+      slice_get_within trace.entries handles.since handles.entry handles.is_entry,
+      get_or_from_slice_get trace.entries handles.since handles.entry handles.entry handles.is_entry,
+    );
+    sets = one.sets;
+    handled = upon_handled ∙ ap (λ (asks : Body). Some (record {
+      client = one.client;
+      number = one.number;
       sets = one.sets;
-      handled = ap (handled_by trace) (sym event_is) ∙ upon_handled trace is_run time within event place old new
-          is_old is_new object delivered
-          ∙ ap (λ (asks : Body). Some (record {
-            client = one.client;
-            number = one.number;
-            sets = one.sets;
-            body = asks;
-          })) is_act;
-    }
+      body = asks;
+    })) is_act;
+  }
 
 -- ---- for which act a candidate was made
 

@@ -1,7 +1,7 @@
 -- What an event of a world adds to a replica, and why: nothing, or what a letter to it makes it accept.
 use Rattle.qu_world.proofs.Steps.{AtCorrect, step_cases}
 use Rattle.qu_world.specs.Step.{moved}
-use Rattle.std.proofs.Common.{◌≡◌, ◌⊎◌, ℕ, List, Option, None, Some, inl, inr, refl, sym, subst, ap, ◌∙◌, Ok, get_or, ◌<◌, length}
+use Rattle.std.proofs.Common.{◌+◌, ◌≡◌, ◌⊎◌, ℕ, List, Option, None, Some, inl, inr, refl, sym, subst, ap, ◌∙◌, Ok, get_or, ◌<◌, length, arith}
 use Rattle.std.specs.Prelude.{slice_get, slice_set}
 use Rattle.std.proofs.lemmas.Bool.{cases_eq}
 use Rattle.std.proofs.lemmas.Option.{same_Some}
@@ -22,7 +22,18 @@ use Rattle.qu_trace.specs.declared.event.Event.{Event}
 use Rattle.qu_trace.specs.declared.event.Event.TheVariants.{Invoke, Deliver, Tick, Inject}
 use Rattle.qu_world.specs.State.{WorldState, numbered, letter_of}
 use Rattle.qu_world.specs.Step.{world_step, at_replica, at_client, received, delivered}
-use Rattle.qu_claims.specs.Grounds.{Accepts, IsMoved, IsDelivered}
+use Rattle.qu_claims.specs.Grounds.{Accepts, Reasons, IsMoved, IsDelivered}
+use Rattle.qu_claims.specs.Handling.{HoldsAlike, Learns, Handles}
+use Rattle.qu_accepts.proofs.Handling.{mid_bounds, learns_nothing, holds_alike, handled_at_once, alike_candidates, mid_candidates}
+use Rattle.qu_runs.proofs.Worlds.WorldGrowth.{world_after-next}
+use Rattle.qu_runs.proofs.Small.{some_entry}
+use Rattle.std.proofs.lemmas.Option.{slice_get-get_or, get_or_from_slice_get}
+use Rattle.qu_frames.specs.declared.frame.Body.{Body}
+use Rattle.qu_frames.specs.declared.frame.Body.TheVariants as body
+use Rattle.qu_rows.specs.Rows.{asked_of}
+use Rattle.qu_runs.proofs.Fits.Carrying.{brings_decoded}
+use Rattle.qu_replica.specs.Step.{replica_on_frame}
+use Rattle.qu_claims.specs.Carried.{Brings}
 use Rattle.qu_accepts.proofs.Acceptance.{step_moves, IsFormed}
 use Rattle.qu_accepts.proofs.Parts.{adds_or_not}
 use Rattle.qu_world.proofs.Each.{set_here, set_other}
@@ -47,8 +58,6 @@ use Rattle.qu_accepts.proofs.Formed.{sets_formed}
 use Rattle.qu_history.specs.Culling.{culled}
 use Rattle.qu_replica.proofs.Fits.FitCulled.{culled-fits}
 use Rattle.qu_replica.proofs.Fits.FitSteps.{request-fits}
-
--- ---- a replica before an event
 
 -- ---- a replica whose place nothing was put at
 
@@ -79,7 +88,17 @@ record IsTaken (me : ReplicaId) (text : List ℕ) (place : ℕ) (old new : Repli
   here : me.0 ≡ place
   frame : Frame
   is_frame : brought old.keys (party.Replica old.me) text ≡ Some frame
+  steps : new ≡ (replica_on_frame old frame).0
   accepts : Accepts old new frame
+
+-- the event hands a text to the replica at this place, which brings it a frame upon which it accepts candidates
+pub record IsGiven (world : WorldState) (event : Event) (place : ℕ) (old new : ReplicaState) : Type 0 where
+  pub text : List ℕ
+  pub is_handed : handed world event ≡ Some (party.Replica (record { 0 = place }), text)
+  pub carried : Frame
+  pub brings : Brings old text carried
+  pub steps : new ≡ (replica_on_frame old carried).0
+  pub accepts : Accepts old new carried
 
 -- what a text makes of a replica that brings it a frame
 record IsAccepted (read : Option Frame) (old new : ReplicaState) : Type 0 where
@@ -126,6 +145,7 @@ replica_takes world event me text (Some state) place old new is_found parts form
                   here = sym here;
                   frame = alone.frame;
                   is_frame = alone.is_frame;
+                  steps = sym is_step ∙ ap (λ it. (replica_on_received old it).0) alone.is_frame;
                   accepts = subst (λ (it : ReplicaState). Accepts old it alone.frame) is_step alone.accepts;
                 })
           ]
@@ -145,7 +165,7 @@ text_taken : (world : WorldState) (event : Event) (to : Party) (text : List ℕ)
     → handed world event ≡ Some (to, text) → HandsFitting world event
     → slice_get world.replicas place ≡ Some old
     → slice_get (received world event to text).replicas place ≡ Some new
-    → (new ≡ old) ⊎ IsMoved world event place old new
+    → (new ≡ old) ⊎ IsGiven world event place old new
 text_taken world event (party.Client me) text place old new hands parts is_old is_new =
     inl (client_stays world event me (λ (state : ClientState). client_step state text)
     (numbered world.clients me.0) place old new is_old is_new)
@@ -159,6 +179,7 @@ text_taken world event (party.Replica me) text place old new hands parts is_old 
         is_handed = hands ∙ ap (λ (it : ℕ). Some (party.Replica (record { 0 = it }), text)) taken.here;
         carried = taken.frame;
         brings = taken.is_frame;
+        steps = taken.steps;
         accepts = taken.accepts;
       })
     ]
@@ -168,7 +189,7 @@ letter_delivered : (world : WorldState) (number : ℕ) → AtCorrect world (Deli
     → letter_of world number ≡ found → HandsFitting world (Deliver number)
     → slice_get world.replicas place ≡ Some old → slice_get (delivered world (Deliver number) found).replicas
     place ≡ Some new
-    → (new ≡ old) ⊎ IsMoved world (Deliver number) place old new
+    → (new ≡ old) ⊎ IsGiven world (Deliver number) place old new
 letter_delivered world number correct None place old new is_found parts is_old is_new =
     inl (stays world.replicas world.replicas place old new refl is_old is_new)
 letter_delivered world number correct (Some letter) place old new is_found parts is_old is_new =
@@ -179,17 +200,17 @@ letter_delivered world number correct (Some letter) place old new is_found parts
 moves_cases : (world : WorldState) (event : Event) (place : ℕ) (old new : ReplicaState)
     → slice_get world.replicas place ≡ Some old
     → (AtCorrect world event → slice_get (moved world event).replicas place ≡ Some new
-    → (new ≡ old) ⊎ IsMoved world event place old new)
-    → slice_get (world_step world event).replicas place ≡ Some new → (new ≡ old) ⊎ IsMoved world event place old new
+    → (new ≡ old) ⊎ IsGiven world event place old new)
+    → slice_get (world_step world event).replicas place ≡ Some new → (new ≡ old) ⊎ IsGiven world event place old new
 moves_cases world event place old new is_old step =
     step_cases (λ (made : WorldState). slice_get made.replicas place ≡ Some new
-    → (new ≡ old) ⊎ IsMoved world event place old new) world event
+    → (new ≡ old) ⊎ IsGiven world event place old new) world event
     (λ is. inl (stays world.replicas world.replicas place old new refl is_old is)) step
 
 -- an event leaves a replica as it is, or hands it what adds candidates
 pub event_moves : (world : WorldState) (event : Event) (place : ℕ) (old new : ReplicaState)
     → slice_get world.replicas place ≡ Some old → slice_get (world_step world event).replicas place ≡ Some new
-    → HandsFitting world event → (new ≡ old) ⊎ IsMoved world event place old new
+    → HandsFitting world event → (new ≡ old) ⊎ IsGiven world event place old new
 event_moves world (Invoke client op) place old new is_old is_new parts =
     moves_cases world (Invoke client op) place old new is_old (λ correct is.
     inl (client_stays world (Invoke client op) client (λ (state : ClientState). client_invoke state op)
@@ -205,27 +226,6 @@ event_moves world (Tick client) place old new is_old is_new parts =
     moves_cases world (Tick client) place old new is_old (λ correct is.
     inl (client_stays world (Tick client) client client_tick (numbered world.clients client.0) place old new
     is_old is)) is_new
-
--- the same of one object
-pub event_accepts : (world : WorldState) (event : Event) (place : ℕ) (old new : ReplicaState)
-    → slice_get world.replicas place ≡ Some old → slice_get (world_step world event).replicas place ≡ Some new
-    → HandsFitting world event → (object : ObjectId) → (own_candidates new object ≡ own_candidates old object)
-    ⊎ IsDelivered world event place old new object
-event_accepts world event place old new is_old is_new parts object =
-    elim (event_moves world event place old new is_old is_new parts) [
-      | inl same ↦ inl (ap (λ (it : ReplicaState). own_candidates it object) same)
-      | inr moved ↦ elim (adds_or_not (moved.accepts).asks object) [
-        | inr not_added ↦ inl ((moved.accepts).others object not_added)
-        | inl adds ↦ inr (record {
-          text = moved.text;
-          is_handed = moved.is_handed;
-          carried = moved.carried;
-          brings = moved.brings;
-          accepts = moved.accepts;
-          adds = adds;
-        })
-      ]
-    ]
 
 pub formed_by : (state : ReplicaState) (carried : Frame) → AreThresholds state.keys.bounds → frame_form.Fits carried
     → IsFormed state carried
@@ -246,3 +246,124 @@ hands_parts trace is_run have at default below = record {
       (are_thresholds trace.setup.bounds (is_run.setup).some_faults))
       (handed_fits trace is_run have at default below to text hands carried is);
 }
+
+-- ---- what is handled in a run
+
+-- what a replica accepts, whose state it is that holds the same
+accepts_alike : (mid other new : ReplicaState) (carried : Frame) → HoldsAlike new other → Accepts mid other carried
+    → Accepts mid new carried
+accepts_alike mid other new carried alike it = record {
+  client = it.client;
+  number = it.number;
+  round = it.round;
+  sent = it.sent;
+  sets = it.sets;
+  culls = it.culls;
+  asks = it.asks;
+  mac = it.mac;
+  is_request = it.is_request;
+  candidates = it.candidates;
+  added = λ object adds. alike_candidates new other alike object ∙ it.added object adds;
+  others = λ object not_added. alike_candidates new other alike object ∙ it.others object not_added;
+  reasons = reasons_alike it.asks it.reasons;
+}
+  where
+    reasons_alike : (asks : Body) → Reasons mid other (asked_of it.client it.number it.sets asks) asks it.candidates
+        → Reasons mid new (asked_of it.client it.number it.sets asks) asks it.candidates
+    reasons_alike (body.Act parts) performs = record {
+      bases = performs.bases;
+      grounds = performs.grounds;
+      versions = performs.versions;
+      performed = performs.performed;
+      stored = alike.versions ∙ performs.stored;
+    }
+    reasons_alike (body.Ask parts) never = never
+    reasons_alike (body.Mend target) mends = record {
+      enough = mends.enough;
+      current = mends.current;
+      above = mends.above;
+      version = mends.version;
+      remedy = mends.remedy;
+      stored = alike.versions ∙ mends.stored;
+    }
+
+module _ (trace : Trace) (is_run : IsRun trace) (have : ArePlain trace) (at : ℕ) (below : at < length trace.entries)
+    (place : ℕ) (old new : ReplicaState) (handles : Handles trace at place old new) where
+  -- what is handled fits its format
+  pub handled_fits : frame_form.Fits handles.carried
+  handled_fits =
+      handed_fits trace is_run have handles.since handles.entry (omega (arith, below, handles.came))
+      (party.Replica (record { 0 = place })) handles.text
+      (ap (λ (it : Entry). handed (world_after trace handles.since) it.event)
+      (get_or_from_slice_get trace.entries handles.since handles.entry handles.entry handles.is_entry)
+      ∙ handles.is_handed) handles.carried
+      (brings_decoded handles.receiver handles.text handles.carried handles.brings)
+
+  -- a replica that handles a frame holds what it did, or accepts candidates
+  pub handled_moves : HoldsAlike new handles.mid ⊎ Accepts handles.mid new handles.carried
+  handled_moves =
+      elim (step_moves handles.mid handles.carried (fits_parts handles.carried handled_fits)
+      (formed_by handles.mid handles.carried
+      (subst AreThresholds (sym (mid_bounds trace at place old new handles))
+      (are_thresholds trace.setup.bounds (is_run.setup).some_faults))
+      handled_fits)) [
+        | inl same ↦ inl (record {
+          me = (handles.made).me ∙ ap (λ (it : ReplicaState). it.me) same;
+          keys = (handles.made).keys ∙ ap (λ (it : ReplicaState). it.keys) same;
+          histories = (handles.made).histories ∙ ap (λ (it : ReplicaState). it.histories) same;
+          versions = (handles.made).versions ∙ ap (λ (it : ReplicaState). it.versions) same;
+        })
+        | inr accepts ↦
+            inr (accepts_alike handles.mid (replica_on_frame handles.mid handles.carried).0 new handles.carried
+            handles.made accepts)
+      ]
+
+-- ---- events of a run
+
+-- a replica that accepts nothing at an event, whatever it learns
+pub record LearnsAlone (trace : Trace) (at : ℕ) (old new : ReplicaState) : Type 0 where
+  pub mid : ReplicaState
+  pub learns : Learns trace at old mid
+  pub alike : HoldsAlike new mid
+
+-- an event adds to a replica what it learns, or makes it handle what adds candidates
+pub moves_at : (trace : Trace) → IsRun trace → ArePlain trace → (at : ℕ) → at < length trace.entries → (place : ℕ)
+    (old new : ReplicaState) → slice_get (world_after trace at).replicas place ≡ Some old
+    → slice_get (world_after trace (at + 1)).replicas place ≡ Some new
+    → LearnsAlone trace at old new ⊎ IsMoved trace at place old new
+moves_at trace is_run have at below place old new is_old is_new =
+    let default : Entry = some_entry trace.entries (omega arith) in
+    let entry : Entry = get_or trace.entries at default in
+    let is_next : slice_get (world_step (world_after trace at) entry.event).replicas place ≡ Some new =
+    subst (λ (world : WorldState). slice_get world.replicas place ≡ Some new)
+    (world_after-next trace at default below) is_new in
+    elim (event_moves (world_after trace at) entry.event place old new is_old is_next
+    (hands_parts trace is_run have at default below)) [
+      | inl same ↦ inl (record {
+        mid = old;
+        learns = learns_nothing trace at old;
+        alike = holds_alike new old same;
+      })
+      | inr given ↦ inr (record {
+        handles = handled_at_once trace at place old new is_old is_new entry
+            (slice_get-get_or trace.entries at default below) given.text given.is_handed given.carried given.brings
+            given.steps;
+        accepts = given.accepts;
+      })
+    ]
+
+-- the same of one object
+pub accepts_at : (trace : Trace) → IsRun trace → ArePlain trace → (at : ℕ) → at < length trace.entries → (place : ℕ)
+    (old new : ReplicaState) → slice_get (world_after trace at).replicas place ≡ Some old
+    → slice_get (world_after trace (at + 1)).replicas place ≡ Some new → (object : ObjectId)
+    → (own_candidates new object ≡ own_candidates old object) ⊎ IsDelivered trace at place old new object
+accepts_at trace is_run have at below place old new is_old is_new object =
+    elim (moves_at trace is_run have at below place old new is_old is_new) [
+      | inl alone ↦ inl (alike_candidates new alone.mid alone.alike object
+          ∙ mid_candidates trace at old alone.mid alone.learns object)
+      | inr moved ↦ elim (adds_or_not (moved.accepts).asks object) [
+        | inr not_added ↦ inl ((moved.accepts).others object not_added
+            ∙ mid_candidates trace at old (moved.handles).mid (moved.handles).learns object)
+        | inl adds ↦ inr (record { handles = moved.handles; accepts = moved.accepts; adds = adds })
+      ]
+    ]

@@ -1,11 +1,10 @@
 -- A replica accepts only upon sets of objects that it has: it refuses a request with an object that it does not have.
 use Rattle.std.proofs.Common.{◌≡◌, ◌⊎◌, ℕ, ◌+◌, Bool, true, false, not, ◌&&◌, cond, List, [], ◌∷◌, ◌++◌, length, Option, None, Some, refl, sym, ap, ◌∙◌, arith, inl, inr, length-append}
-use Rattle.std.specs.Prelude.{slice_get, nat_le, find, option_map}
+use Rattle.std.specs.Prelude.{slice_get, nat_le, nat_lt, find, option_map, ◌≤◌}
 use Rattle.std.specs.List.{list_all}
-use Rattle.std.proofs.lemmas.Option.{none-some, same_Some}
+use Rattle.std.proofs.lemmas.Option.{none-some}
 use Rattle.qu_base.specs.declared.party.ClientId.{ClientId}
 use Rattle.qu_base.specs.declared.party.ObjectId.{ObjectId}
-use Rattle.qu_base.specs.declared.party.Party.TheVariants as party
 use Rattle.qu_base.specs.declared.party.ReplicaId.{ReplicaId}
 use Rattle.qu_seal.specs.Keys.{Ring}
 use Rattle.qu_stamp.specs.declared.candidate.Candidate.{Candidate}
@@ -21,14 +20,18 @@ use Rattle.qu_rows.specs.State.{ReplicaState, own_candidates}
 use Rattle.qu_rows.specs.Rows.{Asked, asked_at, refuse, row_unknown, decide_act, decide_ask, decide_repair, decision_on}
 use Rattle.qu_rows.specs.declared.decision.Decision.TheVariants.{Waits}
 use Rattle.qu_rows.specs.Table.{first_given}
-use Rattle.qu_replica.specs.Step.{carried_out, replica_on_frame, replica_on_received, replica_step}
-use Rattle.qu_trace.specs.declared.event.Event.{Event}
-use Rattle.qu_world.specs.State.{WorldState}
-use Rattle.qu_world.specs.Step.{world_step, at_replica}
+use Rattle.qu_replica.specs.Step.{carried_out, replica_on_frame}
+use Rattle.std.proofs.lemmas.Bool.{and_parts, and_from}
+use Rattle.std.proofs.lemmas.Bool.Decides.{nat_tests}
+use Rattle.qu_trace.specs.declared.trace.Setup.{Setup}
+use Rattle.qu_trace.specs.declared.trace.Trace.{Trace}
 use Rattle.qu_claims.specs.Grounds.{Accepts, IsDelivered, AddsTo}
+use Rattle.qu_claims.specs.Handled.{is_of_setup}
+use Rattle.qu_claims.specs.Handling.{HoldsAlike, Learns, Handles}
+use Rattle.qu_claims.specs.Times.{world_after}
+use Rattle.qu_accepts.proofs.Handling.{alike_candidates}
+use Rattle.qu_runs.proofs.Worlds.Objects.{run_has, found_within}
 use Rattle.qu_accepts.proofs.ActAcceptance.{accepted_in, AcceptsNothing, unknown, carried, stays}
-use Rattle.qu_world.proofs.Each.{set_here}
-use Rattle.qu_runs.proofs.Events.Handing.{handed_step}
 use Rattle.qu_frames.specs.declared.frame.Body.{Body}
 
 -- ---- the rows
@@ -111,35 +114,44 @@ step_had state client number round sets asks mac object candidate added =
       | inr had ↦ sym (culled_had state state.keys state.me sets) ∙ had
     ]
 
-had_by : (old new : ReplicaState) (taken : Frame) (object : ObjectId) (accepts : Accepts old new taken)
-    → AddsTo accepts.asks object → (replica_on_frame old taken).0 ≡ new → are_had old accepts.sent ≡ true
-had_by old new taken object accepts adds is =
-    step_had old accepts.client accepts.number accepts.round accepts.sent accepts.asks
+had_by : (mid new : ReplicaState) (taken : Frame) (object : ObjectId) (accepts : Accepts mid new taken)
+    → AddsTo accepts.asks object → HoldsAlike new (replica_on_frame mid taken).0 → are_had mid accepts.sent ≡ true
+had_by mid new taken object accepts adds made =
+    step_had mid accepts.client accepts.number accepts.round accepts.sent accepts.asks
     accepts.mac object (accepts.candidates object)
-    (ap (λ (it : Frame). own_candidates (replica_on_frame old it).0 object) (sym accepts.is_request)
-    ∙ ap (λ (it : ReplicaState). own_candidates it object) is ∙ accepts.added object adds)
+    (ap (λ (it : Frame). own_candidates (replica_on_frame mid it).0 object) (sym accepts.is_request)
+    ∙ sym (alike_candidates new (replica_on_frame mid taken).0 made object) ∙ accepts.added object adds)
 
 -- ---- the same in a run
 
--- the replica that took the text stepped
-delivered_to : (world : WorldState) (event : Event) (place : ℕ) (old new : ReplicaState) (object : ObjectId)
-    (happened : IsDelivered world event place old new object) → slice_get world.replicas place ≡ Some old
-    → slice_get (world_step world event).replicas place ≡ Some new → (replica_on_frame old happened.carried).0 ≡ new
-delivered_to world event place old new object happened is_old is_new =
-    let text : List ℕ = happened.text in
-    let stepped : ReplicaState = (replica_step old text).0 in
-    let is : world_step world event ≡ at_replica world event (record { 0 = place }) text (Some old) =
-    handed_step world event (party.Replica (record { 0 = place })) text happened.is_handed ∙
-    ap (at_replica world event (record { 0 = place }) text) is_old in
-    ap (λ it. (replica_on_received old it).0) (sym happened.brings) ∙
-    same_Some stepped new (sym (set_here world.replicas place old stepped is_old)
-    ∙ ap (λ (it : WorldState). slice_get it.replicas place) (sym is) ∙ is_new)
+one_known : (size number count : ℕ) → size ≤ count → not (nat_le size number) ≡ true → nat_lt number count ≡ true
+one_known size number count few had = grind (arith, nat_tests)
 
--- a text that made a replica accept a candidate shows such sets
-pub delivered_had : (world : WorldState) (event : Event) (place : ℕ) (old new : ReplicaState) (object : ObjectId)
-    (happened : IsDelivered world event place old new object) → slice_get world.replicas place ≡ Some old
-    → slice_get (world_step world event).replicas place ≡ Some new
-    → are_had old (happened.accepts).sent ≡ true
-delivered_had world event place old new object happened is_old is_new =
-    had_by old new happened.carried object happened.accepts happened.adds
-    (delivered_to world event place old new object happened is_old is_new)
+all_known : (setup : Setup) (size : ℕ) → size ≤ length setup.kinds → (sets : List SetOf)
+    → list_all (λ (set : SetOf). not (nat_le size (set.object).0)) sets ≡ true → list_all (is_of_setup setup) sets
+    ≡ true
+all_known setup size few [] had = refl
+all_known setup size few (set ∷ sets) had =
+    let parts : (not (nat_le size (set.object).0) ≡ true)
+    × (list_all (λ (it : SetOf). not (nat_le size (it.object).0)) sets ≡ true) = and_parts _ _ had in
+    and_from _ _ (one_known size (set.object).0 (length setup.kinds) few parts.0)
+    (all_known setup size few sets parts.1)
+
+-- the objects that a replica has are the setup's, whatever it learns
+pub known_sent : (trace : Trace) (time place : ℕ) (old mid : ReplicaState)
+    → slice_get (world_after trace time).replicas place ≡ Some old → Learns trace time old mid → (sent : List SetOf)
+    → are_had mid sent ≡ true → list_all (is_of_setup trace.setup) sent ≡ true
+known_sent trace time place old mid is_old learns sent had =
+    let few : length old.histories ≤ length trace.setup.kinds =
+    found_within (length trace.setup.kinds) (world_after trace time).replicas place old (run_has trace time) is_old in
+    let same : length mid.histories ≡ length old.histories = ap length learns.histories in
+    all_known trace.setup (length mid.histories) (omega (arith, few, same)) sent had
+
+-- a request that made a replica accept a candidate shows objects of the setup
+pub delivered_known : (trace : Trace) (at place : ℕ) (old new : ReplicaState) (object : ObjectId)
+    (delivered : IsDelivered trace at place old new object)
+    → list_all (is_of_setup trace.setup) (delivered.accepts).sent ≡ true
+delivered_known trace at place old new object delivered =
+    let handles : Handles trace at place old new = delivered.handles in
+    known_sent trace at place old handles.mid handles.is_old handles.learns (delivered.accepts).sent
+    (had_by handles.mid new handles.carried object delivered.accepts delivered.adds handles.made)

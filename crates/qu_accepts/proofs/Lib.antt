@@ -3,6 +3,7 @@ pub mod Formed
 pub mod Grounds
 pub mod ActAcceptance
 pub mod Acceptance
+pub mod Handling
 pub mod Happenings
 pub mod Performed
 pub mod Accepting

@@ -2,7 +2,6 @@
 use Rattle.std.specs.Prelude.{◌≡◌, ◌+◌, ◌≤◌, ℕ, Bool, true, false, List, [], ◌∷◌, ◌++◌, length, map, Option, None, Some}
 use Rattle.qu_base.specs.declared.party.ClientId.{ClientId}
 use Rattle.qu_base.specs.declared.party.ObjectId.{ObjectId}
-use Rattle.qu_base.specs.declared.party.Party.TheVariants as party
 use Rattle.qu_base.specs.Bounds.{quorum, repair}
 use Rattle.qu_stamp.specs.declared.stamp.Stamp.{Stamp}
 use Rattle.qu_stamp.specs.declared.candidate.Candidate.{Candidate}
@@ -26,9 +25,8 @@ use Rattle.qu_rows.specs.Rows.{Asked, asked_of, fresh_stamp}
 use Rattle.qu_rows.specs.State.{ReplicaState, own_candidates, own_latest}
 use Rattle.qu_replica.specs.State.{stored_if}
 use Rattle.qu_versions.specs.Versions.{version_at}
-use Rattle.qu_trace.specs.declared.event.Event.{Event}
-use Rattle.qu_world.specs.State.{WorldState}
-use Rattle.qu_claims.specs.Carried.{handed, Brings}
+use Rattle.qu_trace.specs.declared.trace.Trace.{Trace}
+use Rattle.qu_claims.specs.Handling.{Handles}
 use Rattle.qu_claims.specs.Parts.{Names, values_on}
 
 -- the stamp of a candidate that is made upon these sets: its time is after the latest
@@ -161,20 +159,13 @@ pub record Accepts (old new : ReplicaState) (received : Frame) : Type 0 where
   pub others : (object : ObjectId) → (AddsTo asks object → ⊥) → own_candidates new object ≡ own_candidates old object
   pub reasons : Reasons old new (asked_of client number sets asks) asks candidates
 
--- the event hands a text to the replica at this place, which accepts candidates
-pub record IsMoved (world : WorldState) (event : Event) (place : ℕ) (old new : ReplicaState) : Type 0 where
-  pub text : List ℕ
-  pub is_handed : handed world event ≡ Some (party.Replica (record { 0 = place }), text)
-  pub carried : Frame
-  pub brings : Brings old text carried
-  pub accepts : Accepts old new carried
+-- at this event the replica at this place handles a request, upon which it accepts candidates
+pub record IsMoved (trace : Trace) (at place : ℕ) (old new : ReplicaState) : Type 0 where
+  pub handles : Handles trace at place old new
+  pub accepts : Accepts handles.mid new handles.carried
 
 -- the same, of an object on which it accepts a candidate
-pub record IsDelivered (world : WorldState) (event : Event) (place : ℕ) (old new : ReplicaState)
-    (object : ObjectId) : Type 0 where
-  pub text : List ℕ
-  pub is_handed : handed world event ≡ Some (party.Replica (record { 0 = place }), text)
-  pub carried : Frame
-  pub brings : Brings old text carried
-  pub accepts : Accepts old new carried
+pub record IsDelivered (trace : Trace) (at place : ℕ) (old new : ReplicaState) (object : ObjectId) : Type 0 where
+  pub handles : Handles trace at place old new
+  pub accepts : Accepts handles.mid new handles.carried
   pub adds : AddsTo accepts.asks object

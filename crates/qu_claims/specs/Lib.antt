@@ -5,6 +5,7 @@ pub mod RunSetting
 pub mod Effects
 pub mod Digested
 pub mod Carried
+pub mod Handling
 pub mod Premises
 pub mod Count
 pub mod Setting

@@ -50,8 +50,9 @@ use Rattle.qu_runs.proofs.Small.{only_one}
 use Rattle.qu_runs.proofs.Fits.Carrying.{brings_decoded}
 use Rattle.qu_shown.specs.Views.{WasHeld, HeldIfCorrect, EachEntry}
 use Rattle.qu_laws.proofs.Acceptors.{Stays, counted_held, shown_by_held, base_by_held, culled_each, right_within}
-use Rattle.qu_accepts.proofs.KnownObjects.{are_had}
-use Rattle.qu_accepts.proofs.Handled.{handler_at, known_sent}
+use Rattle.qu_accepts.proofs.Handled.{handler_at}
+use Rattle.std.specs.List.{list_all}
+use Rattle.qu_claims.specs.Handled.{is_of_setup}
 use Rattle.qu_shown.proofs.AskedLetters.{true_to, brought_so}
 use Rattle.qu_shown.proofs.TrueLetters.{IsTrueLetter, ShowsHeld, shows_held}
 use Rattle.qu_shown.proofs.Views.{true_world}
@@ -136,7 +137,8 @@ module _ (trace : Trace) (is_run : IsRun trace) (have : ArePlain trace) (time : 
       (ap (λ (it : ObjectHistory). is_good trace.setup (it.replica).0) was.history_is ∙ good))
 
   module _ (client : ClientId) (number round : ℕ) (sent : List SetOf) (body : Body) (mac : List ℕ)
-      (brings : Brings old text (frame.Request client number round sent body mac)) (had : are_had old sent ≡ true) where
+      (brings : Brings old text (frame.Request client number round sent body mac))
+      (known : list_all (is_of_setup trace.setup) sent ≡ true) where
     -- it fits its format
     pub sent_fits : sets_form.Fits sent
     sent_fits =
@@ -155,7 +157,7 @@ module _ (trace : Trace) (is_run : IsRun trace) (have : ArePlain trace) (time : 
         (brought_so trace have time below default place old is_old text hands
         (frame.Request client number round sent body mac) brings)
         ∙ ap (λ (test : Bool). cond test (flat_map (λ (set : SetOf). set.entries) sent) [])
-        (known_sent trace time place old is_old sent had)
+        known
 
     -- an entry that stays
     stays : (sealed : Sealed) → Contains (flat_map (λ (set : SetOf). set.entries) sent) sealed

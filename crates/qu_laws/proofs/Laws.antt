@@ -1,17 +1,15 @@
 -- A run of the world meets the laws of the theory of what is decided.
-use Rattle.std.proofs.Common.{◌≡◌, List, Some, ap, arith, false, inl, inr, length, not, refl, subst, suc, sym, true, zero, ℕ, ◌⊎◌, ◌<◌, ◌≤◌, ◌∙◌, [], ◌+◌, Option, None}
-use Rattle.qu_accepts.proofs.Accepting.{some_entry, StepAt, step_at, Acceptance}
+use Rattle.std.proofs.Common.{◌≡◌, List, Some, ap, arith, false, inl, inr, length, not, refl, subst, suc, sym, true, zero, ℕ, ◌⊎◌, ◌<◌, ◌≤◌, ◌∙◌, ◌+◌, Option, None, add-one}
+use Rattle.qu_accepts.proofs.Accepting.{StepAt, step_at, Acceptance}
 use Rattle.qu_claims.specs.Grounds.{IsGround, Accepts, IsDelivered, AddsTo, Performs, IsFound, Mends, Reasons, IsMade, IsRemedy, made_stamp}
 use Rattle.qu_runs.specs.Plain.{ArePlain}
 use Rattle.qu_base.specs.Bounds.{AreThresholds, quorum, replicas, repair}
 use Rattle.qu_stamp.specs.declared.candidate.Candidate.{Candidate}
 use Rattle.qu_chain.proofs.Counting.{test_at-here}
-use Rattle.qu_frames.specs.declared.frame.Frame.{Frame}
 use Rattle.qu_chain.specs.Laws.{Given, IsLinked, Laws}
 use Rattle.qu_claims.specs.Setting.{IsNew, acceptors, IsAttested}
 use Rattle.qu_world.specs.Run.{IsRun}
 use Rattle.qu_base.specs.declared.party.ObjectId.{ObjectId}
-use Rattle.qu_base.specs.declared.party.Party.{Party}
 use Rattle.qu_rows.specs.State.{ReplicaState, own_candidates, own_latest}
 use Rattle.qu_stamp.specs.declared.stamp.Stamp.{Stamp}
 use Rattle.qu_trace.specs.declared.trace.Trace.{Trace}
@@ -21,11 +19,9 @@ use Rattle.qu_claims.specs.Accepted.{accepts}
 use Rattle.qu_runs.proofs.Worlds.OpeningReplicas.{acceptor_is_good, all_begin, all_replicas}
 use Rattle.qu_base.proofs.ThresholdFacts.{are_thresholds}
 use Rattle.qu_rows.specs.Rows.{asked_of, Asked}
-use Rattle.qu_runs.proofs.Fits.Carrying.{brings_decoded}
 use Rattle.std.proofs.lemmas.Bool.{cases_Bool, cases_lt, false≢true, lt-ltb, ltb-true, not-true}
 use Rattle.qu_claims.specs.Count.{test_at}
 use Rattle.std.specs.Prelude.{is_some, slice_get}
-use Rattle.qu_frames.specs.Decoding.{decoded}
 use Rattle.qu_history.specs.Sets.{entries_of, order_of, latest_of, candidates_of}
 use Rattle.qu_history.proofs.Rising.{holds_pushed}
 use Rattle.qu_stamp.specs.Stamp.{is_below, same_stamp}
@@ -33,17 +29,13 @@ use Rattle.qu_stamp.proofs.Order.{is_below-not_chain, is_below-other, is_below-s
 use Rattle.qu_history.specs.declared.sets.SetOf.{SetOf}
 use Rattle.qu_stamp.specs.Candidate.{is_before}
 use Rattle.qu_history.specs.History.{holds, ObjectHistory}
-use Rattle.qu_claims.specs.Carried.{handed}
 use Rattle.qu_claims.specs.RunSetting.{setting}
 use Rattle.std.proofs.lemmas.Option.{same_Some, slice_get_cases, slice_get_within, none-some}
-use Rattle.qu_shown.proofs.Views.{one_decoded}
-use Rattle.qu_accepts.proofs.Happenings.{hands_parts}
 use Rattle.qu_claims.specs.Parts.{Names}
 use Rattle.qu_accepts.proofs.Parts.{same_added}
 use Rattle.qu_rows.specs.Allowed.{HasParts}
 use Rattle.qu_objects.specs.declared.act.Method.{Method}
 use Rattle.qu_claims.specs.Times.{world_after}
-use Rattle.qu_base.specs.declared.party.Party.TheVariants as party
 use Rattle.qu_frames.specs.declared.frame.Body.TheVariants as body
 use Rattle.qu_class.specs.Rows.{AreWellFormed, IsGreatestOfKind}
 use Rattle.qu_base.specs.declared.party.ClientId.{ClientId}
@@ -56,7 +48,11 @@ use Rattle.qu_class.specs.Repairable.{object_base}
 use Rattle.qu_class.proofs.OfKind.{base_is_greatest, held_if_repairable}
 use Rattle.qu_rows.proofs.Allowed.{fresh_later}
 use Rattle.qu_base.specs.declared.party.Digest.{Digest}
-use Rattle.qu_laws.proofs.ShownWhenAccepted.{same_place, asks_in, not_above_shown, sizes, acceptance_of, start, grows, held_before, rising, alone, bounds_then, formed_then, shown_accepted, established_is_shown}
+use Rattle.qu_laws.proofs.ShownWhenAccepted.{asks_in, not_above_shown, sizes, acceptance_of, start, grows, held_before, rising, alone, bounds_then, formed_then, shown_accepted, established_is_shown}
+use Rattle.qu_claims.specs.Handling.{Handles}
+use Rattle.qu_accepts.proofs.Handling.{mid_candidates, one_handled}
+use Rattle.qu_accepts.proofs.Happenings.{handled_fits}
+use Rattle.qu_runs.proofs.Fits.FitParts.{fits_parts}
 
 module _ (trace : Trace) (is_run : IsRun trace) (have : ArePlain trace) where
   -- ---- the base of what is accepted
@@ -68,26 +64,29 @@ module _ (trace : Trace) (is_run : IsRun trace) (have : ArePlain trace) where
 
   module _ (time : ℕ) (within : time < length trace.entries) (object : ObjectId) (place : ℕ) (candidate : Candidate)
       (accepted : Acceptance trace time object place candidate) where
-    abbrev upon : Accepts accepted.old accepted.new (accepted.delivered).carried
+    abbrev mid : ReplicaState
+    mid = ((accepted.delivered).handles).mid
+
+    abbrev upon : Accepts mid accepted.new ((accepted.delivered).handles).carried
     upon = (accepted.delivered).accepts
 
     abbrev entries : List ObjectHistory
     entries = entries_of object upon.sets
 
     abbrev old_bounds : ℕ
-    old_bounds = (accepted.old).keys.bounds
+    old_bounds = mid.keys.bounds
 
     same_bounds : old_bounds ≡ trace.setup.bounds
     same_bounds = bounds_then trace is_run have time within object place candidate accepted
 
     -- an act rests on an established candidate
     act_linked : (asked : Asked) (parts : List (ObjectId × Method)) → asked.sets ≡ upon.sets
-        → Performs accepted.old accepted.new asked parts upon.candidates → Names parts object
+        → Performs mid accepted.new asked parts upon.candidates → Names parts object
         → IsLinked (setting trace) time object place (upon.candidates object)
     unfolding setting
     act_linked asked parts sets performs names =
         let base : Candidate = performs.bases object in
-        let why : IsGround accepted.old asked object (upon.candidates object) base = performs.grounds object names in
+        let why : IsGround mid asked object (upon.candidates object) base = performs.grounds object names in
         let is : IsBase old_bounds (entries_of object asked.sets) base =
         is_base old_bounds (entries_of object asked.sets) base why.method in
         let full : quorum trace.setup.bounds ≤ order_of base entries =
@@ -126,7 +125,7 @@ module _ (trace : Trace) (is_run : IsRun trace) (have : ArePlain trace) where
     -- a copy rests on the object candidate, below which nothing is established
     copy_linked : (asked : Asked) (latest copy : Candidate) → asked.sets ≡ upon.sets
         → quorum old_bounds ≤ length (entries_of object asked.sets)
-        → is_below (latest_of (entries_of object asked.sets)) (own_latest accepted.old object) ≡ false
+        → is_below (latest_of (entries_of object asked.sets)) (own_latest mid object) ≡ false
         → (asked.act ≡ None) → IsMade old_bounds asked object copy
         → latest.stamp.barrier ≡ true → latest.stamp ≡ latest_of (entries_of object asked.sets)
         → quorum old_bounds ≤ order_of latest (entries_of object asked.sets)
@@ -163,9 +162,9 @@ module _ (trace : Trace) (is_run : IsRun trace) (have : ArePlain trace) where
           not_below = λ other plain established before.
               let not_above : is_below latest.stamp other.stamp ≡ false =
               ap (λ (it : Stamp). is_below it other.stamp) is_latest
-              ∙ is_below-not_chain (latest_of (entries_of object asked.sets)) (own_latest accepted.old object)
+              ∙ is_below-not_chain (latest_of (entries_of object asked.sets)) (own_latest mid object)
               other.stamp current
-              (not_below_latest (own_candidates accepted.old object) other
+              (not_below_latest (own_candidates mid object) other
               (held_before trace is_run have time object place candidate other accepted before)) in
               let under : is_below other.stamp latest.stamp ≡ true =
               is_below-other latest.stamp other.stamp not_above (unlike latest other barrier plain) in
@@ -199,23 +198,23 @@ module _ (trace : Trace) (is_run : IsRun trace) (have : ArePlain trace) where
             ]
 
     mended_based : (asked : Asked) (target : ObjectId) → asked.sets ≡ upon.sets → asked.act ≡ None
-        → Mends accepted.old accepted.new asked target (upon.candidates target) → target ≡ object
+        → Mends mid accepted.new asked target (upon.candidates target) → target ≡ object
         → (setting trace).plain (upon.candidates object) ≡ true → IsBased time object place (upon.candidates object)
     unfolding setting
     mended_based asked target sets no_act mends is plain =
         by_remedy (upon.candidates object) _
-        (subst (λ (on : ObjectId). IsRemedy accepted.old asked on (upon.candidates on) mends.version) is mends.remedy)
+        (subst (λ (on : ObjectId). IsRemedy mid asked on (upon.candidates on) mends.version) is mends.remedy)
         plain
         (subst (λ (on : ObjectId). quorum old_bounds ≤ length (entries_of on asked.sets)) is mends.enough)
-        (subst (λ (on : ObjectId). is_below (latest_of (entries_of on asked.sets)) (own_latest accepted.old on) ≡ false)
+        (subst (λ (on : ObjectId). is_below (latest_of (entries_of on asked.sets)) (own_latest mid on) ≡ false)
         is mends.current)
       where
         no_barrier : (it : Candidate) → it.stamp.barrier ≡ true → not it.stamp.barrier ≡ true → ⊥
         no_barrier it barrier plain_it = false≢true (ap not (sym barrier) ∙ plain_it)
 
-        by_remedy : (it : Candidate) (version : Option ObjState) → IsRemedy accepted.old asked object it version
+        by_remedy : (it : Candidate) (version : Option ObjState) → IsRemedy mid asked object it version
             → not it.stamp.barrier ≡ true → quorum old_bounds ≤ length (entries_of object asked.sets)
-            → is_below (latest_of (entries_of object asked.sets)) (own_latest accepted.old object) ≡ false
+            → is_below (latest_of (entries_of object asked.sets)) (own_latest mid object) ≡ false
             → IsBased time object place it
         by_remedy it version (IsRemedy.inline_barrier barrier found) plain_it enough current =
             absurd (no_barrier it barrier plain_it)
@@ -229,7 +228,7 @@ module _ (trace : Trace) (is_run : IsRun trace) (have : ArePlain trace) where
 
     -- whatever the request asks for
     based_by : (client : ClientId) (number : ℕ) (asks : Body)
-        → Reasons accepted.old accepted.new (asked_of client number upon.sets asks) asks upon.candidates
+        → Reasons mid accepted.new (asked_of client number upon.sets asks) asks upon.candidates
         → AddsTo asks object → (setting trace).plain (upon.candidates object) ≡ true
         → IsBased time object place (upon.candidates object)
     based_by client number (body.Act parts) reasons names plain =
@@ -247,7 +246,7 @@ module _ (trace : Trace) (is_run : IsRun trace) (have : ArePlain trace) where
     -- ---- what a copy copies
 
     copied_by : (client : ClientId) (number : ℕ) (asks : Body)
-        → Reasons accepted.old accepted.new (asked_of client number upon.sets asks) asks upon.candidates
+        → Reasons mid accepted.new (asked_of client number upon.sets asks) asks upon.candidates
         → AddsTo asks object → (setting trace).plain (upon.candidates object) ≡ true
         → (setting trace).is_act (upon.candidates object) ≡ false
         → IsAttested (setting trace) time object (upon.candidates object)
@@ -295,34 +294,36 @@ module _ (trace : Trace) (is_run : IsRun trace) (have : ArePlain trace) where
 
   -- what a replica accepts is new to it
   pub new_accepted : (time : ℕ) → time < length trace.entries → (place : ℕ) (old new : ReplicaState)
-      → slice_get (world_after trace time).replicas place ≡ Some old
-      → slice_get (world_after trace (suc time)).replicas place ≡ Some new
-      → (received : Frame) (accepts_so : Accepts old new received) (object : ObjectId)
-      → AddsTo accepts_so.asks object
-      → IsNew (setting trace) time object place (accepts_so.candidates object)
+      (object : ObjectId) (delivered : IsDelivered trace time place old new object)
+      → IsNew (setting trace) time object place ((delivered.accepts).candidates object)
   unfolding setting
-  new_accepted time within place old new is_old is_new received accepts_so object adds =
-      let candidate : Candidate = accepts_so.candidates object in
+  new_accepted time within place old new object delivered =
+      let handles : Handles trace time place old new = delivered.handles in
+      let upon : Accepts handles.mid new handles.carried = delivered.accepts in
+      let candidate : Candidate = upon.candidates object in
       let among : place < length (world_after trace time).replicas =
-      slice_get_within (world_after trace time).replicas place old is_old in
+      slice_get_within (world_after trace time).replicas place old handles.is_old in
       let all : length (world_after trace time).replicas ≡ replicas trace.setup.bounds = all_replicas trace time in
+      let is_new : slice_get (world_after trace (suc time)).replicas place ≡ Some new =
+      ap (λ (count : ℕ). slice_get (world_after trace count).replicas place) (sym (add-one time)) ∙ handles.is_new in
       let now : test_at (accepts object candidate) (world_after trace (suc time)).replicas place ≡ true =
       test_at-here (accepts object candidate) (world_after trace (suc time)).replicas place new is_new
-      ∙ ap (holds candidate) (accepts_so.added object adds) ∙ holds_pushed candidate (own_candidates old object) in
+      ∙ ap (holds candidate) (upon.added object delivered.adds)
+      ∙ holds_pushed candidate (own_candidates handles.mid object) in
       record {
         step = within;
         within = omega (arith, among, all);
         good = acceptor_is_good trace (suc time) place object candidate now;
         after = now;
         before =
-            test_at-here (accepts object candidate) (world_after trace time).replicas place old is_old
-            ∙ elim (cases_Bool (accepts object candidate old)) [
+            test_at-here (accepts object candidate) (world_after trace time).replicas place old handles.is_old
+            ∙ ap (holds candidate) (sym (mid_candidates trace time old handles.mid handles.learns object))
+            ∙ elim (cases_Bool (accepts object candidate handles.mid)) [
               | inr not_held ↦ not_held
               | inl held ↦
                   absurd (false≢true (sym (is_below-self candidate.stamp)
-                  ∙ added_above old new
-                  (asked_of accepts_so.client accepts_so.number accepts_so.sets accepts_so.asks) accepts_so.candidates
-                  accepts_so.asks accepts_so.reasons object adds candidate held))
+                  ∙ added_above handles.mid new (asked_of upon.client upon.number upon.sets upon.asks) upon.candidates
+                  upon.asks upon.reasons object delivered.adds candidate held))
             ];
       }
 
@@ -351,8 +352,7 @@ module _ (trace : Trace) (is_run : IsRun trace) (have : ArePlain trace) where
               inl (record {
                 replica = place;
                 candidate = (delivered.accepts).candidates object;
-                new = new_accepted time within place step.old new step.is_old is_new delivered.carried
-                    delivered.accepts object delivered.adds;
+                new = new_accepted time within place step.old new object delivered;
               })
         ]
   ]
@@ -404,33 +404,25 @@ module _ (trace : Trace) (is_run : IsRun trace) (have : ArePlain trace) where
       let two : Acceptance trace time other elsewhere second =
       acceptance_of trace is_run have time other elsewhere second again in
       let within : time < length trace.entries = new.step in
-      let here : IsDelivered (world_after trace time) one.event place one.old one.new object = one.delivered in
-      let there : IsDelivered (world_after trace time) two.event elsewhere two.old two.new other = two.delivered in
-      let same : (party.Replica (record { 0 = place }), here.text)
-      ≡ (party.Replica (record { 0 = elsewhere }), there.text) =
-      same_Some _ _ (sym here.is_handed ∙ ap (handed (world_after trace time)) (one.event_is ∙ sym two.event_is)
-      ∙ there.is_handed) in
-      let places : place ≡ elsewhere = same_place place elsewhere (ap (λ (it : Party × List ℕ). it.0) same) in
-      let carried : here.carried ≡ there.carried =
-      one_decoded there.text here.carried there.carried
-      (ap decoded (sym (ap (λ (it : Party × List ℕ). it.1) same))
-      ∙ brings_decoded one.old here.text here.carried here.brings)
-      (brings_decoded two.old there.text there.carried there.brings) in
-      let bodies : (here.accepts).asks ≡ (there.accepts).asks =
-      same_Some _ _ (ap asks_in (sym (here.accepts).is_request ∙ carried ∙ (there.accepts).is_request)) in
+      let here : Handles trace time place one.old one.new = (one.delivered).handles in
+      let there : Handles trace time elsewhere two.old two.new = (two.delivered).handles in
+      let upon : Accepts here.mid one.new here.carried = (one.delivered).accepts in
+      let besides : Accepts there.mid two.new there.carried = (two.delivered).accepts in
+      let same : (place ≡ elsewhere) × (here.carried ≡ there.carried) =
+      one_handled trace time place elsewhere one.old one.new two.old two.new here there in
+      let bodies : upon.asks ≡ besides.asks =
+      same_Some _ _ (ap asks_in (sym upon.is_request ∙ same.1 ∙ besides.is_request)) in
       let some : HasParts here.carried =
-      (hands_parts trace is_run have time some_entry within).parts (party.Replica (record { 0 = place })) here.text
-      (ap (handed (world_after trace time)) (sym one.event_is) ∙ here.is_handed) here.carried
-      (brings_decoded one.old here.text here.carried here.brings) in
+      fits_parts here.carried (handled_fits trace is_run have time within place one.old one.new here) in
       let objects : object ≡ other =
-      same_added (here.accepts).asks object other (subst HasParts (here.accepts).is_request some) here.adds
-      (subst (λ (it : Body). AddsTo it other) (sym bodies) there.adds) in
+      same_added upon.asks object other (subst HasParts upon.is_request some) (one.delivered).adds
+      (subst (λ (it : Body). AddsTo it other) (sym bodies) (two.delivered).adds) in
       record {
-        places = places;
+        places = same.0;
         objects = objects;
         candidates = alone trace is_run have time object place first second new
             (subst (λ (it : ObjectId). IsNew (setting trace) time it place second) (sym objects)
-            (subst (λ (it : ℕ). IsNew (setting trace) time other it second) (sym places) again));
+            (subst (λ (it : ℕ). IsNew (setting trace) time other it second) (sym same.0) again));
       }
 
   pub laws : Laws (setting trace)

@@ -1,6 +1,6 @@
 -- Where no two texts have one digest, a stamp names the histories upon which its candidate was accepted.
-use Rattle.std.proofs.Common.{◌≡◌, ◌<◌, List, length, Some, refl, sym, ap, subst, ◌∙◌, arith}
-use Rattle.std.specs.Prelude.{slice_get, Contains}
+use Rattle.std.proofs.Common.{◌≡◌, List, length, Some, refl, sym, ap, subst, ◌∙◌, arith}
+use Rattle.std.specs.Prelude.{Contains}
 use Rattle.qu_base.specs.declared.party.ObjectId.{ObjectId}
 use Rattle.qu_seal.specs.declared.constants.TheConstants.{SETS_TAG}
 use Rattle.qu_seal.specs.Digesting.{digest_of}
@@ -15,8 +15,6 @@ use Rattle.qu_frames.specs.Formats.{frame_form}
 use Rattle.qu_replica.proofs.Fits.FitCulled.{culled-fits}
 use Rattle.qu_replica.proofs.Fits.FitSteps.{request-fits}
 use Rattle.qu_trace.specs.declared.trace.Trace.{Trace}
-use Rattle.qu_world.specs.State.{WorldState}
-use Rattle.qu_world.specs.Step.{world_step}
 use Rattle.qu_world.specs.Run.{IsRun}
 use Rattle.qu_claims.specs.Handled.{Request, handled_by}
 use Rattle.qu_claims.specs.Digested.{Text, texts_of, digested, NoCollision}
@@ -38,6 +36,7 @@ use Rattle.qu_runs.proofs.Fits.Carrying.{brings_decoded}
 use Rattle.qu_machine.proofs.Firsts.{contains_at}
 use Rattle.qu_history.specs.History.{ObjectHistory}
 use Rattle.qu_class.specs.Repairable.{object_base}
+use Rattle.qu_claims.specs.Handling.{Handles}
 
 -- the text of sets
 abbrev text_of : List SetOf → Text
@@ -59,17 +58,18 @@ module _ (trace : Trace) (is_run : IsRun trace) (plain : ArePlain trace) where
   sets_fit : (object : ObjectId) (candidate : Candidate)
       (it : Origin trace (length trace.entries) object candidate) → sets_form.Fits (sets_upon object candidate it)
   sets_fit object candidate it =
-      let earlier : it.past < length trace.entries = it.earlier in
-      let one : Accepts it.old it.new (it.delivered).carried = (it.delivered).accepts in
-      let fits : frame_form.Fits (it.delivered).carried =
-      offered_fits trace is_run plain it.past (omega arith) it.event
-      (event_parts it.entry (contains_at trace.entries it.past it.entry it.is_entry) it.event it.event_is)
-      (party.Replica (record { 0 = it.place })) (it.delivered).text
-      (handed_offers (world_after trace it.past) it.event (party.Replica (record { 0 = it.place })) (it.delivered).text
-      (it.delivered).is_handed) (it.delivered).carried
-      (brings_decoded it.old (it.delivered).text (it.delivered).carried (it.delivered).brings) in
+      let handles : Handles trace it.past it.place it.old it.new = (it.delivered).handles in
+      let one : Accepts handles.mid it.new handles.carried = (it.delivered).accepts in
+      let fits : frame_form.Fits handles.carried =
+      offered_fits trace is_run plain handles.since (omega (arith, it.earlier, handles.came)) (handles.entry).event
+      (event_parts handles.entry (contains_at trace.entries handles.since handles.entry handles.is_entry)
+      (handles.entry).event refl)
+      (party.Replica (record { 0 = it.place })) handles.text
+      (handed_offers (world_after trace handles.since) (handles.entry).event (party.Replica (record { 0 = it.place }))
+      handles.text handles.is_handed) handles.carried
+      (brings_decoded handles.receiver handles.text handles.carried handles.brings) in
       subst sets_form.Fits one.culls
-      (culled-fits (it.old).keys (it.old).me one.sent
+      (culled-fits (handles.mid).keys (handles.mid).me one.sent
       (request-fits one.client one.number one.round one.sent one.asks one.mac
       (subst (λ (sent : Frame). frame_form.Fits sent) one.is_request fits)).shown)
 
@@ -78,15 +78,13 @@ module _ (trace : Trace) (is_run : IsRun trace) (plain : ArePlain trace) where
       (text_of (sets_upon object candidate it))
   sets_digested object candidate it =
       let sets : List SetOf = sets_upon object candidate it in
-      let request : Request = request_upon it.old it.new (it.delivered).carried (it.delivered).accepts in
-      let is_new : slice_get (world_step (world_after trace it.past) it.event).replicas it.place ≡ Some it.new =
-      ap (λ (world : WorldState). slice_get world.replicas it.place) (sym it.is_step) ∙ it.is_new in
-      let handled : handled_by trace (it.entry).event ≡ Some request =
-      ap (handled_by trace) (sym it.event_is) ∙ upon_handled trace is_run it.past it.earlier it.event it.place
-      it.old it.new it.is_old is_new object it.delivered in
+      let handles : Handles trace it.past it.place it.old it.new = (it.delivered).handles in
+      let request : Request = request_upon handles.mid it.new handles.carried (it.delivered).accepts in
+      let handled : handled_by trace (handles.entry).event ≡ Some request =
+      upon_handled trace is_run it.past it.earlier it.place it.old it.new object it.delivered in
       let among : Contains (texts_of (Some request)) (text_of sets) = (0, omega arith, refl) in
-      request_digested trace it.entry (Some request) (text_of sets)
-      (contains_at trace.entries it.past it.entry it.is_entry) handled among
+      request_digested trace handles.entry (Some request) (text_of sets)
+      (contains_at trace.entries handles.since handles.entry handles.is_entry) handled among
 
   -- the stamp holds the digest of the sets
   digest_named : (object : ObjectId) (candidate : Candidate)

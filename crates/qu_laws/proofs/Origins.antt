@@ -18,8 +18,8 @@ use Rattle.qu_claims.specs.Origins.{Origin}
 use Rattle.qu_runs.specs.Plain.{ArePlain}
 use Rattle.qu_runs.proofs.Worlds.WorldGrowth.{world_after-next}
 use Rattle.qu_runs.proofs.Worlds.Befores.{WasBefore, was_before}
-use Rattle.qu_accepts.proofs.Happenings.{hands_parts, event_accepts}
-use Rattle.qu_runs.proofs.Worlds.OpeningReplicas.{opening_holds, bounds_are}
+use Rattle.qu_accepts.proofs.Happenings.{accepts_at}
+use Rattle.qu_runs.proofs.Worlds.OpeningReplicas.{opening_holds}
 use Rattle.std.specs.List.{list_any}
 use Rattle.qu_claims.specs.Chained.{last_world}
 use Rattle.qu_claims.specs.Accepted.{accepts, is_accepted}
@@ -33,14 +33,19 @@ use Rattle.qu_chain.proofs.Counting.{Found, found_at}
 use Rattle.qu_history.specs.declared.sets.SetOf.{SetOf}
 use Rattle.qu_base.specs.Bounds.{repair, replicas, AreThresholds}
 use Rattle.qu_laws.proofs.KeptEntries.{shown_by_accepting}
+use Rattle.qu_laws.proofs.ShownWhenAccepted.{acceptors_later}
 use Rattle.qu_frames.specs.declared.frame.Frame.{Frame}
 use Rattle.qu_runs.proofs.Worlds.FewFaults.{few_faulty}
-use Rattle.qu_accepts.proofs.KnownObjects.{delivered_had}
-use Rattle.qu_accepts.proofs.Accepting.{some_entry}
-use Rattle.qu_accepts.proofs.KnownObjects.{delivered_had}
+use Rattle.qu_accepts.proofs.KnownObjects.{delivered_known}
+use Rattle.qu_accepts.proofs.Accepting.{some_entry, delivered_adds}
 use Rattle.qu_accepts.proofs.Grounds.{made_or_found}
-use Rattle.std.proofs.lemmas.Option.{slice_get-get_or}
+use Rattle.std.proofs.lemmas.Option.{get_or_from_slice_get}
 use Rattle.qu_base.proofs.ThresholdFacts.{are_thresholds}
+use Rattle.qu_claims.specs.Handling.{Handles}
+use Rattle.qu_accepts.proofs.Handling.{mid_bounds}
+use Rattle.qu_accepts.proofs.Handled.{culls_so}
+use Rattle.qu_trace.specs.declared.trace.Entry.{Entry}
+use Rattle.qu_claims.specs.Carried.{handed}
 
 -- all that a replica holds comes from the opening or from an event
 abbrev ComesFrom : Trace → ℕ → Type 0
@@ -56,16 +61,9 @@ origin_later trace count object candidate origin =
     record {
       past = origin.past;
       earlier = omega arith;
-      event = origin.event;
-      entry = origin.entry;
-      is_entry = origin.is_entry;
-      event_is = origin.event_is;
-      is_step = origin.is_step;
       place = origin.place;
       old = origin.old;
-      is_old = origin.is_old;
       new = origin.new;
-      is_new = origin.is_new;
       delivered = origin.delivered;
       is_candidate = origin.is_candidate;
       made = origin.made;
@@ -79,28 +77,36 @@ came_before trace count object candidate (inr origin) = inr (origin_later trace 
 module _ (trace : Trace) (is_run : IsRun trace) (have : ArePlain trace) where
   -- what so many show that it may be repaired was accepted by a correct replica
   module _ (count : ℕ) (below : count < length trace.entries) (place : ℕ) (old new : ReplicaState) (object : ObjectId)
-      (is_old : slice_get (world_after trace count).replicas place ≡ Some old)
-      (is_new : slice_get (world_step (world_after trace count) (get_or trace.entries count some_entry).event).replicas
-      place ≡ Some new)
-      (delivered : IsDelivered (world_after trace count) (get_or trace.entries count some_entry).event place old new
-      object)
+      (delivered : IsDelivered trace count place old new object)
     where
-      abbrev one : Accepts old new delivered.carried
+      abbrev handles : Handles trace count place old new
+      handles = delivered.handles
+
+      abbrev one : Accepts handles.mid new handles.carried
       one = delivered.accepts
 
       shown_before : (candidate : Candidate) → order_of candidate (entries_of object one.sets)
           ≤ acceptors (setting trace) count object candidate + (setting trace).faults
       shown_before candidate =
+          let at_first : order_of candidate (entries_of object one.sets)
+          ≤ acceptors (setting trace) handles.since object candidate + (setting trace).faults =
           subst (λ (sets : List SetOf). order_of candidate (entries_of object sets)
-          ≤ acceptors (setting trace) count object candidate + (setting trace).faults) one.culls
-          (shown_by_accepting trace is_run have count below some_entry place old is_old delivered.text
-          delivered.is_handed one.client one.number one.round one.sent one.asks one.mac
-          (delivered.brings ∙ ap (λ (it : Frame). Some it) one.is_request)
-          (delivered_had (world_after trace count) (get_or trace.entries count some_entry).event place old new object
-          delivered is_old is_new) object candidate)
+          ≤ acceptors (setting trace) handles.since object candidate + (setting trace).faults)
+          (culls_so trace is_run count below place old new object delivered)
+          (shown_by_accepting trace is_run have handles.since (omega (arith, below, handles.came)) some_entry place
+          handles.receiver handles.is_receiver handles.text
+          (ap (λ (it : Entry). handed (world_after trace handles.since) it.event)
+          (get_or_from_slice_get trace.entries handles.since handles.entry some_entry handles.is_entry)
+          ∙ handles.is_handed) one.client one.number one.round one.sent one.asks one.mac
+          (handles.brings ∙ ap (λ (it : Frame). Some it) one.is_request)
+          (delivered_known trace count place old new object delivered) object candidate) in
+          let later : acceptors (setting trace) handles.since object candidate
+          ≤ acceptors (setting trace) count object candidate =
+          acceptors_later trace is_run have handles.since count handles.came object candidate in
+          omega (arith, at_first, later)
 
       found_before : (candidate : Candidate)
-          → IsFound old.keys.bounds (asked_of one.client one.number one.sets one.asks) object candidate
+          → IsFound (handles.mid).keys.bounds (asked_of one.client one.number one.sets one.asks) object candidate
           → Acceptor (setting trace) count object candidate
       unfolding setting
       found_before candidate found =
@@ -108,7 +114,7 @@ module _ (trace : Trace) (is_run : IsRun trace) (have : ArePlain trace) where
           ≤ acceptors (setting trace) count object candidate + (setting trace).faults = shown_before candidate in
           let enough : repair trace.setup.bounds ≤ order_of candidate (entries_of object one.sets) =
           subst (λ (bounds : ℕ). repair bounds ≤ order_of candidate (entries_of object one.sets))
-          (bounds_are trace count place old is_old) found.order in
+          (mid_bounds trace count place old new handles) found.order in
           let few : (setting trace).faults ≤ trace.setup.bounds =
           few_faulty trace.setup (replicas trace.setup.bounds) (is_run.setup).few in
           let thresholds : AreThresholds trace.setup.bounds =
@@ -127,31 +133,21 @@ module _ (trace : Trace) (is_run : IsRun trace) (have : ArePlain trace) where
 
       -- what is added was made now, or was shown and came from elsewhere
       origin_added : ComesFrom trace count
-          → world_after trace (count + 1)
-          ≡ world_step (world_after trace count) (get_or trace.entries count some_entry).event
-          → slice_get (world_after trace (count + 1)).replicas place ≡ Some new
           → (one.candidates object ≡ opening) ⊎ Origin trace (count + 1) object (one.candidates object)
-      origin_added before next is_next =
-          elim (made_or_found old new (asked_of one.client one.number one.sets one.asks) one.candidates one.asks
+      origin_added before =
+          elim (made_or_found handles.mid new (asked_of one.client one.number one.sets one.asks) one.candidates one.asks
           one.reasons object delivered.adds) [
             | inl made ↦ inr (record {
               past = count;
               earlier = omega arith;
-              event = (get_or trace.entries count some_entry).event;
-              entry = get_or trace.entries count some_entry;
-              is_entry = slice_get-get_or trace.entries count some_entry below;
-              event_is = refl;
-              is_step = next;
               place = place;
               old = old;
-              is_old = is_old;
               new = new;
-              is_new = is_next;
               delivered = delivered;
               is_candidate = refl;
               made = subst (λ (bounds : ℕ).
                   IsMade bounds (asked_of one.client one.number one.sets one.asks) object (one.candidates object))
-                  (bounds_are trace count place old is_old) made;
+                  (mid_bounds trace count place old new handles) made;
             })
             | inr found ↦
                 came_before trace count object (one.candidates object)
@@ -167,16 +163,15 @@ module _ (trace : Trace) (is_run : IsRun trace) (have : ArePlain trace) where
       subst (λ world. slice_get world.replicas place ≡ Some new) next is_new in
       let was : WasBefore (world_after trace count).replicas place new =
       was_before (world_after trace count) event place new is_next in
-      elim (event_accepts (world_after trace count) event place was.old new was.is_old is_next
-      (hands_parts trace is_run have count some_entry below) object) [
+      elim (accepts_at trace is_run have count below place was.old new was.is_old is_new object) [
         | inl same ↦
             came_before trace count object candidate
             (before place was.old was.is_old object candidate (sym (ap (holds candidate) same) ∙ held))
         | inr delivered ↦
             let added : Candidate = (delivered.accepts).candidates object in
             let pushed : (holds candidate (own_candidates was.old object) || (same added candidate || false)) ≡ true =
-            sym (ap (holds candidate) ((delivered.accepts).added object delivered.adds) ∙ holds_push candidate added
-            (own_candidates was.old object)) ∙ held in
+            sym (ap (holds candidate) (delivered_adds trace count place was.old new object delivered)
+            ∙ holds_push candidate added (own_candidates was.old object)) ∙ held in
             elim (or_cases (holds candidate (own_candidates was.old object)) _ pushed) [
               | inl earlier ↦ came_before trace count object candidate
                   (before place was.old was.is_old object candidate earlier)
@@ -184,7 +179,7 @@ module _ (trace : Trace) (is_run : IsRun trace) (have : ArePlain trace) where
                 | inl alike ↦
                     subst (λ (it : Candidate). (it ≡ opening) ⊎ Origin trace (count + 1) object it)
                     (equal_by_same added candidate alike)
-                    (origin_added count below place was.old new object was.is_old is_next delivered before next is_new)
+                    (origin_added count below place was.old new object delivered before)
                 | inr none ↦ absurd (false≢true none)
               ]
             ]

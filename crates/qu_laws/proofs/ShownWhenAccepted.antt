@@ -1,12 +1,12 @@
 -- What a replica accepts in a run, and what its request showed then.
-use Rattle.std.proofs.Common.{◌≡◌, Bool, List, Some, ap, arith, false, length, not, refl, subst, suc, sym, true, ℕ, ◌<◌, ◌≤◌, ◌∙◌, [], ◌+◌, add-one, Option, get_or, None, count_by}
-use Rattle.qu_accepts.proofs.Accepting.{some_entry, opening_alone, Acceptance, acceptance, added_is}
-use Rattle.qu_runs.proofs.Worlds.WorldGrowth.{has_more, world_after-grows, world_after-next}
+use Rattle.std.proofs.Common.{◌≡◌, Bool, List, Some, ap, arith, false, length, not, refl, subst, suc, sym, true, ℕ, ◌<◌, ◌≤◌, ◌∙◌, ◌+◌, Option, get_or, None, count_by}
+use Rattle.qu_accepts.proofs.Accepting.{some_entry, opening_alone, Acceptance, acceptance, added_is, delivered_adds}
+use Rattle.qu_runs.proofs.Worlds.WorldGrowth.{has_more, world_after-grows}
 use Rattle.qu_claims.specs.Grounds.{Accepts}
 use Rattle.qu_runs.specs.Plain.{ArePlain}
 use Rattle.qu_base.specs.Bounds.{AreThresholds, quorum, replicas, repair}
 use Rattle.qu_stamp.specs.declared.candidate.Candidate.{Candidate}
-use Rattle.qu_chain.proofs.Counting.{Found, found_at, test_at-here, count-not}
+use Rattle.qu_chain.proofs.Counting.{Found, found_at, test_at-here, count-not, count-more}
 use Rattle.qu_frames.specs.declared.frame.Frame.{Frame}
 use Rattle.qu_chain.specs.Laws.{Sizes}
 use Rattle.qu_claims.specs.Setting.{IsNew, acceptors, IsEstablished}
@@ -23,23 +23,21 @@ use Rattle.qu_runs.proofs.Worlds.OpeningReplicas.{bounds_are}
 use Rattle.qu_base.proofs.ThresholdFacts.{are_thresholds}
 use Rattle.qu_rows.specs.Rows.{asked_of, Asked}
 use Rattle.qu_runs.proofs.Fits.Carrying.{brings_decoded}
-use Rattle.std.proofs.lemmas.Bool.{false≢true, and_parts}
+use Rattle.std.proofs.lemmas.Bool.{false≢true, and_parts, and_from}
 use Rattle.qu_claims.specs.Count.{test_at, count}
-use Rattle.std.specs.Prelude.{slice_get, ◌&&◌}
+use Rattle.std.specs.Prelude.{◌&&◌}
 use Rattle.qu_history.specs.Sets.{entries_of, order_of, latest_of, candidates_of}
 use Rattle.qu_stamp.specs.Stamp.{is_below}
 use Rattle.qu_stamp.proofs.Order.{is_below-not_back}
 use Rattle.qu_laws.proofs.Acceptors.{more_at}
 use Rattle.qu_history.specs.declared.sets.SetOf.{SetOf}
-use Rattle.qu_world.specs.Step.{world_step}
-use Rattle.qu_world.specs.State.{WorldState}
 use Rattle.qu_stamp.specs.Candidate.{opening}
 use Rattle.qu_history.specs.History.{holds, ObjectHistory}
 use Rattle.qu_claims.specs.Carried.{handed, Brings}
 use Rattle.qu_claims.specs.RunSetting.{setting}
 use Rattle.qu_accepts.proofs.Happenings.{hands_parts}
 use Rattle.qu_laws.proofs.KeptEntries.{shown_by_accepting, counted}
-use Rattle.qu_accepts.proofs.KnownObjects.{are_had, delivered_had}
+use Rattle.qu_accepts.proofs.KnownObjects.{delivered_known}
 use Rattle.qu_claims.specs.Times.{world_after}
 use Rattle.qu_base.specs.declared.party.Party.TheVariants as party
 use Rattle.qu_frames.specs.declared.frame.Frame.TheVariants as frame
@@ -50,6 +48,14 @@ use Rattle.qu_accepts.proofs.Acceptance.{IsFormed}
 use Rattle.qu_shown.specs.Views.{WasHeld, HeldIfCorrect}
 use Rattle.qu_laws.proofs.Acceptors.{StandsAt, stands_at}
 use Rattle.qu_history.proofs.Stamps.{not_below_latest}
+use Rattle.qu_claims.specs.Handling.{Handles}
+use Rattle.qu_trace.specs.declared.trace.Entry.{Entry}
+use Rattle.std.specs.List.{list_all}
+use Rattle.qu_history.specs.Culling.{culled}
+use Rattle.qu_accepts.proofs.Handling.{mid_candidates, mid_bounds}
+use Rattle.std.proofs.lemmas.Option.{get_or_from_slice_get}
+use Rattle.qu_claims.specs.Handled.{is_of_setup}
+use Rattle.qu_accepts.proofs.Handled.{culls_so}
 
 -- ---- letters
 
@@ -102,14 +108,6 @@ module _ (trace : Trace) (is_run : IsRun trace) (have : ArePlain trace) where
       asked_of ((accepted.delivered).accepts).client ((accepted.delivered).accepts).number
       ((accepted.delivered).accepts).sets ((accepted.delivered).accepts).asks
 
-  -- the step at which it is accepted
-  step_is : {object : ObjectId} {place : ℕ} {candidate : Candidate} (time : ℕ) → time < length trace.entries
-      → (accepted : Acceptance trace time object place candidate)
-      → world_step (world_after trace time) accepted.event ≡ world_after trace (suc time)
-  step_is time within accepted =
-      ap (world_step (world_after trace time)) accepted.event_is
-      ∙ sym (world_after-next trace time some_entry within) ∙ ap (world_after trace) (add-one time)
-
   pub start : (object : ObjectId) (place : ℕ) (candidate : Candidate)
       → (setting trace).accepted 0 object place candidate ≡ true → candidate ≡ opening
   unfolding setting
@@ -137,13 +135,29 @@ module _ (trace : Trace) (is_run : IsRun trace) (have : ArePlain trace) where
       (has_more (world_after trace from) (world_after trace to) (world_after-grows trace from to order)).replicas
       accepted
 
-  -- what the replica had accepted, it held
+  -- so many accepted it later as did before
+  pub acceptors_later : (from to : ℕ) → from ≤ to → (object : ObjectId) (candidate : Candidate)
+      → acceptors (setting trace) from object candidate ≤ acceptors (setting trace) to object candidate
+  unfolding setting
+  acceptors_later from to order object candidate =
+      let n : ℕ = replicas trace.setup.bounds in
+      count-more n
+      (λ replica. is_good trace.setup replica && (setting trace).accepted from object replica candidate)
+      (λ replica. is_good trace.setup replica && (setting trace).accepted to object replica candidate)
+      (λ replica below both.
+      let parts = and_parts _ _ both in
+      and_from _ _ parts.0 (still_accepted from to order object replica candidate parts.1))
+
+  -- what the replica had accepted, it held, whatever it learned
   pub held_before : (time : ℕ) (object : ObjectId) (place : ℕ) (candidate earlier : Candidate)
       (accepted : Acceptance trace time object place candidate)
-      → (setting trace).accepted time object place earlier ≡ true → accepts object earlier accepted.old ≡ true
+      → (setting trace).accepted time object place earlier ≡ true
+      → accepts object earlier ((accepted.delivered).handles).mid ≡ true
   unfolding setting
   held_before time object place candidate earlier accepted before =
-      sym (test_at-here (accepts object earlier) (world_after trace time).replicas place accepted.old accepted.is_old)
+      let handles : Handles trace time place accepted.old accepted.new = (accepted.delivered).handles in
+      ap (holds earlier) (mid_candidates trace time accepted.old handles.mid handles.learns object)
+      ∙ sym (test_at-here (accepts object earlier) (world_after trace time).replicas place accepted.old handles.is_old)
       ∙ before
 
   pub rising : (time : ℕ) (object : ObjectId) (place : ℕ) (candidate earlier : Candidate)
@@ -153,7 +167,8 @@ module _ (trace : Trace) (is_run : IsRun trace) (have : ArePlain trace) where
   rising time object place candidate earlier new before =
       let accepted : Acceptance trace time object place candidate = acceptance_of time object place candidate new in
       subst (λ (it : Candidate). is_below earlier.stamp it.stamp ≡ true) accepted.candidate_is
-      (added_above accepted.old accepted.new (asked_for accepted) ((accepted.delivered).accepts).candidates
+      (added_above ((accepted.delivered).handles).mid accepted.new (asked_for accepted)
+      ((accepted.delivered).accepts).candidates
       ((accepted.delivered).accepts).asks ((accepted.delivered).accepts).reasons object (accepted.delivered).adds
       earlier (held_before time object place candidate earlier accepted before))
 
@@ -163,64 +178,79 @@ module _ (trace : Trace) (is_run : IsRun trace) (have : ArePlain trace) where
   unfolding setting
   alone time object place candidate other new second =
       let accepted : Acceptance trace time object place candidate = acceptance_of time object place candidate new in
-      let one : Accepts accepted.old accepted.new (accepted.delivered).carried = (accepted.delivered).accepts in
+      let handles : Handles trace time place accepted.old accepted.new = (accepted.delivered).handles in
       let after : accepts object other accepted.new ≡ true =
       sym (test_at-here (accepts object other) (world_after trace (suc time)).replicas place accepted.new
       accepted.is_new) ∙ second.after in
       let before : accepts object other accepted.old ≡ false =
-      sym (test_at-here (accepts object other) (world_after trace time).replicas place accepted.old accepted.is_old)
+      sym (test_at-here (accepts object other) (world_after trace time).replicas place accepted.old handles.is_old)
       ∙ second.before in
       sym accepted.candidate_is
-      ∙ added_is accepted.old accepted.new object (one.candidates object) other
-      (one.added object (accepted.delivered).adds) after before
+      ∙ added_is accepted.old accepted.new object (((accepted.delivered).accepts).candidates object) other
+      (delivered_adds trace time place accepted.old accepted.new object accepted.delivered) after before
 
   -- ---- what was shown when it was accepted
 
   module _ (time : ℕ) (within : time < length trace.entries) (object : ObjectId) (place : ℕ) (candidate : Candidate)
       (accepted : Acceptance trace time object place candidate) where
-    abbrev one : Accepts accepted.old accepted.new (accepted.delivered).carried
+    abbrev handles : Handles trace time place accepted.old accepted.new
+    handles = (accepted.delivered).handles
+
+    abbrev one : Accepts handles.mid accepted.new handles.carried
     one = (accepted.delivered).accepts
 
     abbrev pub shown_then : List ObjectHistory
     shown_then = entries_of object one.sets
 
-    pub bounds_then : (accepted.old).keys.bounds ≡ trace.setup.bounds
-    bounds_then = bounds_are trace time place accepted.old accepted.is_old
+    pub bounds_then : (handles.mid).keys.bounds ≡ trace.setup.bounds
+    bounds_then = mid_bounds trace time place accepted.old accepted.new handles
 
-    had : are_had accepted.old one.sent ≡ true
-    had =
-        delivered_had (world_after trace time) accepted.event place accepted.old accepted.new object accepted.delivered
-        accepted.is_old (ap (λ (it : WorldState). slice_get it.replicas place) (step_is time within accepted)
-        ∙ accepted.is_new)
+    -- the event at which the text came
+    came_within : handles.since < length trace.entries
+    came_within = omega (arith, within, handles.came)
 
-    hands_it : handed (world_after trace time) (get_or trace.entries time some_entry).event
-        ≡ Some (party.Replica (record { 0 = place }), (accepted.delivered).text)
-    hands_it = ap (handed (world_after trace time)) (sym accepted.event_is) ∙ (accepted.delivered).is_handed
+    hands_it : handed (world_after trace handles.since) (get_or trace.entries handles.since some_entry).event
+        ≡ Some (party.Replica (record { 0 = place }), handles.text)
+    hands_it =
+        ap (λ (it : Entry). handed (world_after trace handles.since) it.event)
+        (get_or_from_slice_get trace.entries handles.since handles.entry some_entry handles.is_entry)
+        ∙ handles.is_handed
 
-    brings_it : Brings accepted.old (accepted.delivered).text
+    brings_it : Brings handles.receiver handles.text
         (frame.Request one.client one.number one.round one.sent one.asks one.mac)
-    brings_it = (accepted.delivered).brings ∙ ap (λ (it : Frame). Some it) one.is_request
+    brings_it = handles.brings ∙ ap (λ (it : Frame). Some it) one.is_request
+
+    known_it : list_all (is_of_setup trace.setup) one.sent ≡ true
+    known_it = delivered_known trace time place accepted.old accepted.new object accepted.delivered
+
+    culls_it : culled (handles.receiver).keys (handles.receiver).me one.sent ≡ one.sets
+    culls_it = culls_so trace is_run time within place accepted.old accepted.new object accepted.delivered
 
     -- the entries of an object are histories, of which the class can be told
     pub formed_then : AreWellFormed trace.setup.bounds shown_then
     formed_then =
-        subst (λ (bounds : ℕ). AreWellFormed bounds shown_then) bounds_then
-        (subst (λ (sets : List SetOf). AreWellFormed (accepted.old).keys.bounds (entries_of object sets)) one.culls
-        (subst (IsFormed accepted.old) one.is_request
-        ((hands_parts trace is_run have time some_entry within).formed place accepted.old accepted.is_old
-        (party.Replica (record { 0 = place })) (accepted.delivered).text hands_it (accepted.delivered).carried
-        (brings_decoded accepted.old (accepted.delivered).text (accepted.delivered).carried
-        (accepted.delivered).brings)) object))
+        subst (λ (bounds : ℕ). AreWellFormed bounds shown_then)
+        (bounds_are trace handles.since place handles.receiver handles.is_receiver)
+        (subst (λ (sets : List SetOf). AreWellFormed (handles.receiver).keys.bounds (entries_of object sets)) culls_it
+        (subst (IsFormed handles.receiver) one.is_request
+        ((hands_parts trace is_run have handles.since some_entry came_within).formed place handles.receiver
+        handles.is_receiver (party.Replica (record { 0 = place })) handles.text hands_it handles.carried
+        (brings_decoded handles.receiver handles.text handles.carried handles.brings)) object))
 
     -- so many accepted what is shown that with the faulty ones they are as many as show it
     pub shown_accepted : (other : Candidate)
         → order_of other shown_then ≤ acceptors (setting trace) time object other + (setting trace).faults
     shown_accepted other =
+        let at_first : order_of other shown_then
+        ≤ acceptors (setting trace) handles.since object other + (setting trace).faults =
         subst (λ (sets : List SetOf). order_of other (entries_of object sets)
-        ≤ acceptors (setting trace) time object other + (setting trace).faults) one.culls
-        (shown_by_accepting trace is_run have time within some_entry place accepted.old accepted.is_old
-        (accepted.delivered).text hands_it one.client one.number one.round one.sent one.asks one.mac brings_it had
-        object other)
+        ≤ acceptors (setting trace) handles.since object other + (setting trace).faults) culls_it
+        (shown_by_accepting trace is_run have handles.since came_within some_entry place handles.receiver
+        handles.is_receiver handles.text hands_it one.client one.number one.round one.sent one.asks one.mac brings_it
+        known_it object other) in
+        let later : acceptors (setting trace) handles.since object other ≤ acceptors (setting trace) time object other =
+        acceptors_later handles.since time handles.came object other in
+        omega (arith, at_first, later)
 
     -- ---- what is established is shown below a barrier that a quorum shows
 
@@ -230,7 +260,7 @@ module _ (trace : Trace) (is_run : IsRun trace) (have : ArePlain trace) where
 
     -- a correct replica whose history has the higher candidate, and not the lower one, never accepts the lower one
     never_later : (history : ObjectHistory) (higher lower : Candidate) → history.object ≡ object
-        → WasHeld trace time history → holds higher history.candidates ≡ true
+        → WasHeld trace handles.since history → holds higher history.candidates ≡ true
         → holds lower history.candidates ≡ false → is_below lower.stamp higher.stamp ≡ true
         → is_good trace.setup (history.replica).0 ≡ true → (history.replica).0 < (setting trace).n
         → (setting trace).accepted (setting trace).last object (history.replica).0 lower ≡ true → ⊥
@@ -239,7 +269,7 @@ module _ (trace : Trace) (is_run : IsRun trace) (have : ArePlain trace) where
         let at : ℕ = (history.replica).0 in
         let stands : StandsAt (world_after trace was.past) history =
         stands_at (world_after trace was.past) history was.held in
-        let earlier : was.past ≤ time = was.earlier in
+        let earlier : was.past ≤ handles.since = was.earlier in
         let then : (it : Candidate) → test_at (accepts object it) (world_after trace was.past).replicas at
         ≡ holds it history.candidates =
         λ it. ap (λ (on : ObjectId). test_at (accepts on it) (world_after trace was.past).replicas at) (sym objects)
@@ -248,7 +278,7 @@ module _ (trace : Trace) (is_run : IsRun trace) (have : ArePlain trace) where
         ∙ ap (λ (found : Option ObjectHistory). holds it (candidates_in found)) stands.found in
         let turn : Turn (λ (now : ℕ). (setting trace).accepted now object at lower) was.past (length trace.entries) =
         turn_between (λ (now : ℕ). (setting trace).accepted now object at lower) was.past (length trace.entries)
-        (omega (arith, earlier, within)) (then lower ∙ lacks_it) ever in
+        (omega (arith, earlier, came_within)) (then lower ∙ lacks_it) ever in
         let new : IsNew (setting trace) turn.time object at lower = record {
           step = turn.within;
           within = among;
@@ -273,9 +303,9 @@ module _ (trace : Trace) (is_run : IsRun trace) (have : ArePlain trace) where
         subst (λ (sets : List SetOf). count_by (λ (it : ObjectHistory). holds barrier it.candidates)
         (entries_of object sets)
         ≤ count_by (λ (it : ObjectHistory). holds other it.candidates) (entries_of object sets)
-        + count n (lacks other)) one.culls
-        (counted trace is_run have time within some_entry place accepted.old accepted.is_old
-        (accepted.delivered).text hands_it one.client one.number one.round one.sent one.asks one.mac brings_it had
+        + count n (lacks other)) culls_it
+        (counted trace is_run have handles.since came_within some_entry place handles.receiver handles.is_receiver
+        handles.text hands_it one.client one.number one.round one.sent one.asks one.mac brings_it known_it
         object (λ it. holds barrier it.candidates) (λ it. holds other it.candidates) (lacks other)
         (λ history objects among was has lacks_it. lacking history objects among was has lacks_it)) in
         let all : count n ever + count n (lacks other) ≡ n = count-not n ever in
@@ -290,7 +320,7 @@ module _ (trace : Trace) (is_run : IsRun trace) (have : ArePlain trace) where
         by_test false never = refl
 
         lacking : (history : ObjectHistory) → history.object ≡ object
-            → (history.replica).0 < replicas trace.setup.bounds → HeldIfCorrect trace time history
+            → (history.replica).0 < replicas trace.setup.bounds → HeldIfCorrect trace handles.since history
             → holds barrier history.candidates ≡ true → holds other history.candidates ≡ false
             → lacks other (history.replica).0 ≡ true
         lacking history objects among was has lacks_it =

@@ -16,7 +16,6 @@ use Rattle.qu_objects.specs.declared.act.Method.{Method}
 use Rattle.qu_objects.specs.declared.query.Ask.{Ask}
 use Rattle.qu_objects.specs.declared.answer.Answer.{Answer}
 use Rattle.qu_objects.specs.declared.state.ObjState.{ObjState}
-use Rattle.qu_kept.specs.declared.repeats.Standing.TheVariants.{Already}
 use Rattle.qu_frames.specs.declared.frame.Body.TheVariants as body
 use Rattle.qu_frames.specs.declared.verdict.Refusal.{Refusal}
 use Rattle.qu_frames.specs.declared.verdict.Refusal.TheVariants.{NotCurrent, NotMethod, UnknownObject}

@@ -20,20 +20,29 @@ use Rattle.qu_rows.specs.State.{ReplicaState}
 use Rattle.qu_replica.specs.State.{accept_all}
 use Rattle.qu_rows.specs.Allowed.{has_parts}
 use Rattle.qu_rows.specs.Rows.{Asked, asked_of, asked_at, row_unknown, objects_of, decision_on}
-use Rattle.qu_replica.specs.Step.{replica_on_received, carried_out, replica_step}
+use Rattle.qu_replica.specs.Step.{replica_on_frame, carried_out}
 use Rattle.qu_trace.specs.declared.trace.Trace.{Trace}
 use Rattle.qu_world.specs.Run.{IsRun}
 use Rattle.qu_machine.proofs.Firsts.{contains_at}
 use Rattle.qu_replies.proofs.Replying.{reply_parts}
-use Rattle.qu_accepts.proofs.KnownObjects.{are_had, culled_had, not_unknown}
+use Rattle.qu_accepts.proofs.KnownObjects.{culled_had, not_unknown, known_sent}
 use Rattle.qu_accepts.proofs.Handled.{handled_upon}
 use Rattle.qu_claims.specs.Handled.{IsHandled}
-use Rattle.qu_replies.specs.Replies.{culled_in, TellsDone, TellsAlready, TellsQuery, IsOfUpdate, IsReplyTo}
+use Rattle.qu_replies.specs.Replies.{culled_in, HasDone, TellsDone, TellsAlready, TellsQuery, IsOfUpdate, IsReplyTo}
 use Rattle.qu_runs.specs.Plain.{ArePlain}
 use Rattle.qu_claims.specs.Parts.{Names}
 use Rattle.qu_replies.proofs.QueryReplies.{told_is_true, query_is_no_update, mend_is_not_told, mend_is_no_update}
 use Rattle.qu_replies.proofs.TrueReplies.{AddsWhatIsFound, done_is_true, already_is_true, act_is_not_told, update_is_known}
 use Rattle.qu_claims.specs.Carried.{Brings}
+use Rattle.qu_claims.specs.Handled.{is_of_setup}
+use Rattle.qu_claims.specs.Handling.{HoldsAlike, Handles}
+use Rattle.qu_accepts.proofs.Handling.{alike_candidates}
+use Rattle.std.specs.List.{list_all}
+use Rattle.std.proofs.lemmas.List.Elements.{All-weaker}
+use Rattle.qu_base.specs.declared.party.Digest.{Digest}
+use Rattle.qu_history.specs.History.{holds}
+use Rattle.qu_versions.specs.Versions.{version_at}
+use Rattle.qu_frames.specs.declared.frame.Frame.{Frame}
 use Rattle.qu_frames.specs.declared.frame.Frame.TheVariants as frame
 
 -- ---- bodies
@@ -115,16 +124,24 @@ module _ (state : ReplicaState) (client : ClientId) (number : ℕ) (sets : List 
 
 -- ---- replies
 
--- what the replica becomes, where its decision is known
-pub after_decision : (old new : ReplicaState) (text : List ℕ) (client : ClientId) (number round : ℕ)
-    (sets : List SetOf) (asks : Body) (given : Verdict) (accepted : List Accepted)
-    → new ≡ (replica_step old text).0 → (mac : List ℕ)
-    → Brings old text (frame.Request client number round sets asks mac)
-    → decision_on old (asked_at old client number sets asks) asks ≡ Answers given accepted
-    → new ≡ accept_all old accepted
-after_decision old new text client number round sets asks given accepted step mac brings decided =
-    step ∙ ap (λ it. (replica_on_received old it).0) brings
-    ∙ ap (λ (it : Decision). (carried_out old client number round sets it).0) decided
+-- what a replica that tells Done has it has in each state that holds the same
+done_alike : (new other : ReplicaState) → HoldsAlike new other → (client : ClientId) (number : ℕ) (act : Digest)
+    (parts : List (ObjectId × Method)) (stamps : List (ObjectId × Stamp)) (answer : Answer)
+    → TellsDone other client number act parts stamps answer → TellsDone new client number act parts stamps answer
+done_alike new other alike client number act parts stamps answer done = record {
+  of_parts = done.of_parts;
+  each = All-weaker (HasDone other client number act answer) (HasDone new client number act answer)
+      (λ told it. record {
+        candidate = it.candidate;
+        is_told = it.is_told;
+        held = ap (holds it.candidate) (alike_candidates new other alike told.0) ∙ it.held;
+        of_client = it.of_client;
+        of_act = it.of_act;
+        version = it.version;
+        of_candidate = ap (version_at told.0 it.candidate.stamp) alike.versions ∙ it.of_candidate;
+        keeps = it.keeps;
+      }) stamps done.each;
+}
 
 module _ (trace : Trace) (is_run : IsRun trace) (have : ArePlain trace) (at : ℕ)
     (below : at < length trace.entries) (replica : ℕ) (client : ClientId) (number round : ℕ) where
@@ -132,88 +149,106 @@ module _ (trace : Trace) (is_run : IsRun trace) (have : ArePlain trace) (at : �
       → IsTrue (has_parts reply.body)
   body_has_parts given reply = reply_parts trace is_run have at below replica client number round given reply
 
+  -- what the replica becomes
+  pub reply_accepts : (given : Verdict) (reply : IsReplyTo trace at replica client number round given)
+      → HoldsAlike reply.new (accept_all (reply.handles).mid reply.accepted)
+  reply_accepts given reply =
+      let mid : ReplicaState = (reply.handles).mid in
+      subst (HoldsAlike reply.new)
+      (ap (λ (it : Frame). (replica_on_frame mid it).0) reply.is_request
+      ∙ ap (λ (it : Decision). (carried_out mid client number round reply.sets it).0) reply.decided)
+      (reply.handles).made
+
   module _ (given : Verdict) (of_update : IsOfUpdate given)
       (reply : IsReplyTo trace at replica client number round given) where
     -- that an update is done, now or before, is told to an act
     pub act_of_update : IsActOn reply.body
     act_of_update =
-        update_to_act reply.old client number (culled_in reply.old reply.sets) reply.accepted given of_update reply.body
+        update_to_act (reply.handles).mid client number (culled_in (reply.handles).mid reply.sets) reply.accepted given
+        of_update reply.body
         (body_has_parts given reply) reply.decided
 
-    decided_act : Decides reply.old client number (culled_in reply.old reply.sets) reply.accepted
+    decided_act : Decides (reply.handles).mid client number (culled_in (reply.handles).mid reply.sets) reply.accepted
         (body.Act act_of_update.parts) given
     decided_act =
-        ap (λ (it : Body). decision_on reply.old (asked_at reply.old client number reply.sets it) it)
+        ap (λ (it : Body).
+        decision_on (reply.handles).mid (asked_at (reply.handles).mid client number reply.sets it) it)
         (sym act_of_update.is_act) ∙ reply.decided
 
     act_has_parts : IsTrue (has_parts (body.Act act_of_update.parts))
     act_has_parts = subst (λ (it : Body). IsTrue (has_parts it)) act_of_update.is_act (body_has_parts given reply)
 
-    -- the replica has all objects of the request
-    pub update_had : are_had reply.old reply.sets ≡ true
-    update_had =
+    -- the setup has all objects of the request
+    pub update_known : list_all (is_of_setup trace.setup) reply.sets ≡ true
+    update_known =
+        let mid : ReplicaState = (reply.handles).mid in
         let parts : List (ObjectId × Method) = act_of_update.parts in
-        let asked : Asked = asked_at reply.old client number reply.sets (body.Act parts) in
-        let known : row_unknown reply.old asked ≡ None =
-        update_is_known reply.old asked parts (objects_of parts) given reply.accepted of_update decided_act in
-        sym (culled_had reply.old (reply.old).keys (reply.old).me reply.sets) ∙ not_unknown reply.old asked known
+        let asked : Asked = asked_at mid client number reply.sets (body.Act parts) in
+        let known : row_unknown mid asked ≡ None =
+        update_is_known mid asked parts (objects_of parts) given reply.accepted of_update decided_act in
+        known_sent trace at replica reply.old mid (reply.handles).is_old (reply.handles).learns reply.sets
+        (sym (culled_had mid mid.keys mid.me reply.sets) ∙ not_unknown mid asked known)
 
-    pub update_brings : Brings reply.old reply.text
+    pub update_brings : Brings (reply.handles).receiver (reply.handles).text
         (frame.Request client number round reply.sets (body.Act act_of_update.parts) reply.mac)
     update_brings =
-        reply.brings ∙ ap (λ (it : Body). Some (frame.Request client number round reply.sets it reply.mac))
-        act_of_update.is_act
+        (reply.handles).brings ∙ ap (λ (it : Frame). Some it) reply.is_request
+        ∙ ap (λ (it : Body). Some (frame.Request client number round reply.sets it reply.mac)) act_of_update.is_act
 
     -- the replica handled the request
     pub update_handled : IsHandled trace client number act_of_update.parts
     update_handled =
-        handled_upon trace is_run at below reply.entry (contains_at trace.entries at reply.entry reply.is_entry)
-        replica reply.old reply.is_old reply.text reply.is_handed client number round reply.sets act_of_update.parts
-        reply.mac update_brings update_had
+        let handles : Handles trace at replica reply.old reply.new = reply.handles in
+        handled_upon trace is_run handles.since (omega (arith, below, handles.came)) handles.entry
+        (contains_at trace.entries handles.since handles.entry handles.is_entry)
+        replica handles.receiver handles.is_receiver handles.text handles.is_handed client number round reply.sets
+        act_of_update.parts reply.mac update_brings update_known
 
   module _ (stamps : List (ObjectId × Stamp)) (answer : Answer) where
     -- where Done is told the replica has the act's candidates afterwards
     pub done_in_run : (reply : IsReplyTo trace at replica client number round (verdict.Done stamps answer))
         → ((object : ObjectId) → Names (act_of_update (verdict.Done stamps answer) tt reply).parts object
-        → AddsWhatIsFound reply.old object reply.accepted)
+        → AddsWhatIsFound (reply.handles).mid object reply.accepted)
         → TellsDone reply.new client number
         (act_digest client number (act_of_update (verdict.Done stamps answer) tt reply).parts)
         (act_of_update (verdict.Done stamps answer) tt reply).parts stamps answer
     done_in_run reply adds =
         let given : Verdict = verdict.Done stamps answer in
+        let mid : ReplicaState = (reply.handles).mid in
         let act : IsActOn reply.body = act_of_update given tt reply in
-        let is_new : reply.new ≡ accept_all reply.old reply.accepted =
-        after_decision reply.old reply.new reply.text client number round reply.sets reply.body given reply.accepted
-        reply.step reply.mac reply.brings reply.decided in
-        subst (λ (it : ReplicaState).
-        TellsDone it client number (act_digest client number act.parts) act.parts stamps answer) (sym is_new)
-        (done_of_act reply.old client number (culled_in reply.old reply.sets) reply.accepted
-        stamps answer act.parts adds (act_has_parts given tt reply) (decided_act given tt reply))
+        done_alike reply.new (accept_all mid reply.accepted) (reply_accepts given reply) client number
+        (act_digest client number act.parts) act.parts stamps answer
+        (done_of_act mid client number (culled_in mid reply.sets) reply.accepted stamps answer act.parts adds
+        (act_has_parts given tt reply) (decided_act given tt reply))
 
     -- an answer is told to a query, from what the replica has
     pub ask_of_told : (reply : IsReplyTo trace at replica client number round (verdict.Told stamps answer))
         → IsAskOf reply.body
     ask_of_told reply =
-        told_to_ask reply.old client number (culled_in reply.old reply.sets) reply.accepted stamps answer reply.body
+        told_to_ask (reply.handles).mid client number (culled_in (reply.handles).mid reply.sets) reply.accepted
+        stamps answer reply.body
         (body_has_parts (verdict.Told stamps answer) reply) reply.decided
 
     pub told_in_run : (reply : IsReplyTo trace at replica client number round (verdict.Told stamps answer))
-        → TellsQuery reply.old (culled_in reply.old reply.sets) (ask_of_told reply).query stamps answer
+        → TellsQuery (reply.handles).mid (culled_in (reply.handles).mid reply.sets) (ask_of_told reply).query stamps
+        answer
     told_in_run reply =
         let asked : IsAskOf reply.body = ask_of_told reply in
-        told_of_query reply.old client number (culled_in reply.old reply.sets) reply.accepted stamps answer asked.query
+        told_of_query (reply.handles).mid client number (culled_in (reply.handles).mid reply.sets) reply.accepted
+        stamps answer asked.query
         (subst (λ (it : Body). IsTrue (has_parts it)) asked.is_ask (body_has_parts (verdict.Told stamps answer) reply))
-        (ap (λ (it : Body). decision_on reply.old (asked_at reply.old client number reply.sets it) it)
+        (ap (λ (it : Body).
+        decision_on (reply.handles).mid (asked_at (reply.handles).mid client number reply.sets it) it)
         (sym asked.is_ask)
         ∙ reply.decided)
 
   -- where Already is told versions that the replica has keep the act
   pub already_in_run : (answer : Answer)
       (reply : IsReplyTo trace at replica client number round (verdict.Already answer))
-      → TellsAlready reply.old client number
+      → TellsAlready (reply.handles).mid client number
       (act_digest client number (act_of_update (verdict.Already answer) tt reply).parts)
-      (culled_in reply.old reply.sets) (act_of_update (verdict.Already answer) tt reply).parts answer
+      (culled_in (reply.handles).mid reply.sets) (act_of_update (verdict.Already answer) tt reply).parts answer
   already_in_run answer reply =
       let given : Verdict = verdict.Already answer in
-      already_of_act reply.old client number (culled_in reply.old reply.sets) reply.accepted
+      already_of_act (reply.handles).mid client number (culled_in (reply.handles).mid reply.sets) reply.accepted
       answer (act_of_update given tt reply).parts (act_has_parts given tt reply) (decided_act given tt reply)

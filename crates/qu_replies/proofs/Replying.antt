@@ -2,7 +2,7 @@
 use Rattle.qu_world.proofs.Steps as steps
 use Rattle.qu_world.proofs.Steps.{AtCorrect}
 use Rattle.qu_world.specs.Step.{moved}
-use Rattle.std.proofs.Common.{◌≡◌, ℕ, zero, suc, ◌+◌, ◌<◌, List, [], ◌∷◌, ◌++◌, length, get_or, Option, None, Some, refl, sym, subst, ap, ◌∙◌, arith, map, IsTrue, false, Ok}
+use Rattle.std.proofs.Common.{◌≤◌, ◌≡◌, ℕ, zero, suc, ◌+◌, ◌<◌, List, [], ◌∷◌, ◌++◌, length, get_or, Option, None, Some, refl, sym, subst, ap, ◌∙◌, arith, map, IsTrue, false, Ok}
 use Rattle.std.specs.Prelude.{slice_get, Contains}
 use Rattle.std.specs.List.{AllByRecursion}
 use Rattle.std.proofs.lemmas.Option.{none-some, same_Some, get_or_from_slice_get}
@@ -45,6 +45,10 @@ use Rattle.qu_world.specs.Step.{world_step, unchanged, at_replica, at_client, re
 use Rattle.qu_world.specs.Run.{IsRun}
 use Rattle.qu_claims.specs.Times.{world_after}
 use Rattle.qu_replies.specs.Replies.{IsReplyTo}
+use Rattle.qu_claims.specs.Handling.{Handles}
+use Rattle.qu_accepts.proofs.Handling.{handled_at_once}
+use Rattle.qu_accepts.proofs.Happenings.{handled_fits}
+use Rattle.qu_runs.proofs.Worlds.LaterLetters.{letter_later}
 use Rattle.qu_runs.specs.Plain.{ArePlain}
 use Rattle.qu_world.proofs.Each.{each_found, set_here}
 use Rattle.qu_runs.proofs.Events.Entries.{entry_recorded}
@@ -353,45 +357,60 @@ reply_sent trace is_run have at below entry is_entry letter holding replica clie
     ((true_world trace is_run have at (omega arith)).replicas (answer.me).0 answer.state answer.is_state) in
     let here : (answer.me).0 ≡ replica.0 =
     named_here answer.me replica (replica_step answer.state answer.text).0 made.from in_place in
+    let steps : (replica_step answer.state answer.text).0 ≡ (replica_on_frame answer.state
+    (frame.Request client number round made.sets made.body made.mac)).0 =
+    ap (λ it. (replica_on_received answer.state it).0) made.brings in
     subst (λ (it : ℕ). IsReplyTo trace at it client number round verdict) here
     (record {
       old = answer.state;
-      is_old = answer.is_state;
       new = (replica_step answer.state answer.text).0;
-      is_new = answer.is_new;
-      entry = entry;
-      is_entry = is_entry;
-      text = answer.text;
-      is_handed = answer.is_handed;
+      handles = handled_at_once trace at (answer.me).0 answer.state (replica_step answer.state answer.text).0
+          answer.is_state answer.is_new entry is_entry answer.text answer.is_handed
+          (frame.Request client number round made.sets made.body made.mac) made.brings steps;
       sets = made.sets;
       body = made.body;
       mac = made.mac;
-      brings = made.brings;
-      step = refl;
+      is_request = refl;
       accepted = made.accepted;
       decided = made.decided;
     })
 
 -- ---- its request
 
+-- what was asked by a time was asked by a later one
+asked_later : (trace : Trace) (past later : ℕ) → past ≤ later → later ≤ length trace.entries
+    → (client : ClientId) (number round : ℕ) (sets : List SetOf) (body : Body)
+    → AskedBy trace past client number round sets body → AskedBy trace later client number round sets body
+asked_later trace past later order within client number round sets body it = record {
+  asked = it.asked;
+  letter = it.letter;
+  is_letter = letter_later trace past later it.asked it.letter order within it.is_letter;
+  is_request = it.is_request;
+}
+
+-- a correct client sent the request that is handled
+pub handled_letter : (trace : Trace) → ArePlain trace → (at : ℕ) → at < length trace.entries → (place : ℕ)
+    (old new : ReplicaState) (handles : Handles trace at place old new) (client : ClientId) (number round : ℕ)
+    (sets : List SetOf) (body : Body) (mac : List ℕ)
+    → handles.carried ≡ frame.Request client number round sets body mac
+    → is_faulty trace.setup (party.Client client) ≡ false → AskedBy trace at client number round sets body
+handled_letter trace have at below place old new handles client number round sets body mac is_request correct =
+    asked_later trace handles.since at handles.came (omega (arith, below)) client number round sets body
+    (asked_letter trace have handles.since (omega (arith, below, handles.came)) handles.entry place handles.receiver
+    handles.is_receiver handles.text
+    (ap (λ (it : Entry). handed (world_after trace handles.since) it.event)
+    (get_or_from_slice_get trace.entries handles.since handles.entry handles.entry handles.is_entry)
+    ∙ handles.is_handed) client number round sets body mac
+    (handles.brings ∙ ap (λ (it : Frame). Some it) is_request) correct)
+
 module _ (trace : Trace) (is_run : IsRun trace) (have : ArePlain trace) (at : ℕ) (below : at < length trace.entries)
     (replica : ℕ) (client : ClientId) (number round : ℕ) (verdict : Verdict)
     (reply : IsReplyTo trace at replica client number round verdict) where
-  -- the entry's event hands it over
-  pub reply_handed : handed (world_after trace at) (get_or trace.entries at reply.entry).event
-      ≡ Some (party.Replica (record { 0 = replica }), reply.text)
-  reply_handed =
-      ap (λ (it : Entry). handed (world_after trace at) it.event)
-      (get_or_from_slice_get trace.entries at reply.entry reply.entry reply.is_entry) ∙ reply.is_handed
-
   -- it fits its format
   reply_fits : frame_form.Fits (frame.Request client number round reply.sets reply.body reply.mac)
   reply_fits =
-      handed_fits trace is_run have at reply.entry below (party.Replica (record { 0 = replica })) reply.text
-      reply_handed
-      (frame.Request client number round reply.sets reply.body reply.mac)
-      (brings_decoded reply.old reply.text (frame.Request client number round reply.sets reply.body reply.mac)
-      reply.brings)
+      subst (λ (it : Frame). frame_form.Fits it) reply.is_request
+      (handled_fits trace is_run have at below replica reply.old reply.new reply.handles)
 
   -- and so do its sets
   pub reply_sets : sets_form.Fits reply.sets
@@ -405,5 +424,5 @@ module _ (trace : Trace) (is_run : IsRun trace) (have : ArePlain trace) (at : �
   pub reply_letter : is_faulty trace.setup (party.Client client) ≡ false
       → AskedBy trace at client number round reply.sets reply.body
   reply_letter correct =
-      asked_letter trace have at below reply.entry replica reply.old reply.is_old reply.text reply_handed client number
-      round reply.sets reply.body reply.mac reply.brings correct
+      handled_letter trace have at below replica reply.old reply.new reply.handles client number round reply.sets
+      reply.body reply.mac reply.is_request correct

@@ -11,7 +11,6 @@ use Rattle.qu_stamp.specs.declared.stamp.Stamp.{Stamp}
 use Rattle.qu_stamp.specs.declared.candidate.Candidate.{Candidate}
 use Rattle.qu_history.specs.declared.sets.SetOf.{SetOf}
 use Rattle.qu_history.specs.History.{holds}
-use Rattle.qu_history.specs.Sets.{histories}
 use Rattle.qu_history.proofs.Rising.{holds_pushed}
 use Rattle.qu_objects.specs.declared.act.Method.{Method}
 use Rattle.qu_objects.specs.declared.answer.Answer.{Answer}
@@ -47,7 +46,7 @@ use Rattle.qu_accepts.proofs.Grounds.{is_base}
 use Rattle.qu_runs.proofs.Small.{single}
 use Rattle.qu_accepts.proofs.ActAcceptance.{candidates_after}
 use Rattle.qu_accepts.proofs.Performed.{version_at-push}
-use Rattle.qu_replies.proofs.QueryReplies.{Gives, unknown, current, method, version, act_cases, known_by_base, passed_unknown, passed_method, passed_version, version_of_base}
+use Rattle.qu_replies.proofs.QueryReplies.{Gives, unknown, method, version, act_cases, known_by_base, passed_unknown, passed_method, passed_version, version_of_base}
 
 -- ---- an act
 

@@ -1,10 +1,9 @@
 -- What a replica's reply says of the replica.
-use Rattle.std.specs.Prelude.{◌≡◌, ℕ, true, false, ◌+◌, List, map, slice_get, All, Some}
+use Rattle.std.specs.Prelude.{◌≡◌, ℕ, true, false, List, map, All, Some}
 use Rattle.std.specs.List.{AllZip}
 use Rattle.qu_base.specs.declared.party.ClientId.{ClientId}
 use Rattle.qu_base.specs.declared.party.Digest.{Digest}
 use Rattle.qu_base.specs.declared.party.ObjectId.{ObjectId}
-use Rattle.qu_base.specs.declared.party.Party.TheVariants as party
 use Rattle.qu_stamp.specs.declared.stamp.Stamp.{Stamp}
 use Rattle.qu_stamp.specs.declared.candidate.Candidate.{Candidate}
 use Rattle.qu_stamp.specs.Stamp.{is_below}
@@ -27,12 +26,9 @@ use Rattle.qu_rows.specs.declared.decision.Accepted.{Accepted}
 use Rattle.qu_rows.specs.declared.decision.Decision.TheVariants.{Answers}
 use Rattle.qu_rows.specs.State.{ReplicaState, own_candidates}
 use Rattle.qu_rows.specs.Rows.{asked_at, decision_on}
-use Rattle.qu_replica.specs.Step.{replica_step}
 use Rattle.qu_versions.specs.Versions.{version_at}
-use Rattle.qu_trace.specs.declared.trace.Entry.{Entry}
 use Rattle.qu_trace.specs.declared.trace.Trace.{Trace}
-use Rattle.qu_claims.specs.Carried.{handed, Brings}
-use Rattle.qu_claims.specs.Times.{world_after}
+use Rattle.qu_claims.specs.Handling.{Handles}
 
 -- a version keeps of this client the act with this number and digest, and what it answered
 abbrev pub Keeps : ClientId → ℕ → Digest → Answer → ObjState → Type 0
@@ -107,21 +103,15 @@ abbrev pub culled_in : ReplicaState → List SetOf → List SetOf
 culled_in state sets = culled state.keys state.me sets
 
 -- the verdict, sent at the event of the entry with this index, is that of a replica upon a request of this
--- client, number and round, which the event hands to it
+-- client, number and round, which it handles at this event
 pub record IsReplyTo (trace : Trace) (at : ℕ) (replica : ℕ) (client : ClientId) (number round : ℕ)
     (verdict : Verdict) : Type 0 where
   pub old : ReplicaState
-  pub is_old : slice_get (world_after trace at).replicas replica ≡ Some old
   pub new : ReplicaState
-  pub is_new : slice_get (world_after trace (at + 1)).replicas replica ≡ Some new
-  pub entry : Entry
-  pub is_entry : slice_get trace.entries at ≡ Some entry
-  pub text : List ℕ
-  pub is_handed : handed (world_after trace at) entry.event ≡ Some (party.Replica (record { 0 = replica }), text)
+  pub handles : Handles trace at replica old new
   pub sets : List SetOf
   pub body : Body
   pub mac : List ℕ
-  pub brings : Brings old text (frame.Request client number round sets body mac)
-  pub step : new ≡ (replica_step old text).0
+  pub is_request : handles.carried ≡ frame.Request client number round sets body mac
   pub accepted : List Accepted
-  pub decided : decision_on old (asked_at old client number sets body) body ≡ Answers verdict accepted
+  pub decided : decision_on handles.mid (asked_at handles.mid client number sets body) body ≡ Answers verdict accepted

@@ -21,6 +21,8 @@ use Rattle.qu_trace.specs.Operation.{operations_of}
 use Rattle.qu_world.specs.Run.{IsRun}
 use Rattle.qu_objects.specs.declared.act.Method.{Method}
 use Rattle.qu_replies.specs.Replies.{culled_in, HasTold}
+use Rattle.qu_claims.specs.Handling.{Handles}
+use Rattle.qu_accepts.proofs.Handling.{mid_candidates}
 use Rattle.qu_claims.specs.Completions.{IsCompleted}
 use Rattle.qu_claims.specs.RunSetting.{setting}
 use Rattle.qu_claims.specs.Quorums.{ActOfQuorum, ToldFrom, QueryOfQuorum, IsOfQuorum, CompletesByQuorums}
@@ -45,13 +47,18 @@ module _ (trace : Trace) (is_run : IsRun trace) (have : ArePlain trace) (clients
     earlier = tells.earlier;
     told = tells.said;
     state = (tells.reply).old;
-    is_state = (tells.reply).is_old;
-    nothing_above = all_beside (HasTold (tells.reply).old (culled_in (tells.reply).old (tells.reply).sets)) Highest
+    is_state = ((tells.reply).handles).is_old;
+    nothing_above = all_beside (HasTold handles.mid (culled_in handles.mid (tells.reply).sets)) Highest
         stamps (tells.tells).values
         (λ told value has held holding. ap (λ (it : Stamp). is_below it held.stamp) (sym has.is_told)
-        ∙ has.nothing_above held holding) (tells.tells).each;
+        ∙ has.nothing_above held (ap (holds held)
+        (mid_candidates trace tells.at (tells.reply).old handles.mid handles.learns told.0) ∙ holding))
+        (tells.tells).each;
   }
     where
+      handles : Handles trace tells.at replica (tells.reply).old (tells.reply).new
+      handles = (tells.reply).handles
+
       Highest : ObjectId × Stamp → Type 0
       Highest told = (held : Candidate) → holds held (own_candidates (tells.reply).old told.0) ≡ true
           → is_below told.1 held.stamp ≡ false

@@ -99,12 +99,12 @@ module _ (trace : Trace) (is_run : IsRun trace) (have : ArePlain trace) (clients
                 is_told = it.is_told;
                 made = record { handled = handled; of_client = it.of_client; of_act = it.of_act };
                 accepted = test_at-here (accepts told.0 it.candidate) (world_after trace (at + 1)).replicas replica
-                    reply.new reply.is_new ∙ it.held;
+                    reply.new (reply.handles).is_new ∙ it.held;
                 version = it.version;
                 has = version_is trace laws joint is_run have (at + 1) (omega arith) replica reply.new
-                    reply.is_new told.0 it.candidate
-                    (held_ever trace laws (at + 1) (omega arith) replica reply.new reply.is_new told.0 it.candidate
-                    it.held) it.version it.of_candidate;
+                    (reply.handles).is_new told.0 it.candidate
+                    (held_ever trace laws (at + 1) (omega arith) replica reply.new (reply.handles).is_new told.0
+                    it.candidate it.held) it.version it.of_candidate;
                 keeps = it.keeps;
               }) stamps done.each;
         }
@@ -298,16 +298,18 @@ module _ (trace : Trace) (is_run : IsRun trace) (have : ArePlain trace) (clients
       act_of_update trace is_run have at below replica client number round given tt reply in
       let these : asks.parts ≡ parts =
       told_parts trace is_run have clients operation among parts is_act at below replica round given tt reply in
-      let tells : TellsAlready reply.old client number act (culled_in reply.old reply.sets) parts answer =
+      let tells : TellsAlready (reply.handles).mid client number act (culled_in (reply.handles).mid reply.sets) parts
+      answer =
       subst (λ (it : List (ObjectId × Method)).
-      TellsAlready reply.old client number (act_digest client number it) (culled_in reply.old reply.sets) it answer)
+      TellsAlready (reply.handles).mid client number (act_digest client number it)
+      (culled_in (reply.handles).mid reply.sets) it answer)
       these (already_in_run trace is_run have at below replica client number round answer reply) in
       let handled : IsHandled trace client number parts =
       told_handled trace is_run have clients operation among parts is_act at below replica round given tt reply in (
         subst (λ (it : List (ObjectId × Method)). 1 ≤ length it) these asks.some,
         All-weaker
             (λ (part : ObjectId × Method).
-            HasKept reply.old client number act (culled_in reply.old reply.sets) answer part.0)
+            HasKept (reply.handles).mid client number act (culled_in (reply.handles).mid reply.sets) answer part.0)
             (λ (part : ObjectId × Method). Kept at part.0)
             (λ part it. kept_part trace is_run have laws joint facts at below replica client number round answer reply
             parts handled part.0 it) parts tells,

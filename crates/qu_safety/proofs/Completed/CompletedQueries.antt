@@ -49,6 +49,8 @@ use Rattle.qu_safety.proofs.Points.OwnedPoints.{IsOperationPoint}
 use Rattle.qu_points.specs.Points.{effect_of, IsOfCorrect, point_at}
 use Rattle.qu_points.proofs.Operations.Correct.{operations_correct}
 use Rattle.qu_safety.proofs.Points.OwnClients.{own_client}
+use Rattle.qu_claims.specs.Handling.{Handles}
+use Rattle.qu_accepts.proofs.Handling.{mid_bounds, mid_candidates}
 use Rattle.qu_replies.specs.Replies.{culled_in, HasTold}
 use Rattle.qu_claims.specs.Updates.{IsEverAccepted}
 use Rattle.qu_claims.specs.Values.{HasVersion}
@@ -61,12 +63,9 @@ use Rattle.qu_shown.proofs.AskedLetters.{AskedBy}
 use Rattle.qu_trace.specs.Faulty.{is_faulty}
 use Rattle.qu_replies.proofs.Replying.{reply_letter, reply_sets}
 use Rattle.qu_safety.proofs.Completed.Along.{objects_in, zip_along, zip_weaker, zip_at}
-use Rattle.qu_values.proofs.Versions.StoredValues.{version_is}
+use Rattle.qu_values.proofs.Versions.StoredValues.{upon_is}
 use Rattle.qu_values.proofs.Updating.UpdateFacts.{HasValue, UpdateFacts}
 use Rattle.qu_values.proofs.Requests.ClientFacts.{IsAskedBy, ClientFacts}
-use Rattle.qu_values.proofs.Updating.Updates.{same_accepted}
-use Rattle.qu_values.proofs.Versions.EverAccepted.{held_ever}
-use Rattle.qu_runs.proofs.Worlds.OpeningReplicas.{bounds_are}
 use Rattle.qu_safety.proofs.Completed.ToldAnswers.{FirstTrue, first_true, IsAnsweredAt, answered_at, answered_after, ToldBefore}
 use Rattle.qu_safety.proofs.Completed.QueryRounds.{ToldRound, told_round}
 
@@ -168,7 +167,8 @@ module _ (trace : Trace) (is_run : IsRun trace) (have : ArePlain trace) (clients
 
     -- what a member told of an object
     abbrev TellsOf : (member : ℕ) → Member member → ObjectId × Stamp → Value → Type 0
-    TellsOf member tells = HasTold (tells.reply).old (culled_in (tells.reply).old (tells.reply).sets)
+    TellsOf member tells =
+        HasTold ((tells.reply).handles).mid (culled_in ((tells.reply).handles).mid (tells.reply).sets)
 
     -- what a member accepted by then is not above the base
     not_above : (told : ObjectId × Stamp) → Contains stamps told → (other : Candidate) → (member : ℕ)
@@ -180,8 +180,10 @@ module _ (trace : Trace) (is_run : IsRun trace) (have : ArePlain trace) (clients
         let beside : (value : Value) × TellsOf member tells told value =
         zip_at (TellsOf member tells) stamps (tells.tells).values told among (tells.tells).each in
         let has = beside.1 in
-        let held : holds other (own_candidates reply.old told.0) ≡ true =
-        held_later time tells.at order member reply.old reply.is_old told.0 other accepted in
+        let handles : Handles trace tells.at member reply.old reply.new = reply.handles in
+        let held : holds other (own_candidates (handles.mid) told.0) ≡ true =
+        ap (holds other) (mid_candidates trace tells.at reply.old handles.mid handles.learns told.0)
+        ∙ held_later time tells.at order member reply.old handles.is_old told.0 other accepted in
         ap (λ (it : Stamp). is_below it other.stamp) (sym has.is_told) ∙ has.nothing_above other held
 
     -- the base was shown in the request that was answered first
@@ -223,16 +225,19 @@ module _ (trace : Trace) (is_run : IsRun trace) (have : ArePlain trace) (clients
           is_letter = asked.is_letter;
           is_request = asked.is_request;
         }) in
-        let culled_first : List SetOf = culled_in mine.old first.sets in
+        let mid : ReplicaState = (mine.handles).mid in
+        let bounds : mid.keys.bounds ≡ trace.setup.bounds =
+        mid_bounds trace at member mine.old mine.new mine.handles in
+        let culled_first : List SetOf = culled_in mid first.sets in
         let method : method_at trace.setup.bounds (entries_of object culled_first) ≡ Some base =
-        ap (λ (it : List SetOf). method_at trace.setup.bounds (entries_of object (culled_in mine.old it))) same.0 ∙
-        ap (λ (it : ℕ). method_at it (entries_of object (culled_in mine.old mine.sets)))
-        (sym (bounds_are trace at member mine.old mine.is_old)) ∙ has.method in (
+        ap (λ (it : List SetOf). method_at trace.setup.bounds (entries_of object (culled_in mid it))) same.0 ∙
+        ap (λ (it : ℕ). method_at it (entries_of object (culled_in mid mine.sets))) (sym bounds) ∙ has.method in (
           entries_of object culled_first,
           method,
           method_is_shown trace time first.sets
-              (reply_sets trace is_run have time answered.below answered.replica client number round answered.told first)
-              view (mine.old).keys (bounds_are trace at member mine.old mine.is_old) (mine.old).me object base method,
+              (reply_sets trace is_run have time answered.below answered.replica client number round answered.told
+              first)
+              view mid.keys bounds mid.me object base method,
         )
 
     established_by : (object : ObjectId) (base : Candidate)
@@ -253,7 +258,7 @@ module _ (trace : Trace) (is_run : IsRun trace) (have : ArePlain trace) (clients
         let object : ObjectId = told.0 in
         let base : Candidate = has.base in
         let mine = tells.reply in
-        version_is trace laws joint is_run have at (omega arith) member mine.old mine.is_old object base accepted
+        upon_is trace laws joint is_run have at below member mine.old mine.new mine.handles object base accepted
         has.version has.of_base
 
   -- what no established candidate is above, no decided one is
@@ -286,7 +291,7 @@ module _ (trace : Trace) (is_run : IsRun trace) (have : ArePlain trace) (clients
       (all : All (ToldBefore trace client number round before stamps answer) members) where
     from_top : (member : ℕ) (tells : ToldBefore trace client number round before stamps answer member)
         (told : ObjectId × Stamp) (value : Value) → Contains stamps told
-        → HasTold (tells.reply).old (culled_in (tells.reply).old (tells.reply).sets) told value
+        → HasTold ((tells.reply).handles).mid (culled_in ((tells.reply).handles).mid (tells.reply).sets) told value
         → HasTopValue trace time told.0 value
     unfolding setting
     from_top member tells told value one has =
@@ -371,7 +376,8 @@ module _ (trace : Trace) (is_run : IsRun trace) (have : ArePlain trace) (clients
           values = (tells.tells).values;
           each = zip_along (HasTopValue trace time) stamps query (tells.tells).values
               ((tells.tells).of_parts ∙ ap objects_in told.asked)
-              (zip_weaker (HasTold (tells.reply).old (culled_in (tells.reply).old (tells.reply).sets))
+              (zip_weaker (HasTold ((tells.reply).handles).mid
+              (culled_in ((tells.reply).handles).mid (tells.reply).sets))
               (λ (told : ObjectId × Stamp) (value : Value). HasTopValue trace time told.0 value) stamps
               (tells.tells).values
               (from_top client number round (reply - 1) stamps answer time within

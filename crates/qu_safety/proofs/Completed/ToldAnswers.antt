@@ -149,7 +149,7 @@ pub record ToldBefore (trace : Trace) (client : ClientId) (number round before :
   pub reply : IsReplyTo trace at replica client number round (verdict.Told stamps answer)
   pub query : List (ObjectId × Ask)
   pub is_ask : reply.body ≡ body.Ask query
-  pub tells : TellsQuery reply.old (culled_in reply.old reply.sets) query stamps answer
+  pub tells : TellsQuery (reply.handles).mid (culled_in (reply.handles).mid reply.sets) query stamps answer
 
 pub tells_by_reply : (trace : Trace) → IsRun trace → ArePlain trace → (client : ClientId) (number round before : ℕ)
     (given : Verdict) (answer : Answer) (told : IsTold given answer) (replica : ℕ) → Replied trace before client number

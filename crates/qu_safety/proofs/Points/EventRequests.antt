@@ -1,8 +1,7 @@
 -- What an event hands to a party: one request at most, which belongs to one operation.
-use Rattle.std.proofs.Common.{◌≡◌, ℕ, ◌<◌, ◌≤◌, true, List, length, get_or, Some, refl, sym, ap, subst, ◌∙◌, arith, Result, Ok, false}
-use Rattle.std.specs.Prelude.{◌==◌, ◌&&◌, slice_get, Contains}
+use Rattle.std.proofs.Common.{◌≡◌, ℕ, ◌<◌, ◌≤◌, true, List, length, refl, sym, ap, subst, ◌∙◌, arith, Result, Ok, false}
+use Rattle.std.specs.Prelude.{◌==◌, ◌&&◌, Contains}
 use Rattle.std.proofs.lemmas.Bool.{false≢true, and_parts, eqb-true}
-use Rattle.std.proofs.lemmas.Option.{same_Some}
 use Rattle.qu_base.specs.declared.party.ClientId.{ClientId}
 use Rattle.qu_base.specs.declared.party.ReplicaId.{ReplicaId}
 use Rattle.qu_history.specs.declared.sets.SetOf.{SetOf}
@@ -18,27 +17,26 @@ use Rattle.qu_trace.specs.declared.trace.Trace.{Trace}
 use Rattle.qu_trace.specs.Operation.{operations_of}
 use Rattle.qu_world.specs.Run.{IsRun}
 use Rattle.qu_rounds.specs.Invocations.{IsRequestOf}
-use Rattle.qu_claims.specs.Times.{world_after}
 use Rattle.qu_safety.proofs.Points.OwnedPoints.{IsOperationPoint}
 use Rattle.qu_points.specs.Points.{effect_of}
 use Rattle.qu_claims.specs.Answers.{is_answer, answers}
 use Rattle.qu_runs.specs.Plain.{ArePlain}
-use Rattle.qu_accepts.proofs.Accepting.{some_entry}
 use Rattle.qu_values.proofs.Requests.ClientFacts.{ClientFacts}
 use Rattle.qu_points.proofs.Operations.Recorded.{recorded_op}
-use Rattle.qu_shown.proofs.AskedLetters.{AskedBy, asked_letter}
-use Rattle.qu_shown.proofs.Views.{one_decoded}
+use Rattle.qu_shown.proofs.AskedLetters.{AskedBy}
+use Rattle.qu_replies.proofs.Replying.{handled_letter}
+use Rattle.qu_claims.specs.Handling.{Handles}
+use Rattle.qu_accepts.proofs.Handling.{one_handled}
 use Rattle.qu_safety.proofs.Points.OwnClients.{own_client}
 use Rattle.qu_trace.specs.Faulty.{is_faulty}
 use Rattle.qu_points.proofs.Taken.Taking.{effect_once}
-use Rattle.qu_runs.proofs.Fits.Carrying.{tells_as, brings_decoded}
+use Rattle.qu_runs.proofs.Fits.Carrying.{tells_as}
 use Rattle.qu_runs.proofs.Small.{same_point}
-use Rattle.qu_claims.specs.Carried.{Brings, Tells, handed}
+use Rattle.qu_claims.specs.Carried.{Tells}
 use Rattle.qu_frames.specs.Decoding.{decoded}
 use Rattle.qu_history.specs.declared.sealed.Sealed.{Sealed}
 use Rattle.qu_base.specs.declared.bad_text.BadText.{BadText}
 use Rattle.qu_rows.specs.State.{ReplicaState}
-use Rattle.qu_base.specs.declared.party.Party.{Party}
 use Rattle.qu_base.specs.declared.party.Party.TheVariants as party
 
 -- ---- answers
@@ -99,19 +97,17 @@ one_point trace first second one two same_client same_number =
 
 -- ---- what an event hands over
 
--- the event of the entry with this index hands a replica a request of this client, number and round
+-- at the event of the entry with this index a replica handles a request of this client, number and round
 pub record IsAskedAt (trace : Trace) (time : ℕ) (client : ClientId) (number round : ℕ) : Type 0 where
   pub within : time < length trace.entries
   pub place : ℕ
   pub old : ReplicaState
-  pub is_old : slice_get (world_after trace time).replicas place ≡ Some old
-  pub text : List ℕ
-  pub is_handed : handed (world_after trace time) (get_or trace.entries time some_entry).event ≡ Some
-      (party.Replica (record { 0 = place }), text)
+  pub new : ReplicaState
+  pub handles : Handles trace time place old new
   pub sets : List SetOf
   pub asks : Body
   pub mac : List ℕ
-  pub brings : Brings old text (frame.Request client number round sets asks mac)
+  pub is_request : handles.carried ≡ frame.Request client number round sets asks mac
 
 same_frame : (first second : ClientId) (asked number turn round : ℕ) (sets shown : List SetOf) (asks told : Body)
     (mac seal : List ℕ)
@@ -119,27 +115,23 @@ same_frame : (first second : ClientId) (asked number turn round : ℕ) (sets sho
     → (first ≡ second) × (asked ≡ number) × (asks ≡ told)
 same_frame first second asked number turn round sets shown asks told mac seal same = (cc, cc, cc)
 
--- one event hands over one text
+-- one event makes a replica handle one request
 pub one_asked : (trace : Trace) (time : ℕ) (client other : ClientId) (number turn round further : ℕ)
     (one : IsAskedAt trace time client number round) (two : IsAskedAt trace time other turn further)
     → (client ≡ other) × (number ≡ turn) × (one.asks ≡ two.asks)
 one_asked trace time client other number turn round further one two =
-    let same : (party.Replica (record { 0 = one.place }), one.text)
-    ≡ (party.Replica (record { 0 = two.place }), two.text) = same_Some _ _ (sym one.is_handed ∙ two.is_handed) in
+    let same : (one.place ≡ two.place) × ((one.handles).carried ≡ (two.handles).carried) =
+    one_handled trace time one.place two.place one.old one.new two.old two.new one.handles two.handles in
     same_frame client other number turn round further one.sets two.sets one.asks two.asks one.mac two.mac
-    (one_decoded two.text (frame.Request client number round one.sets one.asks one.mac)
-    (frame.Request other turn further two.sets two.asks two.mac)
-    (ap decoded (sym (ap (λ (it : Party × List ℕ). it.1) same))
-    ∙ brings_decoded one.old one.text (frame.Request client number round one.sets one.asks one.mac) one.brings)
-    (brings_decoded two.old two.text (frame.Request other turn further two.sets two.asks two.mac) two.brings))
+    (sym one.is_request ∙ same.1 ∙ two.is_request)
 
 -- a correct client sent it
 pub asked_by_letter : (trace : Trace) → ArePlain trace → (time : ℕ) (client : ClientId) (number round : ℕ)
     (asked : IsAskedAt trace time client number round) → is_faulty trace.setup (party.Client client) ≡ false
     → AskedBy trace time client number round asked.sets asked.asks
 asked_by_letter trace have time client number round asked correct =
-    asked_letter trace have time asked.within some_entry asked.place asked.old asked.is_old asked.text asked.is_handed
-    client number round asked.sets asked.asks asked.mac asked.brings correct
+    handled_letter trace have time asked.within asked.place asked.old asked.new asked.handles client number round
+    asked.sets asked.asks asked.mac asked.is_request correct
 
 -- what is asked under the number of an operation, be it a repair, is asked after it began
 pub asked_begun : (trace : Trace) → IsRun trace → ArePlain trace → ClientFacts trace → (time : ℕ) (operation : OpRecord)

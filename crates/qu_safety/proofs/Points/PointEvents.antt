@@ -2,7 +2,7 @@
 use Rattle.std.proofs.Common.{◌≡◌, ℕ, zero, suc, ◌<◌, ◌≤◌, true, List, length, Option, None, Some, refl, sym, ap, subst, ◌∙◌, arith, inl, inr}
 use Rattle.std.specs.Prelude.{slice_get, Contains}
 use Rattle.std.proofs.lemmas.Bool.{false≢true}
-use Rattle.std.proofs.lemmas.Option.{slice_get_within, get_or_from_slice_get, same_Some}
+use Rattle.std.proofs.lemmas.Option.{slice_get_within, same_Some}
 use Rattle.qu_base.specs.declared.party.ClientId.{ClientId}
 use Rattle.qu_base.specs.declared.party.ObjectId.{ObjectId}
 use Rattle.qu_stamp.specs.declared.candidate.Candidate.{Candidate}
@@ -18,7 +18,6 @@ use Rattle.qu_chain.proofs.Tops.{newly}
 use Rattle.qu_chain.proofs.Updates.{one_update}
 use Rattle.qu_frames.specs.declared.frame.Body.{Body}
 use Rattle.qu_frames.specs.declared.frame.Body.TheVariants as body
-use Rattle.qu_frames.specs.declared.frame.Frame.{Frame}
 use Rattle.qu_frames.specs.declared.verdict.Verdict.{Verdict}
 use Rattle.qu_machine.specs.declared.record.OpRecord.{OpRecord}
 use Rattle.qu_machine.specs.declared.record.Point.{Point}
@@ -46,7 +45,7 @@ use Rattle.qu_world.specs.State.{numbered}
 use Rattle.qu_objects.specs.declared.answer.Answer.{Answer}
 use Rattle.qu_replies.specs.Replies.{IsReplyTo}
 use Rattle.qu_runs.specs.Plain.{ArePlain}
-use Rattle.qu_accepts.proofs.Accepting.{some_entry, Acceptance}
+use Rattle.qu_accepts.proofs.Accepting.{Acceptance}
 use Rattle.qu_laws.proofs.ShownWhenAccepted.{acceptance_of}
 use Rattle.qu_values.proofs.Requests.ClientFacts.{IsAskedBy, ClientFacts}
 use Rattle.qu_safety.proofs.Completed.QueryRounds.{query_round_asks}
@@ -56,7 +55,6 @@ use Rattle.qu_shown.proofs.AskedLetters.{AskedBy}
 use Rattle.qu_safety.proofs.Points.OwnClients.{own_client}
 use Rattle.qu_trace.specs.Faulty.{is_faulty}
 use Rattle.qu_runs.proofs.Small.{same_point}
-use Rattle.qu_claims.specs.Carried.{handed}
 use Rattle.qu_base.specs.declared.party.Party.TheVariants as party
 use Rattle.qu_claims.specs.Origins.{Origin}
 use Rattle.qu_laws.proofs.Origins.{origin}
@@ -69,20 +67,19 @@ module _ (trace : Trace) (is_run : IsRun trace) (have : ArePlain trace) (clients
   -- ---- queries
 
   -- a reply is sent where its request is delivered
-  asked_by_reply : (time : ℕ) (replica : ℕ) (client : ClientId) (number round : ℕ) (verdict : Verdict)
+  asked_by_reply : (time : ℕ) → time < length trace.entries → (replica : ℕ) (client : ClientId) (number round : ℕ)
+      (verdict : Verdict)
       → IsReplyTo trace time replica client number round verdict → IsAskedAt trace time client number round
-  asked_by_reply time replica client number round verdict reply = record {
-    within = slice_get_within trace.entries time reply.entry reply.is_entry;
+  asked_by_reply time within replica client number round verdict reply = record {
+    within = within;
     place = replica;
     old = reply.old;
-    is_old = reply.is_old;
-    text = reply.text;
-    is_handed = ap (λ (it : Entry). handed (world_after trace time) it.event)
-        (get_or_from_slice_get trace.entries time reply.entry some_entry reply.is_entry) ∙ reply.is_handed;
+    new = reply.new;
+    handles = reply.handles;
     sets = reply.sets;
     asks = reply.body;
     mac = reply.mac;
-    brings = reply.brings;
+    is_request = reply.is_request;
   }
 
   sends_asked : (client : ClientId) (number round time : ℕ) (found : Option Entry) → slice_get trace.entries time
@@ -92,7 +89,7 @@ module _ (trace : Trace) (is_run : IsRun trace) (have : ArePlain trace) (clients
       let one : Passes (answers client number round) entry.letters =
       passes_from_any (answers client number round) entry.letters sends in
       let it : IsReplyIn client number round one.found = reply_in client number round one.found one.passes in
-      asked_by_reply time (it.replica).0 client number round it.verdict
+      asked_by_reply time (slice_get_within trace.entries time entry is) (it.replica).0 client number round it.verdict
       (reply_sent trace is_run have time (slice_get_within trace.entries time entry is) entry is one.found one.of_list
       it.replica client number round it.verdict it.shown it.is_reply)
 
@@ -131,9 +128,8 @@ module _ (trace : Trace) (is_run : IsRun trace) (have : ArePlain trace) (clients
   accepts_asked time object place candidate new within =
       let accepted : Acceptance trace time object place candidate =
       acceptance_of trace is_run have time object place candidate new in
-      let delivered : IsDelivered (world_after trace time) accepted.event place accepted.old accepted.new object =
-      accepted.delivered in
-      let one : Accepts accepted.old accepted.new delivered.carried = delivered.accepts in
+      let delivered : IsDelivered trace time place accepted.old accepted.new object = accepted.delivered in
+      let one : Accepts (delivered.handles).mid accepted.new (delivered.handles).carried = delivered.accepts in
       record {
         client = one.client;
         number = one.number;
@@ -142,13 +138,12 @@ module _ (trace : Trace) (is_run : IsRun trace) (have : ArePlain trace) (clients
           within = within;
           place = place;
           old = accepted.old;
-          is_old = accepted.is_old;
-          text = delivered.text;
-          is_handed = ap (handed (world_after trace time)) (sym accepted.event_is) ∙ delivered.is_handed;
+          new = accepted.new;
+          handles = delivered.handles;
           sets = one.sent;
           asks = one.asks;
           mac = one.mac;
-          brings = delivered.brings ∙ ap (λ (it : Frame). Some it) one.is_request;
+          is_request = one.is_request;
         };
         no_query = adds_no_query one.asks object delivered.adds;
       }
@@ -166,7 +161,8 @@ module _ (trace : Trace) (is_run : IsRun trace) (have : ArePlain trace) (clients
       → (came : Origin trace count object candidate)
       → (setting trace).is_act candidate ≡ true → MakesAct came.past candidate
   makes_asked object candidate count within came is_act =
-      let one : Accepts came.old came.new (came.delivered).carried = (came.delivered).accepts in
+      let one : Accepts ((came.delivered).handles).mid came.new ((came.delivered).handles).carried =
+      (came.delivered).accepts in
       let earlier : came.past < count = came.earlier in
       record {
         client = one.client;
@@ -177,15 +173,12 @@ module _ (trace : Trace) (is_run : IsRun trace) (have : ArePlain trace) (clients
           within = omega arith;
           place = came.place;
           old = came.old;
-          is_old = came.is_old;
-          text = (came.delivered).text;
-          is_handed = ap (λ (it : Entry). handed (world_after trace came.past) it.event)
-              (get_or_from_slice_get trace.entries came.past came.entry some_entry came.is_entry)
-              ∙ ap (handed (world_after trace came.past)) (sym came.event_is) ∙ (came.delivered).is_handed;
+          new = came.new;
+          handles = (came.delivered).handles;
           sets = one.sent;
           asks = one.asks;
           mac = one.mac;
-          brings = (came.delivered).brings ∙ ap (λ (it : Frame). Some it) one.is_request;
+          is_request = one.is_request;
         };
         made = made_so trace is_run have count within object candidate came is_act;
       }
@@ -267,7 +260,8 @@ module _ (trace : Trace) (is_run : IsRun trace) (have : ArePlain trace) (clients
           → (asked : IsAskedAt trace time operation.client operation.number round) → asked.asks ≡ body.Ask query
       asks_query reply answer replied round completed time asked =
           let within : time < length trace.entries = asked.within in
-          let done : IsCompleted trace operation reply answer = clients.completes operation among reply answer replied in
+          let done : IsCompleted trace operation reply answer =
+          clients.completes operation among reply answer replied in
           let letter : AskedBy trace time operation.client operation.number round asked.sets asked.asks =
           asked_by_letter trace have time operation.client operation.number round asked
           (own_client trace is_run operation among) in

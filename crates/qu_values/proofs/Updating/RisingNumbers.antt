@@ -79,7 +79,8 @@ module _ (trace : Trace) (laws : Laws (setting trace)) (joint : Joint (setting t
     -- so it is made for no update
     none_up_to_opening : (object : ObjectId) (first candidate : Candidate) (update : Update)
         → IsEverAccepted trace object first → IsOf trace update object first
-        → IsEverAccepted trace object candidate → candidate ≡ opening → IsAncestorOrSelf trace object first candidate → ⊥
+        → IsEverAccepted trace object candidate → candidate ≡ opening → IsAncestorOrSelf trace object first candidate
+        → ⊥
     none_up_to_opening object first candidate update accepted is_of also begins (inl same) =
         opening_no_act trace first (same ∙ begins) (acts trace update object first is_of)
     none_up_to_opening object first candidate update accepted is_of also begins (inr under) =

@@ -1,6 +1,6 @@
 -- The updates of a run are as the values along the order ask: no groups, and none is done upon itself.
 use Rattle.std.proofs.Common.{◌≡◌, ◌⊎◌, true, false, not, length, Some, sym, ap, subst, ◌∙◌, arith, inl, inr, ℕ, ◌≤◌, ◌<◌}
-use Rattle.std.specs.Prelude.{slice_get, is_some, Option}
+use Rattle.std.specs.Prelude.{is_some, Option}
 use Rattle.std.proofs.lemmas.Option.{none-some}
 use Rattle.qu_base.specs.declared.party.Digest.{Digest}
 use Rattle.qu_base.specs.declared.party.ObjectId.{ObjectId}
@@ -16,7 +16,6 @@ use Rattle.qu_objects.specs.declared.kind.Value.{Value}
 use Rattle.qu_objects.specs.declared.state.ObjState.{ObjState}
 use Rattle.qu_frames.specs.declared.frame.Body.TheVariants as body
 use Rattle.qu_trace.specs.declared.trace.Trace.{Trace}
-use Rattle.qu_world.specs.State.{WorldState}
 use Rattle.qu_world.specs.Run.{IsRun}
 use Rattle.qu_claims.specs.Accepted.{accepts, is_accepted}
 use Rattle.qu_claims.specs.Handled.{IsHandled, IsMadeFor}
@@ -26,6 +25,7 @@ use Rattle.qu_claims.specs.Chained.{last_world}
 use Rattle.qu_claims.specs.Grounds.{Accepts, Performs}
 use Rattle.qu_rows.specs.Rows.{asked_of}
 use Rattle.qu_claims.specs.Origins.{Origin}
+use Rattle.qu_rows.specs.State.{ReplicaState}
 use Rattle.qu_runs.proofs.Worlds.Settings.{AcceptedAt, accepted_somewhere, is_accepted_by}
 use Rattle.qu_accepts.proofs.Grounds.{IsOfAct, act_added}
 use Rattle.qu_claims.specs.Updates.{Update, IsOf, IsEverAccepted, NumbersRise}
@@ -41,7 +41,6 @@ use Rattle.qu_values.proofs.Updating.Updates.{opening_no_act, same_accepted}
 use Rattle.qu_values.proofs.Updating.UpdateFacts.{HasValue, MadeFor, UpdateFacts, NoneIsRepeated}
 use Rattle.qu_values.proofs.Versions.Values.{one_version}
 use Rattle.qu_accepts.proofs.Parts.{same_named}
-use Rattle.qu_machine.proofs.Firsts.{contains_at}
 use Rattle.qu_chain.proofs.Parents.{parent}
 use Rattle.qu_frames.specs.declared.frame.Body.{Body}
 
@@ -69,41 +68,41 @@ module _ (trace : Trace) (is_run : IsRun trace) (have : ArePlain trace) where
 
   module _ (count : ℕ) (bound : count ≤ length trace.entries) (object : ObjectId) (candidate : Candidate)
       (came : Origin trace count object candidate) where
-    abbrev one : Accepts came.old came.new (came.delivered).carried
+    abbrev mid : ReplicaState
+    mid = ((came.delivered).handles).mid
+
+    abbrev one : Accepts mid came.new ((came.delivered).handles).carried
     one = (came.delivered).accepts
 
     -- the request asked for an act, where the candidate is an operation's
     pub act_of_origin : (setting trace).is_act candidate ≡ true
-        → IsOfAct came.old came.new (asked_of one.client one.number one.sets one.asks) one.asks one.candidates object
+        → IsOfAct mid came.new (asked_of one.client one.number one.sets one.asks) one.asks one.candidates object
     unfolding setting
     act_of_origin is_act =
-        act_added came.old came.new one.client one.number one.sets one.asks one.candidates object one.reasons
+        act_added mid came.new one.client one.number one.sets one.asks one.candidates object one.reasons
         (came.delivered).adds
         (ap (λ (act : Option Digest). is_some act) (sym (ap (λ (it : Stamp). it.act) (came.made).stamp)) ∙ is_act)
 
     module _ (is_act : (setting trace).is_act candidate ≡ true) where
-      abbrev pub of_act : IsOfAct came.old came.new (asked_of one.client one.number one.sets one.asks) one.asks
+      abbrev pub of_act : IsOfAct mid came.new (asked_of one.client one.number one.sets one.asks) one.asks
           one.candidates object
       of_act = act_of_origin is_act
 
-      performs_so : Performs came.old came.new (asked_of one.client one.number one.sets (body.Act of_act.parts))
+      performs_so : Performs mid came.new (asked_of one.client one.number one.sets (body.Act of_act.parts))
           of_act.parts one.candidates
       performs_so =
-          subst (λ (asks : Body). Performs came.old came.new (asked_of one.client one.number one.sets asks) of_act.parts
+          subst (λ (asks : Body). Performs mid came.new (asked_of one.client one.number one.sets asks) of_act.parts
           one.candidates) of_act.is_act of_act.performs
 
       was_handled : IsHandled trace one.client one.number of_act.parts
       was_handled =
           let earlier : came.past < count = came.earlier in
-          handled trace is_run came.past (omega arith) came.entry
-          (contains_at trace.entries came.past came.entry came.is_entry) came.event came.event_is came.place
-          came.old came.new came.is_old
-          (ap (λ (it : WorldState). slice_get it.replicas came.place) (sym came.is_step) ∙ came.is_new) object
-          came.delivered of_act.parts of_act.is_act
+          handled trace is_run came.past (omega arith) came.place came.old came.new object came.delivered of_act.parts
+          of_act.is_act
 
       pub made_so : IsMadeFor trace candidate one.client one.number of_act.parts
       made_so =
-          made_for trace came.old came.new one.client one.number one.sets of_act.parts one.candidates object
+          made_for trace mid came.new one.client one.number one.sets of_act.parts one.candidates object
           performs_so of_act.names candidate came.is_candidate was_handled
 
       made_by : MadeFor trace object candidate
