@@ -89,6 +89,13 @@ requests_from keys replica (suc count) me work sets = (record {
   text = signed keys (party.Replica (record { 0 = replica })) (request_of me work sets);
 }) ∷ requests_from keys (replica + 1) count me work sets
 
+-- the answers to a round's request are awaited
+abbrev pub asking : ClientState → Work → ClientState
+asking state work = record state {
+  last_request = Some (work.number, work.round);
+  work = Some (record work { phase = Asking; replies = [] });
+}
+
 -- all replicas are asked
 abbrev pub asked : ClientState → Work → List SetOf → ClientState × List Letter
 asked state work sets = (

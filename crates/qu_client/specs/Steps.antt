@@ -71,6 +71,18 @@ next_round state work =
     (begin_round (record state { kept = after_replies state.keys.bounds work.replies state.kept })
     (record work { round = work.round + 1 }))
 
+-- the answer of a verdict with which a quorum agrees
+abbrev pub agreed : ClientState → Work → Verdict → Option Answer → Option Answer
+agreed state work verdict None = None
+agreed state work verdict (Some answer) =
+    if nat_le (quorum state.keys.bounds) (identical_verdicts verdict work.replies) then Some answer else None
+
+-- the round ends where no answer can come any more
+abbrev pub unanswered : ClientState → Work → Stepped
+unanswered state work =
+    if is_hopeless state.keys.bounds work.op work.replies then next_round state work else stays
+    (record state { work = Some work })
+
 -- the round with a verdict more, which has this answer where it fits
 abbrev pub judged : ClientState → Work → Verdict → Option Answer → Stepped
 judged state work verdict None =

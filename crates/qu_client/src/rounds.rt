@@ -1,6 +1,6 @@
 ghost use Rattle.std.specs.Prelude.{◌≡◌, IfOk};
 ghost use Rattle.qu_frames.specs.Formats.{frame_form};
-ghost use Rattle.qu_client.specs.Rounds.{is_act, request_of, requests_from, asked, halted, begin_full, begin_shown, begin_round};
+ghost use Rattle.qu_client.specs.Rounds.{is_act, request_of, requests_from, asking, asked, halted, begin_full, begin_shown, begin_round};
 ghost use Rattle.qu_client.specs.Steps.{goes_on};
 
 use super::kept::marked_shown;
@@ -54,12 +54,7 @@ fn begin_full(
 }
 
 /// All replicas are asked.
-fn asked(
-    alloc: Global,
-    mut state: ClientState,
-    mut work: Work,
-    sets: &Sets,
-) -> Result<Stepped, NoMemory>
+fn asked(alloc: Global, state: ClientState, work: Work, sets: &Sets) -> Result<Stepped, NoMemory>
     ensures { IfOk result (λ stepped. stepped ≡ goes_on (asked state work sets.now)) }
 {
     let letters = requests(
@@ -70,15 +65,22 @@ fn asked(
         &work,
         sets,
     )?;
+    Ok(asking(alloc, state, work, letters))
+}
+
+/// The answers to these letters are awaited.
+fn asking(alloc: Global, mut state: ClientState, mut work: Work, letters: List<Letter>) -> Stepped
+    ensures { result ≡ goes_on (asking state work, letters) }
+{
     work.phase = Phase::Asking;
     work.replies = List::new(alloc);
     state.last_request = Some((work.number, work.round));
     state.work = Some(work);
-    Ok(Stepped {
+    Stepped {
         state,
         letters,
         ended: None,
-    })
+    }
 }
 
 /// Nothing is sent, and the operation stays open.

@@ -1,4 +1,4 @@
-ghost use Rattle.std.specs.Prelude.{◌≡◌, ◌==◌, IfOk};
+ghost use Rattle.std.specs.Prelude.{◌≡◌, ◌==◌, IfOk, OnOk};
 ghost use Rattle.std.specs.List.{list_any};
 
 use qu_base::{List, NoMemory, ObjectId, ReplicaId};
@@ -40,15 +40,28 @@ pub struct Work {
 }
 
 impl Counted {
+    /// A replica's verdict, with what its reply names as culled.
+    fn of(
+        alloc: Global,
+        replica: ReplicaId,
+        verdict: &Verdict,
+        culled: &List<(ObjectId, ReplicaId)>,
+    ) -> Result<Counted, NoMemory>
+        ensures { IfOk result
+            (λ counted. counted ≡ record { replica = replica; verdict = verdict.now; culled = culled.now }) }
+    {
+        Ok(Counted {
+            replica,
+            verdict: verdict.copy(alloc)?,
+            culled: culled.copy(alloc)?,
+        })
+    }
+
     /// An equal verdict of the same replica.
     pub fn copy(&self, alloc: Global) -> Result<Counted, NoMemory>
         ensures { IfOk result (λ counted. counted ≡ self.now) }
     {
-        Ok(Counted {
-            replica: self.replica,
-            verdict: self.verdict.copy(alloc)?,
-            culled: self.culled.copy(alloc)?,
-        })
+        Counted::of(alloc, self.replica, &self.verdict, &self.culled)
     }
 }
 
@@ -67,7 +80,7 @@ impl Phase {
 }
 
 impl Work {
-    ghost use Rattle.qu_client.specs.Steps.{counts, first_work};
+    ghost use Rattle.qu_client.specs.Steps.{counts, first_work, with_verdict};
 
     /// An operation in its first round.
     pub fn new(alloc: Global, op: Op, number: u64) -> Work
@@ -105,6 +118,21 @@ impl Work {
             && number == self.number
             && round == self.round
             && !self.has_replied(replica)
+    }
+
+    /// Takes a verdict more of a replica, and what its reply names as culled.
+    pub fn count(
+        &mut self,
+        alloc: Global,
+        replica: ReplicaId,
+        verdict: &Verdict,
+        culled: &List<(ObjectId, ReplicaId)>,
+    ) -> Result<(), NoMemory>
+        ensures { OnOk result (self.new ≡ with_verdict self.old replica verdict.now culled.now) }
+    {
+        let counted = Counted::of(alloc, replica, verdict, culled)?;
+        self.replies.push(counted)?;
+        Ok(())
     }
 
     /// Whether a verdict of the replica is among those that count.

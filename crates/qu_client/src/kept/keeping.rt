@@ -19,7 +19,7 @@ pub fn keep_all(
 ) -> Result<List<Kept>, NoMemory>
     ensures { IfOk result (λ all. all ≡ keep_all number round shown.now kept.now) }
 {
-    let mut all = copies(alloc, kept)?;
+    let mut all = copies(alloc, kept)?.into_vec();
     for sealed in shown {
         let sealed = sealed.copy(alloc)?;
         keep(
@@ -74,13 +74,12 @@ fn place_of(kept: &[Kept], new: &Kept) -> Option<usize>
     kept.iter().position(|held| new.is_of_source(held))
 }
 
-fn copies(alloc: Global, kept: &[Kept]) -> Result<Vec<Kept>, NoMemory>
-    ensures { IfOk result (λ copies. copies.items ≡ kept.now) }
+fn copies(alloc: Global, kept: &[Kept]) -> Result<List<Kept>, NoMemory>
+    ensures { IfOk result (λ copies. copies ≡ kept.now) }
 {
-    let mut copies = Vec::new(alloc);
+    let mut copies = List::new(alloc);
     for held in kept {
-        let held = held.copy(alloc)?;
-        copies.push(held)?;
+        copies.push(held.copy(alloc)?)?;
     }
     Ok(copies)
 }
