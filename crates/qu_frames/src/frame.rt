@@ -1,4 +1,5 @@
 ghost use Rattle.std.specs.Prelude.{◌≡◌, IfOk};
+ghost use Rattle.qu_frames.specs.declared.frame.Frame.TheVariants as Frames;
 
 use super::Verdict;
 use qu_base::{ClientId, List, NoMemory, ObjectId, Party, ReplicaId};
@@ -8,12 +9,21 @@ use qu_stamp::Stamp;
 use std::alloc::Global;
 
 /// What a request asks for.
-#[derive(Debug, Drop)]
+#[derive(Debug)]
 pub enum Body {
     Act(Act),
     Ask(Query),
     /// That this object be repaired, by its class in the sets.
     Mend(ObjectId),
+}
+
+/// By hand, so that a body is let go in one step wherever that is.
+impl Drop for Body {
+    fn drop(self) {
+        match self {
+            Body::Act(_) | Body::Ask(_) | Body::Mend(_) => {}
+        }
+    }
 }
 
 impl Body {
@@ -87,7 +97,7 @@ impl Frame {
     pub fn copy(&self, alloc: Global) -> Result<Frame, NoMemory>
         ensures { IfOk result (λ frame. frame ≡ self.now) }
     {
-        Ok(match self {
+        match self {
             Frame::Request {
                 client,
                 number,
@@ -95,14 +105,7 @@ impl Frame {
                 sets,
                 body,
                 mac,
-            } => Frame::Request {
-                client: *client,
-                number: *number,
-                round: *round,
-                sets: sets.copy(alloc)?,
-                body: body.copy(alloc)?,
-                mac: *mac,
-            },
+            } => request_copy(alloc, *client, *number, *round, sets, body, *mac),
             Frame::Reply {
                 replica,
                 client,
@@ -112,42 +115,111 @@ impl Frame {
                 culled,
                 shown,
                 mac,
-            } => Frame::Reply {
-                replica: *replica,
-                client: *client,
-                number: *number,
-                round: *round,
-                verdict: verdict.copy(alloc)?,
-                culled: culled.copy(alloc)?,
-                shown: Sealed::copy_all(alloc, shown.as_slice())?,
-                mac: *mac,
-            },
+            } => reply_copy(
+                alloc, *replica, *client, *number, *round, verdict, culled, shown, *mac,
+            ),
             Frame::Fetch {
                 replica,
                 object,
                 stamp,
                 mac,
-            } => Frame::Fetch {
-                replica: *replica,
-                object: *object,
-                stamp: *stamp,
-                mac: *mac,
-            },
+            } => Ok(fetch_copy(*replica, *object, *stamp, *mac)),
             Frame::Fetched {
                 replica,
                 object,
                 stamp,
                 state,
                 mac,
-            } => Frame::Fetched {
-                replica: *replica,
-                object: *object,
-                stamp: *stamp,
-                state: state.copy(alloc)?,
-                mac: *mac,
-            },
-        })
+            } => fetched_copy(alloc, *replica, *object, *stamp, state, *mac),
+        }
     }
+}
+
+/// A request with equal parts.
+fn request_copy(
+    alloc: Global,
+    client: ClientId,
+    number: u64,
+    round: u8,
+    sets: &Sets,
+    body: &Body,
+    mac: [u8; 32],
+) -> Result<Frame, NoMemory>
+    ensures { IfOk result (λ frame. frame ≡ Frames.Request client number round sets.now body.now mac) }
+{
+    let sets = sets.copy(alloc)?;
+    let body = body.copy(alloc)?;
+    Ok(Frame::Request {
+        client,
+        number,
+        round,
+        sets,
+        body,
+        mac,
+    })
+}
+
+/// A reply with equal parts.
+fn reply_copy(
+    alloc: Global,
+    replica: ReplicaId,
+    client: ClientId,
+    number: u64,
+    round: u8,
+    verdict: &Verdict,
+    culled: &List<(ObjectId, ReplicaId)>,
+    shown: &List<Sealed>,
+    mac: [u8; 32],
+) -> Result<Frame, NoMemory>
+    ensures { IfOk result (λ frame. frame
+        ≡ Frames.Reply replica client number round verdict.now culled.now shown.now mac) }
+{
+    let culled = culled.copy(alloc)?;
+    let shown = Sealed::copy_all(alloc, shown.as_slice())?;
+    let verdict = verdict.copy(alloc)?;
+    Ok(Frame::Reply {
+        replica,
+        client,
+        number,
+        round,
+        verdict,
+        culled,
+        shown,
+        mac,
+    })
+}
+
+/// A fetch with these parts.
+fn fetch_copy(replica: ReplicaId, object: ObjectId, stamp: Stamp, mac: [u8; 32]) -> Frame
+    ensures { result ≡ Frames.Fetch replica object stamp mac }
+{
+    Frame::Fetch {
+        replica,
+        object,
+        stamp,
+        mac,
+    }
+}
+
+/// What was fetched, with an equal state.
+fn fetched_copy(
+    alloc: Global,
+    replica: ReplicaId,
+    object: ObjectId,
+    stamp: Stamp,
+    state: &ObjState,
+    mac: [u8; 32],
+) -> Result<Frame, NoMemory>
+    ensures { IfOk result (λ frame. frame ≡ Frames.Fetched replica object stamp state.now mac) }
+{
+    let state = state.copy(alloc)?;
+    Ok(Frame::Fetched {
+        replica,
+        object,
+        stamp,
+        state,
+        mac,
+    })
 }
 
 /// The bytes of a frame on their way.

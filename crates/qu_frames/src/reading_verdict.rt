@@ -1,7 +1,8 @@
 //! Verdicts from bytes, by the formats of `specs/Formats.antt`.
 ghost use Rattle.std.specs.Prelude.{◌≡◌, ◌<◌, IfOk};
 ghost use Rattle.qu_base.specs.Reading.{Reads, Gives};
-ghost use Rattle.qu_frames.specs.Formats.{class_form, refusal_form, stamp_from, some_stamps, stamps_form, verdict_form};
+ghost use Rattle.qu_frames.specs.RefusalNumber.{is_refusal_number};
+ghost use Rattle.qu_frames.specs.Formats.{class_form, plain_refusal, refusal_body, refusal_form, stamp_from, some_stamps, stamps_form, verdict_form};
 
 use super::refusal_number::{
     HISTORY_FULL, NEEDS, NOT_CURRENT, NOT_METHOD, SOUND, SPENT, STALE, THIN, TIME_SPENT,
@@ -88,30 +89,47 @@ fn refusal_at(text: &mut Cursor) -> Result<Refusal, BadText>
 {
     let start = text.ahead();
     let number = text.u8_within(0, 255)?;
+    if !is_refusal_number(number) {
+        return Err(start.refusal(Why::Range));
+    }
+    refused_at(number, text)
+}
+
+/// Whether a refusal has this number.
+fn is_refusal_number(number: u8) -> bool
+    ensures { result ≡ is_refusal_number number }
+{
+    matches!(
+        number,
+        HISTORY_FULL | THIN | NEEDS | STALE | NOT_CURRENT..=SOUND
+    )
+}
+
+/// The refusal with this number: the object, and what else it tells.
+fn refused_at(number: u8, text: &mut Cursor) -> Result<Refusal, BadText>
+    ensures { Reads (refusal_body number) result text.old text.new }
+{
+    let object = text.object()?;
     match number {
-        HISTORY_FULL => Ok(Refusal::HistoryFull(text.object()?)),
-        THIN => Ok(Refusal::Thin(text.object()?)),
-        NEEDS => Ok(Refusal::Needs(text.object()?)),
-        STALE => Ok(Refusal::Stale(text.object()?)),
-        NOT_CURRENT => {
-            let object = text.object()?;
-            let latest = read_stamp(text)?;
-            Ok(Refusal::NotCurrent(object, latest))
-        }
-        NOT_METHOD => {
-            let object = text.object()?;
-            let class = class_at(text)?;
-            Ok(Refusal::NotMethod(object, class))
-        }
-        SPENT => {
-            let object = text.object()?;
-            let spent = text.u64_within(0, u64::MAX)?;
-            Ok(Refusal::Spent(object, spent))
-        }
-        TIME_SPENT => Ok(Refusal::TimeSpent(text.object()?)),
-        UNKNOWN_OBJECT => Ok(Refusal::UnknownObject(text.object()?)),
-        SOUND => Ok(Refusal::Sound(text.object()?)),
-        _ => Err(start.refusal(Why::Range)),
+        NOT_CURRENT => Ok(Refusal::NotCurrent(object, read_stamp(text)?)),
+        NOT_METHOD => Ok(Refusal::NotMethod(object, class_at(text)?)),
+        SPENT => Ok(Refusal::Spent(object, text.u64_within(0, u64::MAX)?)),
+        _ => Ok(plain_refusal(number, object)),
+    }
+}
+
+/// The refusal with this number that tells an object and no more.
+fn plain_refusal(number: u8, object: ObjectId) -> Refusal
+    ensures { result ≡ plain_refusal number object }
+{
+    match number {
+        HISTORY_FULL => Refusal::HistoryFull(object),
+        THIN => Refusal::Thin(object),
+        NEEDS => Refusal::Needs(object),
+        STALE => Refusal::Stale(object),
+        TIME_SPENT => Refusal::TimeSpent(object),
+        UNKNOWN_OBJECT => Refusal::UnknownObject(object),
+        _ => Refusal::Sound(object),
     }
 }
 

@@ -43,7 +43,7 @@ pub enum Refusal {
 }
 
 /// What a replica answers to a request.
-#[derive(Debug, Drop, PartialEq, Eq)]
+#[derive(Debug, PartialEq, Eq)]
 pub enum Verdict {
     /// The act was performed: the stamps of its candidates, and the answer.
     Done {
@@ -60,6 +60,23 @@ pub enum Verdict {
     /// This object was mended: the stamp of the candidate that was added.
     Mended(ObjectId, Stamp),
     Refused(Refusal),
+}
+
+/// By hand, so that a verdict is let go in one step wherever that is.
+impl Drop for Verdict {
+    fn drop(self) {
+        match self {
+            Verdict::Done {
+                stamps: _,
+                answer: _,
+            }
+            | Verdict::Told {
+                stamps: _,
+                answer: _,
+            } => {}
+            Verdict::Already(_) | Verdict::Mended(_, _) | Verdict::Refused(_) => {}
+        }
+    }
 }
 
 impl Verdict {

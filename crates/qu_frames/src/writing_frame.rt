@@ -1,84 +1,110 @@
 //! Frames as bytes, by the formats of `specs/Formats.antt`.
-ghost use Rattle.std.specs.Prelude.{◌≡◌, ◌++◌, List, OnOk};
+ghost use Rattle.std.specs.Prelude.{◌≡◌, ◌++◌, ℕ, List as Sequence, OnOk};
 ghost use Rattle.std.specs.List.{flat_map};
 ghost use Rattle.std.specs.Int.{w8, w16, w64, to_be_bytes};
 ghost use Rattle.qu_base.specs.declared.party.ObjectId.{ObjectId as Object};
 ghost use Rattle.qu_stamp.specs.Formats.{plain_stamp_form};
-ghost use Rattle.qu_frames.specs.Formats.{body_form, spelled_pair, culled_form, frame_form};
+ghost use Rattle.qu_frames.specs.declared.frame.Frame.TheVariants as Frames;
+ghost use Rattle.qu_frames.specs.Formats.{body_form, spelled_pair, culled_form, kind_form, frame_form};
+ghost use Rattle.qu_frames.specs.Signing.{mac_of};
 
 use super::writing_verdict::append_verdict;
-use super::{Body, Frame};
-use qu_base::{ClientId, NoMemory, ObjectId, Outbytes, ReplicaId};
-use qu_history::{write_sets, write_shown};
+use super::{Body, Frame, Verdict};
+use qu_base::{ClientId, List, NoMemory, ObjectId, Outbytes, ReplicaId};
+use qu_history::{Sealed, Sets, write_sets, write_shown};
 use qu_objects::{write_act, write_query, write_state};
 use qu_stamp::{Stamp, write_stamp};
 
 /// Appends a frame.
-#[tactic(auto, unfolding(crate::specs::Formats::frame_form, crate::specs::Formats::kind_form, crate::specs::Formats::request_frame, crate::specs::Formats::reply_frame, crate::specs::Formats::fetch_frame, crate::specs::Formats::fetched_frame))]
+#[tactic(auto, unfolding(crate::specs::Formats::frame_form), using(crate::proofs::Pieces::frame_written))]
 pub(crate) fn append_frame(frame: &Frame, out: &mut Outbytes) -> Result<(), NoMemory>
     ensures { OnOk result (out.new ≡ out.old ++ frame_form.spell frame.now) }
 {
     out.u8(1)?;
-    match frame {
+    append_fields(frame, out)?;
+    out.put(frame.mac())
+}
+
+/// Appends the kind, and the fields before the HMAC.
+fn append_fields(frame: &Frame, out: &mut Outbytes) -> Result<(), NoMemory>
+    ensures { OnOk result (out.new ++ mac_of frame.now ≡ out.old ++ kind_form.spell frame.now) }
+{
+    match *frame {
         Frame::Request {
             client,
             number,
             round,
-            sets,
-            body,
-            mac,
-        } => {
-            out.u8(1)?;
-            append_round(*client, *number, *round, out)?;
-            write_sets(sets, out)?;
-            append_body(body, out)?;
-            out.put(mac)?;
-            Ok(())
-        }
+            ref sets,
+            ref body,
+            ..
+        } => append_request(client, number, round, sets, body, out),
         Frame::Reply {
             replica,
             client,
             number,
             round,
-            verdict,
-            culled,
-            shown,
-            mac,
-        } => {
-            out.u8(2)?;
-            out.u8(replica.0)?;
-            append_round(*client, *number, *round, out)?;
-            append_verdict(verdict, out)?;
-            append_culled(culled.as_slice(), out)?;
-            write_shown(shown.as_slice(), out)?;
-            out.put(mac)?;
-            Ok(())
-        }
+            ref verdict,
+            ref culled,
+            ref shown,
+            ..
+        } => append_reply(replica, client, number, round, verdict, culled, shown, out),
         Frame::Fetch {
             replica,
             object,
-            stamp,
-            mac,
-        } => {
-            out.u8(3)?;
-            append_version(*replica, *object, stamp, out)?;
-            out.put(mac)?;
-            Ok(())
-        }
+            ref stamp,
+            ..
+        } => append_version(3, replica, object, stamp, out),
         Frame::Fetched {
             replica,
             object,
-            stamp,
-            state,
-            mac,
+            ref stamp,
+            ref state,
+            ..
         } => {
-            out.u8(4)?;
-            append_version(*replica, *object, stamp, out)?;
-            write_state(state, out)?;
-            out.put(mac)?;
-            Ok(())
+            append_version(4, replica, object, stamp, out)?;
+            write_state(state, out)
         }
     }
+}
+
+/// Appends a request but for its HMAC.
+fn append_request(
+    client: ClientId,
+    number: u64,
+    round: u8,
+    sets: &Sets,
+    body: &Body,
+    out: &mut Outbytes,
+) -> Result<(), NoMemory>
+    ensures { (mac : Sequence ℕ) → OnOk result (out.new ++ mac
+        ≡ out.old ++ kind_form.spell (Frames.Request client number round sets.now body.now mac)) }
+{
+    out.u8(1)?;
+    append_round(client, number, round, out)?;
+    write_sets(sets, out)?;
+    append_body(body, out)
+}
+
+/// Appends a reply but for its HMAC.
+fn append_reply(
+    replica: ReplicaId,
+    client: ClientId,
+    number: u64,
+    round: u8,
+    verdict: &Verdict,
+    culled: &List<(ObjectId, ReplicaId)>,
+    shown: &List<Sealed>,
+    out: &mut Outbytes,
+) -> Result<(), NoMemory>
+    ensures { (mac : Sequence ℕ) → OnOk result (out.new ++ mac
+        ≡ out.old ++ kind_form.spell (Frames.Reply replica client number round verdict.now culled.now shown.now mac)) }
+{
+    out.u8(2)?;
+    out.u8(replica.0)?;
+    append_round(client, number, round, out)?;
+    append_verdict(verdict, out)?;
+    append_culled(culled.as_slice(), out)?;
+    write_shown(shown.as_slice(), out)
 }
 
 /// Appends the client, the number and the round.
@@ -97,17 +123,20 @@ fn append_round(
     Ok(())
 }
 
-/// Appends the replica, the object and the stamp, which is no barrier's.
+/// Appends the kind, the replica, the object and the stamp, which is no barrier's.
 #[tactic(auto, unfolding(qu_stamp::specs::Formats::stamp_with))]
 fn append_version(
+    kind: u8,
     replica: ReplicaId,
     object: ObjectId,
     stamp: &Stamp,
     out: &mut Outbytes,
 ) -> Result<(), NoMemory>
     ensures { OnOk result (out.new ≡ out.old
-        ++ (to_be_bytes w8 replica.0 ++ (to_be_bytes w16 object.0 ++ plain_stamp_form.spell stamp.now))) }
+        ++ (to_be_bytes w8 kind
+        ++ (to_be_bytes w8 replica.0 ++ (to_be_bytes w16 object.0 ++ plain_stamp_form.spell stamp.now)))) }
 {
+    out.u8(kind)?;
     out.u8(replica.0)?;
     out.u16(object.0)?;
     write_stamp(stamp, out)?;
@@ -117,7 +146,7 @@ fn append_version(
 /// Appends what is asked for.
 #[tactic(auto, unfolding(crate::specs::Formats::body_form))]
 fn append_body(body: &Body, out: &mut Outbytes) -> Result<(), NoMemory>
-    ensures { (objects : List Object) → OnOk result (out.new ≡ out.old ++ (body_form objects).spell body.now) }
+    ensures { (objects : Sequence Object) → OnOk result (out.new ≡ out.old ++ (body_form objects).spell body.now) }
 {
     match body {
         Body::Act(act) => {
