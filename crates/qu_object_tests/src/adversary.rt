@@ -13,12 +13,57 @@ fn ring() -> Result<KeyRing, Fail> {
     Ok(KeyRing::derive(7, &Bounds::new(1)?, 2))
 }
 
-fn taken(alloc: Global, me: Party, text: &List<u8>) -> Result<Option<Frame>, Fail> {
-    Ok(receive(alloc, &ring()?, me, text.as_slice())?)
+/// What a text brings a party.
+#[derive(Clone, Copy)]
+enum Brought {
+    Nothing,
+    /// A request of this client by its number and round, and the object that is to be mended, if that is asked for.
+    Request(ClientId, u64, u8, Option<ObjectId>),
+    /// A reply of this replica by its number and round.
+    Reply(ReplicaId, u64, u8),
+    /// A fetch of this replica.
+    Fetch(ReplicaId),
+    /// What this replica tells of a fetch.
+    Fetched(ReplicaId),
+}
+
+fn mended(body: &Body) -> Option<ObjectId> {
+    match body {
+        Body::Mend(object) => Some(*object),
+        _ => None,
+    }
+}
+
+fn seen(frame: &Frame) -> Brought {
+    match *frame {
+        Frame::Request {
+            client,
+            number,
+            round,
+            ref body,
+            ..
+        } => Brought::Request(client, number, round, mended(body)),
+        Frame::Reply {
+            replica,
+            number,
+            round,
+            ..
+        } => Brought::Reply(replica, number, round),
+        Frame::Fetch { replica, .. } => Brought::Fetch(replica),
+        Frame::Fetched { replica, .. } => Brought::Fetched(replica),
+    }
+}
+
+fn taken(alloc: Global, me: Party, text: &List<u8>) -> Result<Brought, Fail> {
+    let keys = ring()?;
+    match receive(alloc, &keys, me, text.as_slice())? {
+        Some(frame) => Ok(seen(&frame)),
+        None => Ok(Brought::Nothing),
+    }
 }
 
 fn is_ignored(alloc: Global, me: Party, text: &List<u8>) -> Result<bool, Fail> {
-    Ok(taken(alloc, me, text)?.is_none())
+    Ok(matches!(taken(alloc, me, text)?, Brought::Nothing))
 }
 
 /// The opening history of object 0 at a replica, with an HMAC that is right for replica 2 alone.
@@ -48,22 +93,9 @@ fn made_reply(alloc: Global) -> Result<List<u8>, Fail> {
     Ok(reply_of(alloc, &keys, me, ClientId(2), 4, 3, verdict, shown)?)
 }
 
-fn is_that_reply(frame: &Option<Frame>) -> bool {
-    match frame {
-        Some(
-            Frame::Reply {
-                replica,
-                number,
-                round,
-                ..
-            },
-        ) => *replica == ReplicaId(5) && *number == 4 && *round == 3,
-        _ => false,
-    }
-}
-
 fn is_taken_by_client_2(alloc: Global, text: &List<u8>) -> Result<bool, Fail> {
-    Ok(is_that_reply(&taken(alloc, Party::Client(ClientId(2)), text)?))
+    let brought = taken(alloc, Party::Client(ClientId(2)), text)?;
+    Ok(matches!(brought, Brought::Reply(ReplicaId(5), 4, 3)))
 }
 
 #[test]
@@ -89,15 +121,9 @@ fn made_fetched(alloc: Global) -> Result<List<u8>, Fail> {
     )?)
 }
 
-fn is_from_replica_5(frame: &Option<Frame>) -> bool {
-    match frame {
-        Some(Frame::Fetched { replica, .. }) => *replica == ReplicaId(5),
-        _ => false,
-    }
-}
-
 fn is_taken_by_replica_2(alloc: Global, text: &List<u8>) -> Result<bool, Fail> {
-    Ok(is_from_replica_5(&taken(alloc, Party::Replica(ReplicaId(2)), text)?))
+    let brought = taken(alloc, Party::Replica(ReplicaId(2)), text)?;
+    Ok(matches!(brought, Brought::Fetched(ReplicaId(5))))
 }
 
 #[test]
@@ -132,27 +158,14 @@ fn made_request(alloc: Global, body: &Body) -> Result<List<u8>, Fail> {
     )?)
 }
 
-fn is_that_request(frame: &Option<Frame>) -> bool {
-    match frame {
-        Some(
-            Frame::Request {
-                client,
-                number,
-                round,
-                ..
-            },
-        ) => *client == ClientId(2) && *number == 4 && *round == 3,
-        _ => false,
-    }
-}
-
 fn act(alloc: Global) -> Result<Body, Fail> {
     let parts = List::one(alloc, (ObjectId(0), Method::Add(5)))?;
     Ok(Body::Act(Act::new(parts)?))
 }
 
 fn is_taken_by_replica_3(alloc: Global, text: &List<u8>) -> Result<bool, Fail> {
-    Ok(is_that_request(&taken(alloc, Party::Replica(ReplicaId(3)), text)?))
+    let brought = taken(alloc, Party::Replica(ReplicaId(3)), text)?;
+    Ok(matches!(brought, Brought::Request(ClientId(2), 4, 3, _)))
 }
 
 #[test]
@@ -163,15 +176,9 @@ fn a_replica_takes_a_made_request(rt: HostRuntime) -> Result<(), Fail> {
     holds(is_taken && is_ignored, "for replica 3 alone")
 }
 
-fn is_mend_of_object_0(frame: &Option<Frame>) -> bool {
-    match frame {
-        Some(Frame::Request { body, .. }) => matches!(body, Body::Mend(ObjectId(0))),
-        _ => false,
-    }
-}
-
 fn is_mend_for_replica_3(alloc: Global, text: &List<u8>) -> Result<bool, Fail> {
-    Ok(is_mend_of_object_0(&taken(alloc, Party::Replica(ReplicaId(3)), text)?))
+    let brought = taken(alloc, Party::Replica(ReplicaId(3)), text)?;
+    Ok(matches!(brought, Brought::Request(_, _, _, Some(ObjectId(0)))))
 }
 
 #[test]

@@ -1,4 +1,4 @@
-use qu_base::{ClientId, List, ObjectId, Party, ReplicaId};
+use qu_base::{ClientId, List, NoMemory, ObjectId, Party, ReplicaId};
 use qu_frames::{Body, Frame, Letter, decode, encode};
 use qu_testing::holds;
 use std::alloc::Global;
@@ -14,15 +14,28 @@ const REPLY: &str =
 const MEND: &str =
     "01010001000000000000000101010000000300000000000000000000000000000000000000000000000000000000000000000000";
 
-fn copied(alloc: Global, text: &[u8]) -> Result<Frame, Fail> {
-    let frame = decode(alloc, text).ok().ok_or("no frame")?;
-    Ok(frame.copy(alloc)?)
+fn read(alloc: Global, text: &[u8]) -> Result<Frame, Fail> {
+    Ok(decode(alloc, text).ok().ok_or("no frame")?)
+}
+
+fn copy_written(alloc: Global, frame: &Frame) -> Result<List<u8>, NoMemory> {
+    let copy = frame.copy(alloc)?;
+    encode(alloc, &copy)
+}
+
+/// A copy of the frame of this text as bytes.
+fn written_again(alloc: Global, text: &[u8]) -> Result<List<u8>, Fail> {
+    let written = {
+        let frame = read(alloc, text)?;
+        copy_written(alloc, &frame)
+    };
+    Ok(written?)
 }
 
 /// Whether a copy of the frame with these digits is written as it was read.
 fn is_kept(alloc: Global, digits: &str) -> Result<bool, Fail> {
     let text = hex::decode(alloc, digits)?;
-    let written = encode(alloc, &copied(alloc, &text)?)?;
+    let written = written_again(alloc, &text)?;
     Ok(written.as_slice() == text.as_slice())
 }
 
@@ -43,10 +56,19 @@ fn is_mend_of_object_0(frame: &Frame) -> bool {
     }
 }
 
+fn copy_is_mend_of_object_0(alloc: Global, frame: &Frame) -> Result<bool, NoMemory> {
+    let copy = frame.copy(alloc)?;
+    Ok(is_mend_of_object_0(&copy))
+}
+
 #[test]
 fn a_copied_mend_names_its_object(rt: HostRuntime) -> Result<(), Fail> {
     let text = hex::decode(rt.alloc(), MEND)?;
-    holds(is_mend_of_object_0(&copied(rt.alloc(), &text)?), "object 0")
+    let is_mend = {
+        let frame = read(rt.alloc(), &text)?;
+        copy_is_mend_of_object_0(rt.alloc(), &frame)
+    };
+    holds(is_mend?, "object 0")
 }
 
 fn letter(alloc: Global) -> Result<Letter, Fail> {
