@@ -44,14 +44,12 @@ impl Moved {
     pub fn copy(&self, alloc: Global) -> Result<Moved, NoMemory>
         ensures { IfOk result (λ moved. moved ≡ self.now) }
     {
+        let letters = Letter::copy_all(alloc, self.letters.as_slice())?;
         let ended = match &self.ended {
             Some(outcome) => Some(outcome.copy(alloc)?),
             None => None,
         };
-        Ok(Moved {
-            letters: Letter::copy_all(alloc, self.letters.as_slice())?,
-            ended,
-        })
+        Ok(Moved { letters, ended })
     }
 
     /// What is made where nothing happens.

@@ -25,7 +25,7 @@ pub enum Phase {
 }
 
 /// The operation under way.
-#[derive(Debug, Drop)]
+#[derive(Debug)]
 pub struct Work {
     pub op: Op,
     /// From 1 on.
@@ -50,10 +50,11 @@ impl Counted {
         ensures { IfOk result
             (λ counted. counted ≡ record { replica = replica; verdict = verdict.now; culled = culled.now }) }
     {
+        let culled = culled.copy(alloc)?;
         Ok(Counted {
             replica,
             verdict: verdict.copy(alloc)?,
-            culled: culled.copy(alloc)?,
+            culled,
         })
     }
 
@@ -79,6 +80,20 @@ impl Phase {
     }
 }
 
+/// By hand, so that an operation is let go in one step wherever that is.
+impl Drop for Work {
+    fn drop(self) {
+        let Work {
+            op: _,
+            number: _,
+            round: _,
+            phase: _,
+            acted: _,
+            replies: _,
+        } = self;
+    }
+}
+
 impl Work {
     ghost use Rattle.qu_client.specs.Steps.{counts, first_work, with_verdict};
 
@@ -100,13 +115,14 @@ impl Work {
     pub fn copy(&self, alloc: Global) -> Result<Work, NoMemory>
         ensures { IfOk result (λ work. work ≡ self.now) }
     {
+        let replies = copies(alloc, self.replies.as_slice())?;
         Ok(Work {
             op: self.op.copy(alloc)?,
             number: self.number,
             round: self.round,
             phase: self.phase,
             acted: self.acted,
-            replies: copies(alloc, self.replies.as_slice())?,
+            replies,
         })
     }
 

@@ -23,15 +23,14 @@ pub(crate) fn verdict_at(alloc: Global, text: &mut Cursor) -> Result<Verdict, Re
     let start = text.ahead();
     let code = text.u8_within(0, 255)?;
     match code {
-        1 => {
+        1 | 2 => {
             let stamps = stamps_at(alloc, text)?;
             let answer = read_answer(alloc, text)?;
-            Ok(Verdict::Done { stamps, answer })
-        }
-        2 => {
-            let stamps = stamps_at(alloc, text)?;
-            let answer = read_answer(alloc, text)?;
-            Ok(Verdict::Told { stamps, answer })
+            if code == 1 {
+                Ok(Verdict::Done { stamps, answer })
+            } else {
+                Ok(Verdict::Told { stamps, answer })
+            }
         }
         3 => Ok(Verdict::Already(read_answer(alloc, text)?)),
         4 => {
