@@ -82,23 +82,27 @@ fn perform_one(
         (performed_values act.now (state.now.value ∷ []))) }
     ensures answer { IfOk result (λ performed. performed.answer ≡ performed_answer act.now (state.now.value ∷ [])) }
 {
-    let made = qu_objects::perform(alloc, &[state.value], act)?;
+    let digest = act_digest(alloc, by, number, act)?;
+    let (value, answer) = {
+        let made = qu_objects::perform(alloc, &[state.value], act)?;
+        let [value] = made.values.as_slice() else {
+            unreachable!()
+        };
+        (*value, made.answer)
+    };
     let row = KeptRow {
         client: by,
         number,
-        act: act_digest(alloc, by, number, act)?,
-        answer: made.answer.copy(alloc)?,
-    };
-    let [value] = made.values.as_slice() else {
-        unreachable!()
+        act: digest,
+        answer: answer.copy(alloc)?,
     };
     let state = ObjState {
-        value: *value,
+        value,
         kept: with_row(alloc, state.kept.as_slice(), row)?,
         links: state.links.copy(alloc)?,
     };
     Ok(Performed {
         states: List::one(alloc, state)?,
-        answer: made.answer,
+        answer,
     })
 }
