@@ -68,13 +68,14 @@ impl Entry {
     pub fn copy(&self, alloc: Global) -> Result<Entry, NoMemory>
         ensures { IfOk result (λ entry. entry ≡ self.now) }
     {
+        let letters = Letter::copy_all(alloc, self.letters.as_slice())?;
         let ended = match &self.ended {
             Some((client, number, outcome)) => Some((*client, *number, outcome.copy(alloc)?)),
             None => None,
         };
         Ok(Entry {
             event: self.event.copy(alloc)?,
-            letters: Letter::copy_all(alloc, self.letters.as_slice())?,
+            letters,
             ended,
         })
     }
