@@ -68,6 +68,32 @@ impl Replica {
         ensures { IfOk result (λ letters. letters ≡ reply (accept_all self.now accepted.now) reading.now.client
             reading.now.number reading.now.round reading.now.sets verdict ∷ []) }
     {
+        let to = Party::Client(reading.client());
+        let text = self.reply_text(reading, culled, verdict, accepted)?;
+        List::one(
+            self.alloc,
+            Letter {
+                from: Party::Replica(self.me),
+                to,
+                text,
+            },
+        )
+    }
+
+    /// The bytes of this letter.
+    #[tactic(auto, using(crate::proofs::States::Accepting::answers))]
+    fn reply_text(
+        &self,
+        reading: &Reading,
+        culled: List<(ObjectId, ReplicaId)>,
+        verdict: Verdict,
+        accepted: &[Accepted],
+    ) -> Result<List<u8>, NoMemory>
+        requires may { MayAcceptAll self.now accepted.now }
+        requires named { culled ≡ named self.now reading.now.sets }
+        ensures { IfOk result (λ text. text ≡ (reply (accept_all self.now accepted.now) reading.now.client
+            reading.now.number reading.now.round reading.now.sets verdict).text) }
+    {
         let frame = Frame::Reply {
             replica: self.me,
             client: reading.client(),
@@ -78,15 +104,7 @@ impl Replica {
             shown: self.shown(reading.sets().sets(), accepted)?,
             mac: blank_mac(),
         };
-        let to = Party::Client(reading.client());
-        List::one(
-            self.alloc,
-            Letter {
-                from: Party::Replica(self.me),
-                to,
-                text: frame.signed(self.alloc, &self.keys, to)?,
-            },
-        )
+        frame.signed(self.alloc, &self.keys, Party::Client(reading.client()))
     }
 
     /// The sealed histories of the request's objects as they stand once these candidates are accepted.
