@@ -1,3 +1,4 @@
+use super::facts::all_hold;
 use super::history::{OBJECT, one_object, put, update_by};
 use qu_base::{Bounds, ClientId, Digest, List};
 use qu_class::{Class, classify, evidence, plan_copy};
@@ -61,15 +62,18 @@ fn updated_class(alloc: Global, opening: u8, first: u8, second: u8) -> Result<Cl
 fn classes_without_barriers(rt: HostRuntime) -> Result<(), Fail> {
     let alloc = rt.alloc();
     let opening = Class::Method(Candidate::opening());
-    holds(updated_class(alloc, 5, 0, 0)? == opening, "five openings")?;
-    holds(
-        updated_class(alloc, 1, 5, 0)? == Class::Method(update_by(1)),
-        "five of the first",
-    )?;
+    let updated = Class::Method(update_by(1));
     let first = Class::InlineMethod(update_by(1));
-    holds(updated_class(alloc, 1, 4, 0)? == first, "four of the first")?;
     let second = Class::InlineMethod(update_by(2));
-    holds(updated_class(alloc, 0, 3, 3)? == second, "three of each")
+    all_hold(&[
+        (updated_class(alloc, 5, 0, 0)? == opening, "five openings"),
+        (
+            updated_class(alloc, 1, 5, 0)? == updated,
+            "five of the first",
+        ),
+        (updated_class(alloc, 1, 4, 0)? == first, "four of the first"),
+        (updated_class(alloc, 0, 3, 3)? == second, "three of each"),
+    ])
 }
 
 #[test]

@@ -1,7 +1,7 @@
+use super::facts::all_hold;
 use qu_base::{Bounds, ClientId, Digest, List, ObjectId, ReplicaId};
 use qu_history::{AddFail, History, Sealed, SetOf, Sets};
 use qu_stamp::{Candidate, Stamp};
-use qu_testing::holds;
 use std::alloc::Global;
 use std::test::Fail;
 
@@ -68,14 +68,14 @@ fn sets_of(alloc: Global, first: u8, second: u8, opening: u8) -> Result<Sets, Fa
 }
 
 fn tell(sets: &Sets) -> Result<(), Fail> {
-    holds(sets.entries(OBJECT) == 4, "four histories")?;
-    holds(
-        sets.count(OBJECT, &Candidate::opening()) == 4,
-        "the opening in all",
-    )?;
-    holds(sets.latest(OBJECT) == Some(stamp_at(1, 2)), "the latest")?;
-    holds(sets.entries(ObjectId(6)) == 0, "no other object")?;
-    holds(sets.latest(ObjectId(6)).is_none(), "nothing of it")
+    let in_all = sets.count(OBJECT, &Candidate::opening());
+    all_hold(&[
+        (sets.entries(OBJECT) == 4, "four histories"),
+        (in_all == 4, "the opening in all"),
+        (sets.latest(OBJECT) == Some(stamp_at(1, 2)), "the latest"),
+        (sets.entries(ObjectId(6)) == 0, "no other object"),
+        (sets.latest(ObjectId(6)).is_none(), "nothing of it"),
+    ])
 }
 
 #[test]
@@ -91,9 +91,11 @@ fn left(alloc: Global, first: u8, second: u8) -> Result<u8, Fail> {
 
 #[test]
 fn sets_are_trimmed_where_a_quorum_is_left(rt: HostRuntime) -> Result<(), Fail> {
-    holds(left(rt.alloc(), 5, 1)? == 5, "one is left out")?;
-    holds(left(rt.alloc(), 4, 2)? == 6, "two would be too many")?;
-    holds(left(rt.alloc(), 3, 3)? == 6, "three too")
+    all_hold(&[
+        (left(rt.alloc(), 5, 1)? == 5, "one is left out"),
+        (left(rt.alloc(), 4, 2)? == 6, "two would be too many"),
+        (left(rt.alloc(), 3, 3)? == 6, "three too"),
+    ])
 }
 
 /// Whether histories of these two replicas are sets.
@@ -109,24 +111,27 @@ fn are_accepted(alloc: Global, first: u8, second: u8) -> Result<bool, Fail> {
 
 #[test]
 fn sets_want_replicas_that_rise(rt: HostRuntime) -> Result<(), Fail> {
-    holds(are_accepted(rt.alloc(), 0, 1)?, "0 and 1")?;
-    holds(!are_accepted(rt.alloc(), 1, 1)?, "1 twice")?;
-    holds(!are_accepted(rt.alloc(), 1, 0)?, "1 and 0")?;
-    holds(!are_accepted(rt.alloc(), 0, 16)?, "no replica 16")?;
-    holds(Sets::new(List::new(rt.alloc())).is_none(), "no object")
+    all_hold(&[
+        (are_accepted(rt.alloc(), 0, 1)?, "0 and 1"),
+        (!are_accepted(rt.alloc(), 1, 1)?, "1 twice"),
+        (!are_accepted(rt.alloc(), 1, 0)?, "1 and 0"),
+        (!are_accepted(rt.alloc(), 0, 16)?, "no replica 16"),
+        (Sets::new(List::new(rt.alloc())).is_none(), "no object"),
+    ])
 }
 
 fn refuses(history: &mut History) -> Result<(), Fail> {
     history.add(update_by(2))?;
     let refused = AddFail::NotLater(stamp_at(1, 2));
-    holds(
-        history.add(update_by(1)) == Err(refused),
-        "an earlier stamp",
-    )?;
-    holds(history.add(update_by(2)) == Err(refused), "the same stamp")?;
-    holds(history.len() == 2, "two candidates")?;
-    holds(history.holds(&update_by(2)), "the one that was added")?;
-    holds(!history.holds(&update_by(1)), "the refused one is not held")
+    let earlier = history.add(update_by(1));
+    let same = history.add(update_by(2));
+    all_hold(&[
+        (earlier == Err(refused), "an earlier stamp"),
+        (same == Err(refused), "the same stamp"),
+        (history.len() == 2, "two candidates"),
+        (history.holds(&update_by(2)), "the one that was added"),
+        (!history.holds(&update_by(1)), "the refused one is not held"),
+    ])
 }
 
 #[test]
@@ -151,9 +156,13 @@ fn fill(history: &mut History) -> Result<(), Fail> {
 
 fn is_full(history: &mut History) -> Result<(), Fail> {
     let last = next_of(history, 1024);
-    holds(history.len() == 1024, "a full history")?;
-    holds(history.add(last) == Err(AddFail::HistoryFull), "one more")?;
-    holds(history.latest() == stamp_at(1023, 1), "the latest stays")
+    let length = history.len();
+    let more = history.add(last);
+    all_hold(&[
+        (length == 1024, "a full history"),
+        (more == Err(AddFail::HistoryFull), "one more"),
+        (history.latest() == stamp_at(1023, 1), "the latest stays"),
+    ])
 }
 
 #[test]

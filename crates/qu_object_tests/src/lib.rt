@@ -7,6 +7,8 @@ mod adversary;
 #[cfg(test)]
 mod class;
 #[cfg(test)]
+mod facts;
+#[cfg(test)]
 mod frames;
 #[cfg(test)]
 mod history;

@@ -1,3 +1,4 @@
+use super::facts::all_hold;
 use qu_base::{ClientId, List, ObjectId};
 use qu_machine::{JudgeFault, OpRecord, Point, is_judgeable, judge};
 use qu_objects::{Act, Answer, Ask, Item, KindName, Method, Op, Outcome, Query};
@@ -112,13 +113,15 @@ fn is_fault(alloc: Global, steps: &[(u64, Step)], wanted: JudgeFault) -> Result<
 #[test]
 fn serial_orders(rt: HostRuntime) -> Result<(), Fail> {
     let alloc = rt.alloc();
-    holds(judge(alloc, &[], &[], &[]).is_ok(), "nothing")?;
     let both = [(4, Step::Add), (6, Step::Read)];
-    holds(fault(alloc, &both)?.is_none(), "both")?;
     let given_up = [(4, Step::Add), (6, Step::Read), (20, Step::GivenUp)];
-    holds(fault(alloc, &given_up)?.is_none(), "one that gave up")?;
     let faulty = [(4, Step::Add), (6, Step::Read), (8, Step::FaultyAdd)];
-    holds(fault(alloc, &faulty)?.is_none(), "one of a faulty client")
+    all_hold(&[
+        (judge(alloc, &[], &[], &[]).is_ok(), "nothing"),
+        (fault(alloc, &both)?.is_none(), "both"),
+        (fault(alloc, &given_up)?.is_none(), "one that gave up"),
+        (fault(alloc, &faulty)?.is_none(), "one of a faulty client"),
+    ])
 }
 
 #[test]
@@ -131,55 +134,59 @@ fn points_at_one_event_are_not_judged(rt: HostRuntime) -> Result<(), Fail> {
 fn points_outside(rt: HostRuntime) -> Result<(), Fail> {
     let alloc = rt.alloc();
     let at_the_reply = [(4, Step::Add), (12, Step::Read)];
-    holds(
-        is_fault(alloc, &at_the_reply, JudgeFault::Outside { at: 1 })?,
-        "at the reply",
-    )?;
     let at_the_invocation = [(1, Step::Add), (6, Step::Read)];
-    holds(
-        is_fault(alloc, &at_the_invocation, JudgeFault::Outside { at: 0 })?,
-        "at the invocation",
-    )?;
     let stray = [(4, Step::Add), (6, Step::Read), (8, Step::Stray)];
-    holds(
-        is_fault(alloc, &stray, JudgeFault::Outside { at: 2 })?,
-        "a stray",
-    )?;
     let faulty = [(3, Step::FaultyRead), (4, Step::Add), (6, Step::Read)];
-    holds(
-        is_fault(alloc, &faulty, JudgeFault::Outside { at: 0 })?,
-        "a faulty client's query",
-    )
+    all_hold(&[
+        (
+            is_fault(alloc, &at_the_reply, JudgeFault::Outside { at: 1 })?,
+            "at the reply",
+        ),
+        (
+            is_fault(alloc, &at_the_invocation, JudgeFault::Outside { at: 0 })?,
+            "at the invocation",
+        ),
+        (
+            is_fault(alloc, &stray, JudgeFault::Outside { at: 2 })?,
+            "a stray",
+        ),
+        (
+            is_fault(alloc, &faulty, JudgeFault::Outside { at: 0 })?,
+            "a faulty client's query",
+        ),
+    ])
 }
 
 #[test]
 fn other_faults(rt: HostRuntime) -> Result<(), Fail> {
     let alloc = rt.alloc();
     let read_first = [(4, Step::Read), (6, Step::Add)];
-    holds(
-        is_fault(alloc, &read_first, JudgeFault::Differs { at: 0 })?,
-        "another answer",
-    )?;
     let read_twice = [(4, Step::Add), (6, Step::Read), (7, Step::Read)];
-    holds(
-        is_fault(alloc, &read_twice, JudgeFault::Twice { at: 2 })?,
-        "a query twice",
-    )?;
     let unread = [(4, Step::Add)];
-    holds(
-        is_fault(alloc, &unread, JudgeFault::Absent { op: 1 })?,
-        "one is absent",
-    )?;
     let faulty_twice = [
         (4, Step::Add),
         (6, Step::Read),
         (7, Step::FaultyAdd),
         (8, Step::FaultyAdd),
     ];
-    holds(
-        is_fault(alloc, &faulty_twice, JudgeFault::Twice { at: 3 })?,
-        "an update twice",
-    )
+    all_hold(&[
+        (
+            is_fault(alloc, &read_first, JudgeFault::Differs { at: 0 })?,
+            "another answer",
+        ),
+        (
+            is_fault(alloc, &read_twice, JudgeFault::Twice { at: 2 })?,
+            "a query twice",
+        ),
+        (
+            is_fault(alloc, &unread, JudgeFault::Absent { op: 1 })?,
+            "one is absent",
+        ),
+        (
+            is_fault(alloc, &faulty_twice, JudgeFault::Twice { at: 3 })?,
+            "an update twice",
+        ),
+    ])
 }
 
 // Of two faults the one that comes first in `JudgeFault` is told, wherever they are.
@@ -187,23 +194,25 @@ fn other_faults(rt: HostRuntime) -> Result<(), Fail> {
 fn two_faults(rt: HostRuntime) -> Result<(), Fail> {
     let alloc = rt.alloc();
     let outside_and_differs = [(1, Step::Add), (6, Step::FaultyAdd), (8, Step::Read)];
-    holds(
-        is_fault(alloc, &outside_and_differs, JudgeFault::Differs { at: 2 })?,
-        "it differs",
-    )?;
     let twice_and_outside = [
         (4, Step::Add),
         (6, Step::Read),
         (7, Step::Read),
         (9, Step::Stray),
     ];
-    holds(
-        is_fault(alloc, &twice_and_outside, JudgeFault::Outside { at: 3 })?,
-        "it is outside",
-    )?;
     let absent_and_twice = [(4, Step::Add), (6, Step::FaultyAdd), (7, Step::FaultyAdd)];
-    holds(
-        is_fault(alloc, &absent_and_twice, JudgeFault::Twice { at: 2 })?,
-        "it is there twice",
-    )
+    all_hold(&[
+        (
+            is_fault(alloc, &outside_and_differs, JudgeFault::Differs { at: 2 })?,
+            "it differs",
+        ),
+        (
+            is_fault(alloc, &twice_and_outside, JudgeFault::Outside { at: 3 })?,
+            "it is outside",
+        ),
+        (
+            is_fault(alloc, &absent_and_twice, JudgeFault::Twice { at: 2 })?,
+            "it is there twice",
+        ),
+    ])
 }
