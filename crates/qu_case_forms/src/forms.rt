@@ -1,6 +1,6 @@
 //! What was read, in a line for people. Each function appends to a text.
 
-use qu_base::{Digest, ObjectId, Party, ReplicaId};
+use qu_base::{ClientId, Digest, List, ObjectId, Party, ReplicaId};
 use qu_frames::{Body, Frame, Refusal, Verdict};
 use qu_history::{Sealed, SetOf, Sets};
 use qu_objects::{Act, Answer, Item, KeptRow, Method, ObjState, Outcome, Query, Value};
@@ -230,23 +230,45 @@ fn put_shown(shown: &[Sealed], out: &mut String) -> Result<(), AllocError> {
 
 /// The replica that sends, and of which version.
 fn put_version(
+    kind: &str,
     replica: ReplicaId,
     object: ObjectId,
     stamp: &Stamp,
     out: &mut String,
 ) -> Result<(), AllocError> {
-    write!(out, "r{} {} at ", replica.0, object.0)?;
+    write!(out, "{kind} r{} {} at ", replica.0, object.0)?;
     put_stamp(stamp, out)
 }
 
+fn put_reply(
+    replica: ReplicaId,
+    client: ClientId,
+    number: u64,
+    round: u8,
+    verdict: &Verdict,
+    culled: &List<(ObjectId, ReplicaId)>,
+    shown: &List<Sealed>,
+    out: &mut String,
+) -> Result<(), AllocError> {
+    write!(
+        out,
+        "reply r{} c{} {number} round {round} ",
+        replica.0, client.0
+    )?;
+    put_verdict(verdict, out)?;
+    out.push_str(" ")?;
+    put_culled(culled.as_slice(), out)?;
+    put_shown(shown.as_slice(), out)
+}
+
 pub fn put_frame(frame: &Frame, out: &mut String) -> Result<(), AllocError> {
-    match frame {
+    match *frame {
         Frame::Request {
             client,
             number,
             round,
-            sets,
-            body,
+            ref sets,
+            ref body,
             ..
         } => {
             write!(out, "request c{} {number} round {round} ", client.0)?;
@@ -258,39 +280,25 @@ pub fn put_frame(frame: &Frame, out: &mut String) -> Result<(), AllocError> {
             client,
             number,
             round,
-            verdict,
-            culled,
-            shown,
+            ref verdict,
+            ref culled,
+            ref shown,
             ..
-        } => {
-            write!(
-                out,
-                "reply r{} c{} {number} round {round} ",
-                replica.0, client.0
-            )?;
-            put_verdict(verdict, out)?;
-            out.push_str(" ")?;
-            put_culled(culled.as_slice(), out)?;
-            put_shown(shown.as_slice(), out)
-        }
+        } => put_reply(replica, client, number, round, verdict, culled, shown, out),
         Frame::Fetch {
             replica,
             object,
-            stamp,
+            ref stamp,
             ..
-        } => {
-            out.push_str("fetch ")?;
-            put_version(*replica, *object, stamp, out)
-        }
+        } => put_version("fetch", replica, object, stamp, out),
         Frame::Fetched {
             replica,
             object,
-            stamp,
-            state,
+            ref stamp,
+            ref state,
             ..
         } => {
-            out.push_str("fetched ")?;
-            put_version(*replica, *object, stamp, out)?;
+            put_version("fetched", replica, object, stamp, out)?;
             out.push_str(" ")?;
             put_state(state, out)
         }
