@@ -64,8 +64,7 @@ pub fn put_frame(text: &mut String, frame: &Frame) -> Result<(), NoMemory>
             body,
             ..
         } => {
-            text.push_str("request ")?;
-            put_asked(text, *client, *number, *round)?;
+            put_asked(text, "request ", *client, *number, *round)?;
             put_body(text, body)?;
             put_all(text, sets.objects().as_slice())
         }
@@ -78,33 +77,35 @@ pub fn put_frame(text: &mut String, frame: &Frame) -> Result<(), NoMemory>
             shown,
             ..
         } => {
-            text.push_str("reply ")?;
-            put_asked(text, *client, *number, *round)?;
+            put_asked(text, "reply ", *client, *number, *round)?;
             put_verdict(text, verdict)?;
             put_all(text, culled.as_slice())?;
             put_all(text, shown.as_slice())
         }
-        Frame::Fetch { object, stamp, .. } => {
-            text.push_str("fetch ")?;
-            put_version(text, *object, stamp)
-        }
+        Frame::Fetch { object, stamp, .. } => put_version(text, "fetch ", *object, stamp),
         Frame::Fetched {
             object,
             stamp,
             state,
             ..
         } => {
-            text.push_str("fetched ")?;
-            put_version(text, *object, stamp)?;
+            put_version(text, "fetched ", *object, stamp)?;
             put_state(text, state)
         }
     }
 }
 
-/// Writes which version it is about.
-fn put_version(text: &mut String, object: ObjectId, stamp: &Stamp) -> Result<(), NoMemory>
-    ensures { OnOk result (string_bytes text.new ≡ string_bytes text.old ++ version_text object stamp.now) }
+/// Writes what a frame is, and which version it is about.
+fn put_version(
+    text: &mut String,
+    kind: &str,
+    object: ObjectId,
+    stamp: &Stamp,
+) -> Result<(), NoMemory>
+    ensures { OnOk result
+        (string_bytes text.new ≡ string_bytes text.old ++ kind.now ++ version_text object stamp.now) }
 {
+    text.push_str(kind)?;
     put_object(text, object)?;
     text.push_str(" at ")?;
     put_stamp(text, stamp)
@@ -121,12 +122,19 @@ fn put_state(text: &mut String, state: &ObjState) -> Result<(), NoMemory>
     put_count(text, state.links.len(), "link")
 }
 
-/// Writes which operation it is about, and which round of it.
-fn put_asked(text: &mut String, client: ClientId, number: u64, round: u8) -> Result<(), NoMemory>
-    ensures { OnOk result (string_bytes text.new ≡ string_bytes text.old ++ asked_text client number round) }
+/// Writes what a frame is, which operation it is about, and which round of it.
+fn put_asked(
+    text: &mut String,
+    kind: &str,
+    client: ClientId,
+    number: u64,
+    round: u8,
+) -> Result<(), NoMemory>
+    ensures { OnOk result
+        (string_bytes text.new ≡ string_bytes text.old ++ kind.now ++ asked_text client number round) }
 {
     let client = client.0;
-    write!(text, "{client}.{number} round {round}, ")?;
+    write!(text, "{kind}{client}.{number} round {round}, ")?;
     Ok(())
 }
 
