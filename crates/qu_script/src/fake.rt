@@ -1,10 +1,10 @@
 //! Replies that are made for a client, as a replica's.
-ghost use Rattle.std.specs.Prelude.{◌≡◌, map, find, IfOk};
+ghost use Rattle.std.specs.Prelude.{◌≡◌, map, find, Ok, IfOk};
 ghost use Rattle.std.specs.Option.{option_copied};
 ghost use Rattle.qu_frames.specs.Formats.{objects_in_sets};
 ghost use Rattle.qu_adversary.specs.Sealing.{sealed_for};
 ghost use Rattle.qu_world.specs.State.{ring_of};
-ghost use Rattle.qu_script.specs.Fake.{last_request, last_reply, thin, shown_now, is_history_of, echoed, far_candidate, far_history, told_of, all_replicas, reached, fake_reply_text, fake_of};
+ghost use Rattle.qu_script.specs.Fake.{last_request, last_reply, thin, shown_now, is_history_of, echoed, far_candidate, far_history, asked_in, told_of, all_replicas, reached, fake_reply_text, fake_of};
 
 use super::How;
 use super::letters::last_sent;
@@ -111,23 +111,28 @@ fn last_request(
         return Ok(None);
     };
     match decode(alloc, letter.text.as_slice()) {
-        Ok(
-            Frame::Request {
-                number,
-                round,
-                sets,
-                ..
-            },
-        ) => {
-            let objects = objects_of(alloc, &sets)?;
-            Ok(Some(LastRequest {
-                number,
-                round,
-                objects,
-            }))
-        }
-        Ok(_) | Err(ReadFail::Bad(_)) => Ok(None),
+        Ok(frame) => asked_in(alloc, &frame),
+        Err(ReadFail::Bad(_)) => Ok(None),
         Err(ReadFail::NoMemory) => Err(NoMemory),
+    }
+}
+
+/// What a frame asks for, where it is a request.
+fn asked_in(alloc: Global, frame: &Frame) -> Result<Option<LastRequest>, NoMemory>
+    ensures { IfOk result (λ asked. asked ≡ asked_in (Ok frame.now)) }
+{
+    match frame {
+        Frame::Request {
+            number,
+            round,
+            sets,
+            ..
+        } => Ok(Some(LastRequest {
+            number: *number,
+            round: *round,
+            objects: objects_of(alloc, sets)?,
+        })),
+        _ => Ok(None),
     }
 }
 
