@@ -195,92 +195,90 @@ module _ (trace : Trace) (laws : Laws (setting trace)) (joint : Joint (setting t
   still_found : (object : ObjectId) (candidate : Candidate) → IsEverAccepted trace object candidate
       → (version : ObjState) → version_at object candidate.stamp mid.versions ≡ Some version
       → Stores trace object new candidate
-  still_found object candidate ever version found =
-      (
-        version,
-        still_there object candidate.stamp version found,
-        version_under object candidate ever version found,
-      )
+  still_found object candidate ever version found = (
+    version,
+    still_there object candidate.stamp version found,
+    version_under object candidate ever version found,
+  )
 
   -- ---- of an act
 
   module _ (parts : List (ObjectId × Method)) (is : one.asks ≡ body.Act parts)
       (performs : Performs mid new (asked_of one.client one.number one.sets (body.Act parts)) parts one.candidates)
-      where
-    adds_part : (object : ObjectId) → Names parts object → AddsTo one.asks object
-    adds_part object names = subst (λ (asks : Body). AddsTo asks object) (sym is) names
+    where
+      adds_part : (object : ObjectId) → Names parts object → AddsTo one.asks object
+      adds_part object names = subst (λ (asks : Body). AddsTo asks object) (sym is) names
 
-    was_handled : (object : ObjectId) → Names parts object → IsHandled trace one.client one.number parts
-    was_handled object names =
-        handled trace is_run count below place old new object (delivered_on object (adds_part object names)) parts is
+      was_handled : (object : ObjectId) → Names parts object → IsHandled trace one.client one.number parts
+      was_handled object names =
+          handled trace is_run count below place old new object (delivered_on object (adds_part object names)) parts is
 
-    -- a quorum showed the base, so it was accepted
-    base_accepted : (object : ObjectId) → Names parts object → IsEverAccepted trace object (performs.bases object)
-    base_accepted object names =
-        let adds : AddsTo one.asks object = adds_part object names in
-        quorum_ever trace laws handles.since (omega (arith, within, handles.came)) object (performs.bases object)
-        (accepted_of_base trace is_run have handles.since (omega (arith, below, handles.came)) handles.entry place
-        handles.receiver handles.is_receiver handles.text
-        (ap (λ (it : Entry). handed (world_after trace handles.since) it.event)
-        (get_or_from_slice_get trace.entries handles.since handles.entry handles.entry handles.is_entry)
-        ∙ handles.is_handed) one.client one.number one.round one.sent one.asks one.mac
-        (handles.brings ∙ ap (λ (it : Frame). Some it) one.is_request)
-        (delivered_known trace count place old new object (delivered_on object adds)) object (performs.bases object)
-        (ap (λ (sets : List SetOf). method_at trace.setup.bounds (entries_of object sets))
-        (culls_so trace is_run count below place old new object (delivered_on object adds))
-        ∙ ap (λ (bounds : ℕ). method_at bounds (entries_of object one.sets)) (sym before.bounds)
-        ∙ (performs.grounds object names).method))
+      -- a quorum showed the base, so it was accepted
+      base_accepted : (object : ObjectId) → Names parts object → IsEverAccepted trace object (performs.bases object)
+      base_accepted object names =
+          let adds : AddsTo one.asks object = adds_part object names in
+          quorum_ever trace laws handles.since (omega (arith, within, handles.came)) object (performs.bases object)
+          (accepted_of_base trace is_run have handles.since (omega (arith, below, handles.came)) handles.entry place
+          handles.receiver handles.is_receiver handles.text
+          (ap (λ (it : Entry). handed (world_after trace handles.since) it.event)
+          (get_or_from_slice_get trace.entries handles.since handles.entry handles.entry handles.is_entry)
+          ∙ handles.is_handed) one.client one.number one.round one.sent one.asks one.mac
+          (handles.brings ∙ ap (λ (it : Frame). Some it) one.is_request)
+          (delivered_known trace count place old new object (delivered_on object adds)) object (performs.bases object)
+          (ap (λ (sets : List SetOf). method_at trace.setup.bounds (entries_of object sets))
+          (culls_so trace is_run count below place old new object (delivered_on object adds))
+          ∙ ap (λ (bounds : ℕ). method_at bounds (entries_of object one.sets)) (sym before.bounds)
+          ∙ (performs.grounds object names).method))
 
-    -- the version that the replica stores under the stamp of the base is that of the base
-    base_version : (object : ObjectId) → Names parts object
-        → HasVersion trace object (performs.bases object) ((performs.performed).befores object)
-    base_version object names =
-        version_under object (performs.bases object) (base_accepted object names)
-        ((performs.performed).befores object) ((performs.performed).of_bases object names)
+      -- the version that the replica stores under the stamp of the base is that of the base
+      base_version : (object : ObjectId) → Names parts object
+          → HasVersion trace object (performs.bases object) ((performs.performed).befores object)
+      base_version object names =
+          version_under object (performs.bases object) (base_accepted object names)
+          ((performs.performed).befores object) ((performs.performed).of_bases object names)
 
-    -- what the act makes of them is the version of what is accepted
-    act_has : (object : ObjectId) → Names parts object
-        → HasVersion trace object (one.candidates object) (performs.versions object)
-    act_has object names =
-        let candidate : Candidate = one.candidates object in
-        let grounds : IsGround mid (asked_of one.client one.number one.sets (body.Act parts)) object candidate
-        (performs.bases object) = performs.grounds object names in
-        HasVersion.of_update object candidate
-        (record { client = one.client; number = one.number; parts = parts }) performs.bases
-        (performs.performed).befores (λ other. (performs.versions other).value) (performs.versions object)
-        (ap (λ (it : Stamp). is_below it candidate.stamp) grounds.prior ∙ above_base grounds)
-        (record {
-          made = made_for trace mid new one.client one.number one.sets parts one.candidates object performs names
-              candidate refl (was_handled object names);
-          names = names;
-        })
-        (λ other besides. record {
-          companion = one.candidates other;
-          is_companion = companions object other (adds_part object names) (adds_part other besides);
-          accepted = now_accepted other (adds_part other besides);
-          prior = (performs.grounds other besides).prior;
-          base_accepted = base_accepted other besides;
-        })
-        base_version (performs.performed).values ((performs.performed).afters object names)
-        (performs.performed).lower
+      -- what the act makes of them is the version of what is accepted
+      act_has : (object : ObjectId) → Names parts object
+          → HasVersion trace object (one.candidates object) (performs.versions object)
+      act_has object names =
+          let candidate : Candidate = one.candidates object in
+          let grounds : IsGround mid (asked_of one.client one.number one.sets (body.Act parts)) object candidate
+          (performs.bases object) = performs.grounds object names in
+          HasVersion.of_update object candidate
+          (record { client = one.client; number = one.number; parts = parts }) performs.bases
+          (performs.performed).befores (λ other. (performs.versions other).value) (performs.versions object)
+          (ap (λ (it : Stamp). is_below it candidate.stamp) grounds.prior ∙ above_base grounds)
+          (record {
+            made = made_for trace mid new one.client one.number one.sets parts one.candidates object performs names
+                candidate refl (was_handled object names);
+            names = names;
+          })
+          (λ other besides. record {
+            companion = one.candidates other;
+            is_companion = companions object other (adds_part object names) (adds_part other besides);
+            accepted = now_accepted other (adds_part other besides);
+            prior = (performs.grounds other besides).prior;
+            base_accepted = base_accepted other besides;
+          })
+          base_version (performs.performed).values ((performs.performed).afters object names)
+          (performs.performed).lower
 
-    -- it is found afterwards, unless the version of the candidate was there before
-    stores_by : (object : ObjectId) → Names parts object → (found : Option ObjState)
-        → version_at object (one.candidates object).stamp mid.versions ≡ found
-        → Stores trace object new (one.candidates object)
-    stores_by object names (Some version) is_found =
-        still_found object (one.candidates object) (now_accepted object (adds_part object names)) version is_found
-    stores_by object names None none =
-        (
-          performs.versions object,
-          version_of_performed mid new (asked_of one.client one.number one.sets (body.Act parts)) parts
-              one.candidates performs object names none,
-          act_has object names,
-        )
+      -- it is found afterwards, unless the version of the candidate was there before
+      stores_by : (object : ObjectId) → Names parts object → (found : Option ObjState)
+          → version_at object (one.candidates object).stamp mid.versions ≡ found
+          → Stores trace object new (one.candidates object)
+      stores_by object names (Some version) is_found =
+          still_found object (one.candidates object) (now_accepted object (adds_part object names)) version is_found
+      stores_by object names None none = (
+        performs.versions object,
+        version_of_performed mid new (asked_of one.client one.number one.sets (body.Act parts)) parts
+            one.candidates performs object names none,
+        act_has object names,
+      )
 
-    act_stores : (object : ObjectId) → Names parts object → Stores trace object new (one.candidates object)
-    act_stores object names =
-        stores_by object names (version_at object (one.candidates object).stamp mid.versions) refl
+      act_stores : (object : ObjectId) → Names parts object → Stores trace object new (one.candidates object)
+      act_stores object names =
+          stores_by object names (version_at object (one.candidates object).stamp mid.versions) refl
 
   -- ---- of a repair
 
@@ -413,8 +411,8 @@ module _ (trace : Trace) (laws : Laws (setting trace)) (joint : Joint (setting t
       elim (stored_before mid new (asked_of one.client one.number one.sets one.asks) one.asks one.candidates
       one.reasons object stamp version found) [
         | inl earlier ↦
-          later_of_stamp trace laws count (count + 1) (omega arith) object stamp version
-          (before.of_stamps object stamp version earlier)
+            later_of_stamp trace laws count (count + 1) (omega arith) object stamp version
+            (before.of_stamps object stamp version earlier)
         | inr added ↦
             let fresh : Candidate = one.candidates object in
             let stored : Stores trace object new fresh =

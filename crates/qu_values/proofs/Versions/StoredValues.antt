@@ -97,8 +97,7 @@ module _ (trace : Trace) (laws : Laws (setting trace)) (count : ℕ)
   learned_stores object candidate plain held =
       let stored : Stores trace object old candidate =
       before.stores object candidate plain
-      (ap (holds candidate) (sym (mid_candidates trace count old mid learns object)) ∙ held) in
-      (
+      (ap (holds candidate) (sym (mid_candidates trace count old mid learns object)) ∙ held) in (
         stored.0,
         append_grows old.versions learns.more mid.versions learns.versions object candidate.stamp stored.0 stored.1,
         stored.2,
