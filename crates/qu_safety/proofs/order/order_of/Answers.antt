@@ -5,6 +5,7 @@ use Rattle.std.proofs.lemmas.Result.{IfOk-weaker}
 use Rattle.qu_machine.specs.declared.record.Point.{Point}
 use Rattle.qu_machine.specs.Serial.{IsSerial}
 use Rattle.qu_trace.specs.declared.trace.Entry.{Entry}
+use Rattle.qu_trace.specs.declared.trace.Trace.{Trace}
 use Rattle.qu_trace.specs.Operation.{operations_of}
 use Rattle.qu_runs.specs.Plain.{HaveParts, ArePlain}
 use Rattle.qu_claims.specs.Premises.{IsUnforged, MeetsPremises}
@@ -26,7 +27,7 @@ always (Ok value) it = it
 always (Err failure) it = tt
 
 entries_of : (c : goal.After-printed_order) → c.as_slice.result.now ≡ c.args.trace.now.entries
-entries_of c = c.as_slice.ensures ∙ ap (λ (run : Trace). run.entries) c.trace.ensures
+entries_of c = c.as_slice.ensures ∙ ap (λ (run : Trace). run.entries) c.trace-run.ensures
 
 parts_of : (c : goal.After-printed_order) → HaveParts c.args.trace.now.entries
 parts_of c = subst HaveParts (entries_of c) c.have_parts.ensures.parts
@@ -86,7 +87,7 @@ returns-clause-numbers c =
 pub returns-clause-versions : goal.returns-clause-versions
 returns-clause-versions c =
     always c.printed_order.result
-    (subst (λ (run : Trace). MeetsPremises run → VersionsAreTrue run) c.trace.ensures c.versions_are_true.ensures)
+    (subst (λ (run : Trace). MeetsPremises run → VersionsAreTrue run) c.trace-run.ensures c.versions_are_true.ensures)
 
 pub returns-clause-by_quorums : goal.returns-clause-by_quorums
 returns-clause-by_quorums c =
