@@ -1,0 +1,94 @@
+"""What each event did, in a few words, and the mark that stands for it."""
+import re
+
+# The marks, each with what it says, in the order of the legend.
+MARKS = {
+    "call": "an operation begins",
+    "end": "it ends",
+    "step": "a client takes a letter",
+    "done": "done: an act is performed, or was",
+    "told": "told or already: nothing is added",
+    "refused": "a replica refuses",
+    "barrier": "mended: a barrier is added",
+    "copy": "mended: a copy, or what was found, is added",
+    "silent": "a request without an answer",
+    "ignored": "ignored: nothing changes",
+}
+VERDICT_MARKS = {"done": "done", "told": "told", "already": "told"}
+
+
+def mark_of(event, run):
+    """The name of the mark of an event."""
+    if event.kind == "call":
+        return "call"
+    if event.ignored:
+        return "ignored"
+    if event.party.kind == "client":
+        return "end" if event.ends else "step"
+    reply = reply_sent(event, run)
+    if not reply:
+        return "silent"
+    if reply.verdict.startswith("mended "):
+        return "barrier" if reply.stamp.startswith("barrier ") else "copy"
+    return VERDICT_MARKS.get(reply.verdict.split()[0], "refused")
+
+
+def reply_sent(event, run):
+    """The reply that an event sends, or None."""
+    frames = (run.letter(number).frame for number in event.sends)
+    return next((frame for frame in frames if frame.kind == "reply"), None)
+
+
+def words_of(event, run):
+    """What an event did, beside its party: what came, what was told or ended, and the letters that it sends."""
+    parts = [came(event, run)]
+    reply = reply_sent(event, run)
+    if reply:
+        parts[0] += ": " + told(reply)
+    elif event.party.kind == "replica" and not event.ignored:
+        parts[0] += ": no answer"
+    if event.ends:
+        answer = "given up" if event.answer is None else f"with {event.answer}"
+        parts.append(f"ends {event.ends} {answer}")
+    if event.sends:
+        parts.append(sent(event, run))
+    return "; ".join(parts)
+
+
+def came(event, run):
+    if event.kind == "call":
+        return f"call {event.operation} {event.asked}"
+    if event.kind == "inject":
+        head = f"{event.size} injected" + (f" as {event.claimed.short}" if event.claimed else "")
+    else:
+        head = f"letter {event.letter} of {run.letter(event.letter).sender.short}{' again' if event.again else ''}"
+    if event.ignored:
+        return f"{head}, ignored"
+    return f"{head}, {frame_words(event.frame)}"
+
+
+def frame_words(frame):
+    if frame.kind == "request":
+        return f"{frame.body.replace(' object', '')} {frame.operation} round {frame.round}"
+    if frame.kind == "reply":
+        return f"{frame.operation} round {frame.round}: {told(frame)}"
+    return short_parties(frame.text)
+
+
+def told(reply):
+    """A verdict without the object of its stamp, and the replicas whose entries were left out."""
+    words = short_parties(reply.verdict.replace(", object 0 at ", " at "))
+    return words + "".join(f", culls r{replica}" for replica in reply.culled)
+
+
+def sent(event, run):
+    first, last = event.sends[0], event.sends[-1]
+    numbers = f"{first}" if first == last else f"{first} to {last}"
+    frame = run.letter(first).frame
+    if event.party.kind == "client" and event.kind != "call":
+        return f"round {frame.round} sends {numbers}"
+    return f"sends {numbers}"
+
+
+def short_parties(words):
+    return re.sub(r"\b(client|replica) (\d+)", lambda found: found.group(1)[0] + found.group(2), words)

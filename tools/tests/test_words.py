@@ -1,0 +1,158 @@
+"""The mark and the words of each event, what a cut leaves, and where points stand."""
+import unittest
+
+from lines import ASKED, DELIVERED, ENDED, OPENING, SHORT, THIN, reply, text_of
+from picture.cut import Cut, shown
+from picture.faults import Malformed, WrongWords
+from picture.listing import Party, read_listing
+from picture.points import points_of
+from picture.report import read_faulty, read_report
+from picture.words import mark_of, words_of
+
+INJECTED = "event 1 inject 54 bytes to replica 0 as client 1: request 1.1 round 1, act, object 0 shown by none"
+SETUP = ["bounds 1", "seed 7", "clients 2", "object 0 counter"]
+HEAD, HOLD = "bounds b 1 n 6 q 5 r 3", "premises hold"
+END = "end calls 1 done 0 gaveup 0 open 1"
+# A verdict, its mark, and its words.
+ANSWERED = [
+    ("done 5, object 0 at time 1 of client 1", "done", "done 5 at time 1 of c1"),
+    ("done 5 + 0, object 0 at opening, object 3 at opening", "done", "done 5 + 0 at opening, object 3 at opening"),
+    ("told 0, object 0 at opening", "told", "told 0 at opening"),
+    ("already 5", "told", "already 5"),
+    ("mended 0 at barrier 2 of client 2", "barrier", "mended 0 at barrier 2 of c2"),
+    ("mended 0 at time 3 of client 2", "copy", "mended 0 at time 3 of c2"),
+    ("thin 0, culled object 0 of replica 5", "refused", "thin 0, culls r5"),
+    ("not of class METHOD 0 but inline barrier", "refused", "not of class METHOD 0 but inline barrier"),
+]
+
+
+def update_run(*verdicts):
+    """A run in which replicas 0, 1, .. answer an update so, each at its event, which is the one behind the call's."""
+    lines = [OPENING]
+    lines += [f"  letter {number} client 1 to replica {number - 1}: request 1.1 round 1, act, object 0 shown by none"
+              for number in range(1, len(verdicts) + 1)]
+    for place, verdict in enumerate(verdicts):
+        lines.append(f"event {place + 2} deliver {place + 1} to replica {place}")
+        lines.append(reply(verdict, len(verdicts) + 1 + place, place))
+    return read_listing(text_of(*lines))
+
+
+class Words(unittest.TestCase):
+    def test_what_a_replica_answers(self):
+        for verdict, mark, words in ANSWERED:
+            run = read_listing(text_of(INJECTED, reply(verdict)))
+            told = f"54 bytes injected as c1, act 1.1 round 1: {words}; sends 1"
+            self.assertEqual((mark, told), (mark_of(run.event(1), run), words_of(run.event(1), run)))
+
+    def test_what_a_client_does(self):
+        run = read_listing(text_of(*SHORT))
+        self.assertEqual(["call", "refused", "end"], [mark_of(event, run) for event in run.events])
+        self.assertEqual("call 1.1 add 0 5; sends 1", words_of(run.event(1), run))
+        self.assertEqual("letter 2 of r0, 1.1 round 1: thin 0; ends 1.1 given up", words_of(run.event(3), run))
+        second = ASKED.replace("letter 1", "letter 3").replace("round 1", "round 2")
+        run = read_listing(text_of(*SHORT[:4], "event 3 deliver 2 to client 1", second))
+        self.assertEqual("step", mark_of(run.event(3), run))
+        self.assertEqual("letter 2 of r0, 1.1 round 1: thin 0; round 2 sends 3", words_of(run.event(3), run))
+
+    def test_what_is_ignored_or_gets_no_answer(self):
+        run = read_listing(text_of(OPENING, ASKED, DELIVERED, "event 3 deliver 1 to replica 0, ignored",
+                                   "event 4 inject 0 bytes to replica 0, ignored"))
+        self.assertEqual(["silent", "ignored", "ignored"], [mark_of(event, run) for event in run.events[1:]])
+        self.assertEqual("letter 1 of c1, act 1.1 round 1: no answer", words_of(run.event(2), run))
+        self.assertEqual("letter 1 of c1 again, ignored", words_of(run.event(3), run))
+        self.assertEqual("0 bytes injected, ignored", words_of(run.event(4), run))
+
+
+class Cuts(unittest.TestCase):
+    def shown(self, **bounds):
+        part = shown(read_listing(text_of(*SHORT)), Cut(**bounds), set())
+        return ([party.short for party in part.parties], [event.number for event in part.events],
+                [letter.number for letter in part.letters])
+
+    def test_all_is_shown_without_bounds(self):
+        self.assertEqual((["c1", "r0"], [1, 2, 3], [1, 2]), self.shown())
+
+    def test_bounds(self):
+        self.assertEqual((["c1", "r0"], [2, 3], [1, 2]), self.shown(events=(2, 9)))
+        self.assertEqual((["r0"], [2], []), self.shown(parties=("r0",)))
+        self.assertEqual((["c1", "r0"], [1, 2], [1]), self.shown(letters=(1, 1)))
+        self.assertEqual((["c1", "r0"], [2], [1]), self.shown(letters=(1, 1), events=(2, 3)))
+
+    def test_faulty_parties_have_lines_though_nothing_happens_there(self):
+        part = shown(read_listing(text_of(*SHORT)), Cut(), {Party("replica", 5)})
+        self.assertEqual(["c1", "r0", "r5"], [party.short for party in part.parties])
+
+    def test_bounds_that_do_not_fit_the_run(self):
+        for bounds in ({"parties": ("r9",)}, {"events": (4, 9)}, {"letters": (3, 9)}):
+            with self.assertRaises(WrongWords):
+                self.shown(**bounds)
+
+    def test_400_events_are_drawn_and_401_are_not(self):
+        lines = [OPENING, ASKED] + [f"event {number} deliver 1 to replica 0" for number in range(2, 402)]
+        run = read_listing(text_of(*lines))
+        self.assertEqual(400, len(shown(run, Cut(events=(2, 401)), set()).events))
+        with self.assertRaises(Malformed) as refused:
+            shown(run, Cut(), set())
+        self.assertTrue(str(refused.exception).startswith("line 402: too many events, 401; "), str(refused.exception))
+
+
+class Points(unittest.TestCase):
+    DONE = "done 5, object 0 at time 1 of client 1"
+
+    def points(self, run, *lines):
+        report = read_report(text_of(HEAD, *lines), "report", run)
+        return [(point.operation, point.first, point.last) for point in points_of(run, report)]
+
+    def update(self, *verdicts):
+        return self.points(update_run(*verdicts), "call 1.1 add 0 5", "point 1.1", "open 1.1", HOLD, END)
+
+    def test_an_update_takes_effect_where_the_fourth_replica_accepts(self):
+        self.assertEqual([("1.1", 5, 5)], self.update(*[self.DONE] * 5))
+        self.assertEqual([("1.1", 6, 6)], self.update("thin 0", *[self.DONE] * 4))
+
+    def test_where_the_listing_does_not_show_the_event_it_is_between_its_neighbours(self):
+        self.assertEqual([("1.1", 2, 5)], self.update(*[self.DONE] * 3, "thin 0"))
+        self.assertEqual([("1.1", 2, 5)], self.update(self.DONE + ", culled object 0 of replica 5", *[self.DONE] * 3))
+        self.assertEqual([("1.1", 2, 6)], self.update(self.DONE, "mended 0 at barrier 2 of client 2", *[self.DONE] * 3))
+
+    def test_a_repair_before_the_update_leaves_its_event_known(self):
+        self.assertEqual([("1.1", 6, 6)], self.update("mended 0 at barrier 2 of client 2", *[self.DONE] * 4))
+
+    def test_a_query_takes_effect_at_the_first_answer_of_its_last_round(self):
+        lines = [OPENING.replace("add 0 5", "read 0"), ASKED.replace("act", "query"), DELIVERED,
+                 THIN.replace("thin 0", "told 0, object 0 at opening"), ENDED.replace("given up", "with 0")]
+        run = read_listing(text_of(*lines))
+        told = ["call 1.1 read 0", "point 1.1", "reply 1.1 0", HOLD, END]
+        self.assertEqual([("1.1", 2, 2)], self.points(run, *told))
+
+    def test_a_point_of_a_faulty_client_is_between_its_neighbours(self):
+        run = update_run(*[self.DONE] * 4)
+        self.assertEqual([("2.1", 2, 5)], self.points(run, "call 1.1 add 0 5", "point 2.1 faulty add 0 7", HOLD))
+
+    def test_a_premise_that_fails_is_told_of_its_events(self):
+        run = read_listing(text_of(*SHORT))
+        told = ["call 1.1 add 0 5", "gaveup 1.1"]
+        report = read_report(text_of(HEAD, *told, "premises collide 2 3"), "report", run)
+        self.assertEqual({2: "premises collide", 3: "premises collide"}, report.broken)
+        self.assertEqual({2: "premises forged"}, read_report(text_of(HEAD, *told, "premises forged 2"), "", run).broken)
+
+    def test_reports_that_are_malformed_or_of_another_run(self):
+        run = read_listing(text_of(*SHORT))
+        for number, lines in ((1, []), (1, ["bounds"]), (2, [HEAD, "call 1.1 add 0 6"]), (2, [HEAD, "hello"]),
+                              (3, [HEAD, "call 1.1 add 0 5", "reply 1.1 5"]), (2, [HEAD, "call 1.1 add 0 5"])):
+            with self.assertRaises(Malformed) as refused:
+                read_report(text_of(*lines), "name", run)
+            self.assertTrue(str(refused.exception).startswith(f"name: line {number}: "), str(refused.exception))
+
+    def test_faulty_parties_of_a_script(self):
+        called = "inject replica 0 " + "0" * 5000
+        named = read_faulty(text_of(*SETUP, "faulty replica 5", "faulty client 002", called), "script")
+        self.assertEqual({Party("replica", 5), Party("client", 2)}, named)
+        for number, lines in ((1, []), (2, ["bounds 1"]), (1, ["bounds 4", *SETUP[1:]]), (4, [*SETUP[:3], "flow"])):
+            with self.assertRaises(Malformed) as refused:
+                read_faulty(text_of(*lines), "script")
+            self.assertIn(f"line {number}: unknown line", str(refused.exception))
+
+
+if __name__ == "__main__":
+    unittest.main()
