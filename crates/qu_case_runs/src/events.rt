@@ -158,7 +158,8 @@ fn make_all(
             let event = Event::Inject(*to, text.copy(alloc)?);
             Ok(make(alloc, world, event, out)?)
         }
-        Line::Flow(_) => Err(NoAnswer::Flow),
+        // Replicas are held and letters lost for flows alone.
+        Line::Flow(_) | Line::Hold(_) | Line::Free(_) | Line::Lose => Err(NoAnswer::Flow),
         Line::Fake(..) => Err(NoAnswer::Made),
     }
 }

@@ -55,6 +55,9 @@ fn line_at(script: &Script, place: usize) -> Option<(u64, u8)> {
         Line::Flow(None) => 2,
         Line::Deliver(_) => 3,
         Line::Flow(Some(2)) => 4,
+        Line::Hold(_) => 5,
+        Line::Free(_) => 6,
+        Line::Lose => 7,
         _ => 0,
     };
     Some((*number, which))
@@ -73,6 +76,46 @@ fn are_lines(script: &Script) -> Result<(), Fail> {
 #[test]
 fn lines_are_read(rt: HostRuntime) -> Result<(), Fail> {
     are_lines(&script(rt.alloc(), LINES)?.copy(rt.alloc())?)
+}
+
+const OUTAGE: &str = "hold 5 0\nfree 0\nlose";
+
+fn are_outage_lines(script: &Script) -> Result<(), Fail> {
+    holds(script.lines.len() == 3, "three lines")?;
+    holds(line_at(script, 0) == Some((5, 5)), "two are held")?;
+    holds(line_at(script, 1) == Some((6, 6)), "one is freed")?;
+    holds(line_at(script, 2) == Some((7, 7)), "letters are lost")
+}
+
+#[test]
+fn outages_are_read(rt: HostRuntime) -> Result<(), Fail> {
+    are_outage_lines(&script(rt.alloc(), OUTAGE)?.copy(rt.alloc())?)
+}
+
+#[test]
+fn a_replica_that_is_not_there_is_not_held(rt: HostRuntime) -> Result<(), Fail> {
+    let fail = read(rt.alloc(), "hold 5\nhold 0 6")?.err();
+    holds(
+        fail == Some(bad(6, BadKind::UnknownLine)),
+        "the second line",
+    )
+}
+
+#[test]
+fn no_letter_is_named_as_lost(rt: HostRuntime) -> Result<(), Fail> {
+    let fail = read(rt.alloc(), "lose 1")?.err();
+    holds(fail == Some(bad(5, BadKind::UnknownLine)), "the line")
+}
+
+/// The call, and five letters to replicas that are not held, with their answers. The letter to the held replica is
+/// lost, and none is sent upon it.
+#[test]
+fn a_cut_off_replica_gets_nothing(rt: HostRuntime) -> Result<(), Fail> {
+    let trace = trace(
+        rt.alloc(),
+        "hold 5\ncall 1 read 0\nflow\nlose\nfree 5\nflow",
+    )?;
+    holds(trace.entries.len() == 11, "11 events")
 }
 
 /// The call and two round trips to six replicas, two letters once more, and the answers to these.

@@ -6,5 +6,4 @@ pub mod LiarFacts
 pub mod ScriptFacts
 pub mod LetterFacts
 pub mod FarFacts
-pub mod WaitingFacts
 pub mod RunFacts

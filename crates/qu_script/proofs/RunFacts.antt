@@ -2,13 +2,12 @@
 use Rattle.std.proofs.Common.{◌≡◌, ℕ, zero, suc, ◌+◌, ◌<◌, ◌≤◌, List, length, get_or, drop, Option, None, Some, Result, Ok, Err, refl, sym, ap, subst, ◌∙◌}
 use Rattle.std.proofs.lemmas.List.{at_drop_more, at_drop_all}
 use Rattle.qu_trace.specs.declared.event.Event.TheVariants as event
-use Rattle.qu_world.specs.State.{WorldState}
 use Rattle.qu_script.specs.declared.bad.Bad.{Bad}
 use Rattle.qu_script.specs.declared.bad.ScriptFail.{ScriptFail}
 use Rattle.qu_script.specs.declared.bad.ScriptFail.TheVariants as fails
 use Rattle.qu_script.specs.declared.line.Line.{Line}
 use Rattle.qu_script.specs.Script.{then_good, Fails}
-use Rattle.qu_script.specs.Events.{MakesWorld, event_made, deliveries_made, if_waiting, lowest_waiting, flow_made, line_made, lines_made}
+use Rattle.qu_script.specs.Events.{Playing, MakesPlay, event_made, deliveries_made, if_waiting, lowest_waiting, flow_made, line_made, lines_made}
 
 -- ---- fails
 
@@ -22,119 +21,119 @@ fails_as : {X : Type 0} (fail : ScriptFail) (meant same : Result X Bad) → mean
     → Fails fail same
 fails_as fail meant same is here = subst (λ (it : Result _ Bad). Fails fail it) is here
 
-pub fails_with : (result : Result (Unit {0}) ScriptFail) (fail : ScriptFail) (world : WorldState)
-    (meant : Result WorldState Bad) → result ≡ Err fail → Fails fail meant → MakesWorld result world meant
-fails_with result fail world meant is here =
-    subst (λ (it : Result (Unit {0}) ScriptFail). MakesWorld it world meant) (sym is) here
+pub fails_with : (result : Result (Unit {0}) ScriptFail) (fail : ScriptFail) (playing : Playing)
+    (meant : Result Playing Bad) → result ≡ Err fail → Fails fail meant → MakesPlay result playing meant
+fails_with result fail playing meant is here =
+    subst (λ (it : Result (Unit {0}) ScriptFail). MakesPlay it playing meant) (sym is) here
 
 -- ---- deliveries
 
-deliveries_step : (number : ℕ) (world : WorldState) (letters : List ℕ) (index : ℕ) → index < length letters
-    → deliveries_made number world (drop index letters)
-    ≡ then_good (event_made number world (event.Deliver (get_or letters index 0)))
+deliveries_step : (number : ℕ) (playing : Playing) (letters : List ℕ) (index : ℕ) → index < length letters
+    → deliveries_made number playing (drop index letters)
+    ≡ then_good (event_made number playing (event.Deliver (get_or letters index 0)))
     (λ after. deliveries_made number after (drop (index + 1) letters))
 unfolding deliveries_made
-deliveries_step number world letters index below = at_drop_more (deliveries_made number world) letters index 0 below
+deliveries_step number playing letters index below = at_drop_more (deliveries_made number playing) letters index 0 below
 
-pub deliveries_more : (number : ℕ) (world after : WorldState) (letters : List ℕ) (index : ℕ) → index < length letters
-    → event_made number world (event.Deliver (get_or letters index 0)) ≡ Ok after
-    → deliveries_made number after (drop (index + 1) letters) ≡ deliveries_made number world (drop index letters)
-deliveries_more number world after letters index below made =
-    sym (deliveries_step number world letters index below
-    ∙ ap (λ (it : Result WorldState Bad). then_good it
+pub deliveries_more : (number : ℕ) (playing after : Playing) (letters : List ℕ) (index : ℕ) → index < length letters
+    → event_made number playing (event.Deliver (get_or letters index 0)) ≡ Ok after
+    → deliveries_made number after (drop (index + 1) letters) ≡ deliveries_made number playing (drop index letters)
+deliveries_more number playing after letters index below made =
+    sym (deliveries_step number playing letters index below
+    ∙ ap (λ (it : Result Playing Bad). then_good it
     (λ after. deliveries_made number after (drop (index + 1) letters))) made)
 
-pub deliveries_stop : (number : ℕ) (world : WorldState) (letters : List ℕ) (index : ℕ) (fail : ScriptFail)
-    (meant : Result WorldState Bad) → index < length letters
-    → deliveries_made number world (drop index letters) ≡ meant
-    → Fails fail (event_made number world (event.Deliver (get_or letters index 0))) → Fails fail meant
-deliveries_stop number world letters index fail meant below is here =
-    fails_as fail _ meant (sym (deliveries_step number world letters index below) ∙ is)
-    (fails_then fail (event_made number world (event.Deliver (get_or letters index 0)))
+pub deliveries_stop : (number : ℕ) (playing : Playing) (letters : List ℕ) (index : ℕ) (fail : ScriptFail)
+    (meant : Result Playing Bad) → index < length letters
+    → deliveries_made number playing (drop index letters) ≡ meant
+    → Fails fail (event_made number playing (event.Deliver (get_or letters index 0))) → Fails fail meant
+deliveries_stop number playing letters index fail meant below is here =
+    fails_as fail _ meant (sym (deliveries_step number playing letters index below) ∙ is)
+    (fails_then fail (event_made number playing (event.Deliver (get_or letters index 0)))
     (λ after. deliveries_made number after (drop (index + 1) letters)) here)
 
-pub deliveries_end : (number : ℕ) (world : WorldState) (letters : List ℕ) (index : ℕ) → length letters ≤ index
-    → deliveries_made number world (drop index letters) ≡ Ok world
+pub deliveries_end : (number : ℕ) (playing : Playing) (letters : List ℕ) (index : ℕ) → length letters ≤ index
+    → deliveries_made number playing (drop index letters) ≡ Ok playing
 unfolding deliveries_made
-deliveries_end number world letters index past = at_drop_all (deliveries_made number world) letters index past
+deliveries_end number playing letters index past = at_drop_all (deliveries_made number playing) letters index past
 
 -- ---- flow
 
-flow_step : (number left : ℕ) (world : WorldState) → flow_made number (suc left) world
-    ≡ if_waiting world (lowest_waiting world)
-    (λ letter. then_good (event_made number world (event.Deliver letter)) (λ after. flow_made number left after))
+flow_step : (number left : ℕ) (playing : Playing) → flow_made number (suc left) playing
+    ≡ if_waiting playing (lowest_waiting playing)
+    (λ letter. then_good (event_made number playing (event.Deliver letter)) (λ after. flow_made number left after))
 unfolding flow_made
-flow_step number left world = refl
+flow_step number left playing = refl
 
-flow_delivers : (number left letter : ℕ) (world : WorldState) → lowest_waiting world ≡ Some letter
-    → flow_made number (suc left) world ≡ then_good (event_made number world (event.Deliver letter))
+flow_delivers : (number left letter : ℕ) (playing : Playing) → lowest_waiting playing ≡ Some letter
+    → flow_made number (suc left) playing ≡ then_good (event_made number playing (event.Deliver letter))
     (λ after. flow_made number left after)
-flow_delivers number left letter world is =
-    flow_step number left world
-    ∙ ap (λ (it : Option ℕ). if_waiting world it
-    (λ letter. then_good (event_made number world (event.Deliver letter)) (λ after. flow_made number left after))) is
+flow_delivers number left letter playing is =
+    flow_step number left playing
+    ∙ ap (λ (it : Option ℕ). if_waiting playing it
+    (λ letter. then_good (event_made number playing (event.Deliver letter)) (λ after. flow_made number left after))) is
 
-pub flow_more : (number left count letter : ℕ) (world after : WorldState) → count ≡ suc left
-    → lowest_waiting world ≡ Some letter
-    → event_made number world (event.Deliver letter) ≡ Ok after → flow_made number left after ≡ flow_made number
-    count world
-flow_more number left count letter world after is waits made =
-    sym (ap (λ (it : ℕ). flow_made number it world) is
-    ∙ flow_delivers number left letter world waits
-    ∙ ap (λ (it : Result WorldState Bad). then_good it (λ after. flow_made number left after)) made)
+pub flow_more : (number left count letter : ℕ) (playing after : Playing) → count ≡ suc left
+    → lowest_waiting playing ≡ Some letter
+    → event_made number playing (event.Deliver letter) ≡ Ok after → flow_made number left after ≡ flow_made number
+    count playing
+flow_more number left count letter playing after is waits made =
+    sym (ap (λ (it : ℕ). flow_made number it playing) is
+    ∙ flow_delivers number left letter playing waits
+    ∙ ap (λ (it : Result Playing Bad). then_good it (λ after. flow_made number left after)) made)
 
-pub flow_stop : (number left count letter : ℕ) (world : WorldState) (fail : ScriptFail)
-    (meant : Result WorldState Bad) → count ≡ suc left → lowest_waiting world ≡ Some letter
-    → flow_made number count world ≡ meant → Fails fail (event_made number world (event.Deliver letter))
+pub flow_stop : (number left count letter : ℕ) (playing : Playing) (fail : ScriptFail)
+    (meant : Result Playing Bad) → count ≡ suc left → lowest_waiting playing ≡ Some letter
+    → flow_made number count playing ≡ meant → Fails fail (event_made number playing (event.Deliver letter))
     → Fails fail meant
-flow_stop number left count letter world fail meant is waits same here =
-    fails_as fail _ meant (sym (flow_delivers number left letter world waits)
-    ∙ ap (λ (it : ℕ). flow_made number it world) (sym is) ∙ same)
-    (fails_then fail (event_made number world (event.Deliver letter)) (λ after. flow_made number left after) here)
+flow_stop number left count letter playing fail meant is waits same here =
+    fails_as fail _ meant (sym (flow_delivers number left letter playing waits)
+    ∙ ap (λ (it : ℕ). flow_made number it playing) (sym is) ∙ same)
+    (fails_then fail (event_made number playing (event.Deliver letter)) (λ after. flow_made number left after) here)
 
-pub flow_rests : (number count : ℕ) (world : WorldState) → lowest_waiting world ≡ None
-    → flow_made number count world ≡ Ok world
+pub flow_rests : (number count : ℕ) (playing : Playing) → lowest_waiting playing ≡ None
+    → flow_made number count playing ≡ Ok playing
 unfolding flow_made
-flow_rests number zero world none = refl
-flow_rests number (suc left) world none =
-    ap (λ (it : Option ℕ). if_waiting world it
-    (λ letter. then_good (event_made number world (event.Deliver letter))
+flow_rests number zero playing none = refl
+flow_rests number (suc left) playing none =
+    ap (λ (it : Option ℕ). if_waiting playing it
+    (λ letter. then_good (event_made number playing (event.Deliver letter))
     (λ after. flow_made number left after))) none
 
-pub flow_end : (number count : ℕ) (world : WorldState) → count ≡ 0 → flow_made number count world ≡ Ok world
+pub flow_end : (number count : ℕ) (playing : Playing) → count ≡ 0 → flow_made number count playing ≡ Ok playing
 unfolding flow_made
-flow_end number count world is = ap (λ (it : ℕ). flow_made number it world) is
+flow_end number count playing is = ap (λ (it : ℕ). flow_made number it playing) is
 
 -- ---- lines
 
-lines_step : (world : WorldState) (lines : List (ℕ × Line)) (index : ℕ) (default : ℕ × Line) → index < length lines
-    → lines_made world (drop index lines)
-    ≡ then_good (line_made (get_or lines index default).0 world (get_or lines index default).1)
+lines_step : (playing : Playing) (lines : List (ℕ × Line)) (index : ℕ) (default : ℕ × Line) → index < length lines
+    → lines_made playing (drop index lines)
+    ≡ then_good (line_made (get_or lines index default).0 playing (get_or lines index default).1)
     (λ after. lines_made after (drop (index + 1) lines))
 unfolding lines_made
-lines_step world lines index default below = at_drop_more (lines_made world) lines index default below
+lines_step playing lines index default below = at_drop_more (lines_made playing) lines index default below
 
-pub lines_more : (world after : WorldState) (lines : List (ℕ × Line)) (index : ℕ) (line : ℕ × Line)
+pub lines_more : (playing after : Playing) (lines : List (ℕ × Line)) (index : ℕ) (line : ℕ × Line)
     → index < length lines → line ≡ get_or lines index line
-    → line_made line.0 world line.1 ≡ Ok after → lines_made after (drop (index + 1) lines) ≡ lines_made world
+    → line_made line.0 playing line.1 ≡ Ok after → lines_made after (drop (index + 1) lines) ≡ lines_made playing
     (drop index lines)
-lines_more world after lines index line below is made =
-    sym (lines_step world lines index line below
-    ∙ ap (λ (it : ℕ × Line). then_good (line_made it.0 world it.1)
+lines_more playing after lines index line below is made =
+    sym (lines_step playing lines index line below
+    ∙ ap (λ (it : ℕ × Line). then_good (line_made it.0 playing it.1)
     (λ after. lines_made after (drop (index + 1) lines))) (sym is)
-    ∙ ap (λ (it : Result WorldState Bad). then_good it (λ after. lines_made after (drop (index + 1) lines))) made)
+    ∙ ap (λ (it : Result Playing Bad). then_good it (λ after. lines_made after (drop (index + 1) lines))) made)
 
-pub lines_stop : (world : WorldState) (lines : List (ℕ × Line)) (index : ℕ) (line : ℕ × Line) (fail : ScriptFail)
-    (meant : Result WorldState Bad) → index < length lines → line ≡ get_or lines index line
-    → lines_made world (drop index lines) ≡ meant → Fails fail (line_made line.0 world line.1) → Fails fail meant
-lines_stop world lines index line fail meant below is same here =
+pub lines_stop : (playing : Playing) (lines : List (ℕ × Line)) (index : ℕ) (line : ℕ × Line) (fail : ScriptFail)
+    (meant : Result Playing Bad) → index < length lines → line ≡ get_or lines index line
+    → lines_made playing (drop index lines) ≡ meant → Fails fail (line_made line.0 playing line.1) → Fails fail meant
+lines_stop playing lines index line fail meant below is same here =
     fails_as fail _ meant
-    (sym (lines_step world lines index line below
-    ∙ ap (λ (it : ℕ × Line). then_good (line_made it.0 world it.1)
+    (sym (lines_step playing lines index line below
+    ∙ ap (λ (it : ℕ × Line). then_good (line_made it.0 playing it.1)
     (λ after. lines_made after (drop (index + 1) lines))) (sym is)) ∙ same)
-    (fails_then fail (line_made line.0 world line.1) (λ after. lines_made after (drop (index + 1) lines)) here)
+    (fails_then fail (line_made line.0 playing line.1) (λ after. lines_made after (drop (index + 1) lines)) here)
 
-pub lines_end : (world : WorldState) (lines : List (ℕ × Line)) (index : ℕ) → length lines ≤ index
-    → lines_made world (drop index lines) ≡ Ok world
+pub lines_end : (playing : Playing) (lines : List (ℕ × Line)) (index : ℕ) → length lines ≤ index
+    → lines_made playing (drop index lines) ≡ Ok playing
 unfolding lines_made
-lines_end world lines index past = at_drop_all (lines_made world) lines index past
+lines_end playing lines index past = at_drop_all (lines_made playing) lines index past

@@ -1,20 +1,22 @@
 -- The run that a script describes: the fold of its lines, each of which is some events in the world
 -- in which it stands, or the first line that cannot be.
-use Rattle.std.specs.Prelude.{◌≡◌, ◌≤◌, ◌<◌, ℕ, zero, suc, ◌+◌, ◌==◌, ◌||◌, Bool, true, false, if◌then◌else◌, List, [], ◌∷◌, length, Option, None, Some, Result, Ok, Err}
-use Rattle.std.specs.List.{list_any}
+use Rattle.std.specs.Prelude.{◌≡◌, ℕ, zero, suc, ◌+◌, Bool, true, false, List, [], ◌∷◌, length, Option, None, Some, Result, Ok, Err}
+use Rattle.qu_base.specs.Bounds.{replicas}
 use Rattle.qu_base.specs.declared.party.ClientId.{ClientId}
 use Rattle.qu_base.specs.declared.party.Party.TheVariants as party
+use Rattle.qu_base.specs.declared.party.ReplicaId.{ReplicaId}
+use Rattle.qu_flow.specs.Outage.{OutageState, no_outage, with_marks}
+use Rattle.qu_flow.specs.Waiting.{waiting_from}
 use Rattle.qu_trace.specs.declared.event.Event.{Event}
 use Rattle.qu_trace.specs.declared.event.Event.TheVariants as event
-use Rattle.qu_trace.specs.declared.trace.Entry.{Entry}
 use Rattle.qu_trace.specs.declared.trace.Setup.{Setup}
 use Rattle.qu_trace.specs.declared.trace.Trace.{Trace}
 use Rattle.qu_trace.specs.Letters.{letters_of}
 use Rattle.qu_world.specs.declared.fail.WorldFail.{WorldFail}
 use Rattle.qu_world.specs.declared.fail.WorldFail.TheVariants as fail
 use Rattle.qu_world.specs.declared.fail.TheConstants.{EVENT_LIMIT}
-use Rattle.qu_world.specs.State.{WorldState, numbered, opening_world}
-use Rattle.qu_world.specs.Step.{world_step, is_to_faulty}
+use Rattle.qu_world.specs.State.{WorldState, opening_world}
+use Rattle.qu_world.specs.Step.{world_step}
 use Rattle.qu_world.specs.Refusals.{refusal_of}
 use Rattle.qu_world.specs.Run.{trace_of}
 use Rattle.qu_script.specs.declared.bad.Bad.{Bad}
@@ -22,10 +24,33 @@ use Rattle.qu_script.specs.declared.bad.BadKind.{BadKind}
 use Rattle.qu_script.specs.declared.bad.BadKind.TheVariants as kind
 use Rattle.qu_script.specs.declared.bad.ScriptFail.{ScriptFail}
 use Rattle.qu_script.specs.declared.line.Line.{Line}
-use Rattle.qu_script.specs.declared.line.Line.TheVariants.{Call, Deliver, Flow, Inject, Fake}
+use Rattle.qu_script.specs.declared.line.Line.TheVariants.{Call, Deliver, Flow, Hold, Free, Lose, Inject, Fake}
 use Rattle.qu_script.specs.declared.line.Script.{Script}
 use Rattle.qu_script.specs.Fake.{fake_of}
 use Rattle.qu_script.specs.Script.{then_good, script_of, Fails}
+
+-- ---- where a script stands
+
+pub record Playing : Type 0 where
+  pub world : WorldState
+  pub outage : OutageState
+
+abbrev pub playing_of : WorldState → OutageState → Playing
+playing_of world outage = record { world = world; outage = outage }
+
+-- nothing happened yet
+abbrev pub opening_play : Setup → Playing
+opening_play setup = playing_of (opening_world setup) (no_outage (replicas setup.bounds))
+
+-- the marks of these replicas are set, or cleared
+abbrev pub replicas_marked : Bool → Playing → List ReplicaId → Playing
+replicas_marked mark playing held = playing_of playing.world
+    (record { held = with_marks mark playing.outage.held held; lost = playing.outage.lost })
+
+-- of the letters that were sent so far, those that no event delivered are lost
+abbrev pub letters_lost : Playing → Playing
+letters_lost playing = playing_of playing.world
+    (record { held = playing.outage.held; lost = length (letters_of playing.world.entries) })
 
 -- ---- one event
 
@@ -39,59 +64,40 @@ kind_of fail.TooManyEvents = kind.TooManyEvents
 kind_of fail.TooManyBytes = kind.TooManyBytes
 kind_of fail.NoMemory = kind.UnknownLine
 
-abbrev pub unless_refused : ℕ → Option WorldFail → WorldState → Result WorldState Bad
-unless_refused number None world = Ok world
-unless_refused number (Some fail) world = Err (record { line = number; kind = kind_of fail })
+abbrev pub unless_refused : ℕ → Option WorldFail → Playing → Result Playing Bad
+unless_refused number None playing = Ok playing
+unless_refused number (Some fail) playing = Err (record { line = number; kind = kind_of fail })
 
--- the world after an event of the line with this number
-abbrev pub event_made : ℕ → WorldState → Event → Result WorldState Bad
-event_made number world event = unless_refused number (refusal_of world event) (world_step world event)
+-- an event of the line with this number happens
+abbrev pub event_made : ℕ → Playing → Event → Result Playing Bad
+event_made number playing event = unless_refused number (refusal_of playing.world event)
+    (playing_of (world_step playing.world event) playing.outage)
 
 -- ---- deliveries
 
 -- each of these letters is delivered, in this order
-unfoldable pub deliveries_made : ℕ → WorldState → List ℕ → Result WorldState Bad
-deliveries_made number world [] = Ok world
-deliveries_made number world (letter ∷ letters) =
-    then_good (event_made number world (event.Deliver letter)) (λ after. deliveries_made number after letters)
+unfoldable pub deliveries_made : ℕ → Playing → List ℕ → Result Playing Bad
+deliveries_made number playing [] = Ok playing
+deliveries_made number playing (letter ∷ letters) =
+    then_good (event_made number playing (event.Deliver letter)) (λ after. deliveries_made number after letters)
 
 -- ---- flow
 
-abbrev pub delivers : ℕ → Event → Bool
-delivers letter (event.Invoke client op) = false
-delivers letter (event.Deliver number) = number == letter
-delivers letter (event.Tick client) = false
-delivers letter (event.Inject party text) = false
-
--- an event has delivered the letter
-unfoldable pub is_delivered : List Entry → ℕ → Bool
-is_delivered entries letter = list_any (λ entry. delivers letter entry.event) entries
-
--- flow takes no letter to a faulty party, and none that an event has delivered
-abbrev pub is_passed_over : Setup → List Entry → ℕ → Bool
-is_passed_over setup entries letter =
-    is_to_faulty setup (numbered (letters_of entries) letter) || is_delivered entries letter
-
--- the lowest of so many letters, from this one on, that flow takes
-unfoldable pub waiting_from : Setup → List Entry → ℕ → ℕ → Option ℕ
-waiting_from setup entries letter zero = None
-waiting_from setup entries letter (suc count) =
-    if is_passed_over setup entries letter then waiting_from setup entries (letter + 1) count else Some letter
-
 -- the lowest letter that flow takes
-abbrev pub lowest_waiting : WorldState → Option ℕ
-lowest_waiting world = waiting_from world.setup world.entries 1 (length (letters_of world.entries))
+abbrev pub lowest_waiting : Playing → Option ℕ
+lowest_waiting playing = waiting_from playing.world.setup playing.world.entries playing.outage 1
+    (length (letters_of playing.world.entries))
 
-abbrev pub if_waiting : WorldState → Option ℕ → (ℕ → Result WorldState Bad) → Result WorldState Bad
-if_waiting world None deliver = Ok world
-if_waiting world (Some letter) deliver = deliver letter
+abbrev pub if_waiting : Playing → Option ℕ → (ℕ → Result Playing Bad) → Result Playing Bad
+if_waiting playing None deliver = Ok playing
+if_waiting playing (Some letter) deliver = deliver letter
 
 -- the lowest letter that waits is delivered, again and again: so many times at most
-unfoldable pub flow_made : ℕ → ℕ → WorldState → Result WorldState Bad
-flow_made number zero world = Ok world
-flow_made number (suc count) world =
-    if_waiting world (lowest_waiting world) (λ letter.
-    then_good (event_made number world (event.Deliver letter)) (λ after. flow_made number count after))
+unfoldable pub flow_made : ℕ → ℕ → Playing → Result Playing Bad
+flow_made number zero playing = Ok playing
+flow_made number (suc count) playing =
+    if_waiting playing (lowest_waiting playing) (λ letter.
+    then_good (event_made number playing (event.Deliver letter)) (λ after. flow_made number count after))
 
 -- how many deliveries a flow makes at most; one more than a run may have events is no limit
 abbrev pub flow_count : Option ℕ → ℕ
@@ -101,29 +107,34 @@ flow_count (Some count) = count
 -- ---- bytes that are injected
 
 -- the bytes of a made reply reach the client, if there are any
-abbrev pub fake_made : ℕ → WorldState → ClientId → Option (List ℕ) → Result WorldState Bad
-fake_made number world client None = Err (record { line = number; kind = kind.NoRequest })
-fake_made number world client (Some text) = event_made number world (event.Inject (party.Client client) text)
+abbrev pub fake_made : ℕ → Playing → ClientId → Option (List ℕ) → Result Playing Bad
+fake_made number playing client None = Err (record { line = number; kind = kind.NoRequest })
+fake_made number playing client (Some text) = event_made number playing (event.Inject (party.Client client) text)
 
 -- ---- lines
 
-abbrev pub line_made : ℕ → WorldState → Line → Result WorldState Bad
-line_made number world (Call client op) = event_made number world (event.Invoke client op)
-line_made number world (Deliver letters) = deliveries_made number world letters
-line_made number world (Flow count) = flow_made number (flow_count count) world
-line_made number world (Inject who text) = event_made number world (event.Inject who text)
-line_made number world (Fake me client how good) = fake_made number world client (fake_of world me client how good)
+abbrev pub line_made : ℕ → Playing → Line → Result Playing Bad
+line_made number playing (Call client op) = event_made number playing (event.Invoke client op)
+line_made number playing (Deliver letters) = deliveries_made number playing letters
+line_made number playing (Flow count) = flow_made number (flow_count count) playing
+line_made number playing (Hold held) = Ok (replicas_marked true playing held)
+line_made number playing (Free held) = Ok (replicas_marked false playing held)
+line_made number playing Lose = Ok (letters_lost playing)
+line_made number playing (Inject who text) = event_made number playing (event.Inject who text)
+line_made number playing (Fake me client how good) =
+    fake_made number playing client (fake_of playing.world me client how good)
 
--- the world after these lines, each with its number
-unfoldable pub lines_made : WorldState → List (ℕ × Line) → Result WorldState Bad
-lines_made world [] = Ok world
-lines_made world (line ∷ lines) = then_good (line_made line.0 world line.1) (λ after. lines_made after lines)
+-- these lines are played, each with its number
+unfoldable pub lines_made : Playing → List (ℕ × Line) → Result Playing Bad
+lines_made playing [] = Ok playing
+lines_made playing (line ∷ lines) = then_good (line_made line.0 playing line.1) (λ after. lines_made after lines)
 
 -- ---- a script
 
 -- the trace of the run of a script, or the first line that cannot be
 unfoldable pub run_of : Script → Result Trace Bad
-run_of script = then_good (lines_made (opening_world script.setup) script.lines) (λ world. Ok (trace_of world))
+run_of script = then_good (lines_made (opening_play script.setup) script.lines)
+    (λ playing. Ok (trace_of playing.world))
 
 -- the trace of the run of the script that a text spells, or the line for which it is refused
 unfoldable pub sim_of : List ℕ → Result Trace Bad
@@ -131,12 +142,7 @@ sim_of bytes = then_good (script_of bytes) run_of
 
 -- ---- for the contracts of private functions
 
--- a call made the world that was meant, unless memory ran out
-abbrev pub MakesWorld : Result (Unit {0}) ScriptFail → WorldState → Result WorldState Bad → Type 0
-MakesWorld (Ok made) world meant = meant ≡ Ok world
-MakesWorld (Err fail) world meant = Fails fail meant
-
--- flow passes over every letter below this one
-abbrev pub ArePassed : Setup → List Entry → ℕ → Type 0
-ArePassed setup entries next =
-    (letter : ℕ) → 1 ≤ letter → letter < next → is_passed_over setup entries letter ≡ true
+-- a call made what was meant of where the script stood, unless memory ran out
+abbrev pub MakesPlay : Result (Unit {0}) ScriptFail → Playing → Result Playing Bad → Type 0
+MakesPlay (Ok made) playing meant = meant ≡ Ok playing
+MakesPlay (Err fail) playing meant = Fails fail meant

@@ -15,6 +15,7 @@ use Rattle.qu_script.specs.declared.line.Line.{Line}
 use Rattle.qu_script.specs.declared.line.Line.TheVariants.{Call, Deliver, Flow}
 use Rattle.qu_script.specs.declared.setup.SetupLine.{SetupLine}
 use Rattle.qu_script.specs.declared.setup.SetupLine.TheVariants.{Bounds, Seed, Clients, Object}
+use Rattle.qu_script.specs.Holding.{outage_line}
 use Rattle.qu_script.specs.Injecting.{inject_of, fake_line}
 use Rattle.qu_script.specs.Parties.{correct_client_in}
 use Rattle.qu_script.specs.Text.{number_of, number_in}
@@ -128,4 +129,4 @@ line_of_words setup (verb ∷ words) =
     else (if bytes_eq verb (codes "deliver") then deliver_of words
     else (if bytes_eq verb (codes "flow") then flow_of words
     else (if bytes_eq verb (codes "inject") then inject_of setup words
-    else (if bytes_eq verb (codes "fake") then fake_line setup words else None))))
+    else (if bytes_eq verb (codes "fake") then fake_line setup words else outage_line setup verb words))))

@@ -3,6 +3,7 @@ pub mod Read
 pub mod Parties
 pub mod Grammar
 pub mod Injecting
+pub mod Holding
 pub mod Liars
 pub mod Script
 pub mod Letters

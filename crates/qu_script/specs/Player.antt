@@ -1,12 +1,10 @@
 -- What the steps of running do, for the contracts of private functions.
-use Rattle.std.specs.Prelude.{◌≤◌, ℕ, List}
-use Rattle.qu_trace.specs.declared.trace.Entry.{Entry}
-use Rattle.qu_trace.specs.declared.trace.Setup.{Setup}
+use Rattle.std.specs.Prelude.{ℕ}
 use Rattle.qu_world.specs.declared.fail.WorldFail.{WorldFail}
 use Rattle.qu_world.specs.declared.fail.WorldFail.TheVariants as fail
 use Rattle.qu_script.specs.declared.bad.ScriptFail.{ScriptFail}
 use Rattle.qu_script.specs.declared.bad.ScriptFail.TheVariants as fails
-use Rattle.qu_script.specs.Events.{kind_of, ArePassed}
+use Rattle.qu_script.specs.Events.{kind_of}
 
 -- how a fail of the world is told of the line with this number
 abbrev pub world_fail_at : ℕ → WorldFail → ScriptFail
@@ -21,8 +19,3 @@ world_fail_at number fail.Busy = fails.Bad (record { line = number; kind = kind_
 world_fail_at number fail.TooManyEvents = fails.Bad (record { line = number; kind = kind_of fail.TooManyEvents })
 world_fail_at number fail.TooManyBytes = fails.Bad (record { line = number; kind = kind_of fail.TooManyBytes })
 world_fail_at number fail.NoMemory = fails.NoMemory
-
--- a search for a letter that waits may begin at this one
-pub record MayBeginAt (setup : Setup) (entries : List Entry) (next : ℕ) : Type 0 where
-  pub is_letter : 1 ≤ next
-  pub passed : ArePassed setup entries next

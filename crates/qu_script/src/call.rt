@@ -3,6 +3,7 @@ ghost use Rattle.qu_script.specs.Grammar.{amount_of, update_by, read_op, op_of, 
 
 use super::Line;
 use super::cut::next_word;
+use super::holding::read_outage;
 use super::injecting::{read_fake, read_inject};
 use super::numbers::{read_number_in, read_numbers, read_only_number};
 use super::parties::read_correct_client;
@@ -30,7 +31,7 @@ pub fn read_event(alloc: Global, setup: &Setup, words: &[&[u8]]) -> Result<Optio
     } else if verb == b"fake".as_slice() {
         read_fake(alloc, setup, rest)
     } else {
-        Ok(None)
+        read_outage(alloc, setup, verb, rest)
     }
 }
 

@@ -105,7 +105,7 @@ fn read_good(
 
 /// One replica or more.
 #[tactic(auto, unfolding(crate::specs::Injecting::some_replicas))]
-fn read_some_replicas(
+pub fn read_some_replicas(
     alloc: Global,
     bounds: &Bounds,
     words: &[&[u8]],

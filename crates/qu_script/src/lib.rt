@@ -6,6 +6,7 @@ mod call;
 mod cut;
 mod fake;
 mod hexadecimal;
+mod holding;
 mod injecting;
 mod letters;
 mod liars;
@@ -18,7 +19,6 @@ mod player;
 mod read;
 mod run;
 mod setup;
-mod waiting;
 
 pub use bad::{Bad, BadKind, ScriptFail};
 pub use limits::{SCRIPT_LIMIT, limits_are_these};

@@ -23,9 +23,15 @@ pub enum Line {
     Call(ClientId, Op),
     /// These letters are delivered, in this order.
     Deliver(List<u64>),
-    /// The lowest letter to a correct party that was not delivered is delivered, again and again: so
-    /// many times at most, or until there is none.
+    /// The lowest letter to a correct party that was neither delivered nor lost, and that no held replica
+    /// keeps back, is delivered, again and again: so many times at most, or until there is none.
     Flow(Option<u64>),
+    /// From now on no flow takes a letter that one of these replicas sent or is to get.
+    Hold(List<ReplicaId>),
+    /// These replicas are held no longer.
+    Free(List<ReplicaId>),
+    /// The letters that were sent so far and not delivered are lost: no flow takes them any more.
+    Lose,
     /// These bytes reach a party.
     Inject(Party, List<u8>),
     /// A reply reaches the client as the replica's, whose HMACs for these replicas are right: for
@@ -42,6 +48,9 @@ impl Line {
             Line::Call(client, op) => Line::Call(*client, op.copy(alloc)?),
             Line::Deliver(letters) => Line::Deliver(letters.copy(alloc)?),
             Line::Flow(most) => Line::Flow(*most),
+            Line::Hold(replicas) => Line::Hold(replicas.copy(alloc)?),
+            Line::Free(replicas) => Line::Free(replicas.copy(alloc)?),
+            Line::Lose => Line::Lose,
             Line::Inject(party, text) => Line::Inject(*party, text.copy(alloc)?),
             Line::Fake(replica, client, how, Some(good)) => {
                 Line::Fake(*replica, *client, *how, Some(good.copy(alloc)?))

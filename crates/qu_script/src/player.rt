@@ -1,13 +1,12 @@
 ghost use Rattle.std.specs.Prelude.{◌≡◌, IfOk};
-ghost use Rattle.qu_world.specs.State.{opening_world};
 ghost use Rattle.qu_world.specs.Run.{IsRun, IsSetup, trace_of};
-ghost use Rattle.qu_script.specs.Events.{event_made, deliveries_made, flow_made, fake_made, line_made, lines_made, lowest_waiting, MakesWorld};
+ghost use Rattle.qu_script.specs.Events.{opening_play, event_made, deliveries_made, flow_made, fake_made, line_made, lines_made, lowest_waiting, replicas_marked, letters_lost, MakesPlay};
 ghost use Rattle.qu_script.specs.Player.{world_fail_at};
 
 use super::fake::fake;
-use super::waiting::find_waiting;
 use super::{Bad, BadKind, Line, ScriptFail};
-use qu_base::{ClientId, List, NoMemory, Party};
+use qu_base::{ClientId, List, NoMemory, Party, ReplicaId};
+use qu_flow::{Outage, find_waiting, next_letter};
 use qu_trace::{Event, Setup, Trace};
 use qu_world::{EVENT_LIMIT, World, WorldFail};
 use std::alloc::Global;
@@ -17,34 +16,41 @@ use std::marker::Model;
 #[derive(Drop)]
 pub struct Player {
     world: World,
-    /// Every letter below this one was delivered, or goes to a faulty party.
+    outage: Outage,
+    /// Every letter below this one was delivered or lost, or goes to a faulty party.
     next: u64,
 }
 
 impl Model for Player {
-    ghost use Rattle.qu_world.specs.State.{WorldState};
-    ghost use Rattle.qu_script.specs.Player.{MayBeginAt};
+    ghost use Rattle.qu_script.specs.Events.{Playing, playing_of};
+    ghost use Rattle.qu_flow.specs.Waiting.{MayBeginAt};
 
-    ghost Value = { WorldState };
+    ghost Value = { Playing };
 
-    ghost view = { λ player. player.world };
+    ghost view = { λ player. playing_of player.world player.outage };
 
-    ghost invariant = { λ player. MayBeginAt player.world.setup player.world.entries player.next };
+    ghost invariant = { λ player. MayBeginAt player.world.setup player.world.entries player.outage.lost
+        player.next };
 }
 
 impl Player {
     /// A run in which nothing happened yet.
     pub fn start(alloc: Global, setup: Setup) -> Result<Player, NoMemory>
         requires { IsSetup setup }
-        ensures { IfOk result (λ player. player ≡ opening_world setup) }
+        ensures { IfOk result (λ player. player ≡ opening_play setup) }
     {
+        let outage = Outage::none(alloc, &setup.bounds)?;
         let world = World::start(alloc, setup)?;
-        Ok(Player { world, next: 1 })
+        Ok(Player {
+            world,
+            outage,
+            next: 1,
+        })
     }
 
     /// The record of all events.
     pub fn into_trace(self) -> Trace
-        ensures value { result ≡ trace_of self }
+        ensures value { result ≡ trace_of self.world }
         ensures run { IsRun result }
     {
         self.world.into_trace()
@@ -52,7 +58,7 @@ impl Player {
 
     /// Makes the events of some lines, up to the first line that cannot be.
     pub fn play(&mut self, alloc: Global, lines: &[(u64, Line)]) -> Result<(), ScriptFail>
-        ensures { MakesWorld result self.new (lines_made self.old lines.now) }
+        ensures { MakesPlay result self.new (lines_made self.old lines.now) }
     {
         for (number, line) in lines {
             self.make_line(alloc, *number, line)?;
@@ -62,7 +68,7 @@ impl Player {
 
     /// Makes the events of the line with this number.
     fn make_line(&mut self, alloc: Global, number: u64, line: &Line) -> Result<(), ScriptFail>
-        ensures { MakesWorld result self.new (line_made number self.old line.now) }
+        ensures { MakesPlay result self.new (line_made number self.old line.now) }
     {
         match line {
             Line::Call(client, op) => {
@@ -73,6 +79,15 @@ impl Player {
             Line::Flow(Some(count)) => self.flow(number, *count),
             // One event more than a run may have ends each flow.
             Line::Flow(None) => self.flow(number, EVENT_LIMIT as u64 + 1),
+            Line::Hold(replicas) => {
+                self.mark(replicas.as_slice(), true);
+                Ok(())
+            }
+            Line::Free(replicas) => {
+                self.mark(replicas.as_slice(), false);
+                Ok(())
+            }
+            Line::Lose => Ok(self.lose()?),
             Line::Inject(party, text) => {
                 let text = text.copy(alloc)?;
                 self.make_event(number, Event::Inject(*party, text))
@@ -84,6 +99,23 @@ impl Player {
         }
     }
 
+    /// Holds these replicas, or lets them free.
+    fn mark(&mut self, replicas: &[ReplicaId], mark: bool)
+        ensures { self.new ≡ replicas_marked mark self.old replicas.now }
+    {
+        self.outage.mark(replicas, mark);
+    }
+
+    /// Loses the letters that were sent so far and not delivered.
+    fn lose(&mut self) -> Result<(), NoMemory>
+        ensures { IfOk result (λ done. self.new ≡ letters_lost self.old) }
+    {
+        let next = next_letter(&self.world.sent(), self.outage.lost())?;
+        self.outage.lose(next - 1);
+        self.next = next;
+        Ok(())
+    }
+
     /// Hands a made reply to a client.
     fn hand(
         &mut self,
@@ -91,7 +123,7 @@ impl Player {
         client: ClientId,
         text: Option<List<u8>>,
     ) -> Result<(), ScriptFail>
-        ensures { MakesWorld result self.new (fake_made number self.old client text) }
+        ensures { MakesPlay result self.new (fake_made number self.old client text) }
     {
         match text {
             Some(text) => self.make_event(number, Event::Inject(Party::Client(client), text)),
@@ -104,7 +136,7 @@ impl Player {
 
     /// Delivers these letters, in this order.
     fn deliver_all(&mut self, number: u64, letters: &[u64]) -> Result<(), ScriptFail>
-        ensures { MakesWorld result self.new (deliveries_made number self.old letters.now) }
+        ensures { MakesPlay result self.new (deliveries_made number self.old letters.now) }
     {
         for letter in letters {
             self.make_event(number, Event::Deliver(*letter))?;
@@ -114,7 +146,7 @@ impl Player {
 
     /// Delivers the lowest letter that waits, again and again: so many times at most.
     fn flow(&mut self, number: u64, count: u64) -> Result<(), ScriptFail>
-        ensures { MakesWorld result self.new (flow_made number count self.old) }
+        ensures { MakesPlay result self.new (flow_made number count self.old) }
     {
         for index in 0..count {
             let Some(letter) = self.waiting()? else {
@@ -125,20 +157,20 @@ impl Player {
         Ok(())
     }
 
-    /// The lowest letter to a correct party that no event has delivered.
+    /// The lowest letter that flow takes.
     fn waiting(&mut self) -> Result<Option<u64>, NoMemory>
         ensures found { IfOk result (λ found. found ≡ lowest_waiting self.old) }
         ensures same { self.new ≡ self.old }
     {
         let setup = &self.world.trace().setup;
-        let (next, found) = find_waiting(setup, &self.world.sent(), self.next)?;
+        let (next, found) = find_waiting(setup, &self.world.sent(), &self.outage, self.next)?;
         self.next = next;
         Ok(found)
     }
 
     /// Makes one event of the line with this number.
     fn make_event(&mut self, number: u64, event: Event) -> Result<(), ScriptFail>
-        ensures { MakesWorld result self.new (event_made number self.old event) }
+        ensures { MakesPlay result self.new (event_made number self.old event) }
     {
         match self.world.apply(event) {
             Ok(()) => Ok(()),

@@ -1,4 +1,4 @@
--- The letters that are left make of the world what all of them make of the first one.
+-- The letters that are left make of the play what all of them make of the first one.
 use Rattle.std.proofs.Common.{◌≡◌, drop}
 use Rattle.qu_script.specs.Events.{deliveries_made}
 use Rattle.qu_script.proofs.player.Player.deliver_all.Given as goal

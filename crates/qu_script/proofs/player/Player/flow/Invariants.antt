@@ -1,4 +1,4 @@
--- The deliveries that are left make of the world what all of them make of the first one.
+-- The deliveries that are left make of the play what all of them make of the first one.
 use Rattle.std.proofs.Common.{◌≡◌, ◌-◌}
 use Rattle.qu_script.specs.Events.{flow_made}
 use Rattle.qu_script.proofs.player.Player.flow.Given as goal

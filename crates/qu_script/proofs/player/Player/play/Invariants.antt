@@ -1,4 +1,4 @@
--- The lines that are left make of the world what all of them make of the first one.
+-- The lines that are left make of the play what all of them make of the first one.
 use Rattle.std.proofs.Common.{◌≡◌, drop}
 use Rattle.qu_script.specs.Events.{lines_made}
 use Rattle.qu_script.proofs.player.Player.play.Given as goal

@@ -1,0 +1,2 @@
+pub mod OutageFacts
+pub mod WaitingFacts

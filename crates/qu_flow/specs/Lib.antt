@@ -1,0 +1,2 @@
+pub mod Outage
+pub mod Waiting

@@ -1,0 +1,8 @@
+//! Which letter of a run a flow delivers next, where replicas are held and letters were lost.
+#![tactic(auto)]
+
+mod outage;
+mod waiting;
+
+pub use outage::Outage;
+pub use waiting::{find_waiting, next_letter};
