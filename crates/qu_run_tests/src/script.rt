@@ -107,15 +107,14 @@ fn no_letter_is_named_as_lost(rt: HostRuntime) -> Result<(), Fail> {
     holds(fail == Some(bad(5, BadKind::UnknownLine)), "the line")
 }
 
-/// The call, and five letters to replicas that are not held, with their answers. The letter to the held replica is
-/// lost, and none is sent upon it.
+/// The call, and two round trips to the five replicas that are not held. The letters to the held one are lost.
 #[test]
 fn a_cut_off_replica_gets_nothing(rt: HostRuntime) -> Result<(), Fail> {
     let trace = trace(
         rt.alloc(),
         "hold 5\ncall 1 read 0\nflow\nlose\nfree 5\nflow",
     )?;
-    holds(trace.entries.len() == 11, "11 events")
+    holds(trace.entries.len() == 21, "21 events")
 }
 
 /// The call and two round trips to six replicas, two letters once more, and the answers to these.

@@ -44,8 +44,8 @@ opening_play setup = playing_of (opening_world setup) (no_outage (replicas setup
 
 -- the marks of these replicas are set, or cleared
 abbrev pub replicas_marked : Bool → Playing → List ReplicaId → Playing
-replicas_marked mark playing held = playing_of playing.world
-    (record { held = with_marks mark playing.outage.held held; lost = playing.outage.lost })
+replicas_marked mark playing those = playing_of playing.world
+    (record { held = with_marks mark playing.outage.held those; lost = playing.outage.lost })
 
 -- of the letters that were sent so far, those that no event delivered are lost
 abbrev pub letters_lost : Playing → Playing
@@ -117,8 +117,8 @@ abbrev pub line_made : ℕ → Playing → Line → Result Playing Bad
 line_made number playing (Call client op) = event_made number playing (event.Invoke client op)
 line_made number playing (Deliver letters) = deliveries_made number playing letters
 line_made number playing (Flow count) = flow_made number (flow_count count) playing
-line_made number playing (Hold held) = Ok (replicas_marked true playing held)
-line_made number playing (Free held) = Ok (replicas_marked false playing held)
+line_made number playing (Hold those) = Ok (replicas_marked true playing those)
+line_made number playing (Free those) = Ok (replicas_marked false playing those)
 line_made number playing Lose = Ok (letters_lost playing)
 line_made number playing (Inject who text) = event_made number playing (event.Inject who text)
 line_made number playing (Fake me client how good) =
