@@ -21,7 +21,7 @@ use Rattle.qu_frames.specs.Body.{body_of}
 use Rattle.qu_frames.specs.Decoding.{decoded}
 use Rattle.qu_frames.specs.Signing.{brought, signature, signed}
 use Rattle.qu_rows.specs.State.{ReplicaState}
-use Rattle.qu_replica.specs.Step.{replica_step, carried_out, replica_on_received}
+use Rattle.qu_replica.specs.Step.{replica_step, carried_out, replica_on_received, version_letters}
 use Rattle.qu_rows.specs.declared.decision.Decision.{Decision}
 use Rattle.qu_rows.specs.declared.decision.Decision.TheVariants.{Answers, Waits}
 use Rattle.qu_rows.specs.Rows.{asked_at, decision_on}
@@ -45,6 +45,8 @@ use Rattle.qu_runs.proofs.Fits.Carrying.{no_reply, signed_spelled}
 use Rattle.qu_known.specs.declared.answers.Answered.{Answered}
 use Rattle.qu_known.specs.Answers.{round_answered, letter_answered, rounds_told}
 use Rattle.qu_known.specs.Known.{Seen, see_letters}
+use Rattle.qu_stamp.specs.declared.stamp.Stamp.{Stamp}
+use Rattle.qu_objects.specs.declared.state.ObjState.{ObjState}
 
 -- no other letters than those of replicas answer
 abbrev pub ReplicasAnswer : List Letter → Type 0
@@ -137,11 +139,19 @@ unfolding rounds_told
 carried_out_answers state client number round sets (Answers verdict accepted) = refl
 carried_out_answers state client number round sets Waits = refl
 
+version_answers : (state : ReplicaState) (to : ReplicaId) (object : ObjectId) (stamp : Stamp)
+    (found : Option ObjState) → ReplicasAnswer (version_letters state to object stamp found)
+unfolding rounds_told
+version_answers state to object stamp None = refl
+version_answers state to object stamp (Some version) = refl
+
 received_answers : (state : ReplicaState) (found : Option Frame) → ReplicasAnswer (replica_on_received state found).1
 received_answers state None = none_tells.1
 received_answers state (Some (frame.Request client number round sets body mac)) =
     carried_out_answers state client number round sets
     (decision_on state (asked_at state client number sets body) body)
+received_answers state (Some (frame.Fetch replica object stamp mac)) =
+    version_answers state replica object stamp _
 received_answers state (Some _) = none_tells.1
 
 step_answers : (state : ReplicaState) (text : List ℕ) → ReplicasAnswer (replica_step state text).1

@@ -1,6 +1,6 @@
 -- What a replica answers shows all that its step added to its histories: a reply shows the history of the one object
 -- that may have changed, and a replica that sends none stays as it was.
-use Rattle.std.proofs.Common.{◌≡◌, ◌⊎◌, ℕ, List, [], ◌∷◌, map, Option, None, Some, inl, inr, refl, sym, ap, subst, ◌∙◌, arith, true, false, ◌==◌, ◌||◌}
+use Rattle.std.proofs.Common.{◌≡◌, ◌⊎◌, ℕ, List, [], ◌∷◌, map, Option, None, Some, inl, inr, refl, sym, ap, subst, ◌∙◌, arith, true, false, ◌==◌, ◌||◌, Result, Ok}
 use Rattle.std.proofs.lemmas.Bool.{false≢true, or_cases, eqb-true}
 use Rattle.qu_base.specs.declared.party.ClientId.{ClientId}
 use Rattle.qu_base.specs.declared.party.ObjectId.{ObjectId}
@@ -17,7 +17,7 @@ use Rattle.qu_frames.specs.declared.frame.Frame.{Frame}
 use Rattle.qu_frames.specs.declared.frame.Frame.TheVariants as frame
 use Rattle.qu_frames.specs.declared.frame.Letter.{Letter}
 use Rattle.qu_frames.specs.declared.verdict.Verdict.{Verdict}
-use Rattle.qu_frames.specs.Formats.{objects_in_sets, body_form, frame_form}
+use Rattle.qu_frames.specs.Formats.{objects_in_sets, body_form, frame_form, frame_kind}
 use Rattle.qu_frames.specs.Decoding.{decoded}
 use Rattle.qu_frames.specs.Signing.{brought, signature, with_mac}
 use Rattle.qu_frames.proofs.Decoded.{decoded_is_spelled, spelled_is_decoded}
@@ -27,7 +27,10 @@ use Rattle.qu_rows.specs.declared.decision.Decision.TheVariants.{Answers, Waits}
 use Rattle.qu_rows.specs.State.{ReplicaState, own_candidates}
 use Rattle.qu_replica.specs.State.{accept_all}
 use Rattle.qu_rows.specs.Rows.{asked_at, decision_on}
-use Rattle.qu_replica.specs.Step.{shown, named, answer_frame, reply, carried_out, replica_on_frame, replica_on_received, replica_step}
+use Rattle.qu_known.specs.Known.{Seen, see_letters, see_from, see_shown}
+use Rattle.qu_known.proofs.Happened.{none_tells}
+use Rattle.qu_runs.proofs.Fits.VersionLetters.{other_letters_each}
+use Rattle.qu_replica.specs.Step.{other_letters, shown, named, answer_frame, reply, carried_out, replica_on_frame, replica_on_received, replica_step}
 use Rattle.qu_replica.specs.Fits.{StateFits}
 use Rattle.qu_replica.proofs.Fits.FitSteps.{request-fits}
 use Rattle.qu_runs.proofs.Fits.FitParts.{fits_parts}
@@ -40,11 +43,15 @@ use Rattle.qu_known.proofs.Lengths.{reply-short}
 use Rattle.qu_claims.specs.Grounds.{AddsTo}
 use Rattle.qu_accepts.proofs.Happenings.{formed_by}
 use Rattle.qu_base.proofs.ThresholdFacts.{are_thresholds, count_has_faults}
+use Rattle.qu_base.specs.declared.party.Party.{Party}
+use Rattle.std.specs.List.{AllByRecursion}
+use Rattle.qu_base.specs.declared.bad_text.BadText.{BadText}
+use Rattle.qu_history.specs.declared.sealed.Sealed.{Sealed}
 
--- the replica stays as it is, and sends nothing
+-- the replica stays as it is, and its letters show nothing
 pub record IsSilent (old : ReplicaState) (made : ReplicaState × List Letter) : Type 0 where
   pub same : made.0 ≡ old
-  pub none : made.1 ≡ []
+  pub none : (seen : Seen) → see_letters made.1 seen ≡ seen
 
 -- it sends a reply, which shows its history of one object, and its other histories stay as they are
 pub record Shows (old : ReplicaState) (made : ReplicaState × List Letter) : Type 0 where
@@ -101,6 +108,31 @@ reply_shown new client number round sets verdict fits =
     (reply-short new.me client number round verdict (named new sets) (map (sealed_by new.keys) (shown new sets)) mac
     spelled.0))
 
+-- ---- a version
+
+-- the letter shows no history
+abbrev ShowsNothing : Letter → Type 0
+ShowsNothing letter = shown_in (decoded letter.text) ≡ []
+
+version_shows : (read : Result Frame BadText) → ((sent : Frame) → read ≡ Ok sent → frame_kind sent ≡ 4)
+    → shown_in read ≡ []
+version_shows (Ok (frame.Reply replica client number round verdict culled shown mac)) is =
+    absurd (omega (arith, is (frame.Reply replica client number round verdict culled shown mac) refl))
+version_shows _ is = refl
+
+see_none : (from : Party) (text : List ℕ) → shown_in (decoded text) ≡ [] → (seen : Seen)
+    → see_from from text seen ≡ seen
+unfolding see_shown
+see_none (party.Replica me) text none seen = ap (λ (sealed : List Sealed). see_shown me sealed seen) none
+see_none (party.Client me) text none seen = refl
+
+none_shown : (letters : List Letter) → AllByRecursion ShowsNothing letters → (seen : Seen)
+    → see_letters letters seen ≡ seen
+unfolding see_letters
+none_shown [] each seen = refl
+none_shown (letter ∷ later) each seen =
+    ap (see_letters later) (see_none letter.from letter.text each.0 seen) ∙ none_shown later each.1 seen
+
 -- ---- a step
 
 module _ (old : ReplicaState) (fits : StateFits old) where
@@ -113,7 +145,7 @@ module _ (old : ReplicaState) (fits : StateFits old) where
       ≡ own_candidates old object)
       → IsSilent old (carried_out old client number round (set ∷ []) decision)
       ⊎ Shows old (carried_out old client number round (set ∷ []) decision)
-  answered client number round set asks mac Waits within is others = inl (record { same = refl; none = refl })
+  answered client number round set asks mac Waits within is others = inl (record { same = refl; none = none_tells.0 })
   answered client number round set asks mac (Answers verdict accepted) within is others =
       let new : ReplicaState = accept_all old accepted in
       inr (record {
@@ -165,16 +197,21 @@ module _ (old : ReplicaState) (fits : StateFits old) where
   request_shows client number round (first ∷ second ∷ later) asks mac within sets =
       absurd (omega (arith, (sets.0).1))
 
+  versions_shown : (taken : Option Frame) → AllByRecursion ShowsNothing (other_letters old taken)
+  versions_shown taken =
+      other_letters_each ShowsNothing (λ letter version. version_shows (decoded letter.text) version) old taken
+
   frame_shows : (received : Frame) → frame_form.Fits received
       → IsSilent old (replica_on_frame old received) ⊎ Shows old (replica_on_frame old received)
   frame_shows (frame.Request client number round sets asks mac) within =
       request_shows client number round sets asks mac within
       (request-fits client number round sets asks mac within).shown
-  frame_shows _ within = inl (record { same = refl; none = refl })
+  frame_shows other within =
+      inl (record { same = refl; none = none_shown (other_letters old (Some other)) (versions_shown (Some other)) })
 
   received_shows : (found : Option Frame) → ((received : Frame) → found ≡ Some received → frame_form.Fits received)
       → IsSilent old (replica_on_received old found) ⊎ Shows old (replica_on_received old found)
-  received_shows None within = inl (record { same = refl; none = refl })
+  received_shows None within = inl (record { same = refl; none = none_tells.0 })
   received_shows (Some received) within = frame_shows received (within received refl)
 
   pub step_shows : (text : List ℕ) → AreBytes text

@@ -331,8 +331,7 @@ module _ (replicas : List ReplicaState) (rows : List ShownRow) (me : ReplicaId) 
   silent_learned : IsSilent state (replica_step state text)
       → Learned replicas (set replicas me.0 new) (see_letters (replica_step state text).1 (rows, []))
   silent_learned silent =
-      let nothing : see_letters (replica_step state text).1 (rows, []) ≡ (rows, []) =
-      ap (λ (letters : List Letter). see_letters letters (rows, [])) silent.none ∙ none_tells.0 (rows, []) in
+      let nothing : see_letters (replica_step state text).1 (rows, []) ≡ (rows, []) = silent.none (rows, []) in
       let same : set replicas me.0 new ≡ replicas =
       ap (set replicas me.0) silent.same ∙ put_self replicas me.0 state is_state in
       subst (λ (seen : Seen). Learned replicas (set replicas me.0 new) seen) (sym nothing)

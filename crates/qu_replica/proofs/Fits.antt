@@ -7,3 +7,4 @@ pub mod FitStamps
 pub mod FitState
 pub mod FitSteps
 pub mod FitVerdicts
+pub mod FitVersions

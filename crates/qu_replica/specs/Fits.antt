@@ -1,7 +1,7 @@
 -- What a replica holds, and what it sends, fits the formats of bytes.
-use Rattle.std.specs.Prelude.{◌≡◌, ℕ, ◌-◌, ◌^◌, ◌≤◌, List, length, slice_get, Some, IsTrue}
+use Rattle.std.specs.Prelude.{◌≡◌, ℕ, ◌-◌, ◌^◌, ◌≤◌, List, [], length, slice_get, Some, IsTrue}
 use Rattle.std.specs.List.{AllByRecursion}
-use Rattle.qu_base.specs.declared.limits.TheConstants.{OBJECT_IDS, REPLICA_IDS}
+use Rattle.qu_base.specs.declared.limits.TheConstants.{LAST_CLIENT, OBJECT_IDS, REPLICA_IDS}
 use Rattle.qu_base.specs.Bounds.{replicas, is_replica_count}
 use Rattle.qu_history.specs.History.{ObjectHistory}
 use Rattle.qu_history.specs.Formats.{candidates_form}
@@ -10,6 +10,7 @@ use Rattle.qu_objects.specs.declared.kind.Value.TheVariants.{Counter}
 use Rattle.qu_objects.specs.declared.state.KeptRow.{KeptRow}
 use Rattle.qu_objects.specs.declared.state.ObjState.{ObjState}
 use Rattle.qu_objects.specs.Formats.{answer_form}
+use Rattle.qu_kept.specs.Rows.{AreRising}
 use Rattle.qu_frames.specs.declared.frame.Frame.{Frame}
 use Rattle.qu_frames.specs.declared.frame.Letter.{Letter}
 use Rattle.qu_frames.specs.Formats.{frame_form}
@@ -23,12 +24,18 @@ ValueFits (Counter number) = number ≤ 2 ^ 64 - 1
 
 -- what is kept of an update can be told
 pub record RowFits (row : KeptRow) : Type 0 where
+  pub low : 1 ≤ (row.client).0
+  pub high : (row.client).0 ≤ LAST_CLIENT
   pub number : row.number ≤ 2 ^ 64 - 1
+  pub act : length (row.act).0 ≡ 32
   pub answer : answer_form.Fits row.answer
 
+-- its rows stand by rising clients, and it has no links, as an operation is on one object
 pub record VersionFits (version : ObjState) : Type 0 where
   pub value : ValueFits version.value
   pub kept : AllByRecursion RowFits version.kept
+  pub rising : AreRising version.kept
+  pub links : version.links ≡ []
 
 abbrev pub VersionsFit : List Stored → Type 0
 VersionsFit versions = AllByRecursion (λ stored. VersionFits stored.state) versions

@@ -5,10 +5,13 @@ use Rattle.qu_base.specs.declared.party.Party.TheVariants as party
 use Rattle.qu_base.specs.declared.party.ClientId.{ClientId}
 use Rattle.qu_base.specs.declared.party.ObjectId.{ObjectId}
 use Rattle.qu_base.specs.declared.party.ReplicaId.{ReplicaId}
+use Rattle.qu_stamp.specs.declared.stamp.Stamp.{Stamp}
 use Rattle.qu_history.specs.declared.sets.SetOf.{SetOf}
 use Rattle.qu_history.specs.History.{ObjectHistory}
 use Rattle.qu_history.specs.Culling.{left_out}
 use Rattle.qu_history.specs.Sealing.{sealed_by}
+use Rattle.qu_objects.specs.declared.state.ObjState.{ObjState}
+use Rattle.qu_versions.specs.Versions.{version_at}
 use Rattle.qu_frames.specs.declared.frame.Frame.{Frame}
 use Rattle.qu_frames.specs.declared.frame.Frame.TheVariants as frame
 use Rattle.qu_frames.specs.declared.frame.Letter.{Letter}
@@ -48,11 +51,30 @@ carried_out state client number round sets (Answers verdict accepted) =
     let new = accept_all state accepted in (new, reply new client number round sets verdict ∷ [])
 carried_out state client number round sets Waits = (state, [])
 
--- a frame that is no request is ignored
+-- the letter with a version that another replica fetches, signed for it
+abbrev pub version_letter : ReplicaState → ReplicaId → ObjectId → Stamp → ObjState → Letter
+version_letter state to object stamp version = record {
+  from = party.Replica state.me;
+  to = party.Replica to;
+  text = signed state.keys (party.Replica to) (frame.Fetched state.me object stamp version blank_mac);
+}
+
+-- a fetch is answered where the version is held
+abbrev pub version_letters : ReplicaState → ReplicaId → ObjectId → Stamp → Option ObjState → List Letter
+version_letters state to object stamp None = []
+version_letters state to object stamp (Some version) = version_letter state to object stamp version ∷ []
+
+-- the letters that answer a frame that is no request
+abbrev pub other_letters : ReplicaState → Option Frame → List Letter
+other_letters state (Some (frame.Fetch replica object stamp mac)) =
+    version_letters state replica object stamp (version_at object stamp state.versions)
+other_letters state _ = []
+
+-- a request is decided upon, a fetch is answered, and other frames are ignored
 abbrev pub replica_on_frame : ReplicaState → Frame → ReplicaState × List Letter
 replica_on_frame state (frame.Request client number round sets body mac) =
     carried_out state client number round sets (decision_on state (asked_at state client number sets body) body)
-replica_on_frame state _ = (state, [])
+replica_on_frame state other = (state, other_letters state (Some other))
 
 abbrev pub replica_on_received : ReplicaState → Option Frame → ReplicaState × List Letter
 replica_on_received state None = (state, [])

@@ -16,6 +16,7 @@ ghost use Rattle.qu_replica.specs.Growth.{Grows, MayGain};
 ghost use Rattle.qu_replica.specs.Fits.{StateFits, LetterFits};
 
 mod opening;
+mod others;
 mod reply;
 
 use crate::planned::{Gain, Planned};
@@ -113,9 +114,10 @@ impl Replica {
         self.versions.get(object, stamp)
     }
 
-    /// Handles a text, and gives the letters that answer it: one to a request that it decides, none
-    /// to one whose version it lacks, to a reply, to a text that is no frame, and to a frame whose HMAC
-    /// is wrong for it. Without memory it stays as it is.
+    /// Handles a text, and gives the letters that answer it: one to a request that it decides and to a fetch of a
+    /// version that it holds; none to a request whose version it lacks, to another fetch, to a reply, to a version
+    /// that is sent, to a text that is no frame, and to a frame whose HMAC is wrong for it. Without memory it stays as
+    /// it is.
     #[tactic(auto, using(crate::proofs::States::Stepped::step_laws))]
     pub fn step(&mut self, text: &[u8]) -> Result<List<Letter>, NoMemory>
         ensures state { OnOk result (self.new ≡ (replica_step self.old text.now).0) }
@@ -128,7 +130,10 @@ impl Replica {
     {
         match Reading::of(self.alloc, text)? {
             Some(reading) => self.step_read(text, &reading),
-            None => Ok(List::new(self.alloc)),
+            None => {
+                are_bytes(text);
+                self.answer_other(text)
+            }
         }
     }
 
@@ -159,7 +164,10 @@ impl Replica {
     {
         match Reading::of(self.alloc, text)? {
             Some(reading) => self.plan_read(text, &reading),
-            None => Ok(Planned::nothing(self.alloc)),
+            None => Ok(Planned {
+                gain: None,
+                letters: self.answer_other(text)?,
+            }),
         }
     }
 

@@ -27,7 +27,7 @@ use Rattle.qu_rows.specs.declared.decision.Decision.TheVariants.{Answers, Waits}
 use Rattle.qu_rows.specs.State.{ReplicaState}
 use Rattle.qu_replica.specs.State.{accept_all}
 use Rattle.qu_rows.specs.Rows.{asked_at, decision_on}
-use Rattle.qu_replica.specs.Step.{answer_frame, reply, carried_out, replica_on_frame, replica_on_received, replica_step}
+use Rattle.qu_replica.specs.Step.{other_letters, answer_frame, reply, carried_out, replica_on_frame, replica_on_received, replica_step}
 use Rattle.qu_replica.specs.Step as own
 use Rattle.qu_client.specs.declared.state.ClientState.{ClientState}
 use Rattle.qu_client.specs.declared.state.Stepped.{Stepped}
@@ -60,6 +60,7 @@ use Rattle.qu_frames.specs.Formats.{frame_form}
 use Rattle.qu_history.specs.Formats.{sets_form}
 use Rattle.qu_history.specs.declared.sealed.Sealed.{Sealed}
 use Rattle.qu_runs.proofs.Fits.Carrying.{AnswersFit, no_reply, signed_spelled, signed_carries, brings_decoded}
+use Rattle.qu_runs.proofs.Fits.VersionLetters.{CarriesVersion, other_letters_each, no_reply_in}
 use Rattle.qu_runs.proofs.Fits.Fitting.{fit_step, handed_fits}
 use Rattle.qu_frames.specs.Signing.{brought, signed, signature}
 use Rattle.qu_seal.specs.Keys.{Ring}
@@ -278,7 +279,12 @@ module _ (replica : ReplicaId) (client : ClientId) (number round : ℕ) (verdict
   reply_decided state (frame.Request other asked turn sets body mac) fits place sent found is_reply =
       carried_reply state other asked turn sets body mac (decision_on state (asked_at state other asked sets body) body)
       fits refl place sent found is_reply
-  reply_decided state _ fits place sent found is_reply = absurd (none-some sent found)
+  reply_decided state other fits place sent found is_reply =
+      let version : CarriesVersion sent =
+      each_found CarriesVersion (other_letters state (Some other)) place sent
+      (other_letters_each CarriesVersion (λ letter carries. carries) state (Some other)) found in
+      absurd (no_reply_in sent version replica client number round verdict shown
+      (record { culled = culled; mac = seal; carries = is_reply }))
 
 -- the same of a text
 record IsDecidedUpon (state : ReplicaState) (text : List ℕ) (replica : ReplicaId) (client : ClientId)

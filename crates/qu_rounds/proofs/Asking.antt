@@ -27,6 +27,7 @@ use Rattle.qu_client.specs.declared.work.Work.{Work}
 use Rattle.qu_client.specs.Rounds.{request_of, requests_from}
 use Rattle.qu_claims.specs.Carried.{Carries, Asks}
 use Rattle.qu_runs.proofs.Fits.Carrying.{no_request, signed_spelled, signed_carries}
+use Rattle.qu_runs.proofs.Fits.VersionLetters.{other_letters_all, no_request_in}
 
 -- ---- replicas
 
@@ -52,7 +53,9 @@ answered state client number round sets (Answers verdict accepted) =
 frame_asks : (state : ReplicaState) (sent : Frame) → All AsksNothing (replica.replica_on_frame state sent).1
 frame_asks state (frame.Request client number round sets asked mac) =
     answered state client number round sets (decision_on state (asked_at state client number sets asked) asked)
-frame_asks state _ = All-nil AsksNothing
+frame_asks state other =
+    other_letters_all AsksNothing (λ letter version client number round sets asked asks.
+    no_request_in letter version client number round sets asked asks) state (Some other)
 
 brought_asks : (state : ReplicaState) (found : Option Frame)
     → All AsksNothing (replica.replica_on_received state found).1

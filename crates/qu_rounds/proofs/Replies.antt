@@ -45,6 +45,7 @@ use Rattle.qu_frames.specs.Formats.{frame_form}
 use Rattle.qu_runs.specs.Plain.{ArePlain}
 use Rattle.qu_history.specs.declared.sealed.Sealed.{Sealed}
 use Rattle.qu_runs.proofs.Fits.Carrying.{AnswersFit, no_reply, signed_spelled, signed_carries, brings_decoded}
+use Rattle.qu_runs.proofs.Fits.VersionLetters.{other_letters_all, no_reply_in}
 use Rattle.qu_runs.proofs.Fits.Fitting.{fit_step, from_fits}
 use Rattle.qu_frames.specs.Signing.{brought, signed, signature, with_mac}
 use Rattle.qu_seal.specs.Keys.{Ring}
@@ -117,7 +118,9 @@ frame_replies : (bound : ℕ) (state : ReplicaState) (received : Frame) → Answ
 frame_replies bound state (frame.Request client number round sets body mac) fits below =
     by_replica bound state client number round sets (decision_on state (asked_at state client number sets body) body)
     fits below
-frame_replies bound state _ fits below = All-nil (RepliesWithin bound)
+frame_replies bound state other fits below =
+    other_letters_all (RepliesWithin bound) (λ letter version replica client number round verdict shown tells.
+    absurd (no_reply_in letter version replica client number round verdict shown tells)) state (Some other)
 
 brought_replies : (bound : ℕ) (state : ReplicaState) (found : Option Frame)
     → ((sent : Frame) → found ≡ Some sent → AnswersFit state sent) → (state.me).0 < bound

@@ -1,6 +1,6 @@
 -- A client that keeps only histories that were held, as their replicas sealed them, sends only those; so does a
 -- replica that shows its own.
-use Rattle.std.proofs.Common.{◌≡◌, ℕ, zero, suc, ◌+◌, List, [], ◌∷◌, map, Option, None, Some, Ok, refl, sym, subst}
+use Rattle.std.proofs.Common.{◌≡◌, ℕ, zero, suc, ◌+◌, List, [], ◌∷◌, map, Option, None, Some, Ok, refl, sym, subst, arith}
 use Rattle.std.specs.Prelude.{slice_get}
 use Rattle.std.specs.List.{AllByRecursion, cons_option}
 use Rattle.std.proofs.lemmas.Bool.{cond_both}
@@ -42,6 +42,8 @@ use Rattle.qu_shown.specs.Views.{EachEntry}
 use Rattle.qu_world.proofs.Each.{each_weaker}
 use Rattle.qu_runs.proofs.Fits.FitRequests.{entries_with, entries_next, entries_none, found_among}
 use Rattle.qu_runs.proofs.Fits.Carrying.{AsksFit, AnswersFit, signed_carries}
+use Rattle.qu_runs.proofs.Fits.VersionLetters.{other_letters_each}
+use Rattle.qu_frames.specs.Formats.{frame_kind}
 use Rattle.qu_frames.specs.Signing.{brought, signed}
 use Rattle.qu_seal.specs.Keys.{Ring}
 use Rattle.qu_frames.proofs.Signed.{brought_is_decoded}
@@ -284,6 +286,12 @@ module _ (Held : Sealed → Type 0) where
       )
   carried_out-true state client number round sets Waits fits has = tt
 
+  -- a version shows no history
+  true_version : (sent : Frame) → frame_kind sent ≡ 4 → IsTrueFrame Held sent
+  true_version (frame.Request client number round sets body mac) kind = absurd (omega (arith, kind))
+  true_version (frame.Reply replica client number round verdict culled shown mac) kind = absurd (omega (arith, kind))
+  true_version _ kind = tt
+
   -- a replica answers with histories that it has after its step
   replica_frame-true : (state : ReplicaState) (received : Frame) → AnswersFit state received
       → HasHeld (replica.replica_on_frame state received).0
@@ -291,7 +299,9 @@ module _ (Held : Sealed → Type 0) where
   replica_frame-true state (frame.Request client number round sets body mac) fits has =
       carried_out-true state client number round sets (decision_on state (asked_at state client number sets body) body)
       fits has
-  replica_frame-true state _ fits has = tt
+  replica_frame-true state other fits has =
+      other_letters_each (IsTrueLetter Held) (λ letter version sent carries. true_version sent (version sent carries))
+      state (Some other)
 
   replica_brought-true : (state : ReplicaState) (found : Option Frame)
       → ((sent : Frame) → found ≡ Some sent → AnswersFit state sent)

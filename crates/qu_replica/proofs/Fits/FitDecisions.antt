@@ -49,6 +49,8 @@ use Rattle.qu_rows.specs.Rows.{Asked, refuse, method_base, base_version, shown_o
 use Rattle.qu_rows.specs.Table.{first_given}
 use Rattle.qu_versions.specs.Versions.{version_at}
 use Rattle.qu_replica.specs.Fits.{ValueFits, RowFits, VersionFits, StateFits}
+use Rattle.qu_replica.proofs.Fits.FitVersions.{act_sized}
+use Rattle.qu_kept.proofs.KeyedLaws.{rising_with}
 use Rattle.qu_rows.proofs.Own.{own_history}
 use Rattle.qu_rows.proofs.Held.{is_held_by, own_in_time}
 use Rattle.qu_rows.proofs.Carried.{stamps_one, versions_one, fresh_on-stamp, done_one, told_one}
@@ -390,7 +392,13 @@ module _ (state : ReplicaState) (asked : Asked) (fits : StateFits state) (asks :
       let after = after_fits (object, method) version.value version_fit.value in
       let row : KeptRow = row_by asked.client asked.number parts (version.value ∷ []) in
       let kept : AllByRecursion RowFits (with_row row version.kept) =
-      all_with client_of RowFits row version.kept (record { number = asks.number; answer = answered })
+      all_with client_of RowFits row version.kept (record {
+        low = asks.low;
+        high = asks.high;
+        number = asks.number;
+        act = act_sized asked.client asked.number parts;
+        answer = answered;
+      })
       version_fit.kept in
       subst DecisionFits
       (same_Some _ decision
@@ -402,7 +410,12 @@ module _ (state : ReplicaState) (asked : Asked) (fits : StateFits state) (asks :
           record {
             stamp = fresh_fit.stamp;
             prior = fresh_fit.prior;
-            version = record { value = after.2; kept = kept };
+            version = record {
+              value = after.2;
+              kept = kept;
+              rising = rising_with client_of row version.kept version_fit.rising;
+              links = version_fit.links;
+            };
           },
           tt,
         ),

@@ -32,6 +32,7 @@ use Rattle.qu_replica.specs.Fits.{ValueFits, VersionFits, VersionsFit, StateFits
 use Rattle.qu_replica.proofs.States.Growth.{length-with_candidate}
 use Rattle.qu_rows.proofs.Own.{own_history}
 use Rattle.qu_replica.proofs.States.Own.{accept-histories, opening-histories}
+use Rattle.qu_replica.proofs.Fits.FitVersions.{none_rising}
 use Rattle.qu_replica.proofs.Fits.FitStamps.{opening_fits, prior_of_opening_fits}
 
 -- ---- one more candidate of a history
@@ -180,7 +181,7 @@ opening_store_fits : (first : ℕ) (kinds : List KindName) → VersionsFit (open
 unfolding opening_store
 opening_store_fits first [] = tt
 opening_store_fits first (kind ∷ kinds) = (
-  record { value = fresh_fits kind; kept = tt },
+  record { value = fresh_fits kind; kept = tt; rising = none_rising; links = refl },
   opening_store_fits (first + 1) kinds,
 )
 

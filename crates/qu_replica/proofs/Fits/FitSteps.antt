@@ -1,7 +1,7 @@
 -- The letters that answer a text carry frames that fit, and what the replica holds fits after each step.
 use Rattle.std.proofs.Common.{◌≡◌, ℕ, ◌-◌, ◌^◌, ◌≤◌, Bool, true, false, cond, List, [], ◌∷◌, length, map, Option, None, Some, refl, subst, arith}
 use Rattle.std.specs.Prelude.{is_none, slice_get}
-use Rattle.std.specs.List.{cons_option}
+use Rattle.std.specs.List.{cons_option, AllByRecursion}
 use Rattle.std.proofs.lemmas.Bool.{le-leb, eq-eqb}
 use Rattle.std.proofs.lemmas.Option.{same_Some}
 use Rattle.qu_frames.specs.declared.limits.TheConstants.{LAST_ROUND}
@@ -28,7 +28,7 @@ use Rattle.qu_frames.specs.declared.frame.Frame.{Frame}
 use Rattle.qu_frames.specs.declared.frame.Frame.TheVariants as frame
 use Rattle.qu_frames.specs.declared.verdict.Verdict.{Verdict}
 use Rattle.qu_frames.specs.Blank.{blank_mac}
-use Rattle.qu_frames.specs.Formats.{objects_in_sets, culled_form, verdict_form, body_form, request_frame, reply_frame, kind_form, frame_form}
+use Rattle.qu_frames.specs.Formats.{objects_in_sets, culled_form, verdict_form, body_form, request_frame, reply_frame, kind_form, frame_form, fetch_frame, fetched_frame}
 use Rattle.qu_frames.specs.Signing.{with_mac, signature, brought}
 use Rattle.qu_frames.proofs.Signed.{signed_is_spelled, brought_is_decoded}
 use Rattle.qu_frames.proofs.Decoded.{decoded_is_spelled}
@@ -37,16 +37,21 @@ use Rattle.qu_rows.specs.declared.decision.Decision.TheVariants.{Answers, Waits}
 use Rattle.qu_rows.specs.State.{ReplicaState}
 use Rattle.qu_replica.specs.State.{accept_all}
 use Rattle.qu_rows.specs.Rows.{Asked, act_asked, asked_at, unknown_in, decision_on}
-use Rattle.qu_replica.specs.Step.{shown, named, answer_frame, carried_out, replica_on_frame, replica_on_received, replica_step}
+use Rattle.qu_replica.specs.Step.{shown, named, answer_frame, carried_out, replica_on_frame, replica_on_received, replica_step, version_letters, other_letters}
 use Rattle.qu_rows.specs.Allowed.{MayDecide}
-use Rattle.qu_replica.specs.Fits.{StateFits, StepFits}
+use Rattle.qu_replica.specs.Fits.{StateFits, StepFits, VersionFits, LetterFits}
 use Rattle.qu_rows.proofs.Own.{IsOwn, own_history}
 use Rattle.qu_rows.proofs.Allowed.{decision_on-may}
 use Rattle.qu_rows.proofs.Decoded.{body_has_parts}
 use Rattle.qu_replica.proofs.Fits.FitCulled.{seals_fit, culled-fits, left_out-fits, none_named-fit}
-use Rattle.qu_replica.proofs.Fits.FitState.{accept_all-fits}
+use Rattle.qu_replica.proofs.Fits.FitState.{accept_all-fits, version_fits}
 use Rattle.qu_replica.proofs.Fits.FitDecisions.{AskedFits, DecisionFits, act_decision-fits, ask_decision-fits}
 use Rattle.qu_replica.proofs.Fits.FitMends.{mend_decision-fits}
+use Rattle.qu_replica.proofs.Fits.FitVersions.{act_sized, version-spelled}
+use Rattle.qu_base.specs.declared.party.ReplicaId.{ReplicaId}
+use Rattle.qu_stamp.specs.declared.stamp.Stamp.{Stamp}
+use Rattle.qu_objects.specs.declared.state.ObjState.{ObjState}
+use Rattle.qu_versions.specs.Versions.{version_at}
 
 -- ---- a reply
 
@@ -151,11 +156,6 @@ request-fits client number round sets asks mac fits =
       asked = ((((fields.1).1).1).1).0;
     }
 
-act_sized : (client : ClientId) (number : ℕ) (parts : List (ObjectId × Method))
-    → length (act_digest client number parts).0 ≡ 32
-unfolding act_digest
-act_sized client number parts = length-digest _ _
-
 sets_sized : (sets : List SetOf) → length (sets_digest sets).0 ≡ 32
 unfolding sets_digest
 sets_sized sets = length-digest _ _
@@ -223,6 +223,45 @@ carried_out-fits state client number round sets asks (Answers verdict accepted) 
     )
 carried_out-fits state client number round sets asks Waits fits request may made = (fits, tt)
 
+-- a version that is held answers a fetch that fits
+fetched_fits : (state : ReplicaState) (to : ReplicaId) (object : ObjectId) (stamp : Stamp) (mac : List ℕ)
+    (version : ObjState) → StateFits state → frame_form.Fits (frame.Fetch to object stamp mac) → VersionFits version
+    → frame_form.Fits (frame.Fetched state.me object stamp version blank_mac)
+unfolding frame_form kind_form fetch_frame fetched_frame
+fetched_fits state to object stamp mac version fits within held =
+    let fields = (within.1).1 in (
+      ((omega arith, omega arith), refl),
+      (
+        ((omega arith, omega arith), refl),
+        (
+          (omega arith, fits.me),
+          ((fields.1).0, (((fields.1).1).0, (version-spelled version held, blank_sized))),
+        ),
+      ),
+    )
+
+-- the letter with a version carries a frame that fits
+version_letters-fit : (state : ReplicaState) (to : ReplicaId) (object : ObjectId) (stamp : Stamp) (mac : List ℕ)
+    → StateFits state → frame_form.Fits (frame.Fetch to object stamp mac)
+    → AllByRecursion LetterFits (version_letters state to object stamp (version_at object stamp state.versions))
+version_letters-fit state to object stamp mac fits within = by (version_at object stamp state.versions) refl
+  where
+    by : (found : Option ObjState) → version_at object stamp state.versions ≡ found
+        → AllByRecursion LetterFits (version_letters state to object stamp found)
+    by None is = tt
+    by (Some version) is =
+        let sent : Frame = frame.Fetched state.me object stamp version blank_mac in
+        let spelled = signed_is_spelled state.keys (party.Replica to) sent
+        (fetched_fits state to object stamp mac version fits within
+        (version_fits object stamp state.versions version fits.versions is)) in (
+          record {
+            sent = with_mac sent (signature state.keys (party.Replica to) sent);
+            fits = spelled.0;
+            text = spelled.1;
+          },
+          tt,
+        )
+
 pub on_frame-fits : (state : ReplicaState) (received : Frame) → StateFits state → frame_form.Fits received
     → StepFits (replica_on_frame state received)
 on_frame-fits state (frame.Request client number round sets asks mac) fits within =
@@ -231,7 +270,22 @@ on_frame-fits state (frame.Request client number round sets asks mac) fits withi
     carried_out-fits state client number round sets asks (decision_on state asked asks) fits request
     (decision_on-may state asked asks (body_has_parts (objects_in_sets sets) asks request.asked))
     (decision-fits state client number round sets asks fits request)
+on_frame-fits state (frame.Fetch replica object stamp mac) fits within =
+    (fits, version_letters-fit state replica object stamp mac fits within)
 on_frame-fits state _ fits within = (fits, tt)
+
+-- what answers a text that is no request fits
+pub other_letters-fit : (state : ReplicaState) (text : List ℕ) → AreBytes text → StateFits state
+    → AllByRecursion LetterFits (other_letters state (brought state.keys (party.Replica state.me) text))
+other_letters-fit state text are fits = by (brought state.keys (party.Replica state.me) text) refl
+  where
+    by : (found : Option Frame) → brought state.keys (party.Replica state.me) text ≡ found
+        → AllByRecursion LetterFits (other_letters state found)
+    by (Some (frame.Fetch replica object stamp mac)) is =
+        version_letters-fit state replica object stamp mac fits
+        (decoded_is_spelled text (frame.Fetch replica object stamp mac) are
+        (brought_is_decoded state.keys (party.Replica state.me) text (frame.Fetch replica object stamp mac) is)).0
+    by _ is = tt
 
 pub on_received-fits : (state : ReplicaState) (found : Option Frame) → StateFits state
     → ((frame : Frame) → found ≡ Some frame → frame_form.Fits frame) → StepFits (replica_on_received state found)

@@ -224,7 +224,7 @@ kind_read tag rest end other few passes given =
     ap (λ (it : Frame). Ok (it, end)) kinds.is
 
 -- what is decoded has the kind of what was spelled
-same_kind : (sent other : Frame) → decoded (frame_form.spell sent) ≡ Ok other → frame_kind other ≡ frame_kind sent
+pub same_kind : (sent other : Frame) → decoded (frame_form.spell sent) ≡ Ok other → frame_kind other ≡ frame_kind sent
 unfolding frame_form kind_form
 same_kind (frame.Request client number round sets body mac) other given =
     let read = decoded_is_read (frame_form.spell (frame.Request client number round sets body mac)) other given in
