@@ -36,7 +36,7 @@ pub fn handled_acts(
     let mut acts = List::new(alloc);
     let mut verifier = Verifier::new(ring_of(&run.setup));
     for (index, entry) in run.entries.as_slice().iter().enumerate() {
-        let frame = trace.brought(index);
+        let frame = trace.offered(index);
         add_act(alloc, &mut acts, &mut verifier, trace, &entry.event, frame)?;
     }
     Ok(acts)
@@ -50,7 +50,7 @@ fn ring_of(setup: &Setup) -> KeyRing
     KeyRing::derive(setup.seed, &setup.bounds, setup.clients)
 }
 
-/// Adds the act that an event, which brings this frame or none, lets a replica handle, where it lets it handle one.
+/// Adds the act that an event, which offers this frame or none, lets a replica handle, where it lets it handle one.
 fn add_act(
     alloc: Global,
     acts: &mut List<(ClientId, u64, Act)>,

@@ -134,12 +134,12 @@ fn first_answer_of(
 }
 
 /// The round of the answer that an event delivers, None where it delivers none.
-#[tactic(auto, using(crate::proofs::Taken::AnsweredRounds::round_brought))]
+#[tactic(auto, using(crate::proofs::Taken::AnsweredRounds::round_offered))]
 fn delivered_round(trace: &DecodedTrace<'_>, event: u64) -> Option<u8>
     ensures { result ≡ delivered_round trace.now (numbered trace.now.entries event) }
 {
     let index = event.checked_sub(1)?;
-    round_in(trace.brought(index as usize))
+    round_in(trace.offered(index as usize))
 }
 
 /// The round of the answer that a frame is.

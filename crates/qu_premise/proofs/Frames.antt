@@ -17,7 +17,7 @@ use Rattle.qu_trace.specs.declared.trace.Setup.{Setup}
 use Rattle.qu_trace.specs.Letters.{letters_of, numbered, offered_by}
 use Rattle.qu_trace.proofs.LetterLaws.{slice_get-append_left}
 use Rattle.qu_claims.specs.Handled.{shown_in}
-use Rattle.qu_trace.specs.Decoded.{frame_found, frame_offered, frame_brought, IsFrameOf}
+use Rattle.qu_trace.specs.Decoded.{frame_found, frame_offered, frame_offered_at, IsFrameOf}
 use Rattle.qu_trace.proofs.DecodedLaws.{decoded_to}
 use Rattle.qu_premise.specs.Texts.{decoded_texts}
 
@@ -69,7 +69,7 @@ frame_before letters more number frame is None found = tt
 frame_before letters more number frame is (Some letter) found =
     is ∙ ap (λ (it : Option Letter). frame_offered (offered_of it)) (numbered_in_all letters more number letter found)
 
--- the frame that an event brings is that of the bytes, where the entries before it have sent them
+-- the frame that an event offers is that of the bytes, where the entries before it have sent them
 pub frame_upon : (entries : List Entry) (index : ℕ) (event : Event) (frame : Option Frame)
     → frame ≡ frame_offered (offered_by entries event) → IsFrameOf frame (offered_by (take index entries) event)
 frame_upon entries index (Invoke client op) frame is = tt
@@ -84,7 +84,7 @@ frame_upon entries index (Inject to text) frame is = is
 -- the same of the event of an entry, and those before it
 pub frame_before_entry : (entries before : List Entry) (index : ℕ) (entry : Entry) (frame : Option Frame)
     → slice_get entries index ≡ Some entry → before ≡ take index entries
-    → frame ≡ frame_brought entries (slice_get entries index) → IsFrameOf frame (offered_by before entry.event)
+    → frame ≡ frame_offered_at entries (slice_get entries index) → IsFrameOf frame (offered_by before entry.event)
 frame_before_entry entries before index entry frame found first is =
     subst (λ (it : List Entry). IsFrameOf frame (offered_by it entry.event)) (sym first)
-    (frame_upon entries index entry.event frame (is ∙ ap (frame_brought entries) found))
+    (frame_upon entries index entry.event frame (is ∙ ap (frame_offered_at entries) found))

@@ -65,7 +65,7 @@ fn follow<'a>(
     let run = trace.trace();
     let entry = &run.entries.as_slice()[index];
     let event = index as u64 + 1;
-    let frame = trace.brought(index);
+    let frame = trace.offered(index);
     let sent = trace.first(index);
     if is_forged(alloc, &run.setup, &sent, &past.shown, &entry.event, frame)? {
         return Ok(Some(Premises::Forged { event }));

@@ -27,7 +27,7 @@ struct Way {
 }
 
 /// Whether an event behind these entries hands something forged to a correct party; `shown` is what they show, and the
-/// frame is that of the bytes that it brings.
+/// frame is that of the bytes that it offers.
 #[tactic(auto, using(crate::proofs::Forgeries::letter_sent))]
 pub fn is_forged(
     alloc: Global,

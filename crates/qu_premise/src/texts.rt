@@ -26,7 +26,7 @@ use qu_seal::{ACT_TAG, FRAME_TAG, SETS_TAG};
 use qu_trace::{DecodedTrace, Entry, Event, Setup};
 use std::alloc::Global;
 
-/// The texts that are digested at the event of an entry, which brings this frame or none and whose letters show this.
+/// The texts that are digested at the event of an entry, which offers this frame or none and whose letters show this.
 /// What was noted before is not digested anew.
 #[tactic(auto, using(crate::proofs::TextLaws::texts_at_parts))]
 pub fn texts_at(
@@ -48,7 +48,7 @@ pub fn texts_at(
     Ok(texts)
 }
 
-/// Adds what is digested of the bytes that an event brings to a correct party.
+/// Adds what is digested of the bytes that an event offers a correct party.
 fn add_reached(
     alloc: Global,
     digests: &Digests,

@@ -10,7 +10,7 @@ use Rattle.qu_frames.specs.declared.frame.Frame.{Frame}
 use Rattle.qu_frames.specs.declared.frame.Letter.{Letter}
 use Rattle.qu_trace.specs.declared.trace.Entry.{Entry}
 use Rattle.qu_trace.specs.Letters.{letters_of, offered_by}
-use Rattle.qu_trace.specs.Decoded.{frame_found, frame_sent, frame_numbered, frame_offered, frame_injected, frame_brought, IsFrameOf}
+use Rattle.qu_trace.specs.Decoded.{frame_found, frame_sent, frame_numbered, frame_offered, frame_injected, frame_offered_at, IsFrameOf}
 use Rattle.qu_trace.specs.Starts.{starts_from, start_behind}
 
 -- ---- what bytes are decoded to
@@ -98,16 +98,16 @@ stand_at before (suc index) (first ∷ later) entry is few =
           ∙ there.part;
     })
 
--- ---- what an event brings
+-- ---- what an event offers
 
--- where bytes are offered, the frame that is brought is theirs
+-- where bytes are offered, the frame that is offered is theirs
 pub offers : (frame : Option Frame) (offered : Option (Party × List ℕ)) → frame ≡ frame_offered offered
     → IsFrameOf frame offered
 offers frame None is = tt
 offers frame (Some (to, text)) is = is
 
 pub frame_of_entry : (entries : List Entry) (index : ℕ) (entry : Entry) (frame : Option Frame)
-    → slice_get entries index ≡ Some entry → frame ≡ frame_brought entries (slice_get entries index)
+    → slice_get entries index ≡ Some entry → frame ≡ frame_offered_at entries (slice_get entries index)
     → IsFrameOf frame (offered_by entries entry.event)
 frame_of_entry entries index entry frame found is =
-    offers frame (offered_by entries entry.event) (is ∙ ap (frame_brought entries) found)
+    offers frame (offered_by entries entry.event) (is ∙ ap (frame_offered_at entries) found)

@@ -41,10 +41,10 @@ abbrev pub frame_offered : Option (Party × List ℕ) → Option Frame
 frame_offered None = None
 frame_offered (Some (to, text)) = frame_found (decoded text)
 
--- the frame that the event of an entry brings to a party
-abbrev pub frame_brought : List Entry → Option Entry → Option Frame
-frame_brought entries None = None
-frame_brought entries (Some entry) = frame_offered (offered_by entries entry.event)
+-- the frame that the event of an entry offers a party
+abbrev pub frame_offered_at : List Entry → Option Entry → Option Frame
+frame_offered_at entries None = None
+frame_offered_at entries (Some entry) = frame_offered (offered_by entries entry.event)
 
 -- where bytes are offered, this is their frame
 abbrev pub IsFrameOf : Option Frame → Option (Party × List ℕ) → Type 0

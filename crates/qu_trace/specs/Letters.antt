@@ -15,7 +15,7 @@ abbrev pub numbered : {X : Type 0} → List X → ℕ → Option X
 numbered items zero = None
 numbered items (suc number) = slice_get items number
 
--- the bytes that an event brings to a party, the letters of these entries having been sent: those of a letter to its
+-- the bytes that an event offers a party, the letters of these entries having been sent: those of a letter to its
 -- receiver, or injected ones
 abbrev pub offered_by : List Entry → Event → Option (Party × List ℕ)
 offered_by entries (Invoke client op) = None

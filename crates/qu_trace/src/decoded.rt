@@ -4,7 +4,7 @@ ghost use Rattle.std.specs.Option.{option_copied, option_flatten};
 ghost use Rattle.qu_frames.specs.Decoding.{decoded};
 ghost use Rattle.qu_trace.specs.declared.trace.Entry.{Entry as AnEntry};
 ghost use Rattle.qu_trace.specs.Letters.{letters_of, numbered};
-ghost use Rattle.qu_trace.specs.Decoded.{frame_found, frame_sent, frame_numbered, frame_injected, frame_brought};
+ghost use Rattle.qu_trace.specs.Decoded.{frame_found, frame_sent, frame_numbered, frame_injected, frame_offered_at};
 ghost use Rattle.qu_trace.specs.Operation.{operations_of};
 
 use super::operation::operations;
@@ -96,10 +96,10 @@ impl<'a> DecodedTrace<'a> {
         frame_in(self.frames.as_slice(), place as usize)
     }
 
-    /// The frame that the event of the entry with this index, counted from 0, brings to a party; None where it brings
+    /// The frame that the event of the entry with this index, counted from 0, offers a party; None where it offers
     /// none.
-    pub fn brought(&self, index: usize) -> Option<&Frame>
-        ensures { option_copied result ≡ frame_brought self.now.entries (slice_get self.now.entries index) }
+    pub fn offered(&self, index: usize) -> Option<&Frame>
+        ensures { option_copied result ≡ frame_offered_at self.now.entries (slice_get self.now.entries index) }
     {
         let entry = self.trace.entries.get(index)?;
         match &entry.event {

@@ -13,7 +13,7 @@ use Rattle.qu_trace.specs.declared.event.Event.TheVariants.{Invoke, Deliver, Tic
 use Rattle.qu_trace.specs.declared.trace.Entry.{Entry}
 use Rattle.qu_trace.specs.declared.trace.Trace.{Trace}
 use Rattle.qu_trace.specs.Letters.{letters_of, numbered, offered_by}
-use Rattle.qu_trace.specs.Decoded.{frame_found, frame_offered, frame_brought}
+use Rattle.qu_trace.specs.Decoded.{frame_found, frame_offered, frame_offered_at}
 use Rattle.qu_claims.specs.Answers.{is_answer, answers, round_in, round_of, delivered_round}
 use Rattle.qu_known.specs.declared.answers.Answered.{Answered}
 use Rattle.qu_known.specs.Answers.{round_answered, letter_answered, rounds_answered}
@@ -42,11 +42,11 @@ event_round trace entry (Deliver number) = letter_round (numbered (letters_of tr
 event_round trace entry (Tick client) = refl
 event_round trace entry (Inject to text) = found_round (decoded text)
 
--- the round of the answer that an event brings
-pub round_brought : (trace : Trace) (found : Option Entry)
-    → round_by (frame_brought trace.entries found) ≡ delivered_round trace found
-round_brought trace None = refl
-round_brought trace (Some entry) = event_round trace entry entry.event
+-- the round of the answer that an event offers
+pub round_offered : (trace : Trace) (found : Option Entry)
+    → round_by (frame_offered_at trace.entries found) ≡ delivered_round trace found
+round_offered trace None = refl
+round_offered trace (Some entry) = event_round trace entry entry.event
 
 -- ---- one entry
 

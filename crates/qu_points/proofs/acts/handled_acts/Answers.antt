@@ -18,7 +18,7 @@ add_act-requires-clause-frame c =
     c.entry-item.is ∙ ap (λ (it : List Entry). get_or it index entry) items in
     let within : index < length entries = omega (arith, c.loop-index-test.true, ap length items) in
     frame_of_entry entries index entry _ (slice_get_read entries (length entries) index entry refl within is)
-    c.brought-frame.ensures
+    c.offered-frame.ensures
 
 pub loop-index-preserved : goal.loop-index-preserved
 loop-index-preserved c =

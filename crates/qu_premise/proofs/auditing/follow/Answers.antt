@@ -33,7 +33,7 @@ is_forged-requires-clause-frame c =
     entry_at trace c.trace-run.result.now c.as_slice.result.now c.args.index entry c.trace-run.ensures
     c.as_slice.ensures c.index-as_slice-index.is in
     frame_before_entry trace.entries c.first-sent.result c.args.index entry _
-    (found_at trace c.args.index entry c.requires.within at) c.first-sent.ensures c.brought-frame.ensures
+    (found_at trace c.args.index entry c.requires.within at) c.first-sent.ensures c.offered-frame.ensures
 
 pub add-requires : goal.add-requires
 add-requires c =
@@ -53,7 +53,7 @@ texts_at-requires-clause-frame c =
     entry_at trace c.trace-run.result.now c.as_slice.result.now c.args.index entry c.trace-run.ensures
     c.as_slice.ensures c.index-as_slice-index.is in
     frame_of_entry trace.entries c.args.index entry _ (found_at trace c.args.index entry c.requires.within at)
-    c.brought-frame.ensures
+    c.offered-frame.ensures
 
 pub texts_at-requires-clause-shown : goal.texts_at-requires-clause-shown
 texts_at-requires-clause-shown c =
