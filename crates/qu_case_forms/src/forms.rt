@@ -240,6 +240,19 @@ fn put_version(
     put_stamp(stamp, out)
 }
 
+/// Which version was fetched, and its state.
+fn put_fetched(
+    replica: ReplicaId,
+    object: ObjectId,
+    stamp: &Stamp,
+    state: &ObjState,
+    out: &mut String,
+) -> Result<(), AllocError> {
+    put_version("fetched", replica, object, stamp, out)?;
+    out.push_str(" ")?;
+    put_state(state, out)
+}
+
 fn put_reply(
     replica: ReplicaId,
     client: ClientId,
@@ -297,10 +310,6 @@ pub fn put_frame(frame: &Frame, out: &mut String) -> Result<(), AllocError> {
             ref stamp,
             ref state,
             ..
-        } => {
-            put_version("fetched", replica, object, stamp, out)?;
-            out.push_str(" ")?;
-            put_state(state, out)
-        }
+        } => put_fetched(replica, object, stamp, state, out),
     }
 }
