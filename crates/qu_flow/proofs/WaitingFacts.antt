@@ -146,7 +146,8 @@ search_goes_on setup entries outage next letter after moved is_passed so_far pas
   is_letter = omega arith;
   none = λ it one within.
       at_or_below (λ (it : ℕ). is_left setup entries outage it ≡ true) letter after it is
-      (ap (λ (test : Bool). test || is_held_back outage.held (numbered (letters_of entries) letter)) (sym passed) ∙ left)
+      (ap (λ (test : Bool). test || is_held_back outage.held (numbered (letters_of entries) letter)) (sym passed)
+      ∙ left)
       (λ (low : it < letter). so_far.none it one low) within;
 }
 

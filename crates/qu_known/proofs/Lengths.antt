@@ -29,7 +29,7 @@ use Rattle.qu_frames.specs.declared.frame.Frame.TheVariants.{Reply}
 use Rattle.qu_frames.specs.declared.refusal_number.TheConstants.{NOT_CURRENT, NOT_METHOD, SPENT}
 use Rattle.qu_frames.specs.declared.verdict.Verdict.{Verdict}
 use Rattle.qu_frames.specs.declared.verdict.Verdict.TheVariants.{Already, Refused}
-use Rattle.qu_frames.specs.Formats.{class_form, latest_told, class_refused, number_told, plain_refusal, plain_object, refusal_body, refusal_form, stamp_from, spelled_stamp, after_told, stamps_form, answered_form, verdict_body, verdict_form, spelled_pair, pair_after, culled_form, round_form, ReplyFields, reply_form, reply_frame, kind_form, frame_form}
+use Rattle.qu_frames.specs.Formats.{latest_told, class_refused, number_told, plain_refusal, plain_object, refusal_body, refusal_form, stamp_from, spelled_stamp, after_told, stamps_form, answered_form, verdict_body, verdict_form, spelled_pair, pair_after, culled_form, round_form, ReplyFields, reply_form, reply_frame, kind_form, frame_form}
 use Rattle.qu_frames.specs.Formats as frames
 
 -- each spelling has at most so many bytes

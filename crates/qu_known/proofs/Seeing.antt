@@ -30,7 +30,6 @@ use Rattle.qu_known.specs.Tracked.{is_tracked, undecided}
 use Rattle.qu_known.specs.Known.{ShownRow, Seen, known_on, beyond, with_known, with_shown_row, see_shown, see_from, see_letters, IsKnown, AreKnown, Learned}
 use Rattle.qu_known.proofs.Held.{is_tracked-undecided, or_false}
 use Rattle.qu_known.proofs.Replies.{IsSilent, Shows}
-use Rattle.qu_known.proofs.Happened.{none_tells}
 
 -- ---- one of a list is replaced
 

@@ -1,5 +1,5 @@
 //! The updates that replicas handled, which have points besides the queries of correct clients.
-ghost use Rattle.std.specs.Prelude.{◌≡◌, IsTrue, ◌++◌, All, IfOk, OnOk};
+ghost use Rattle.std.specs.Prelude.{◌≡◌, IsTrue, ◌++◌, All, OnOk};
 ghost use Rattle.std.specs.List.{AllPairs};
 ghost use Rattle.qu_objects.specs.Digesting.{MethodFits, PartsFit};
 ghost use Rattle.qu_points.specs.Points.{ActFits, AreDistinct, AddsActs, is_query, new_act};

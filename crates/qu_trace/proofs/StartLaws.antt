@@ -61,7 +61,8 @@ pub letter_found : (before place index : ℕ) (entries : List Entry) (default : 
     ≡ slice_get (get_or entries index default).letters (place - get_or (starts_from before entries) index 0)
 unfolding letters_of starts_from
 letter_found before place index [] default most few within begun next = absurd (omega arith)
-letter_found before place zero (entry ∷ []) default most few within begun next = ap (λ letters. slice_get letters (place - before)) (append-nil entry.letters)
+letter_found before place zero (entry ∷ []) default most few within begun next =
+    ap (λ letters. slice_get letters (place - before)) (append-nil entry.letters)
 letter_found before place zero (entry ∷ second ∷ later) default most few within begun next =
     slice_get-append_left entry.letters (letters_of (second ∷ later)) (place - before)
     (omega (arith, next (omega arith)))

@@ -18,7 +18,6 @@ use Rattle.qu_history.specs.Formats.{set_form, sets_form, sealed_from, shown_for
 use Rattle.qu_history.specs.Text.{sets_digest}
 use Rattle.qu_history.specs.Culling.{history_digest, culled, left_out}
 use Rattle.qu_history.specs.Sealing.{sealed_by}
-use Rattle.qu_objects.specs.declared.act.Method.{Method}
 use Rattle.qu_objects.specs.Digesting.{act_digest}
 use Rattle.qu_objects.specs.Formats.{act_form, query_form}
 use Rattle.qu_frames.specs.declared.limits.TheConstants.{LAST_ROUND}

@@ -2,7 +2,6 @@
 use Rattle.std.proofs.Common.{◌≡◌, ℕ, List, [], Option, None, Some, refl, sym, ap, ◌∙◌, arith, All}
 use Rattle.std.specs.List.{AllByRecursion}
 use Rattle.std.proofs.lemmas.List.Elements.{All-nil, All-cons}
-use Rattle.qu_base.specs.declared.bad_text.BadText.{BadText}
 use Rattle.qu_base.specs.declared.party.ClientId.{ClientId}
 use Rattle.qu_base.specs.declared.party.ObjectId.{ObjectId}
 use Rattle.qu_base.specs.declared.party.Party.TheVariants as party
@@ -39,7 +38,8 @@ letter_carries state to object stamp version carried carries =
 
 -- ---- the letters that answer what is no request
 
-module _ (P : Letter → Type 0) (each : (letter : Letter) → CarriesVersion letter → P letter) (state : ReplicaState) where
+module _ (P : Letter → Type 0) (each : (letter : Letter) → CarriesVersion letter → P letter)
+    (state : ReplicaState) where
   version_letters_all : (to : ReplicaId) (object : ObjectId) (stamp : Stamp) (found : Option ObjState)
       → All P (version_letters state to object stamp found)
   version_letters_all to object stamp None = All-nil P

@@ -21,8 +21,9 @@ returns-then-not-is_left-clause-found c =
 
 pub search-preserved : goal.search-preserved
 search-preserved c =
-    search_goes_on c.args.setup.now c.args.entries.now c.args.outage.now c.search.next c.search.number c.in_ok-after.after
-    c.begin_behind-next.result c.is_passed_over-passed.result c.search.invariant c.is_passed_over-passed.ensures
+    search_goes_on c.args.setup.now c.args.entries.now c.args.outage.now c.search.next c.search.number
+    c.in_ok-after.after c.begin_behind-next.result c.is_passed_over-passed.result c.search.invariant
+    c.is_passed_over-passed.ensures
     (sym c.is_left.ensures ∙ c.if-not-is_left.false) c.in_ok-after.ensures c.begin_behind-next.ensures
 
 pub search-smaller : goal.search-smaller

@@ -61,7 +61,8 @@ texts_at-requires-clause-shown c =
     c.since-shown.ensures ∙
     ap (drop c.len-before.result) (c.in_ok-add.ensures ∙
     ap (λ (letters : List Letter). old ++ map letter_shown letters) c.as_slice-2.ensures) ∙
-    drop_at old (map letter_shown (c.index-as_slice-index.result).letters) c.len-before.result (sym c.len-before.ensures)
+    drop_at old (map letter_shown (c.index-as_slice-index.result).letters) c.len-before.result
+    (sym c.len-before.ensures)
 
 -- what is forged at the entry, by what is known of the entries before it
 is_forged_at : (trace run : Trace) (before : List Entry) (shown : List ShownLetter) (index : ℕ) (entry : Entry)

@@ -32,7 +32,8 @@ part-requires c =
     let found : slice_get entries c.args.index ≡ Some c.in-Some.entry.now =
     sym c.get.ensures ∙ ap option_copied c.in-Some.is in
     let frames : length c.as_slice-in-Some.result.now ≡ length (letters_of entries) =
-    ap length (c.as_slice-in-Some.ensures.value ∙ c.self.invariant.are_frames) ∙ length-map (letters_of entries) frame_sent in
+    ap length (c.as_slice-in-Some.ensures.value ∙ c.self.invariant.are_frames)
+    ∙ length-map (letters_of entries) frame_sent in
     let start : c.start_at-start.result ≡ get_or (starts_from 0 entries) c.args.index 0 =
     c.start_at-start.ensures ∙ ap (λ (starts : List ℕ). get_or starts c.args.index 0)
     (c.as_slice.ensures.value ∙ c.self.invariant.are_starts.places) in

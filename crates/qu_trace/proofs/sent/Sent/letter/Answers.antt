@@ -1,11 +1,11 @@
 -- The letter is that of the last entry whose letters begin at its place or before it.
-use Rattle.std.proofs.Common.{◌≡◌, ℕ, suc, ◌+◌, ◌-◌, ◌<◌, ◌≤◌, List, length, get_or, ap, sym, subst, ◌∙◌, arith}
+use Rattle.std.proofs.Common.{ℕ, ◌-◌, List, length, get_or, ap, sym, subst, ◌∙◌, arith}
 use Rattle.std.specs.Option.{option_copied}
 use Rattle.std.specs.List.Sorted.{IsNonDecreasingBy}
 use Rattle.qu_trace.specs.declared.trace.Entry.{Entry}
 use Rattle.qu_trace.specs.Letters.{letters_of}
 use Rattle.qu_trace.specs.Letters.{numbered}
-use Rattle.qu_trace.specs.Starts.{starts_from, IsBegun}
+use Rattle.qu_trace.specs.Starts.{IsBegun}
 use Rattle.qu_trace.proofs.StartLaws.{length-starts, starts_rise, numbered_found, numbered_none}
 use Rattle.qu_trace.proofs.sent.Sent.letter.Goals as goal
 

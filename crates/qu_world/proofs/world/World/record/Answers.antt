@@ -37,7 +37,8 @@ invariant_of-self-2 c =
             (ap (λ world. cause_of world c.args.event) c.self.view_is ∙ c.requires);
         all =
             c.saturating_add-self-inside.ensures
-            ∙ sent_more inside.sent c.in_ok-bytes.bytes _ _ (2 ^ 128 - 1) c.self.invariant.0.all c.in_ok-bytes.ensures.sent;
+            ∙ sent_more inside.sent c.in_ok-bytes.bytes _ _ (2 ^ 128 - 1) c.self.invariant.0.all
+            c.in_ok-bytes.ensures.sent;
       },
       c.record_event.ensures.starts,
     )
