@@ -6,7 +6,10 @@ from picture.faults import Malformed
 from picture.frames import ANSWER, Frame, count_of, frame_of
 
 PARTY = r"(?:replica|client) \d+"
-EVENT = re.compile(rf"event (\d+) (.+?)(?:, ends (\d+\.\d+) (?:with ({ANSWER})|given up))?")
+COUNTED = (r"not counted, (?:not fetched|another kind|answered before)"
+           r"|counted(?:, found(?:, held)?(?:, wakes \d+\.\d+)?)?")
+EVENT = re.compile(rf"event (\d+) (.+?)(?:, ({COUNTED}))?(, waits)?"
+                   rf"(?:, ends (\d+\.\d+) (?:with ({ANSWER})|given up))?")
 CALL = re.compile(r"call ((\d+)\.\d+) ([a-z]+(?: \d+)+)")
 DELIVER = re.compile(rf"deliver (\d+) to ({PARTY})(, ignored)?")
 INJECT = re.compile(rf"inject ({count_of('byte')}) to ({PARTY})(?:, ignored| as ({PARTY}): (.+))")
@@ -43,7 +46,8 @@ class Letter:
 @dataclass
 class Event:
     """An event: its kind is call, deliver or inject. `letter` is the number of what is delivered, `again` whether it
-    was before; `claimed` the party that injected bytes name; `frame` what a party takes; `ends` the operation that is
+    was before; `claimed` the party that injected bytes name; `frame` what a party takes; `counted` whether a version
+    counts that was fetched, and what it brings about; `waits` whether a request waits; `ends` the operation that is
     done here, `answer` its answer (None: given up); `sends` the numbers of the letters that it sends."""
 
     number: int
@@ -58,6 +62,8 @@ class Event:
     claimed: Party | None = None
     frame: Frame | None = None
     ignored: bool = False
+    counted: str = ""
+    waits: bool = False
     ends: str = ""
     answer: str | None = None
     sends: list = field(default_factory=list)
@@ -127,7 +133,8 @@ def read_event(run, line, number):
     if int(found.group(1)) != len(run.events) + 1:
         raise Malformed(number, f"event out of order, {len(run.events) + 1} is next")
     event = event_of(run, found.group(2), line, number)
-    event.ends, event.answer = found.group(3) or "", found.group(4)
+    event.counted, event.waits = found.group(3) or "", bool(found.group(4))
+    event.ends, event.answer = found.group(5) or "", found.group(6)
     run.events.append(event)
 
 

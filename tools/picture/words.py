@@ -11,7 +11,10 @@ MARKS = {
     "refused": "a replica refuses",
     "barrier": "mended: a barrier is added",
     "copy": "mended: a copy, or what was found, is added",
-    "silent": "a request without an answer",
+    "waits": "a request waits, and fetches",
+    "sent": "a version is sent",
+    "counted": "a version that was fetched counts",
+    "silent": "no answer",
     "ignored": "ignored: nothing changes",
 }
 VERDICT_MARKS = {"done": "done", "told": "told", "already": "told"}
@@ -27,10 +30,19 @@ def mark_of(event, run):
         return "end" if event.ends else "step"
     reply = reply_sent(event, run)
     if not reply:
-        return "silent"
+        return mark_without_reply(event)
     if reply.verdict.startswith("mended "):
         return "barrier" if reply.stamp.startswith("barrier ") else "copy"
     return VERDICT_MARKS.get(reply.verdict.split()[0], "refused")
+
+
+def mark_without_reply(event):
+    """The name of the mark of an event at which a replica sends no reply."""
+    if event.waits:
+        return "waits"
+    if event.counted:
+        return "ignored" if event.counted.startswith("not ") else "counted"
+    return "sent" if event.sends else "silent"
 
 
 def reply_sent(event, run):
@@ -42,10 +54,10 @@ def reply_sent(event, run):
 def words_of(event, run):
     """What an event did, beside its party: what came, what was told or ended, and the letters that it sends."""
     parts = [came(event, run)]
-    reply = reply_sent(event, run)
-    if reply:
-        parts[0] += ": " + told(reply)
-    elif event.party.kind == "replica" and not event.ignored:
+    made = made_words(event, run)
+    if made:
+        parts[0] += ": " + made
+    elif event.party.kind == "replica" and not event.ignored and not event.sends:
         parts[0] += ": no answer"
     if event.ends:
         answer = "given up" if event.answer is None else f"with {event.answer}"
@@ -53,6 +65,13 @@ def words_of(event, run):
     if event.sends:
         parts.append(sent(event, run))
     return "; ".join(parts)
+
+
+def made_words(event, run):
+    """What a replica made of what came: whether it counts, whether a request waits, and what is told."""
+    reply = reply_sent(event, run)
+    made = [event.counted, "waits" if event.waits else "", told(reply) if reply else ""]
+    return ", ".join(words for words in made if words)
 
 
 def came(event, run):

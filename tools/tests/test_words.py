@@ -62,6 +62,28 @@ class Words(unittest.TestCase):
         self.assertEqual("letter 1 of c1 again, ignored", words_of(run.event(3), run))
         self.assertEqual("0 bytes injected, ignored", words_of(run.event(4), run))
 
+    def test_what_a_replica_makes_of_a_version(self):
+        told = "  letter 1 replica 1 to replica 0: fetched object 0 at opening, counter 0, 0 clients, 0 links"
+        came = "letter 1 of r1, fetched object 0 at opening, counter 0, 0 clients, 0 links"
+        asked = "event 1 inject 81 bytes to replica 1 as replica 0: fetch object 0 at opening"
+        answer = reply("already 5", number=2)
+        for counted, line, mark in (
+                ("counted", (), "counted"), ("counted, found", (), "counted"),
+                ("counted, found, held, wakes 1.2", (answer,), "told"),
+                ("not counted, not fetched", (), "ignored"), ("not counted, another kind", (), "ignored"),
+                ("not counted, answered before", (), "ignored")):
+            run = read_listing(text_of(asked, told, f"event 2 deliver 1 to replica 0, {counted}", *line))
+            also = ", already 5; sends 2" if line else ""
+            self.assertEqual(["sent", mark], [mark_of(event, run) for event in run.events])
+            self.assertEqual(f"{came}: {counted}{also}", words_of(run.event(2), run))
+        self.assertEqual("81 bytes injected as r0, fetch object 0 at opening; sends 1", words_of(run.event(1), run))
+
+    def test_what_waits(self):
+        fetch = "  letter 2 replica 0 to replica 1: fetch object 0 at opening"
+        run = read_listing(text_of(OPENING, ASKED, DELIVERED + ", waits", fetch))
+        self.assertEqual("waits", mark_of(run.event(2), run))
+        self.assertEqual("letter 1 of c1, act 1.1 round 1: waits; sends 2", words_of(run.event(2), run))
+
 
 class Cuts(unittest.TestCase):
     def shown(self, **bounds):

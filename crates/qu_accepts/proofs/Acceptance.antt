@@ -48,7 +48,10 @@ use Rattle.qu_base.specs.Bounds.{quorum, repair}
 use Rattle.qu_class.specs.Class.{class_of}
 use Rattle.qu_class.proofs.ClassRows.{class_tells, prior_of_barrier}
 use Rattle.qu_rows.proofs.Decided.{decided_has_cause}
-use Rattle.qu_accepts.proofs.ActAcceptance.{accepted_in, AcceptsNothing, unknown, thin, version, full, past, ask_accepts, carried, may_accept, candidates_after, stays, act_moves}
+use Rattle.qu_accepts.proofs.ActAcceptance.{accepted_in, AcceptsNothing, unknown, thin, version, full, past, ask_accepts, carried, may_accept, candidates_after, stays, act_moves, alike_candidates}
+use Rattle.qu_replica.specs.Growth.{HoldsAlike}
+use Rattle.qu_rows.specs.Waiting.{TakenRequest, request_frame_of}
+use Rattle.qu_frames.specs.declared.frame.Body.{Body}
 
 -- ---- a repair
 
@@ -193,7 +196,7 @@ mended : (state : ReplicaState) (asked : Asked) (target : ObjectId) → asked.ac
     → (made : Mending)
     → HasCause (mend_asked state asked target) (own_candidates state target)
     (wanted_version state target (mend_asked state asked target).remedy) made
-    → AddsAtMostOne state asked target (accepted_in (decision_by target made))
+    → AddsAtMostOne state asked target (accepted_in (decision_by target (mend_asked state asked target).remedy made))
 unfolding remedy_of
 mended state asked target no_act formed enough (mending.Mends candidate version) cause =
     inr (
@@ -232,7 +235,7 @@ not_few state asked target none =
     none_if true it none = absurd (none-some it (sym none))
 
 at_last : (P : List Accepted → Type 0) (decision : Decision) → P (accepted_in decision)
-    → P (accepted_in (first_given Waits (Some decision ∷ [])))
+    → P (accepted_in (first_given (Waits []) (Some decision ∷ [])))
 unfolding first_given
 at_last P decision holds_so = holds_so
 
@@ -245,7 +248,7 @@ repair_accepts state asked target no_act formed =
     past most _ _ (inl refl) (unknown state asked) (λ _.
     past most _ _ (inl refl) (thin state asked) (λ _.
     past most _ _ (inl refl) (few state asked target) (λ enough.
-    at_last most (decision_by target (mending_on state asked target))
+    at_last most (decision_by target (mend_asked state asked target).remedy (mending_on state asked target))
     (mended state asked target no_act formed (not_few state asked target enough) (mending_on state asked target)
     (decided_has_cause (mend_asked state asked target) (own_candidates state target)
     (wanted_version state target (mend_asked state asked target).remedy))))))
@@ -254,12 +257,13 @@ adds : (state new : ReplicaState) (client : ClientId) (number round : ℕ) (sent
     (target : ObjectId) (accepted : List Accepted) → MayAcceptAll state accepted
     → quorum state.keys.bounds ≤ length (shown_of (asked_at state client number sent (body.Mend target)) target)
     → AddsOne state (asked_at state client number sent (body.Mend target)) target accepted
-    → new ≡ accept_all state accepted
+    → HoldsAlike new (accept_all state accepted)
     → Accepts state new (frame.Request client number round sent (body.Mend target) mac)
 unfolding accept_all
 adds state new client number round sent mac target accepted may enough made is_new =
     let one : Accepted = record { object = target; candidate = made.candidate; state = made.version } in
-    let is_one : new ≡ accept state one = is_new ∙ ap (accept_all state) made.alone in
+    let is_one : HoldsAlike new (accept state one) =
+    subst (λ (it : List Accepted). HoldsAlike new (accept_all state it)) made.alone is_new in
     let may_one : MayAccept state one = subst (MayAcceptAll state) made.alone may in
     record {
       client = client;
@@ -274,10 +278,10 @@ adds state new client number round sent mac target accepted may enough made is_n
       candidates = λ object. made.candidate;
       added = λ object is. subst
           (λ (it : ObjectId). own_candidates new it ≡ own_candidates state it ++ made.candidate ∷ []) is
-          (ap (λ (it : ReplicaState). own_candidates it target) is_one
+          (alike_candidates new (accept state one) is_one target
           ∙ candidates_after target.0 made.candidate state.histories may_one.known);
       others = λ other apart.
-          ap (λ (it : ReplicaState). own_candidates it other) is_one ∙
+          alike_candidates new (accept state one) is_one other ∙
           ap candidates_in (other_history target.0 other.0 made.candidate state.histories
           (λ same. apart (ap (λ (it : ℕ). record { 0 = it }) (sym same))));
       reasons = record {
@@ -286,21 +290,29 @@ adds state new client number round sent mac target accepted may enough made is_n
         above = made.above;
         version = made.version;
         remedy = made.remedy;
-        stored = ap (λ (it : ReplicaState). it.versions) is_one;
+        stored = is_one.versions;
       };
     }
 
 mend_moves : (state : ReplicaState) (client : ClientId) (number round : ℕ) (sets : List SetOf) (mac : List ℕ)
     (target : ObjectId)
     → AreWellFormed state.keys.bounds (entries_of target (culled state.keys state.me sets))
-    → ((replica_on_frame state (frame.Request client number round sets (body.Mend target) mac)).0 ≡ state)
+    → HoldsAlike (replica_on_frame state (frame.Request client number round sets (body.Mend target) mac)).0 state
     ⊎ Accepts state (replica_on_frame state (frame.Request client number round sets (body.Mend target) mac)).0
     (frame.Request client number round sets (body.Mend target) mac)
 mend_moves state client number round sets mac target formed =
     let asked : Asked = asked_at state client number sets (body.Mend target) in
     let decision : Decision = decide_repair state asked target in
-    let new : ReplicaState = (carried_out state client number round sets decision).0 in
-    let is_new : new ≡ accept_all state (accepted_in decision) = carried state client number round sets decision in
+    let request : TakenRequest = record {
+      client = client;
+      number = number;
+      round = round;
+      sets = sets;
+      body = body.Mend target;
+      mac = mac;
+    } in
+    let new : ReplicaState = (carried_out state request decision).0 in
+    let is_new : HoldsAlike new (accept_all state (accepted_in decision)) = carried state request decision in
     elim (repair_accepts state asked target refl formed) [
       | inl none ↦ inl (stays state new (accepted_in decision) is_new none)
       | inr made ↦
@@ -316,19 +328,37 @@ IsFormed state (frame.Request client number round sets asks mac) =
     (object : ObjectId) → AreWellFormed state.keys.bounds (entries_of object (culled state.keys state.me sets))
 IsFormed state _ = Unit {0}
 
--- a step leaves a replica as it is, or adds candidates for which there are grounds
-pub step_moves : (state : ReplicaState) (received : Frame) → HasParts received → IsFormed state received
-    → ((replica_on_frame state received).0 ≡ state) ⊎ Accepts state (replica_on_frame state received).0 received
-step_moves state (frame.Request client number round sets (body.Act []) mac) parts formed = absurd (false≢true parts)
-step_moves state (frame.Request client number round sets (body.Act (part ∷ [])) mac) parts formed =
+-- a request leaves a replica with what it holds, or adds candidates for which there are grounds
+fields_move : (state : ReplicaState) (client : ClientId) (number round : ℕ) (sets : List SetOf) (asks : Body)
+    (mac : List ℕ) → HasParts (frame.Request client number round sets asks mac)
+    → IsFormed state (frame.Request client number round sets asks mac)
+    → HoldsAlike (replica_on_frame state (frame.Request client number round sets asks mac)).0 state
+    ⊎ Accepts state (replica_on_frame state (frame.Request client number round sets asks mac)).0
+    (frame.Request client number round sets asks mac)
+fields_move state client number round sets (body.Act []) mac parts formed = absurd (false≢true parts)
+fields_move state client number round sets (body.Act (part ∷ [])) mac parts formed =
     act_moves state client number round sets mac part parts
-step_moves state (frame.Request client number round sets (body.Act (first ∷ second ∷ later)) mac) parts formed =
+fields_move state client number round sets (body.Act (first ∷ second ∷ later)) mac parts formed =
     absurd (false≢true parts)
-step_moves state (frame.Request client number round sets (body.Ask asks) mac) parts formed =
+fields_move state client number round sets (body.Ask asks) mac parts formed =
     let asked : Asked = asked_at state client number sets (body.Ask asks) in
     let decision : Decision = decision_on state asked (body.Ask asks) in
-    inl (stays state (carried_out state client number round sets decision).0 (accepted_in decision)
-    (carried state client number round sets decision) (ask_accepts state asked asks _))
-step_moves state (frame.Request client number round sets (body.Mend target) mac) parts formed =
+    let request : TakenRequest = record {
+      client = client;
+      number = number;
+      round = round;
+      sets = sets;
+      body = body.Ask asks;
+      mac = mac;
+    } in
+    inl (stays state (carried_out state request decision).0 (accepted_in decision) (carried state request decision)
+    (ask_accepts state asked asks _))
+fields_move state client number round sets (body.Mend target) mac parts formed =
     mend_moves state client number round sets mac target (formed target)
-step_moves state _ parts formed = inl refl
+
+pub step_moves : (state : ReplicaState) (request : TakenRequest) → HasParts (request_frame_of request)
+    → IsFormed state (request_frame_of request)
+    → HoldsAlike (replica_on_frame state (request_frame_of request)).0 state
+    ⊎ Accepts state (replica_on_frame state (request_frame_of request)).0 (request_frame_of request)
+step_moves state request parts formed =
+    fields_move state request.client request.number request.round request.sets request.body request.mac parts formed

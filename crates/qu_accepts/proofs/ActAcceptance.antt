@@ -51,12 +51,14 @@ use Rattle.qu_claims.specs.Grounds.{IsGround, Accepts, Performs}
 use Rattle.qu_accepts.proofs.Parts.{one_named}
 use Rattle.qu_runs.proofs.Small.{some_of, single}
 use Rattle.qu_rows.specs.declared.remedy.Remedy.TheVariants.{Fresh}
+use Rattle.qu_replica.specs.Growth.{HoldsAlike}
+use Rattle.qu_rows.specs.Waiting.{TakenRequest}
 
 -- ---- the rows that accept nothing
 
 abbrev pub accepted_in : Decision → List Accepted
 accepted_in (Answers verdict accepted) = accepted
-accepted_in Waits = []
+accepted_in (Waits missing) = []
 
 abbrev pub AcceptsNothing : Option Decision → Type 0
 AcceptsNothing row = (decision : Decision) → row ≡ Some decision → accepted_in decision ≡ []
@@ -81,9 +83,9 @@ repeating (Already answer) decision given =
 repeating (Spent object number) decision given =
     ap accepted_in (sym (same_Some (refuse (refusal.Spent object number)) decision given))
 
-waiting : (test : Bool) → AcceptsNothing (cond test (Some Waits) None)
-waiting false decision given = absurd (none-some decision given)
-waiting true decision given = ap accepted_in (sym (same_Some Waits decision given))
+waiting : (missing : List (ObjectId × Stamp)) (test : Bool) → AcceptsNothing (cond test (Some (Waits missing)) None)
+waiting missing false decision given = absurd (none-some decision given)
+waiting missing true decision given = ap accepted_in (sym (same_Some (Waits missing) decision given))
 
 pub unknown : (state : ReplicaState) (asked : Asked) → AcceptsNothing (row_unknown state asked)
 unfolding row_unknown
@@ -116,7 +118,7 @@ method state asked objects = refusing _ _
 pub version : (state : ReplicaState) (asked : Asked) (objects : List ObjectId)
     → AcceptsNothing (row_version state asked objects)
 unfolding row_version
-version state asked objects = waiting _
+version state asked objects = waiting _ _
 
 pub time : (state : ReplicaState) (asked : Asked) (objects : List ObjectId)
     → AcceptsNothing (row_time state asked objects)
@@ -135,13 +137,13 @@ told-accepts state asked parts objects decision given = ap accepted_in (sym (sam
 
 -- past a row that accepts nothing, the later ones decide
 pub past : (P : List Accepted → Type 0) (row : Option Decision) (later : List (Option Decision)) → P []
-    → AcceptsNothing row → (row ≡ None → P (accepted_in (first_given Waits later)))
-    → P (accepted_in (first_given Waits (row ∷ later)))
+    → AcceptsNothing row → (row ≡ None → P (accepted_in (first_given (Waits []) later)))
+    → P (accepted_in (first_given (Waits []) (row ∷ later)))
 unfolding first_given
 past P None later none nothing next = next refl
 past P (Some decision) later none nothing next = subst P (sym (nothing decision refl)) none
 
-no_more : accepted_in (first_given Waits []) ≡ []
+no_more : accepted_in (first_given (Waits []) []) ≡ []
 unfolding first_given
 no_more = refl
 
@@ -181,9 +183,10 @@ record MakesOne (state : ReplicaState) (asked : Asked) (part : ObjectId × Metho
     state = Some (version_by asked part before value);
   } ∷ []
 
-pub no_wait : (missing : Bool) → cond (missing || false) (Some Waits) None ≡ None → missing ≡ false
-no_wait true none = absurd (none-some Waits (sym none))
-no_wait false none = refl
+pub no_wait : (lacks : Bool) (missing : List (ObjectId × Stamp))
+    → cond (lacks || false) (Some (Waits missing)) None ≡ None → lacks ≡ false
+no_wait true missing none = absurd (none-some (Waits missing) (sym none))
+no_wait false missing none = refl
 
 -- an act that no row refused or answered before is above what is kept of its client
 not_repeated : (standing : Standing) → repeated standing ≡ None → standing ≡ Fresh
@@ -209,7 +212,8 @@ makes_one : (state : ReplicaState) (asked : Asked) (part : ObjectId × Method) (
     → IsLower asked.number (row_of asked.client before.kept)
     → performed_values (part ∷ []) (before.value ∷ []) ≡ value ∷ []
     → is_below (latest_of (shown_of asked part.0)) (own_latest state part.0) ≡ false
-    → MakesOne state asked part (accepted_in (first_given Waits (row_done state asked (part ∷ []) (part.0 ∷ []) ∷ [])))
+    → MakesOne state asked part
+    (accepted_in (first_given (Waits []) (row_done state asked (part ∷ []) (part.0 ∷ []) ∷ [])))
 unfolding first_given
 makes_one state asked part base before value is_base is_before lower is_value is_current =
     let make : Candidate → Candidate = λ it. record { stamp = fresh_stamp asked part.0; prior = it.stamp } in
@@ -224,7 +228,7 @@ makes_one state asked part base before value is_base is_before lower is_value is
       lower = lower;
       value = value;
       is_value = is_value;
-      alone = ap (λ (row : Option Decision). accepted_in (first_given Waits (row ∷ [])))
+      alone = ap (λ (row : Option Decision). accepted_in (first_given (Waits []) (row ∷ [])))
           (done_one state asked (part ∷ []) part.0 (make base) before (version_by asked part before value) _ is_fresh
           is_before (performed_to asked.client asked.number (part ∷ []) (fresh_stamp asked part.0 ∷ []) before value
           refl refl is_value) refl);
@@ -234,14 +238,15 @@ done : (state : ReplicaState) (asked : Asked) (part : ObjectId × Method) (act :
     → IsTrue (are_parts (part ∷ []))
     → row_current state asked (part.0 ∷ []) ≡ None → row_method state asked (part.0 ∷ []) ≡ None
     → row_version state asked (part.0 ∷ []) ≡ None → row_kept state asked (part ∷ []) (part.0 ∷ []) ≡ None
-    → MakesOne state asked part (accepted_in (first_given Waits (row_done state asked (part ∷ []) (part.0 ∷ []) ∷ [])))
+    → MakesOne state asked part
+    (accepted_in (first_given (Waits []) (row_done state asked (part ∷ []) (part.0 ∷ []) ∷ [])))
 unfolding row_current row_method row_version row_kept
 done state asked part act is_act parts is_current is_method is_version is_new =
     let base : (it : Candidate) × (method_base state asked part.0 ≡ Some it) =
     some_of (method_base state asked part.0)
     (no_first (λ it. NotMethod it (class_told state asked it)) _ part.0 is_method) in
     let before : (it : ObjState) × (base_version state asked part.0 ≡ Some it) =
-    some_of (base_version state asked part.0) (no_wait _ is_version) in
+    some_of (base_version state asked part.0) (no_wait _ _ is_version) in
     let value : (it : Value) × (performed_values (part ∷ []) ((before.0).value ∷ []) ≡ it ∷ []) =
     single (performed_values (part ∷ []) ((before.0).value ∷ [])) (values_one (part ∷ []) (before.0).value refl) in
     let lower : IsLower asked.number (row_of asked.client (before.0).kept) =
@@ -274,17 +279,21 @@ act_accepts state asked part act is_act parts =
 
 -- ---- the step
 
-pub carried : (state : ReplicaState) (client : ClientId) (number round : ℕ) (sets : List SetOf)
-    (decision : Decision) → (carried_out state client number round sets decision).0 ≡ accept_all state
-    (accepted_in decision)
+pub alike_candidates : (one other : ReplicaState) → HoldsAlike one other → (object : ObjectId)
+    → own_candidates one object ≡ own_candidates other object
+alike_candidates one other alike object =
+    ap (λ (it : List ObjectHistory). candidates_in (slice_get it object.0)) alike.histories
+
+pub carried : (state : ReplicaState) (request : TakenRequest) (decision : Decision)
+    → HoldsAlike (carried_out state request decision).0 (accept_all state (accepted_in decision))
 unfolding accept_all
-carried state client number round sets (Answers verdict accepted) = refl
-carried state client number round sets Waits = refl
+carried state request (Answers verdict accepted) = record { me = refl; keys = refl; histories = refl; versions = refl }
+carried state request (Waits missing) = record { me = refl; keys = refl; histories = refl; versions = refl }
 
 pub may_accept : (state : ReplicaState) (decision : Decision) → MayDecide state decision
     → MayAcceptAll state (accepted_in decision)
 may_accept state (Answers verdict accepted) may = may
-may_accept state Waits may = tt
+may_accept state (Waits missing) may = tt
 
 -- the candidate stands behind those that its object had
 pub candidates_after : (number : ℕ) (candidate : Candidate) (histories : List ObjectHistory)
@@ -297,11 +306,12 @@ candidates_after (suc number) candidate (history ∷ later) within =
     let inner : number < length later = omega arith in
     candidates_after number candidate later inner
 
--- a replica that accepts nothing stays as it is
-pub stays : (state new : ReplicaState) (accepted : List Accepted) → new ≡ accept_all state accepted
-    → accepted ≡ [] → new ≡ state
+-- a replica that accepts nothing holds what it did
+pub stays : (state new : ReplicaState) (accepted : List Accepted) → HoldsAlike new (accept_all state accepted)
+    → accepted ≡ [] → HoldsAlike new state
 unfolding accept_all
-stays state new accepted is_new none = is_new ∙ ap (accept_all state) none
+stays state new accepted is_new none =
+    subst (λ (it : List Accepted). HoldsAlike new (accept_all state it)) none is_new
 
 performs : (state new : ReplicaState) (client : ClientId) (number : ℕ) (sent : List SetOf)
     (part : ObjectId × Method) (accepted : List Accepted)
@@ -344,14 +354,15 @@ performs state new client number sent part accepted made stored =
 moves : (state new : ReplicaState) (client : ClientId) (number round : ℕ) (sent : List SetOf) (mac : List ℕ)
     (part : ObjectId × Method) (accepted : List Accepted)
     → MayAcceptAll state accepted → MakesOne state (asked_at state client number sent (body.Act (part ∷ []))) part
-    accepted → new ≡ accept_all state accepted
+    accepted → HoldsAlike new (accept_all state accepted)
     → Accepts state new (frame.Request client number round sent (body.Act (part ∷ [])) mac)
 unfolding accept_all
 moves state new client number round sent mac part accepted may made is_new =
     let asked : Asked = asked_at state client number sent (body.Act (part ∷ [])) in
     let after : ObjState = version_by asked part made.before made.value in
     let one : Accepted = record { object = part.0; candidate = made.candidate; state = Some after } in
-    let is_one : new ≡ accept state one = is_new ∙ ap (accept_all state) made.alone in
+    let is_one : HoldsAlike new (accept state one) =
+    subst (λ (it : List Accepted). HoldsAlike new (accept_all state it)) made.alone is_new in
     let may_one : MayAccept state one = subst (MayAcceptAll state) made.alone may in
     record {
       client = client;
@@ -367,26 +378,34 @@ moves state new client number round sent mac part accepted may made is_new =
       added = λ object names. subst
           (λ (it : ObjectId). own_candidates new it ≡ own_candidates state it ++ made.candidate ∷ [])
           (one_named part object names)
-          (ap (λ (it : ReplicaState). own_candidates it part.0) is_one
+          (alike_candidates new (accept state one) is_one part.0
           ∙ candidates_after (part.0).0 made.candidate state.histories may_one.known);
       others = λ other apart.
-          ap (λ (it : ReplicaState). own_candidates it other) is_one ∙
+          alike_candidates new (accept state one) is_one other ∙
           ap candidates_in (other_history (part.0).0 other.0 made.candidate state.histories
           (λ same. apart (inl (ap (λ (it : ℕ). record { 0 = it }) (sym same)))));
       reasons = performs state new client number sent part accepted made
-          (ap (λ (it : ReplicaState). it.versions) is_one);
+          is_one.versions;
     }
 
 pub act_moves : (state : ReplicaState) (client : ClientId) (number round : ℕ) (sets : List SetOf) (mac : List ℕ)
     (part : ObjectId × Method) → HasParts (frame.Request client number round sets (body.Act (part ∷ [])) mac)
-    → ((replica_on_frame state (frame.Request client number round sets (body.Act (part ∷ [])) mac)).0 ≡ state)
+    → HoldsAlike (replica_on_frame state (frame.Request client number round sets (body.Act (part ∷ [])) mac)).0 state
     ⊎ Accepts state (replica_on_frame state (frame.Request client number round sets (body.Act (part ∷ [])) mac)).0
     (frame.Request client number round sets (body.Act (part ∷ [])) mac)
 act_moves state client number round sets mac part parts =
     let asked : Asked = asked_at state client number sets (body.Act (part ∷ [])) in
     let decision : Decision = decide_act state asked (part ∷ []) (part.0 ∷ []) in
-    let new : ReplicaState = (carried_out state client number round sets decision).0 in
-    let is_new : new ≡ accept_all state (accepted_in decision) = carried state client number round sets decision in
+    let request : TakenRequest = record {
+      client = client;
+      number = number;
+      round = round;
+      sets = sets;
+      body = body.Act (part ∷ []);
+      mac = mac;
+    } in
+    let new : ReplicaState = (carried_out state request decision).0 in
+    let is_new : HoldsAlike new (accept_all state (accepted_in decision)) = carried state request decision in
     elim (act_accepts state asked part (act_digest client number (part ∷ [])) refl parts) [
       | inl none ↦ inl (stays state new (accepted_in decision) is_new none)
       | inr made ↦

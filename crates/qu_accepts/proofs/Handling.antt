@@ -1,5 +1,5 @@
 -- A frame that is handled at the event that hands it over, and what a replica keeps when it learns or handles.
-use Rattle.std.proofs.Common.{◌≡◌, ℕ, ◌+◌, [], List, Some, refl, sym, ap, ◌∙◌, arith}
+use Rattle.std.proofs.Common.{◌≡◌, ℕ, [], List, refl, sym, ap, ◌∙◌}
 use Rattle.std.specs.Prelude.{slice_get}
 use Rattle.std.proofs.lemmas.List.{append-nil}
 use Rattle.std.proofs.lemmas.List.Elements.{All-nil}
@@ -14,14 +14,13 @@ use Rattle.qu_history.specs.Culling.{culled}
 use Rattle.qu_base.specs.declared.party.ReplicaId.{ReplicaId}
 use Rattle.qu_seal.specs.Keys.{Ring}
 use Rattle.qu_runs.proofs.Worlds.OpeningReplicas.{keys_are, me_is, bounds_are}
-use Rattle.qu_frames.specs.declared.frame.Frame.{Frame}
 use Rattle.qu_rows.specs.State.{ReplicaState, candidates_in, own_candidates}
-use Rattle.qu_replica.specs.Step.{replica_on_frame}
 use Rattle.qu_trace.specs.declared.trace.Entry.{Entry}
 use Rattle.qu_trace.specs.declared.trace.Trace.{Trace}
-use Rattle.qu_claims.specs.Carried.{Brings, handed}
-use Rattle.qu_claims.specs.Handling.{HoldsAlike, WasFound, Learns, handled_now, Handles}
+use Rattle.qu_claims.specs.Carried.{handed}
+use Rattle.qu_claims.specs.Handling.{WasFound, Learns, handled_now, Handles}
 use Rattle.qu_claims.specs.Times.{world_after}
+use Rattle.qu_replica.specs.Growth.{HoldsAlike}
 
 pub holds_alike : (one other : ReplicaState) → one ≡ other → HoldsAlike one other
 holds_alike one other same = record {
@@ -40,42 +39,6 @@ learns_nothing trace at state = record {
   versions = sym (append-nil state.versions);
   were_found = All-nil (WasFound trace at);
 }
-
--- today a frame is handled at the event that hands its text over
-abbrev pub handled_at_once : (trace : Trace) (at place : ℕ) (old new : ReplicaState)
-    → slice_get (world_after trace at).replicas place ≡ Some old
-    → slice_get (world_after trace (at + 1)).replicas place ≡ Some new
-    → (entry : Entry) → slice_get trace.entries at ≡ Some entry → (text : List ℕ)
-    → handed (world_after trace at) entry.event ≡ Some (party.Replica (record { 0 = place }), text)
-    → (carried : Frame) → Brings old text carried → new ≡ (replica_on_frame old carried).0
-    → Handles trace at place old new
-handled_at_once trace at place old new is_old is_new entry is_entry text is_handed carried brings steps = record {
-  is_old = is_old;
-  is_new = is_new;
-  now = entry;
-  is_now = is_entry;
-  given = text;
-  is_given = is_handed;
-  carried = carried;
-  is_carried = brings;
-  since = at;
-  came = omega arith;
-  entry = entry;
-  is_entry = is_entry;
-  receiver = old;
-  is_receiver = is_old;
-  text = text;
-  is_handed = is_handed;
-  brings = brings;
-  mid = old;
-  learns = learns_nothing trace at old;
-  made = holds_alike new (replica_on_frame old carried).0 steps;
-}
-
-pub alike_candidates : (one other : ReplicaState) → HoldsAlike one other → (object : ObjectId)
-    → own_candidates one object ≡ own_candidates other object
-alike_candidates one other alike object =
-    ap (λ (it : List ObjectHistory). candidates_in (slice_get it object.0)) alike.histories
 
 -- what a replica learns leaves its candidates as they were
 pub mid_candidates : (trace : Trace) (at : ℕ) (old mid : ReplicaState) → Learns trace at old mid → (object : ObjectId)

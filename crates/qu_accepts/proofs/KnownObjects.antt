@@ -27,17 +27,18 @@ use Rattle.qu_trace.specs.declared.trace.Setup.{Setup}
 use Rattle.qu_trace.specs.declared.trace.Trace.{Trace}
 use Rattle.qu_claims.specs.Grounds.{Accepts, IsDelivered, AddsTo}
 use Rattle.qu_claims.specs.Handled.{is_of_setup}
-use Rattle.qu_claims.specs.Handling.{HoldsAlike, Learns, Handles}
+use Rattle.qu_claims.specs.Handling.{Learns, Handles}
 use Rattle.qu_claims.specs.Times.{world_after}
-use Rattle.qu_accepts.proofs.Handling.{alike_candidates}
 use Rattle.qu_runs.proofs.Worlds.Objects.{run_has, found_within}
-use Rattle.qu_accepts.proofs.ActAcceptance.{accepted_in, AcceptsNothing, unknown, carried, stays}
+use Rattle.qu_accepts.proofs.ActAcceptance.{accepted_in, AcceptsNothing, unknown, carried, stays, alike_candidates}
 use Rattle.qu_frames.specs.declared.frame.Body.{Body}
+use Rattle.qu_replica.specs.Growth.{HoldsAlike}
+use Rattle.qu_rows.specs.Waiting.{TakenRequest}
 
 -- ---- the rows
 
 first_row : (Passed : Type 0) (row : Option Decision) (later : List (Option Decision)) → AcceptsNothing row
-    → (row ≡ None → Passed) → (accepted_in (first_given Waits (row ∷ later)) ≡ []) ⊎ Passed
+    → (row ≡ None → Passed) → (accepted_in (first_given (Waits []) (row ∷ later)) ≡ []) ⊎ Passed
 unfolding first_given
 first_row Passed (Some decision) later nothing past = inl (nothing decision refl)
 first_row Passed None later nothing past = inr (past refl)
@@ -105,12 +106,20 @@ step_had : (state : ReplicaState) (client : ClientId) (number round : ℕ) (sets
 step_had state client number round sets asks mac object candidate added =
     let asked : Asked = asked_at state client number sets asks in
     let decision : Decision = decision_on state asked asks in
+    let request : TakenRequest = record {
+      client = client;
+      number = number;
+      round = round;
+      sets = sets;
+      body = asks;
+      mac = mac;
+    } in
     elim (request_had state asked asks) [
       | inl none ↦
-          let same : (carried_out state client number round sets decision).0 ≡ state =
-          stays state _ (accepted_in decision) (carried state client number round sets decision) none in
+          let same : HoldsAlike (carried_out state request decision).0 state =
+          stays state _ (accepted_in decision) (carried state request decision) none in
           absurd (not_added (own_candidates state object) candidate
-          (sym (ap (λ (it : ReplicaState). own_candidates it object) same) ∙ added))
+          (sym (alike_candidates (carried_out state request decision).0 state same object) ∙ added))
       | inr had ↦ sym (culled_had state state.keys state.me sets) ∙ had
     ]
 

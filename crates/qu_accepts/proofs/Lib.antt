@@ -4,6 +4,13 @@ pub mod Grounds
 pub mod ActAcceptance
 pub mod Acceptance
 pub mod Handling
+pub mod Takings
+pub mod Waiting
+pub mod GoodVoters
+pub mod Votes
+pub mod ToldVersions
+pub mod TrueVotes
+pub mod Voting
 pub mod Happenings
 pub mod Performed
 pub mod Accepting

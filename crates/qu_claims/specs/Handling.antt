@@ -1,24 +1,19 @@
--- A frame that a correct replica handles: the event at which its text came, the event at which it is handled, the state
--- before with what is learned meanwhile, and the state after. Today both events are one, and nothing is learned.
-use Rattle.std.specs.Prelude.{◌≡◌, ℕ, ◌+◌, ◌≤◌, List, ◌++◌, All, slice_get, Option, Some}
+-- A request that a correct replica handles: the event at which its text came, the event at which it is handled, the
+-- state before with what is learned then, and the state after. A request that waited is handled later than it came.
+use Rattle.std.specs.Prelude.{◌≡◌, ℕ, ◌+◌, ◌≤◌, List, ◌++◌, All, slice_get, Option, None, Some, option_map}
 use Rattle.qu_base.specs.declared.party.Party.TheVariants as party
 use Rattle.qu_frames.specs.declared.frame.Frame.{Frame}
 use Rattle.qu_frames.specs.Signing.{brought}
 use Rattle.qu_versions.specs.declared.stored.Stored.{Stored}
 use Rattle.qu_versions.specs.Versions.{version_at}
 use Rattle.qu_rows.specs.State.{ReplicaState}
-use Rattle.qu_replica.specs.Step.{replica_on_frame}
+use Rattle.qu_rows.specs.Waiting.{request_frame_of}
+use Rattle.qu_replica.specs.Growth.{HoldsAlike}
+use Rattle.qu_replica.specs.Step.{handled, replica_on_frame}
 use Rattle.qu_trace.specs.declared.trace.Entry.{Entry}
 use Rattle.qu_trace.specs.declared.trace.Trace.{Trace}
 use Rattle.qu_claims.specs.Carried.{Brings, handed}
 use Rattle.qu_claims.specs.Times.{world_after}
-
--- two states of a replica with the same histories and versions
-pub record HoldsAlike (one other : ReplicaState) : Type 0 where
-  pub me : one.me ≡ other.me
-  pub keys : one.keys ≡ other.keys
-  pub histories : one.histories ≡ other.histories
-  pub versions : one.versions ≡ other.versions
 
 -- a version that a correct replica found under its stamp by this time
 pub record WasFound (trace : Trace) (time : ℕ) (version : Stored) : Type 0 where
@@ -38,15 +33,16 @@ pub record Learns (trace : Trace) (time : ℕ) (old mid : ReplicaState) : Type 0
   pub versions : mid.versions ≡ old.versions ++ more
   pub were_found : All (WasFound trace time) more
 
--- the frame that a replica handles at an event that brings it this frame, or none
+-- the request that a replica handles at an event that brings it this frame, or none
 abbrev pub handled_now : ReplicaState → Option Frame → Option Frame
-handled_now state taken = taken
+handled_now state None = None
+handled_now state (Some taken) = option_map request_frame_of (handled state taken)
 
--- at this event the replica at this place handles a frame
+-- at this event the replica at this place handles a request
 pub record Handles (trace : Trace) (at place : ℕ) (old new : ReplicaState) : Type 0 where
   pub is_old : slice_get (world_after trace at).replicas place ≡ Some old
   pub is_new : slice_get (world_after trace (at + 1)).replicas place ≡ Some new
-  -- what the event hands over, which decides the frame
+  -- what the event hands over, which decides the request
   pub now : Entry
   pub is_now : slice_get trace.entries at ≡ Some now
   pub given : List ℕ

@@ -1,5 +1,5 @@
 -- The version of a candidate: the state that its update makes of the versions of its bases, or that of what it copies.
-use Rattle.std.specs.Prelude.{◌≡◌, true, false, [], slice_get, Some}
+use Rattle.std.specs.Prelude.{◌≡◌, true, false, slice_get, Some}
 use Rattle.qu_claims.specs.Groups.{IsOneAct}
 use Rattle.qu_base.specs.declared.party.ObjectId.{ObjectId}
 use Rattle.qu_stamp.specs.declared.candidate.Candidate.{Candidate}

@@ -12,7 +12,7 @@ use Rattle.qu_base.proofs.ThresholdFacts.{replicas_are_few, replicas_are_count}
 use Rattle.qu_frames.specs.declared.frame.Letter.{Letter}
 use Rattle.qu_rows.specs.State.{ReplicaState}
 use Rattle.qu_replica.specs.Step.{replica_step}
-use Rattle.qu_replica.specs.Fits.{StateFits}
+use Rattle.qu_fitting.specs.Fits.{StateFits}
 use Rattle.qu_replica.proofs.Fits.FitState.{opening-fits}
 use Rattle.qu_replica.proofs.Fits.FitSteps.{step-fits}
 use Rattle.qu_trace.specs.declared.event.Event.{Event}

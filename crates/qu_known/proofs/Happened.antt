@@ -1,7 +1,7 @@
 -- What an event of a world does to its replicas: nothing, and then nobody sends a reply; or one replica takes a text.
 use Rattle.std.proofs.Common.{◌≡◌, ◌⊎◌, ℕ, zero, suc, ◌+◌, List, [], ◌∷◌, ◌++◌, Option, None, Some, Result, Ok, inl, inr, refl, sym, ap, ◌∙◌}
 use Rattle.std.specs.Prelude.{option_map, slice_get, slice_set}
-use Rattle.std.specs.List.{cons_option, filter_map}
+use Rattle.std.specs.List.{AllByRecursion, cons_option, filter_map}
 use Rattle.qu_base.specs.declared.party.ClientId.{ClientId}
 use Rattle.qu_base.specs.declared.party.Party.{Party}
 use Rattle.qu_base.specs.declared.party.Party.TheVariants as party
@@ -21,11 +21,8 @@ use Rattle.qu_frames.specs.Body.{body_of}
 use Rattle.qu_frames.specs.Decoding.{decoded}
 use Rattle.qu_frames.specs.Signing.{brought, signature, signed}
 use Rattle.qu_rows.specs.State.{ReplicaState}
-use Rattle.qu_replica.specs.Step.{replica_step, carried_out, replica_on_received, version_letters}
-use Rattle.qu_rows.specs.declared.decision.Decision.{Decision}
-use Rattle.qu_rows.specs.declared.decision.Decision.TheVariants.{Answers, Waits}
-use Rattle.qu_rows.specs.Rows.{asked_at, decision_on}
-use Rattle.qu_replica.proofs.Fits.FitSteps.{blank_sized}
+use Rattle.qu_replica.specs.Step.{replica_step, replica_on_frame, replica_on_received}
+use Rattle.qu_fitting.proofs.FitRequests.{blank_sized}
 use Rattle.qu_client.specs.declared.state.ClientState.{ClientState}
 use Rattle.qu_client.specs.declared.state.Stepped.{Stepped}
 use Rattle.qu_client.specs.declared.work.Work.{Work}
@@ -42,11 +39,10 @@ use Rattle.qu_world.proofs.Steps.{step_cases}
 use Rattle.qu_runs.proofs.Events.Handing.{hand}
 use Rattle.qu_claims.specs.Carried.{offered}
 use Rattle.qu_runs.proofs.Fits.Carrying.{no_reply, signed_spelled}
+use Rattle.qu_runs.proofs.Fits.StepLetters.{CarriesOther, on_frame_each, no_reply_in}
 use Rattle.qu_known.specs.declared.answers.Answered.{Answered}
-use Rattle.qu_known.specs.Answers.{round_answered, letter_answered, rounds_told}
+use Rattle.qu_known.specs.Answers.{round_answered, letter_answered, answered_from, letter_told, rounds_told}
 use Rattle.qu_known.specs.Known.{Seen, see_letters}
-use Rattle.qu_stamp.specs.declared.stamp.Stamp.{Stamp}
-use Rattle.qu_objects.specs.declared.state.ObjState.{ObjState}
 
 -- no other letters than those of replicas answer
 abbrev pub ReplicasAnswer : List Letter → Type 0
@@ -133,26 +129,34 @@ step_tells state text =
 
 -- ---- replicas
 
-carried_out_answers : (state : ReplicaState) (client : ClientId) (number round : ℕ) (sets : List SetOf)
-    (decision : Decision) → ReplicasAnswer (carried_out state client number round sets decision).1
-unfolding rounds_told
-carried_out_answers state client number round sets (Answers verdict accepted) = refl
-carried_out_answers state client number round sets Waits = refl
+-- the letter tells as much of answers as any letter that carries the same
+abbrev TellsAnswers : Letter → Type 0
+TellsAnswers letter = letter_told letter ≡ letter_answered letter
 
-version_answers : (state : ReplicaState) (to : ReplicaId) (object : ObjectId) (stamp : Stamp)
-    (found : Option ObjState) → ReplicasAnswer (version_letters state to object stamp found)
+told_alike : (letters : List Letter) → AllByRecursion TellsAnswers letters → ReplicasAnswer letters
 unfolding rounds_told
-version_answers state to object stamp None = refl
-version_answers state to object stamp (Some version) = refl
+told_alike [] each = refl
+told_alike (letter ∷ later) each = λ i. cons_option (each.0 i) (told_alike later each.1 i)
+
+-- a letter that carries no reply tells nothing, whoever sends it
+other_answers : (letter : Letter) → CarriesOther letter → TellsAnswers letter
+other_answers letter other =
+    let none : round_answered (decoded letter.text) ≡ None =
+    no_answer (decoded letter.text) (λ replica client number round verdict culled shown mac carries.
+    no_reply_in letter other replica client number round verdict shown
+    (record { culled = culled; mac = mac; carries = carries })) in
+    by_sender letter.from none
+  where
+    by_sender : (from : Party) → round_answered (decoded letter.text) ≡ None
+        → answered_from from (decoded letter.text) ≡ round_answered (decoded letter.text)
+    by_sender (party.Replica me) none = refl
+    by_sender (party.Client me) none = sym none
 
 received_answers : (state : ReplicaState) (found : Option Frame) → ReplicasAnswer (replica_on_received state found).1
 received_answers state None = none_tells.1
-received_answers state (Some (frame.Request client number round sets body mac)) =
-    carried_out_answers state client number round sets
-    (decision_on state (asked_at state client number sets body) body)
-received_answers state (Some (frame.Fetch replica object stamp mac)) =
-    version_answers state replica object stamp _
-received_answers state (Some _) = none_tells.1
+received_answers state (Some taken) =
+    told_alike (replica_on_frame state taken).1
+    (on_frame_each TellsAnswers other_answers state taken (λ request handles verdict accepted decides. refl))
 
 step_answers : (state : ReplicaState) (text : List ℕ) → ReplicasAnswer (replica_step state text).1
 step_answers state text = received_answers state (brought state.keys (party.Replica state.me) text)

@@ -1,6 +1,6 @@
 -- What a replica answers shows all that its step added to its histories: a reply shows the history of the one object
--- that may have changed, and a replica that sends none stays as it was.
-use Rattle.std.proofs.Common.{◌≡◌, ◌⊎◌, ℕ, List, [], ◌∷◌, map, Option, None, Some, inl, inr, refl, sym, ap, subst, ◌∙◌, arith, true, false, ◌==◌, ◌||◌, Result, Ok}
+-- that may have changed, and the histories of a replica that sends none stay as they were.
+use Rattle.std.proofs.Common.{◌≡◌, ◌⊎◌, ℕ, ◌≤◌, List, [], ◌∷◌, map, Option, None, Some, inl, inr, refl, sym, ap, subst, ◌∙◌, arith, true, false, ◌==◌, ◌||◌, Result, Ok}
 use Rattle.std.proofs.lemmas.Bool.{false≢true, or_cases, eqb-true}
 use Rattle.qu_base.specs.declared.party.ClientId.{ClientId}
 use Rattle.qu_base.specs.declared.party.ObjectId.{ObjectId}
@@ -24,15 +24,23 @@ use Rattle.qu_frames.proofs.Decoded.{decoded_is_spelled, spelled_is_decoded}
 use Rattle.qu_frames.proofs.Signed.{brought_is_decoded, signed_is_spelled}
 use Rattle.qu_rows.specs.declared.decision.Decision.{Decision}
 use Rattle.qu_rows.specs.declared.decision.Decision.TheVariants.{Answers, Waits}
-use Rattle.qu_rows.specs.State.{ReplicaState, own_candidates}
+use Rattle.qu_rows.specs.State.{ReplicaState, candidates_in, own_candidates}
 use Rattle.qu_replica.specs.State.{accept_all}
 use Rattle.qu_rows.specs.Rows.{asked_at, decision_on}
 use Rattle.qu_known.specs.Known.{Seen, see_letters, see_from, see_shown}
 use Rattle.qu_known.proofs.Happened.{none_tells}
-use Rattle.qu_runs.proofs.Fits.VersionLetters.{other_letters_each}
-use Rattle.qu_replica.specs.Step.{other_letters, shown, named, answer_frame, reply, carried_out, replica_on_frame, replica_on_received, replica_step}
-use Rattle.qu_replica.specs.Fits.{StateFits}
-use Rattle.qu_replica.proofs.Fits.FitSteps.{request-fits}
+use Rattle.qu_runs.proofs.Fits.StepLetters.{CarriesOther, if_handled_each, on_frame_each}
+use Rattle.qu_replica.specs.Step.{shown, named, answer_frame, reply, fetches_of, carried_out, decided, learned, handled, if_handled, replica_on_frame, replica_on_received, replica_step}
+use Rattle.qu_fitting.specs.Fits.{StateFits}
+use Rattle.qu_replica.proofs.Fits.FitSteps.{learned-fits, handled-fits}
+use Rattle.qu_fitting.proofs.FitRequests.{RequestFits, request-fits}
+use Rattle.qu_replica.proofs.States.Learning.{Learned, is_learned}
+use Rattle.qu_rows.specs.Waiting.{TakenRequest, request_frame_of}
+use Rattle.qu_rows.specs.declared.decision.Accepted.{Accepted}
+use Rattle.qu_stamp.specs.declared.stamp.Stamp.{Stamp}
+use Rattle.qu_history.specs.History.{ObjectHistory}
+use Rattle.std.specs.Prelude.{slice_get}
+use Rattle.std.proofs.lemmas.Option.{none-some, same_Some}
 use Rattle.qu_runs.proofs.Fits.FitParts.{fits_parts}
 use Rattle.qu_runs.proofs.Fits.Fitting.{answers_fit}
 use Rattle.qu_claims.specs.Parts.{Names}
@@ -48,9 +56,11 @@ use Rattle.std.specs.List.{AllByRecursion}
 use Rattle.qu_base.specs.declared.bad_text.BadText.{BadText}
 use Rattle.qu_history.specs.declared.sealed.Sealed.{Sealed}
 
--- the replica stays as it is, and its letters show nothing
+-- the replica accepts nothing, and its letters show nothing
 pub record IsSilent (old : ReplicaState) (made : ReplicaState × List Letter) : Type 0 where
-  pub same : made.0 ≡ old
+  pub me : made.0.me ≡ old.me
+  pub keys : made.0.keys ≡ old.keys
+  pub histories : made.0.histories ≡ old.histories
   pub none : (seen : Seen) → see_letters made.1 seen ≡ seen
 
 -- it sends a reply, which shows its history of one object, and its other histories stay as they are
@@ -108,17 +118,20 @@ reply_shown new client number round sets verdict fits =
     (reply-short new.me client number round verdict (named new sets) (map (sealed_by new.keys) (shown new sets)) mac
     spelled.0))
 
--- ---- a version
+-- ---- other letters
 
 -- the letter shows no history
 abbrev ShowsNothing : Letter → Type 0
 ShowsNothing letter = shown_in (decoded letter.text) ≡ []
 
-version_shows : (read : Result Frame BadText) → ((sent : Frame) → read ≡ Ok sent → frame_kind sent ≡ 4)
+other_shows : (read : Result Frame BadText) → ((sent : Frame) → read ≡ Ok sent → 3 ≤ frame_kind sent)
     → shown_in read ≡ []
-version_shows (Ok (frame.Reply replica client number round verdict culled shown mac)) is =
+other_shows (Ok (frame.Reply replica client number round verdict culled shown mac)) is =
     absurd (omega (arith, is (frame.Reply replica client number round verdict culled shown mac) refl))
-version_shows _ is = refl
+other_shows _ is = refl
+
+other_shown : (letter : Letter) → CarriesOther letter → ShowsNothing letter
+other_shown letter other = other_shows (decoded letter.text) other
 
 see_none : (from : Party) (text : List ℕ) → shown_in (decoded text) ≡ [] → (seen : Seen)
     → see_from from text seen ≡ seen
@@ -133,85 +146,143 @@ none_shown [] each seen = refl
 none_shown (letter ∷ later) each seen =
     ap (see_letters later) (see_none letter.from letter.text each.0 seen) ∙ none_shown later each.1 seen
 
--- ---- a step
+-- ---- a request that is handled
 
-module _ (old : ReplicaState) (fits : StateFits old) where
+abbrev decision_of : ReplicaState → TakenRequest → Decision
+decision_of state request =
+    decision_on state (asked_at state request.client request.number request.sets request.body) request.body
+
+no_answer : (missing : List (ObjectId × Stamp)) (verdict : Verdict) (accepted : List Accepted)
+    → Waits missing ≡ Answers verdict accepted → ⊥
+no_answer missing verdict accepted same = cc
+
+module _ (old : ReplicaState) (fits : StateFits old) (request : TakenRequest)
+    (within : frame_form.Fits (request_frame_of request)) where
+  abbrev fields : RequestFits request.client request.number request.round request.sets request.body
+  fields =
+      request-fits request.client request.number request.round request.sets request.body request.mac within
+
+  -- no letter of a request that waits shows anything
+  fetches_shown : (missing : List (ObjectId × Stamp)) → decision_of old request ≡ Waits missing
+      → AllByRecursion ShowsNothing (fetches_of old.keys old.me missing)
+  fetches_shown missing is =
+      subst (λ (decision : Decision). AllByRecursion ShowsNothing (carried_out old request decision).1) is
+      (if_handled_each ShowsNothing other_shown old (Some request) (λ other same verdict accepted decides.
+      absurd (no_answer missing verdict accepted
+      (sym is ∙ ap (decision_of old) (same_Some request other same) ∙ decides))))
+
   -- a request of one set
-  answered : (client : ClientId) (number round : ℕ) (set : SetOf) (asks : Body) (mac : List ℕ) (decision : Decision)
-      → frame_form.Fits (frame.Request client number round (set ∷ []) asks mac)
-      → decision_on old (asked_at old client number (set ∷ []) asks) asks ≡ decision
+  answered : (set : SetOf) → request.sets ≡ set ∷ [] → (decision : Decision) → decision_of old request ≡ decision
       → ((object : ObjectId) → (object.0 ≡ (set.object).0 → ⊥)
-      → own_candidates (carried_out old client number round (set ∷ []) decision).0 object
-      ≡ own_candidates old object)
-      → IsSilent old (carried_out old client number round (set ∷ []) decision)
-      ⊎ Shows old (carried_out old client number round (set ∷ []) decision)
-  answered client number round set asks mac Waits within is others = inl (record { same = refl; none = none_tells.0 })
-  answered client number round set asks mac (Answers verdict accepted) within is others =
+      → own_candidates (carried_out old request decision).0 object ≡ own_candidates old object)
+      → IsSilent old (carried_out old request decision) ⊎ Shows old (carried_out old request decision)
+  answered set is_set (Waits missing) is others = inl (record {
+    me = refl;
+    keys = refl;
+    histories = refl;
+    none = none_shown (fetches_of old.keys old.me missing) (fetches_shown missing is);
+  })
+  answered set is_set (Answers verdict accepted) is others =
       let new : ReplicaState = accept_all old accepted in
+      let made : Letter = reply new request.client request.number request.round request.sets verdict in
       inr (record {
         set = set;
-        letter = reply new client number round (set ∷ []) verdict;
+        letter = made;
         letters = refl;
         from = refl;
-        tells = reply_shown new client number round (set ∷ []) verdict
-            (answers_fit old (frame.Request client number round (set ∷ []) asks mac) fits within verdict accepted is);
+        tells = reply_shown new request.client request.number request.round request.sets verdict
+            (answers_fit old (request_frame_of request) fits within request refl verdict accepted is)
+            ∙ ap (λ (sets : List SetOf). map (sealed_by new.keys) (shown new sets)) is_set;
         others = others;
       })
 
   -- what the step leaves as it is
-  others_stay : (client : ClientId) (number round : ℕ) (set : SetOf) (asks : Body) (mac : List ℕ)
-      → frame_form.Fits (frame.Request client number round (set ∷ []) asks mac) → (object : ObjectId)
-      → (object.0 ≡ (set.object).0 → ⊥)
-      → own_candidates (replica_on_frame old (frame.Request client number round (set ∷ []) asks mac)).0 object
-      ≡ own_candidates old object
-  others_stay client number round set asks mac within object apart =
-      let asked : Frame = frame.Request client number round (set ∷ []) asks mac in
-      elim (step_moves old asked (fits_parts asked within)
+  others_stay : (set : SetOf) → request.sets ≡ set ∷ [] → (object : ObjectId) → (object.0 ≡ (set.object).0 → ⊥)
+      → own_candidates (decided old request).0 object ≡ own_candidates old object
+  others_stay set is_set object apart =
+      let asked : Frame = request_frame_of request in
+      elim (step_moves old request (fits_parts asked within)
       (formed_by old asked (are_thresholds old.keys.bounds (count_has_faults old.keys.bounds fits.bounds)) within)) [
-        | inl same ↦ ap (λ (it : ReplicaState). own_candidates it object) same
-        | inr accepts ↦ (accepts.others object
-            (λ adds. apart (of_set accepts.client accepts.number accepts.round accepts.sent accepts.asks
-            accepts.mac accepts.is_request (request-fits client number round (set ∷ []) asks mac within).asked
-            object adds)))
+        | inl alike ↦ ap (λ (them : List ObjectHistory). candidates_in (slice_get them object.0)) alike.histories
+        | inr accepts ↦ accepts.others object
+            (λ adds. apart (of_set accepts.client accepts.number accepts.round accepts.sent accepts.asks accepts.mac
+            accepts.is_request
+            (subst (λ (sets : List SetOf). (body_form (objects_in_sets sets)).Fits request.body) is_set fields.asked)
+            object adds))
       ]
     where
       of_set : (other : ClientId) (again turn : ℕ) (sent : List SetOf) (these : Body) (seal : List ℕ)
-          → frame.Request client number round (set ∷ []) asks mac ≡ frame.Request other again turn sent these seal
-          → (body_form (objects_in_sets (set ∷ []))).Fits asks → (object : ObjectId) → AddsTo these object
+          → request_frame_of request ≡ frame.Request other again turn sent these seal
+          → (body_form (objects_in_sets (set ∷ []))).Fits request.body → (object : ObjectId) → AddsTo these object
           → object.0 ≡ (set.object).0
       of_set other again turn sent these seal same asked object adds =
-          let is : asks ≡ these = cc in
+          let is : request.body ≡ these = cc in
           added_in_set set these (subst (λ (it : Body). (body_form (objects_in_sets (set ∷ []))).Fits it) is asked)
           object adds
 
-  request_shows : (client : ClientId) (number round : ℕ) (sets : List SetOf) (asks : Body) (mac : List ℕ)
-      → frame_form.Fits (frame.Request client number round sets asks mac) → sets_form.Fits sets
-      → IsSilent old (replica_on_frame old (frame.Request client number round sets asks mac))
-      ⊎ Shows old (replica_on_frame old (frame.Request client number round sets asks mac))
+  -- a request that fits has one set
+  by_sets : (sets : List SetOf) → request.sets ≡ sets → sets_form.Fits sets
+      → IsSilent old (decided old request) ⊎ Shows old (decided old request)
   unfolding sets_form
-  request_shows client number round [] asks mac within sets = absurd (omega (arith, (sets.0).0))
-  request_shows client number round (set ∷ []) asks mac within sets =
-      answered client number round set asks mac
-      (decision_on old (asked_at old client number (set ∷ []) asks) asks) within refl
-      (others_stay client number round set asks mac within)
-  request_shows client number round (first ∷ second ∷ later) asks mac within sets =
-      absurd (omega (arith, (sets.0).1))
+  by_sets [] are sets = absurd (omega (arith, (sets.0).0))
+  by_sets (set ∷ []) are sets = answered set are (decision_of old request) refl (others_stay set are)
+  by_sets (first ∷ second ∷ later) are sets = absurd (omega (arith, (sets.0).1))
 
-  versions_shown : (taken : Option Frame) → AllByRecursion ShowsNothing (other_letters old taken)
-  versions_shown taken =
-      other_letters_each ShowsNothing (λ letter version. version_shows (decoded letter.text) version) old taken
+  decided_shows : IsSilent old (decided old request) ⊎ Shows old (decided old request)
+  decided_shows = by_sets request.sets refl fields.shown
 
+if_handled_shows : (state : ReplicaState) (found : Option TakenRequest) → StateFits state
+    → ((request : TakenRequest) → found ≡ Some request → frame_form.Fits (request_frame_of request))
+    → IsSilent state (if_handled state found) ⊎ Shows state (if_handled state found)
+if_handled_shows state None fits within =
+    inl (record { me = refl; keys = refl; histories = refl; none = none_tells.0 })
+if_handled_shows state (Some request) fits within = decided_shows state fits request (within request refl)
+
+-- what a replica learns before leaves its histories
+since_learned : (old mid : ReplicaState) (taken : Frame) (made : ReplicaState × List Letter) → Learned old taken mid
+    → IsSilent mid made ⊎ Shows mid made → IsSilent old made ⊎ Shows old made
+since_learned old mid taken made is (inl silent) = inl (record {
+  me = silent.me ∙ is.me;
+  keys = silent.keys ∙ is.keys;
+  histories = silent.histories ∙ is.histories;
+  none = silent.none;
+})
+since_learned old mid taken made is (inr shows) = inr (record {
+  set = shows.set;
+  letter = shows.letter;
+  letters = shows.letters;
+  from = shows.from;
+  tells = shows.tells;
+  others = λ object apart. shows.others object apart
+      ∙ ap (λ (them : List ObjectHistory). candidates_in (slice_get them object.0)) is.histories;
+})
+
+-- ---- a step
+
+module _ (old : ReplicaState) (fits : StateFits old) where
   frame_shows : (received : Frame) → frame_form.Fits received
       → IsSilent old (replica_on_frame old received) ⊎ Shows old (replica_on_frame old received)
   frame_shows (frame.Request client number round sets asks mac) within =
-      request_shows client number round sets asks mac within
-      (request-fits client number round sets asks mac within).shown
-  frame_shows other within =
-      inl (record { same = refl; none = none_shown (other_letters old (Some other)) (versions_shown (Some other)) })
+      let taken : Frame = frame.Request client number round sets asks mac in
+      if_handled_shows old (handled old taken) fits (handled-fits old taken fits within)
+  frame_shows (frame.Fetched replica object stamp version mac) within =
+      let taken : Frame = frame.Fetched replica object stamp version mac in
+      let mid : ReplicaState = learned old taken in
+      since_learned old mid taken (replica_on_frame old taken) (is_learned old taken)
+      (if_handled_shows mid (handled old taken) (learned-fits old taken fits within)
+      (handled-fits old taken fits within))
+  frame_shows other within = inl (record {
+    me = refl;
+    keys = refl;
+    histories = refl;
+    none = none_shown (replica_on_frame old other).1
+        (on_frame_each ShowsNothing other_shown old other (λ request handles verdict accepted decides.
+        absurd (none-some request handles)));
+  })
 
   received_shows : (found : Option Frame) → ((received : Frame) → found ≡ Some received → frame_form.Fits received)
       → IsSilent old (replica_on_received old found) ⊎ Shows old (replica_on_received old found)
-  received_shows None within = inl (record { same = refl; none = none_tells.0 })
+  received_shows None within = inl (record { me = refl; keys = refl; histories = refl; none = none_tells.0 })
   received_shows (Some received) within = frame_shows received (within received refl)
 
   pub step_shows : (text : List ℕ) → AreBytes text

@@ -20,7 +20,7 @@ use Rattle.qu_frames.specs.declared.frame.Letter.{Letter}
 use Rattle.qu_rows.specs.State.{ReplicaState, candidates_in, own_candidates}
 use Rattle.qu_replica.specs.Step.{shown, replica_step}
 use Rattle.qu_replica.specs.Growth.{Grows}
-use Rattle.qu_replica.specs.Fits.{StateFits}
+use Rattle.qu_fitting.specs.Fits.{StateFits}
 use Rattle.qu_replica.proofs.States.Growth.{step-grows}
 use Rattle.qu_rows.proofs.Own.{IsOwn, own_history}
 use Rattle.qu_claims.specs.Accepted.{accepts}
@@ -330,12 +330,12 @@ module _ (replicas : List ReplicaState) (rows : List ShownRow) (me : ReplicaId) 
   silent_learned : IsSilent state (replica_step state text)
       → Learned replicas (set replicas me.0 new) (see_letters (replica_step state text).1 (rows, []))
   silent_learned silent =
-      let nothing : see_letters (replica_step state text).1 (rows, []) ≡ (rows, []) = silent.none (rows, []) in
-      let same : set replicas me.0 new ≡ replicas =
-      ap (set replicas me.0) silent.same ∙ put_self replicas me.0 state is_state in
-      subst (λ (seen : Seen). Learned replicas (set replicas me.0 new) seen) (sym nothing)
-      (subst (λ (them : List ReplicaState). Learned replicas them (rows, [])) (sym same)
-      (quiet_learned replicas rows known))
+      let grows : Grows state new = step-grows state text in
+      let there : KnownAt rows me.0 state = known_at replicas rows me.0 state known is_state in
+      subst (λ (seen : Seen). Learned replicas (set replicas me.0 new) seen) (sym (silent.none (rows, [])))
+      (learned_at replicas rows me.0 state new (rows, []) known is_state
+      (learns_nothing state new rows me.0 there.row (rows, []) there.is_row there.known refl grows.number
+      (λ object. ap (λ (them : List ObjectHistory). candidates_in (slice_get them object.0)) silent.histories)))
 
   shows_learned : Shows state (replica_step state text)
       → Learned replicas (set replicas me.0 new) (see_letters (replica_step state text).1 (rows, []))

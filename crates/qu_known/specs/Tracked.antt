@@ -1,5 +1,5 @@
 -- What is tracked: candidates of objects that replicas accepted.
-use Rattle.std.specs.Prelude.{ℕ, Bool, ◌==◌, ◌&&◌, List, None}
+use Rattle.std.specs.Prelude.{Bool, ◌==◌, ◌&&◌, List, None}
 use Rattle.std.specs.List.{list_any}
 use Rattle.qu_base.specs.declared.party.ObjectId.{ObjectId}
 use Rattle.qu_stamp.specs.declared.candidate.Candidate.{Candidate}

@@ -35,7 +35,7 @@ use Rattle.qu_runs.proofs.Worlds.Settings.{acceptors_counted}
 use Rattle.qu_runs.proofs.Worlds.FewFaults.{either_counted}
 use Rattle.qu_base.specs.Format.{FitsFrom}
 use Rattle.qu_history.specs.Formats.{entry_form, sealed_entry_form, next_entry, entries_form, set_form, sets_form}
-use Rattle.qu_replica.proofs.Fits.FitCulled.{culled-fits}
+use Rattle.qu_fitting.proofs.FitCulled.{culled-fits}
 
 -- ---- what was held is still accepted
 

@@ -25,8 +25,8 @@ use Rattle.qu_frames.specs.declared.frame.Letter.{Letter}
 use Rattle.qu_frames.specs.Decoding.{decoded}
 use Rattle.qu_frames.specs.Signing.{brought}
 use Rattle.qu_rows.specs.State.{ReplicaState}
-use Rattle.qu_replica.proofs.Fits.FitCulled.{culled-fits}
-use Rattle.qu_replica.proofs.Fits.FitSteps.{request-fits}
+use Rattle.qu_fitting.proofs.FitCulled.{culled-fits}
+use Rattle.qu_fitting.proofs.FitRequests.{request-fits}
 use Rattle.qu_trace.specs.declared.trace.Entry.{Entry}
 use Rattle.qu_trace.specs.declared.trace.Setup.{Setup}
 use Rattle.qu_trace.specs.declared.trace.Trace.{Trace}

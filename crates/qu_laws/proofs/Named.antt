@@ -12,8 +12,8 @@ use Rattle.qu_history.specs.Text.{sets_text, sets_digest}
 use Rattle.qu_history.proofs.Unsealed.{entries_of-one}
 use Rattle.qu_frames.specs.declared.frame.Frame.{Frame}
 use Rattle.qu_frames.specs.Formats.{frame_form}
-use Rattle.qu_replica.proofs.Fits.FitCulled.{culled-fits}
-use Rattle.qu_replica.proofs.Fits.FitSteps.{request-fits}
+use Rattle.qu_fitting.proofs.FitCulled.{culled-fits}
+use Rattle.qu_fitting.proofs.FitRequests.{request-fits}
 use Rattle.qu_trace.specs.declared.trace.Trace.{Trace}
 use Rattle.qu_world.specs.Run.{IsRun}
 use Rattle.qu_claims.specs.Handled.{Request, handled_by}

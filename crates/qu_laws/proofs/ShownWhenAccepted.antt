@@ -22,7 +22,6 @@ use Rattle.qu_runs.proofs.Worlds.FewFaults.{few_faulty}
 use Rattle.qu_runs.proofs.Worlds.OpeningReplicas.{bounds_are}
 use Rattle.qu_base.proofs.ThresholdFacts.{are_thresholds}
 use Rattle.qu_rows.specs.Rows.{asked_of, Asked}
-use Rattle.qu_runs.proofs.Fits.Carrying.{brings_decoded}
 use Rattle.std.proofs.lemmas.Bool.{false≢true, and_parts, and_from}
 use Rattle.qu_claims.specs.Count.{test_at, count}
 use Rattle.std.specs.Prelude.{◌&&◌}
@@ -35,7 +34,7 @@ use Rattle.qu_stamp.specs.Candidate.{opening}
 use Rattle.qu_history.specs.History.{holds, ObjectHistory}
 use Rattle.qu_claims.specs.Carried.{handed, Brings}
 use Rattle.qu_claims.specs.RunSetting.{setting}
-use Rattle.qu_accepts.proofs.Happenings.{hands_parts}
+use Rattle.qu_accepts.proofs.Happenings.{formed_by, handled_fits}
 use Rattle.qu_laws.proofs.KeptEntries.{shown_by_accepting, counted}
 use Rattle.qu_accepts.proofs.KnownObjects.{delivered_known}
 use Rattle.qu_claims.specs.Times.{world_after}
@@ -233,9 +232,10 @@ module _ (trace : Trace) (is_run : IsRun trace) (have : ArePlain trace) where
         (bounds_are trace handles.since place handles.receiver handles.is_receiver)
         (subst (λ (sets : List SetOf). AreWellFormed (handles.receiver).keys.bounds (entries_of object sets)) culls_it
         (subst (IsFormed handles.receiver) one.is_request
-        ((hands_parts trace is_run have handles.since some_entry came_within).formed place handles.receiver
-        handles.is_receiver (party.Replica (record { 0 = place })) handles.text hands_it handles.carried
-        (brings_decoded handles.receiver handles.text handles.carried handles.brings)) object))
+        (formed_by handles.receiver handles.carried
+        (subst AreThresholds (sym (bounds_are trace handles.since place handles.receiver handles.is_receiver))
+        (are_thresholds trace.setup.bounds (is_run.setup).some_faults))
+        (handled_fits trace is_run have time within place accepted.old accepted.new handles)) object))
 
     -- so many accepted what is shown that with the faulty ones they are as many as show it
     pub shown_accepted : (other : Candidate)

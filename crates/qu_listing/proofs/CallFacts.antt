@@ -14,11 +14,10 @@ use Rattle.qu_trace.specs.declared.event.Event.{Event}
 use Rattle.qu_trace.specs.declared.event.Event.TheVariants.{Invoke, Deliver, Tick, Inject}
 use Rattle.qu_trace.specs.declared.trace.Entry.{Entry}
 use Rattle.qu_trace.specs.declared.trace.Setup.{Setup}
-use Rattle.qu_trace.specs.Letters.{letters_of}
+use Rattle.qu_trace.specs.Letters.{numbered}
 use Rattle.qu_trace.specs.Operation.{invokes, begun_by}
 use Rattle.qu_listing.specs.declared.so_far.Sent.{Sent}
-use Rattle.qu_listing.specs.Events.{sent_letter}
-use Rattle.qu_listing.specs.SoFar.{CountsCalls, IsSoFar, calls_of, sent_of}
+use Rattle.qu_listing.specs.SoFar.{CountsCalls, calls_of, sent_of}
 
 pub begun_few : (client : ClientId) (entries : List Entry) → begun_by client entries ≤ length entries
 unfolding begun_by
@@ -83,18 +82,14 @@ counts_same earlier entry calls none counts client =
     let same = counts client in
     omega (arith, same, at_end)
 
-pub knows_nothing : (setup : Setup) (sent : List Sent) (calls : HashMap ℕ ℕ (BuildHasherDefault FoldHasher))
-    → sent ≡ [] → calls.entries ≡ [] → IsSoFar setup [] (record { sent = sent; calls = calls })
-unfolding begun_by letters_of
-knows_nothing setup sent calls none empty = record {
-  sent = none;
-  calls = λ client. ap (λ entries. unwrap_or (lookup (nat_eq client.0) entries) 0) empty;
-}
+pub knows_no_call : (calls : HashMap ℕ ℕ (BuildHasherDefault FoldHasher)) → calls.entries ≡ [] → CountsCalls [] calls
+unfolding begun_by
+knows_no_call calls empty client = ap (λ entries. unwrap_or (lookup (nat_eq client.0) entries) 0) empty
 
 -- what is known of the letter with a number
 pub letter_known : (setup : Setup) (letters : List Letter) (sent : List Sent) (number : ℕ) → 0 < number
     → sent ≡ map (sent_of setup) letters
-    → slice_get sent (number - 1) ≡ option_map (sent_of setup) (sent_letter number letters)
+    → slice_get sent (number - 1) ≡ option_map (sent_of setup) (numbered letters number)
 letter_known setup letters sent zero some is = absurd (omega (arith, some))
 letter_known setup letters sent (suc number) some is =
     let e : suc number - 1 ≡ number = omega arith in

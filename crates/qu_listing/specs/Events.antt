@@ -1,5 +1,5 @@
 -- A run as lines: one for each event, with what it ends, and one for each letter that it sends.
-use Rattle.std.specs.Prelude.{ℕ, zero, suc, ◌+◌, List, [], ◌∷◌, ◌++◌, length, map, take, slice_get, Option, None, Some, codes}
+use Rattle.std.specs.Prelude.{ℕ, ◌+◌, List, [], ◌∷◌, ◌++◌, length, map, take, Option, None, Some, codes}
 use Rattle.std.specs.List.{flat_map, enumerate_from}
 use Rattle.std.specs.Fmt.{decimal}
 use Rattle.qu_base.specs.declared.party.ClientId.{ClientId}
@@ -15,13 +15,15 @@ use Rattle.qu_trace.specs.declared.event.Event.TheVariants.{Invoke, Deliver, Tic
 use Rattle.qu_trace.specs.declared.trace.Entry.{Entry}
 use Rattle.qu_trace.specs.declared.trace.Setup.{Setup}
 use Rattle.qu_trace.specs.declared.trace.Trace.{Trace}
-use Rattle.qu_trace.specs.Letters.{letters_of}
+use Rattle.qu_trace.specs.Letters.{letters_of, numbered, offered_by}
 use Rattle.qu_trace.specs.Operation.{begun_by}
 use Rattle.qu_print.specs.Lines.{lines_text}
 use Rattle.qu_print.specs.Words.{name_text, op_text, answer_text}
 use Rattle.qu_listing.specs.Names.{party_text, count_text}
 use Rattle.qu_listing.specs.Frames.{frame_text, carried_text}
 use Rattle.qu_listing.specs.Receivers.{frame_taken}
+use Rattle.qu_listing.specs.Replicas.{replicas_after}
+use Rattle.qu_listing.specs.Fetching.{noted_text, waits_text}
 
 -- ---- the line of a letter
 
@@ -43,11 +45,6 @@ abbrev pub taken_text : Option Frame → List ℕ
 taken_text None = codes ", ignored"
 taken_text (Some frame) = []
 
--- the letter with this number among those that were sent, from 1
-abbrev pub sent_letter : ℕ → List Letter → Option Letter
-sent_letter zero letters = None
-sent_letter (suc number) letters = slice_get letters number
-
 abbrev pub receiver_text : Setup → Option Letter → List ℕ
 receiver_text setup None = codes "nobody"
 receiver_text setup (Some letter) = party_text letter.to ++ taken_text (frame_taken setup letter.to letter.text)
@@ -62,7 +59,7 @@ abbrev pub event_text : Setup → List Entry → Event → List ℕ
 event_text setup earlier (Invoke client op) =
     codes "call " ++ name_text client (begun_by client earlier + 1) ++ codes " " ++ op_text op
 event_text setup earlier (Deliver number) =
-    codes "deliver " ++ decimal number ++ codes " to " ++ receiver_text setup (sent_letter number (letters_of earlier))
+    codes "deliver " ++ decimal number ++ codes " to " ++ receiver_text setup (numbered (letters_of earlier) number)
 event_text setup earlier (Tick client) = codes "tick " ++ party_text (party.Client client)
 event_text setup earlier (Inject to text) =
     codes "inject " ++ count_text (length text) (codes "byte") ++ codes " to " ++ party_text to
@@ -81,6 +78,7 @@ end_text (Some ended) = codes ", ends " ++ name_text ended.0 ended.1 ++ outcome_
 unfoldable pub event_line : Setup → List Entry → Entry → List ℕ
 event_line setup earlier entry =
     codes "event " ++ decimal (length earlier + 1) ++ codes " " ++ event_text setup earlier entry.event
+    ++ noted_text setup (replicas_after setup earlier) (offered_by earlier entry.event) ++ waits_text entry.letters
     ++ end_text entry.ended
 
 -- ---- the listing

@@ -3,5 +3,7 @@ pub mod Names
 pub mod Verdicts
 pub mod Frames
 pub mod Receivers
+pub mod Replicas
+pub mod Fetching
 pub mod Events
 pub mod SoFar

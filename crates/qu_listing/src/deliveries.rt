@@ -1,9 +1,9 @@
 //! What reaches parties.
 ghost use Rattle.std.specs.Prelude.{◌≡◌, [], ◌++◌, if◌then◌else◌, length, OnOk, string_bytes, codes};
 ghost use Rattle.std.specs.Fmt.{decimal};
-ghost use Rattle.qu_trace.specs.Letters.{letters_of};
+ghost use Rattle.qu_trace.specs.Letters.{letters_of, numbered};
 ghost use Rattle.qu_listing.specs.Names.{party_text, count_text};
-ghost use Rattle.qu_listing.specs.Events.{sent_letter, receiver_text, injected_text};
+ghost use Rattle.qu_listing.specs.Events.{receiver_text, injected_text};
 ghost use Rattle.qu_listing.specs.SoFar.{IsSoFar};
 ghost use Rattle.qu_listing.specs.Receivers.{frame_taken};
 
@@ -26,7 +26,7 @@ pub fn put_delivery(
 ) -> Result<(), NoMemory>
     requires { IsSoFar receivers.now earlier.now known.now }
     ensures { OnOk result (string_bytes text.new ≡ string_bytes text.old ++ codes "deliver " ++ decimal number
-        ++ codes " to " ++ receiver_text receivers.now (sent_letter number (letters_of earlier.now))) }
+        ++ codes " to " ++ receiver_text receivers.now (numbered (letters_of earlier.now) number)) }
 {
     write!(text, "deliver {number} to ")?;
     match known.letter(receivers, earlier, number) {

@@ -1,10 +1,11 @@
-ghost use Rattle.std.specs.Prelude.{◌≡◌, ◌∷◌, [], ◌++◌, ◌≤◌, IfOk, OnOk, string_bytes};
-ghost use Rattle.qu_base.specs.declared.limits.TheConstants.{LAST_CLIENT};
+ghost use Rattle.std.specs.Prelude.{◌≡◌, ◌∷◌, [], ◌++◌, ◌≤◌, length, IfOk, OnOk, string_bytes};
+ghost use Rattle.qu_base.specs.declared.limits.TheConstants.{LAST_CLIENT, OBJECT_IDS};
 ghost use Rattle.qu_print.specs.Lines.{lines_text};
 ghost use Rattle.qu_listing.specs.Events.{events_text, listing, event_line, entry_lines, event_text, outcome_text, end_text};
 ghost use Rattle.qu_listing.specs.SoFar.{IsSoFar};
 
 use super::deliveries::{put_delivery, put_injection};
+use super::fetching::{put_noted, put_waits};
 use super::letters::put_letters;
 use super::names::put_party;
 use super::receivers::Receivers;
@@ -19,7 +20,8 @@ use std::alloc::Global;
 /// that it sends. A text of which its receiver takes no frame is told as ignored.
 #[tactic(auto, unfolding(crate::specs::Events::events_text))]
 pub fn events_text(alloc: Global, trace: &Trace) -> Result<List<u8>, NoMemory>
-    requires { trace.now.setup.clients ≤ LAST_CLIENT }
+    requires clients { trace.now.setup.clients ≤ LAST_CLIENT }
+    requires kinds { length trace.now.setup.kinds ≤ OBJECT_IDS }
     ensures { IfOk result (λ text. text ≡ events_text trace.now) }
 {
     let receivers = Receivers::new(&trace.setup);
@@ -36,10 +38,11 @@ fn put_events(
     receivers: &Receivers,
     entries: &[Entry],
 ) -> Result<(), NoMemory>
+    requires { length receivers.now.kinds ≤ OBJECT_IDS }
     ensures { OnOk result (string_bytes text.new
         ≡ string_bytes text.old ++ lines_text (listing receivers.now entries.now)) }
 {
-    let mut known = SoFar::new(alloc);
+    let mut known = SoFar::new(alloc, receivers)?;
     for (index, entry) in entries.iter().enumerate() {
         put_event(alloc, text, receivers, &mut known, &entries[..index], entry)?;
     }
@@ -69,7 +72,7 @@ fn put_event(
         &mut known.sent,
         entry.letters.as_slice(),
     )?;
-    known.note_call(earlier, entry)?;
+    known.note(receivers, earlier, entry)?;
     Ok(())
 }
 
@@ -90,6 +93,8 @@ fn put_event_line(
     let number = earlier.len() as u64 + 1;
     write!(text, "event {number} ")?;
     put_happened(alloc, text, receivers, known, earlier, &entry.event)?;
+    put_noted(alloc, text, receivers, known, earlier, &entry.event)?;
+    put_waits(alloc, text, entry.letters.as_slice())?;
     put_end(text, &entry.ended)?;
     text.push_str("\n")?;
     Ok(())

@@ -4,10 +4,12 @@
 mod deliveries;
 mod digests;
 mod events;
+mod fetching;
 mod frames;
 mod letters;
 mod names;
 mod receivers;
+mod replicas;
 mod so_far;
 mod told;
 mod verdicts;

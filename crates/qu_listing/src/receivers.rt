@@ -1,12 +1,16 @@
-ghost use Rattle.std.specs.Prelude.{◌≡◌, ◌≤◌, Ok, IfOk, is_none};
-ghost use Rattle.qu_base.specs.declared.limits.TheConstants.{LAST_CLIENT};
+ghost use Rattle.std.specs.Prelude.{◌≡◌, ◌≤◌, length, Ok, IfOk, is_none};
+ghost use Rattle.qu_base.specs.declared.limits.TheConstants.{LAST_CLIENT, OBJECT_IDS};
 ghost use Rattle.qu_frames.specs.Decoding.{decoded};
+ghost use Rattle.qu_trace.specs.Faulty.{is_faulty};
 ghost use Rattle.qu_listing.specs.Receivers.{frame_taken};
+ghost use Rattle.qu_listing.specs.Replicas.{replicas_before};
 
 use qu_base::{NoMemory, Party};
 use qu_frames::{Frame, receive};
+use qu_replica::Replica;
 use qu_seal::KeyRing;
 use qu_trace::Setup;
+use qu_world::start_replicas;
 use std::alloc::Global;
 use std::marker::Model;
 
@@ -39,6 +43,21 @@ impl<'a> Receivers<'a> {
             setup,
             keys: KeyRing::derive(setup.seed, &setup.bounds, setup.clients),
         }
+    }
+
+    /// Whether the party is faulty.
+    pub fn is_faulty(&self, who: Party) -> bool
+        ensures { result ≡ is_faulty self.now who }
+    {
+        self.setup.is_faulty(who)
+    }
+
+    /// The replicas among them, as they begin.
+    pub fn start_replicas(&self, alloc: Global) -> Result<Vec<Replica>, NoMemory>
+        requires { length self.now.kinds ≤ OBJECT_IDS }
+        ensures { IfOk result (λ started. started.items ≡ replicas_before self.now) }
+    {
+        start_replicas(alloc, self.keys, self.setup)
     }
 
     /// The frame that a party takes of a text.

@@ -62,7 +62,7 @@ fn found_of(alloc: Global, store: &mut VersionStore, number: u16) -> Result<Opti
         state,
     };
     let prepared = Prepared::one(alloc, stored.copy(alloc)?)?;
-    if store.has_place(&prepared) {
+    if store.has_place(&prepared, &Prepared::none(alloc)) {
         store.put_prepared(prepared);
     }
     Ok(store.get(object, &stamp).map(|held| held.value))

@@ -1,5 +1,5 @@
 -- The points of some operations of a trace, in their order.
-use Rattle.std.specs.Prelude.{◌≡◌, ℕ, Bool, true, false, not, ◌==◌, ◌&&◌, ◌+◌, if◌then◌else◌, List, [], ◌∷◌, position, Option, None, Some, option_map, Ok, IsTrue, Contains, ◌⊎◌}
+use Rattle.std.specs.Prelude.{◌≡◌, ℕ, Bool, true, false, ◌==◌, ◌&&◌, ◌+◌, if◌then◌else◌, List, [], ◌∷◌, position, Option, None, Some, option_map, Ok, IsTrue, Contains, ◌⊎◌}
 use Rattle.std.specs.List.{AllPairs, list_any, filter_map}
 use Rattle.std.specs.Option.{option_eq}
 use Rattle.qu_base.specs.declared.party.ClientId.{ClientId}

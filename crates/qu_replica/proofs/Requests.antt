@@ -1,3 +1,4 @@
 -- What a replica culls of a request, and what it shows.
-pub mod CulledRequests
+pub mod NamedEntries
+pub mod Fetches
 pub mod Showing

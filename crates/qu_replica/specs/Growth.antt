@@ -1,17 +1,29 @@
 -- How the state of a replica may follow another.
-use Rattle.std.specs.Prelude.{◌≡◌, ◌<◌, List, ◌++◌, length, Some, ◌^◌}
+use Rattle.std.specs.Prelude.{◌≡◌, ◌<◌, ◌≤◌, List, ◌++◌, length, IfSome}
 use Rattle.qu_base.specs.declared.party.ObjectId.{ObjectId}
 use Rattle.qu_stamp.specs.declared.candidate.Candidate.{Candidate}
+use Rattle.qu_history.specs.History.{ObjectHistory}
+use Rattle.qu_versions.specs.declared.limits.TheConstants.{MOST_VERSIONS}
 use Rattle.qu_versions.specs.declared.stored.Stored.{Stored}
 use Rattle.qu_replica.specs.declared.planned.Gain.{Gain}
 use Rattle.qu_rows.specs.State.{ReplicaState, AreHistories, own_candidates}
 use Rattle.qu_replica.specs.State.{with_gain}
+use Rattle.qu_waiting.specs.Slots.{with_turn, AreSlots}
 
--- what a replica's state may gain: the history of an object that it has stays its own, and a list holds all versions
+-- what a replica's state may gain: the history of an object that it has stays its own, a list holds all versions, and
+-- each request waits in the slot of its client
 pub record MayGain (state : ReplicaState) (gain : Gain) : Type 0 where
-  pub known : ((gain.history).object).0 < length state.histories
-  pub own : AreHistories (with_gain state (Some gain))
-  pub room : length (state.versions ++ gain.versions) < 2 ^ 63
+  pub known : IfSome gain.history (λ (history : ObjectHistory). (history.object).0 < length state.histories)
+  pub own : AreHistories (with_gain state gain)
+  pub slots : AreSlots (with_turn gain.turn state.waiting)
+  pub room : length ((state.versions ++ gain.found) ++ gain.versions) ≤ MOST_VERSIONS
+
+-- two states of a replica with the same histories and versions
+pub record HoldsAlike (one other : ReplicaState) : Type 0 where
+  pub me : one.me ≡ other.me
+  pub keys : one.keys ≡ other.keys
+  pub histories : one.histories ≡ other.histories
+  pub versions : one.versions ≡ other.versions
 
 -- more candidates and more versions are held, and nothing is forgotten
 pub record Grows (old new : ReplicaState) : Type 0 where

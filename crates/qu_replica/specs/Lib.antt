@@ -1,4 +1,3 @@
 pub mod State
 pub mod Step
 pub mod Growth
-pub mod Fits

@@ -1,5 +1,6 @@
--- What a replica holds: for each of its objects a history, and versions.
-use Rattle.std.specs.Prelude.{ℕ, zero, suc, ◌+◌, List, [], ◌∷◌, ◌++◌, set, Option, None, Some}
+-- How what a replica holds changes, and how it begins.
+use Rattle.std.specs.Prelude.{ℕ, zero, suc, ◌+◌, List, [], ◌∷◌, ◌++◌, set, replicate, Option, None, Some, unwrap_or}
+use Rattle.qu_base.specs.declared.limits.TheConstants.{LAST_CLIENT}
 use Rattle.qu_base.specs.declared.party.ObjectId.{ObjectId}
 use Rattle.qu_base.specs.declared.party.ReplicaId.{ReplicaId}
 use Rattle.qu_seal.specs.Keys.{Ring}
@@ -14,6 +15,7 @@ use Rattle.qu_versions.specs.Versions.{opening_store}
 use Rattle.qu_rows.specs.declared.decision.Accepted.{Accepted}
 use Rattle.qu_rows.specs.State.{ReplicaState}
 use Rattle.qu_replica.specs.declared.planned.Gain.{Gain}
+use Rattle.qu_waiting.specs.Slots.{with_turn}
 
 -- the histories with a candidate at the end of that of the object with this number
 unfoldable pub with_candidate : ℕ → Candidate → List ObjectHistory → List ObjectHistory
@@ -38,12 +40,19 @@ unfoldable pub accept_all : ReplicaState → List Accepted → ReplicaState
 accept_all state [] = state
 accept_all state (accepted ∷ later) = accept_all (accept state accepted) later
 
+-- ---- what a step makes of the state
+
+abbrev pub with_history : Option ObjectHistory → List ObjectHistory → List ObjectHistory
+with_history None histories = histories
+with_history (Some history) histories = set histories (history.object).0 history
+
 -- the state with what it gains
-abbrev pub with_gain : ReplicaState → Option Gain → ReplicaState
-with_gain state None = state
-with_gain state (Some gain) = record state {
-  histories = set state.histories ((gain.history).object).0 gain.history;
-  versions = state.versions ++ gain.versions;
+abbrev pub with_gain : ReplicaState → Gain → ReplicaState
+with_gain state gain = record state {
+  histories = with_history gain.history state.histories;
+  versions = (state.versions ++ gain.found) ++ gain.versions;
+  waiting = with_turn gain.turn state.waiting;
+  fetching = unwrap_or gain.fetching state.fetching;
 }
 
 -- the objects from this number on, as they begin
@@ -53,12 +62,15 @@ opening_histories me number (kind ∷ kinds) =
     record { object = record { 0 = number }; replica = me; candidates = opening ∷ [] } ∷ opening_histories me
     (number + 1) kinds
 
--- a replica that has accepted nothing but the opening candidates
+-- a replica that has accepted nothing but the opening candidates; nothing waits, and nothing is fetched
 abbrev pub replica_at_start : ReplicaId → Ring → List KindName → ReplicaState
 replica_at_start me keys kinds =
     record {
       me = me;
       keys = keys;
+      kinds = kinds;
       histories = opening_histories me 0 kinds;
       versions = opening_store 0 kinds;
+      waiting = replicate (LAST_CLIENT + 1) None;
+      fetching = [];
     }

@@ -1,37 +1,89 @@
-ghost use Rattle.std.specs.Prelude.{◌≡◌, [], None};
+ghost use Rattle.std.specs.Prelude.{◌≡◌, [], None, Some};
 
-use qu_base::List;
+use qu_base::{ClientId, List};
 use qu_frames::Letter;
 use qu_history::History;
 use qu_versions::Prepared;
+use qu_waiting::{Next, Running, Turn};
 use std::alloc::Global;
 
 /// What a replica's state gains by a step, as whole parts that are only moved in.
 #[derive(Debug, Drop)]
 pub struct Gain {
     /// The history of an object, with the candidates that are accepted.
-    pub history: History,
-    /// The versions that are stored after the others, with their room.
+    pub history: Option<History>,
+    /// A version that was fetched, which is stored behind the others, with its room.
+    pub found: Prepared,
+    /// The versions of what is accepted, which are stored behind it, with their room.
     pub versions: Prepared,
+    /// The slot of the client whose request waits, or waits no longer.
+    pub turn: Option<Turn>,
+    /// The fetches that run from now on, where they change.
+    pub fetching: Option<List<Running>>,
+}
+
+impl Gain {
+    /// Nothing.
+    pub(crate) fn nothing(alloc: Global) -> Gain
+        ensures history { result.history ≡ None }
+        ensures found { result.found ≡ [] }
+        ensures versions { result.versions ≡ [] }
+        ensures turn { result.turn ≡ None }
+        ensures fetching { result.fetching ≡ None }
+    {
+        Gain {
+            history: None,
+            found: Prepared::none(alloc),
+            versions: Prepared::none(alloc),
+            turn: None,
+            fetching: None,
+        }
+    }
+
+    /// The same with this history, and with these versions of what is accepted.
+    pub(crate) fn with_accepted(self, history: History, versions: Prepared) -> Gain
+        ensures { result ≡ record self { history = Some history; versions = versions } }
+    {
+        Gain {
+            history: Some(history),
+            found: self.found,
+            versions,
+            turn: self.turn,
+            fetching: self.fetching,
+        }
+    }
+
+    /// The same with this change of a slot.
+    pub(crate) fn with_turn(self, client: ClientId, next: Next) -> Gain
+        ensures { result ≡ record self { turn = Some (record { client = client; next = next }) } }
+    {
+        Gain {
+            history: self.history,
+            found: self.found,
+            versions: self.versions,
+            turn: Some(Turn { client, next }),
+            fetching: self.fetching,
+        }
+    }
+
+    /// The same with these fetches.
+    pub(crate) fn with_fetching(self, fetching: List<Running>) -> Gain
+        ensures { result ≡ record self { fetching = Some fetching } }
+    {
+        Gain {
+            history: self.history,
+            found: self.found,
+            versions: self.versions,
+            turn: self.turn,
+            fetching: Some(fetching),
+        }
+    }
 }
 
 /// What a step of a replica will make. To carry it out takes no memory.
 #[derive(Debug, Drop)]
 pub struct Planned {
-    /// What the replica's state gains, or none where the step changes nothing.
-    pub gain: Option<Gain>,
+    /// What the replica's state gains.
+    pub gain: Gain,
     pub letters: List<Letter>,
-}
-
-impl Planned {
-    /// The plan of a step in which nothing happens.
-    pub(crate) fn nothing(alloc: Global) -> Planned
-        ensures gain { result.gain ≡ None }
-        ensures letters { result.letters ≡ [] }
-    {
-        Planned {
-            gain: None,
-            letters: List::new(alloc),
-        }
-    }
 }

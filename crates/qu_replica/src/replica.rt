@@ -1,9 +1,9 @@
-ghost use Rattle.std.specs.Prelude.{◌≡◌, ◌<◌, ◌≤◌, length, slice_get, None, IfOk, IfSome, OnOk, OnErr};
+ghost use Rattle.std.specs.Prelude.{◌≡◌, ◌<◌, ◌≤◌, ◌++◌, length, slice_get, None, Some, IfOk, OnOk, OnErr};
 ghost use Rattle.std.specs.Option.{option_copied};
 ghost use Rattle.std.specs.List.{AllByRecursion};
 ghost use Rattle.qu_base.specs.Format.{AreBytes};
 ghost use Rattle.qu_base.specs.declared.limits.TheConstants.{OBJECT_IDS, REPLICA_IDS};
-ghost use Rattle.qu_rows.specs.State.{AreHistories};
+ghost use Rattle.qu_rows.specs.State.{AreHistories, without_waiting, one_more};
 ghost use Rattle.qu_versions.specs.Versions.{version_at};
 ghost use Rattle.qu_rows.specs.Rows.{asked_at, unknown_in, unknown_refused, decision_on};
 ghost use Rattle.qu_rows.specs.Allowed.{MayDecide};
@@ -13,50 +13,60 @@ ghost use Rattle.qu_history.specs.Text.{sets_digest};
 ghost use Rattle.qu_frames.specs.Signing.{before_mac};
 ghost use Rattle.qu_replica.specs.Step.{named, replica_step};
 ghost use Rattle.qu_replica.specs.Growth.{Grows, MayGain};
-ghost use Rattle.qu_replica.specs.Fits.{StateFits, LetterFits};
+ghost use Rattle.qu_fitting.specs.Fits.{StateFits, LetterFits};
 
+mod fetching;
 mod opening;
 mod others;
 mod reply;
 
 use crate::planned::{Gain, Planned};
 use qu_base::{Bounds, Digest, List, NoMemory, ObjectId, Party, ReplicaId};
-#[cfg(test)]
-use qu_frames::Frame;
 use qu_frames::{Letter, Reading};
 use qu_history::{Culled, History, Sets};
 use qu_objects::{KindName, ObjState};
 use qu_rows::{Asked, Decision, Rows};
 use qu_seal::KeyRing;
 use qu_stamp::Stamp;
-use qu_versions::VersionStore;
+use qu_versions::{Stored, VersionStore};
+use qu_waiting::{Running, Waiting, empty_slots, turn_slot};
 use std::alloc::Global;
 use std::marker::Model;
 
-/// One replica. It keeps a history of each object, and the versions that it accepted.
+/// One replica. It keeps a history of each object, the versions that it accepted or fetched, and the requests that wait
+/// for those that it fetches.
 #[derive(Debug, Drop)]
 pub struct Replica {
     alloc: Global,
     me: ReplicaId,
     keys: KeyRing,
+    kinds: List<KindName>,
     histories: Vec<History>,
     versions: VersionStore,
+    /// The waiting request of each client, in slots by the numbers of the clients.
+    waiting: Vec<Option<Waiting>>,
+    fetching: List<Running>,
 }
 
 impl Model for Replica {
     ghost use Rattle.std.specs.Prelude.{IsTrue};
     ghost use Rattle.qu_rows.specs.State.{ReplicaState, are_own};
+    ghost use Rattle.qu_waiting.specs.Slots.{are_slots};
 
     ghost Value = { ReplicaState };
 
     ghost view = { λ replica. record {
       me = replica.me;
       keys = replica.keys;
+      kinds = replica.kinds;
       histories = replica.histories.items;
       versions = replica.versions;
+      waiting = replica.waiting.items;
+      fetching = replica.fetching;
     } };
 
-    ghost invariant = { λ replica. IsTrue (are_own replica.me 0 replica.histories.items) };
+    ghost invariant = { λ replica. IsTrue (are_own replica.me 0 replica.histories.items)
+        × IsTrue (are_slots 0 replica.waiting.items) };
 }
 
 /// What a replica makes of a request: the entries that its reply names, and its decision.
@@ -69,7 +79,7 @@ struct Handled {
 impl Replica {
     /// A replica that has accepted nothing but the opening candidates of its objects, which are
     /// numbered as their kinds stand.
-    #[tactic(auto, using(crate::proofs::States::Own::are_own_opening))]
+    #[tactic(auto, using(crate::proofs::States::Own::are_own_opening, qu_waiting::proofs::SlotLaws::opening_slots))]
     pub fn start(
         alloc: Global,
         me: ReplicaId,
@@ -86,8 +96,11 @@ impl Replica {
             alloc,
             me,
             keys,
+            kinds: List::from_clones(alloc, kinds)?,
             histories: opening::histories(alloc, me, kinds)?,
             versions: VersionStore::fresh(alloc, kinds)?,
+            waiting: empty_slots(alloc)?,
+            fetching: List::new(alloc),
         })
     }
 
@@ -114,11 +127,11 @@ impl Replica {
         self.versions.get(object, stamp)
     }
 
-    /// Handles a text, and gives the letters that answer it: one to a request that it decides and to a fetch of a
-    /// version that it holds; none to a request whose version it lacks, to another fetch, to a reply, to a version
-    /// that is sent, to a text that is no frame, and to a frame whose HMAC is wrong for it. Without memory it stays as
-    /// it is.
-    #[tactic(auto, using(crate::proofs::States::Stepped::step_laws))]
+    /// Handles a text, and gives the letters that answer it: one to a request that it decides; to a request whose
+    /// versions it lacks none, but the fetches of these versions, of each from each other replica; one to a fetch of a
+    /// version that it holds; and to a version that completes a fetch those of the request that it wakes, if any. None
+    /// to another fetch or version, to a reply, to a text that is no frame, and to a frame whose HMAC is wrong for it.
+    /// Without memory it stays as it is.
     pub fn step(&mut self, text: &[u8]) -> Result<List<Letter>, NoMemory>
         ensures state { OnOk result (self.new ≡ (replica_step self.old text.now).0) }
         ensures letters { IfOk result (λ letters. letters ≡ (replica_step self.old text.now).1) }
@@ -128,13 +141,9 @@ impl Replica {
         ensures holds_what_fits { StateFits self.old → StateFits self.new }
         ensures sends_what_fits { StateFits self.old → IfOk result (AllByRecursion LetterFits) }
     {
-        match Reading::of(self.alloc, text)? {
-            Some(reading) => self.step_read(text, &reading),
-            None => {
-                are_bytes(text);
-                self.answer_other(text)
-            }
-        }
+        are_bytes(text);
+        let planned = self.plan(text)?;
+        Ok(self.carry_out(planned))
     }
 
     /// Handles a text as `step` does, where this is a reading of the request that it says.
@@ -154,68 +163,83 @@ impl Replica {
     }
 
     /// What `step` will make of this text. All that the step takes of memory is taken here.
-    #[tactic(auto, using(crate::proofs::States::Stepped::step_laws))]
     pub fn plan(&self, text: &[u8]) -> Result<Planned, NoMemory>
         ensures state { IfOk result (λ planned. with_gain self.now planned.gain
             ≡ (replica_step self.now text.now).0) }
         ensures letters { IfOk result (λ planned. planned.letters ≡ (replica_step self.now text.now).1) }
-        ensures may { IfOk result (λ planned. IfSome planned.gain (MayGain self.now)) }
+        ensures may { IfOk result (λ planned. MayGain self.now planned.gain) }
         ensures histories { AreHistories self.now }
     {
         match Reading::of(self.alloc, text)? {
             Some(reading) => self.plan_read(text, &reading),
-            None => Ok(Planned {
-                gain: None,
-                letters: self.answer_other(text)?,
-            }),
+            None => self.plan_other(text),
         }
     }
 
     /// The same, where this is a reading of the request that the text says.
-    #[tactic(auto, using(crate::proofs::States::Stepped::step_laws))]
     pub fn plan_read(&self, text: &[u8], reading: &Reading) -> Result<Planned, NoMemory>
         requires { before_mac text.now ≡ reading.now.front }
         ensures state { IfOk result (λ planned. with_gain self.now planned.gain
             ≡ (replica_step self.now text.now).0) }
         ensures letters { IfOk result (λ planned. planned.letters ≡ (replica_step self.now text.now).1) }
-        ensures may { IfOk result (λ planned. IfSome planned.gain (MayGain self.now)) }
+        ensures may { IfOk result (λ planned. MayGain self.now planned.gain) }
         ensures histories { AreHistories self.now }
     {
         if !reading.is_brought(&self.keys, Party::Replica(self.me), text) {
-            return Ok(Planned::nothing(self.alloc));
+            return self.plan_letters(List::new(self.alloc));
         }
-        let handled = self.handle(reading)?;
-        self.plan_decision(reading, handled.named, handled.decision)
+        let Handled { named, decision } = self.handle(&self.rows(None), reading)?;
+        match decision {
+            Decision::Answers { verdict, accepted } => {
+                let gain = Gain::nothing(self.alloc);
+                self.plan_answer(gain, reading, named, verdict, accepted.as_slice())
+            }
+            Decision::Waits { missing } => self.plan_waiting(text, reading, missing),
+        }
     }
 
     /// Makes what was planned of the state that the replica has, which takes no memory.
     pub fn carry_out(&mut self, planned: Planned) -> List<Letter>
-        requires { IfSome planned.gain (MayGain self.old) }
+        requires { MayGain self.old planned.gain }
         ensures state { self.new ≡ with_gain self.old planned.gain }
         ensures letters { result ≡ planned.letters }
     {
         let Planned { gain, letters } = planned;
-        if let Some(gain) = gain {
-            self.take(gain);
-        }
+        self.take(gain);
         letters
     }
 
-    /// Puts the history in the place of that of its object, and the versions after the others.
+    /// Puts the history in the place of that of its object, the versions after the others, and what waits and is
+    /// fetched in the place of what did.
     fn take(&mut self, gain: Gain)
         requires { MayGain self.old gain }
-        ensures { self.new ≡ with_gain self.old (Some gain) }
+        ensures { self.new ≡ with_gain self.old gain }
     {
-        let Gain { history, versions } = gain;
-        let place = usize::from(history.object().0);
-        self.histories[place] = history;
+        let Gain {
+            history,
+            found,
+            versions,
+            turn,
+            fetching,
+        } = gain;
+        if let Some(history) = history {
+            let place = usize::from(history.object().0);
+            self.histories[place] = history;
+        }
+        self.versions.put_prepared(found);
         self.versions.put_prepared(versions);
+        if let Some(turn) = turn {
+            turn_slot(self.waiting.as_mut_slice(), turn);
+        }
+        if let Some(fetching) = fetching {
+            self.fetching = fetching;
+        }
     }
 
-    /// What its rows look at: what it holds, and no version more.
-    #[tactic(auto, using(crate::proofs::States::Viewed::none_behind))]
-    fn rows(&self) -> Rows<'_>
-        ensures value { result ≡ self.now }
+    /// What its rows look at: what it holds, and one version more where there is one.
+    fn rows<'a>(&'a self, more: Option<&'a Stored>) -> Rows<'a>
+        ensures value { result ≡ without_waiting
+            (record self.now { versions = self.now.versions ++ one_more (option_copied more.entry) }) }
         ensures histories { AreHistories self.now }
     {
         let histories = self.histories.as_slice();
@@ -225,24 +249,25 @@ impl Replica {
             &self.keys,
             histories,
             &self.versions,
-            None,
+            more,
         )
     }
 
-    /// What the replica makes of a request. Objects that it does not have are asked for before the sets are
-    /// culled, and sets whose entries are all right are decided upon as they came.
-    #[tactic(auto, using(crate::proofs::Requests::CulledRequests::handling))]
-    fn handle(&self, reading: &Reading) -> Result<Handled, NoMemory>
-        ensures named { IfOk result (λ handled. handled.named ≡ named self.now reading.now.sets) }
-        ensures decision { IfOk result (λ handled. handled.decision ≡ decision_on self.now
-            (asked_at self.now reading.now.client reading.now.number reading.now.sets reading.now.body)
+    /// What the replica makes of a request upon what its rows look at. Objects that it does not have are asked for
+    /// before the sets are culled, and sets whose entries are all right are decided upon as they came.
+    #[tactic(auto, using(crate::proofs::Requests::NamedEntries::handling))]
+    fn handle(&self, rows: &Rows, reading: &Reading) -> Result<Handled, NoMemory>
+        requires me { rows.now.me ≡ self.now.me }
+        requires keys { rows.now.keys ≡ self.now.keys }
+        ensures named { IfOk result (λ handled. handled.named ≡ named rows.now reading.now.sets) }
+        ensures decision { IfOk result (λ handled. handled.decision ≡ decision_on rows.now
+            (asked_at rows.now reading.now.client reading.now.number reading.now.sets reading.now.body)
             reading.now.body) }
-        ensures may { IfOk result (λ handled. MayDecide self.now handled.decision) }
-        ensures histories { AreHistories self.now }
+        ensures may { IfOk result (λ handled. MayDecide rows.now handled.decision) }
     {
         let digested = reading.sets();
         let whole = digested.sets();
-        if let Some(refusal) = self.rows().row_unknown(whole) {
+        if let Some(refusal) = rows.row_unknown(whole) {
             return Ok(Handled {
                 named: List::new(self.alloc),
                 decision: refusal,
@@ -251,30 +276,36 @@ impl Replica {
         if digested.are_right(self.me, &self.keys) {
             return Ok(Handled {
                 named: List::new(self.alloc),
-                decision: self.decide_upon(reading, whole, digested.digest_of())?,
+                decision: self.decide_upon(rows, reading, whole, digested.digest_of())?,
             });
         }
         let Culled { sets, left } = digested.cull(self.alloc, self.me, &self.keys)?;
         let set = sets.digest_of(self.alloc)?;
         Ok(Handled {
             named: left,
-            decision: self.decide_upon(reading, &sets, set)?,
+            decision: self.decide_upon(rows, reading, &sets, set)?,
         })
     }
 
     /// What it makes of a request of objects that it has upon the culled sets, which have this digest.
-    #[tactic(auto, using(crate::proofs::Requests::CulledRequests::handling))]
-    fn decide_upon(&self, reading: &Reading, sets: &Sets, set: Digest) -> Result<Decision, NoMemory>
-        requires known { None ≡ unknown_refused (unknown_in self.now reading.now.sets) }
-        requires culled { sets.now ≡ culled self.now.keys self.now.me reading.now.sets }
+    #[tactic(auto, using(crate::proofs::Requests::NamedEntries::handling))]
+    fn decide_upon(
+        &self,
+        rows: &Rows,
+        reading: &Reading,
+        sets: &Sets,
+        set: Digest,
+    ) -> Result<Decision, NoMemory>
+        requires known { None ≡ unknown_refused (unknown_in rows.now reading.now.sets) }
+        requires culled { sets.now ≡ culled rows.now.keys rows.now.me reading.now.sets }
         requires digest { set ≡ sets_digest sets.now }
-        ensures value { IfOk result (λ decision. decision ≡ decision_on self.now
-            (asked_at self.now reading.now.client reading.now.number reading.now.sets reading.now.body)
+        ensures value { IfOk result (λ decision. decision ≡ decision_on rows.now
+            (asked_at rows.now reading.now.client reading.now.number reading.now.sets reading.now.body)
             reading.now.body) }
-        ensures may { IfOk result (λ decision. MayDecide self.now decision) }
+        ensures may { IfOk result (λ decision. MayDecide rows.now decision) }
     {
         let asked = Asked::new(self.alloc, reading, sets, set)?;
-        self.rows().decide(&asked, reading.body())
+        rows.decide(&asked, reading.body())
     }
 }
 
@@ -282,6 +313,3 @@ impl Replica {
 fn are_bytes(text: &[u8])
     ensures { AreBytes text.now }
 {}
-
-#[cfg(test)]
-mod tests;

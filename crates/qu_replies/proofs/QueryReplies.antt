@@ -25,7 +25,7 @@ use Rattle.qu_rows.specs.declared.decision.Accepted.{Accepted}
 use Rattle.qu_rows.specs.declared.decision.Decision.{Decision}
 use Rattle.qu_rows.specs.declared.decision.Decision.TheVariants.{Answers, Waits}
 use Rattle.qu_rows.specs.State.{ReplicaState, own_candidates, own_latest}
-use Rattle.qu_rows.specs.Rows.{asked_of, Asked, refuse, shown_of, method_base, base_version, row_unknown, row_thin, row_retry, row_current, row_method, row_version, row_kept, row_time, row_full, row_done, row_told, decide_act, decide_ask, decision_on, class_told, row_few, decision_by, mending_on, decide_repair}
+use Rattle.qu_rows.specs.Rows.{asked_of, Asked, refuse, shown_of, method_base, base_version, row_unknown, row_thin, row_retry, row_current, row_method, row_version, row_kept, row_time, row_full, row_done, row_told, decide_act, decide_ask, decision_on, class_told, row_few, decision_by, mending_on, decide_repair, mend_asked}
 use Rattle.qu_rows.specs.Table.{first_given}
 use Rattle.qu_versions.specs.Versions.{version_at}
 use Rattle.qu_rows.proofs.Carried.{told_one}
@@ -38,6 +38,7 @@ use Rattle.qu_rows.specs.declared.mending.Mending.TheVariants as mending
 use Rattle.qu_rows.specs.declared.mending.Mending.{Mending}
 use Rattle.qu_base.specs.Bounds.{quorum}
 use Rattle.qu_frames.specs.declared.verdict.Refusal.TheVariants as refusal
+use Rattle.qu_rows.specs.declared.remedy.Remedy.{Remedy}
 
 -- ---- the rows
 
@@ -47,21 +48,21 @@ Gives P row = (decision : Decision) → row ≡ Some decision → P decision
 
 -- past a row the later ones decide
 past : (P : Decision → Type 0) (row : Option Decision) (later : List (Option Decision)) → Gives P row
-    → (row ≡ None → P (first_given Waits later)) → P (first_given Waits (row ∷ later))
+    → (row ≡ None → P (first_given (Waits []) later)) → P (first_given (Waits []) (row ∷ later))
 unfolding first_given
 past P None later here next = next refl
 past P (Some decision) later here next = here decision refl
 
 -- where refusals and waiting are such, the rows that answer are left
-module _ (P : Decision → Type 0) (refused : (why : Refusal) → P (refuse why)) (waits : P Waits)
-    (state : ReplicaState) (asked : Asked) where
+module _ (P : Decision → Type 0) (refused : (why : Refusal) → P (refuse why))
+    (waits : (missing : List (ObjectId × Stamp)) → P (Waits missing)) (state : ReplicaState) (asked : Asked) where
   refusing : {A : Type 0} (why : A → Refusal) (found : Option A) → Gives P (option_map (λ it. refuse (why it)) found)
   refusing why None decision given = absurd (none-some decision given)
   refusing why (Some it) decision given = subst P (same_Some (refuse (why it)) decision given) (refused (why it))
 
-  waiting : (test : Bool) → Gives P (cond test (Some Waits) None)
-  waiting false decision given = absurd (none-some decision given)
-  waiting true decision given = subst P (same_Some Waits decision given) waits
+  waiting : (missing : List (ObjectId × Stamp)) (test : Bool) → Gives P (cond test (Some (Waits missing)) None)
+  waiting missing false decision given = absurd (none-some decision given)
+  waiting missing true decision given = subst P (same_Some (Waits missing) decision given) (waits missing)
 
   pub unknown : Gives P (row_unknown state asked)
   unfolding row_unknown
@@ -81,7 +82,7 @@ module _ (P : Decision → Type 0) (refused : (why : Refusal) → P (refuse why)
 
   pub version : (objects : List ObjectId) → Gives P (row_version state asked objects)
   unfolding row_version
-  version objects = waiting _
+  version objects = waiting _ _
 
   time : (objects : List ObjectId) → Gives P (row_time state asked objects)
   unfolding row_time
@@ -91,9 +92,9 @@ module _ (P : Decision → Type 0) (refused : (why : Refusal) → P (refuse why)
   unfolding row_full
   full objects = refusing _ _
 
-  no_row : P (first_given Waits [])
+  no_row : P (first_given (Waits []) [])
   unfolding first_given
-  no_row = waits
+  no_row = waits []
 
   pub act_cases : (parts : List (ObjectId × Method)) (objects : List ObjectId)
       → Gives P (row_retry state asked parts objects)
@@ -137,11 +138,12 @@ module _ (P : Decision → Type 0) (refused : (why : Refusal) → P (refuse why)
       by_test false decision given = absurd (none-some decision given)
       by_test true decision given = subst P (same_Some (refuse (refusal.Thin target)) decision given) (refused _)
 
-  last_row : (decision : Decision) → P decision → P (first_given Waits (Some decision ∷ []))
+  last_row : (decision : Decision) → P decision → P (first_given (Waits []) (Some decision ∷ []))
   unfolding first_given
   last_row decision is = is
 
-  mend_cases : (target : ObjectId) → P (decision_by target (mending_on state asked target))
+  mend_cases : (target : ObjectId)
+      → P (decision_by target (mend_asked state asked target).remedy (mending_on state asked target))
       → P (decide_repair state asked target)
   unfolding decide_repair
   mend_cases target mended =
@@ -189,7 +191,7 @@ module _ (state : ReplicaState) (asked : Asked) (object : ObjectId) where
   pub passed_version : row_version state asked (object ∷ []) ≡ None → (it : ObjState)
       × (base_version state asked object ≡ Some it)
   unfolding row_version
-  passed_version none = some_of (base_version state asked object) (no_wait _ none)
+  passed_version none = some_of (base_version state asked object) (no_wait _ _ none)
 
   -- the version is that of the base
   pub version_of_base : (base : Candidate) (version : ObjState) → method_base state asked object ≡ Some base
@@ -208,7 +210,7 @@ QueryTells state sets object ask (Answers (verdict.Told stamps answer) accepted)
 QueryTells state sets object ask (Answers (verdict.Already answer) accepted) = ⊥
 QueryTells state sets object ask (Answers (verdict.Mended other stamp) accepted) = ⊥
 QueryTells state sets object ask (Answers (verdict.Refused why) accepted) = Unit {0}
-QueryTells state sets object ask Waits = Unit {0}
+QueryTells state sets object ask (Waits missing) = Unit {0}
 
 told_tells : (state : ReplicaState) (asked : Asked) (object : ObjectId) (ask : Ask)
     → row_current state asked (object ∷ []) ≡ None → row_method state asked (object ∷ []) ≡ None
@@ -251,7 +253,7 @@ told_tells state asked object ask is_current is_method is_version decision given
 query_tells : (state : ReplicaState) (asked : Asked) (object : ObjectId) (ask : Ask)
     → QueryTells state asked.sets object ask (decision_on state asked (body.Ask ((object, ask) ∷ [])))
 query_tells state asked object ask =
-    ask_cases (QueryTells state asked.sets object ask) (λ why. tt) tt state asked ((object, ask) ∷ [])
+    ask_cases (QueryTells state asked.sets object ask) (λ why. tt) (λ missing. tt) state asked ((object, ask) ∷ [])
     (object ∷ []) (told_tells state asked object ask)
 
 module _ (state : ReplicaState) (client : ClientId) (number : ℕ) (sets : List SetOf) (object : ObjectId)
@@ -288,23 +290,23 @@ IsNoAnswer (Answers (verdict.Told stamps answer) accepted) = ⊥
 IsNoAnswer (Answers (verdict.Already answer) accepted) = ⊥
 IsNoAnswer (Answers (verdict.Mended other stamp) accepted) = Unit {0}
 IsNoAnswer (Answers (verdict.Refused why) accepted) = Unit {0}
-IsNoAnswer Waits = Unit {0}
+IsNoAnswer (Waits missing) = Unit {0}
 
 module _ (state : ReplicaState) (client : ClientId) (number : ℕ) (sets : List SetOf) (target : ObjectId)
     (accepted : List Accepted) where
-  by_mending : (made : Mending) → IsNoAnswer (decision_by target made)
-  by_mending (mending.Mends candidate version) = tt
-  by_mending (mending.Holds stamp) = tt
-  by_mending (mending.Refuses why) = tt
-  by_mending mending.Waits = tt
+  by_mending : (remedy : Remedy) (made : Mending) → IsNoAnswer (decision_by target remedy made)
+  by_mending remedy (mending.Mends candidate version) = tt
+  by_mending remedy (mending.Holds stamp) = tt
+  by_mending remedy (mending.Refuses why) = tt
+  by_mending remedy mending.Waits = tt
 
   mend_answers_none : (given : Verdict)
       → decision_on state (asked_of client number sets (body.Mend target)) (body.Mend target)
       ≡ Answers given accepted → IsNoAnswer (Answers given accepted)
   mend_answers_none given decided =
       subst IsNoAnswer decided
-      (mend_cases IsNoAnswer (λ why. tt) tt state (asked_of client number sets (body.Mend target)) target
-      (by_mending (mending_on state (asked_of client number sets (body.Mend target)) target)))
+      (mend_cases IsNoAnswer (λ why. tt) (λ missing. tt) state (asked_of client number sets (body.Mend target)) target
+      (by_mending _ (mending_on state (asked_of client number sets (body.Mend target)) target)))
 
   -- what is told of an operation is not told of a repair
   pub mend_is_not_told : (stamps : List (ObjectId × Stamp)) (answer : Answer)

@@ -35,8 +35,8 @@ use Rattle.qu_replies.proofs.QueryReplies.{told_is_true, query_is_no_update, men
 use Rattle.qu_replies.proofs.TrueReplies.{AddsWhatIsFound, done_is_true, already_is_true, act_is_not_told, update_is_known}
 use Rattle.qu_claims.specs.Carried.{Brings}
 use Rattle.qu_claims.specs.Handled.{is_of_setup}
-use Rattle.qu_claims.specs.Handling.{HoldsAlike, Handles}
-use Rattle.qu_accepts.proofs.Handling.{alike_candidates}
+use Rattle.qu_claims.specs.Handling.{Handles}
+use Rattle.qu_accepts.proofs.ActAcceptance.{alike_candidates}
 use Rattle.std.specs.List.{list_all}
 use Rattle.std.proofs.lemmas.List.Elements.{All-weaker}
 use Rattle.qu_base.specs.declared.party.Digest.{Digest}
@@ -44,6 +44,8 @@ use Rattle.qu_history.specs.History.{holds}
 use Rattle.qu_versions.specs.Versions.{version_at}
 use Rattle.qu_frames.specs.declared.frame.Frame.{Frame}
 use Rattle.qu_frames.specs.declared.frame.Frame.TheVariants as frame
+use Rattle.qu_replica.specs.Growth.{HoldsAlike}
+use Rattle.qu_rows.specs.Waiting.{TakenRequest}
 
 -- ---- bodies
 
@@ -154,9 +156,17 @@ module _ (trace : Trace) (is_run : IsRun trace) (have : ArePlain trace) (at : �
       → HoldsAlike reply.new (accept_all (reply.handles).mid reply.accepted)
   reply_accepts given reply =
       let mid : ReplicaState = (reply.handles).mid in
+      let request : TakenRequest = record {
+        client = client;
+        number = number;
+        round = round;
+        sets = reply.sets;
+        body = reply.body;
+        mac = reply.mac;
+      } in
       subst (HoldsAlike reply.new)
       (ap (λ (it : Frame). (replica_on_frame mid it).0) reply.is_request
-      ∙ ap (λ (it : Decision). (carried_out mid client number round reply.sets it).0) reply.decided)
+      ∙ ap (λ (it : Decision). (carried_out mid request it).0) reply.decided)
       (reply.handles).made
 
   module _ (given : Verdict) (of_update : IsOfUpdate given)

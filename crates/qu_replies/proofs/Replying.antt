@@ -5,7 +5,7 @@ use Rattle.qu_world.specs.Step.{moved}
 use Rattle.std.proofs.Common.{◌≤◌, ◌≡◌, ℕ, zero, suc, ◌+◌, ◌<◌, List, [], ◌∷◌, ◌++◌, length, get_or, Option, None, Some, refl, sym, subst, ap, ◌∙◌, arith, map, IsTrue, false, Ok}
 use Rattle.std.specs.Prelude.{slice_get, Contains}
 use Rattle.std.specs.List.{AllByRecursion}
-use Rattle.std.proofs.lemmas.Option.{none-some, same_Some, get_or_from_slice_get}
+use Rattle.std.proofs.lemmas.Option.{none-some, get_or_from_slice_get}
 use Rattle.qu_base.specs.declared.party.ClientId.{ClientId}
 use Rattle.qu_base.specs.declared.party.ObjectId.{ObjectId}
 use Rattle.qu_base.specs.declared.party.Party.{Party}
@@ -22,12 +22,11 @@ use Rattle.qu_frames.specs.declared.verdict.Verdict.{Verdict}
 use Rattle.qu_frames.specs.Body.{body_of}
 use Rattle.qu_history.specs.Sealing.{sealed_by}
 use Rattle.qu_rows.specs.declared.decision.Accepted.{Accepted}
-use Rattle.qu_rows.specs.declared.decision.Decision.{Decision}
-use Rattle.qu_rows.specs.declared.decision.Decision.TheVariants.{Answers, Waits}
+use Rattle.qu_rows.specs.declared.decision.Decision.TheVariants.{Answers}
 use Rattle.qu_rows.specs.State.{ReplicaState}
 use Rattle.qu_replica.specs.State.{accept_all}
 use Rattle.qu_rows.specs.Rows.{asked_at, decision_on}
-use Rattle.qu_replica.specs.Step.{other_letters, answer_frame, reply, carried_out, replica_on_frame, replica_on_received, replica_step}
+use Rattle.qu_replica.specs.Step.{answer_frame, reply, replica_on_frame, replica_on_received, replica_step, learned, handled}
 use Rattle.qu_replica.specs.Step as own
 use Rattle.qu_client.specs.declared.state.ClientState.{ClientState}
 use Rattle.qu_client.specs.declared.state.Stepped.{Stepped}
@@ -46,13 +45,12 @@ use Rattle.qu_world.specs.Run.{IsRun}
 use Rattle.qu_claims.specs.Times.{world_after}
 use Rattle.qu_replies.specs.Replies.{IsReplyTo}
 use Rattle.qu_claims.specs.Handling.{Handles}
-use Rattle.qu_accepts.proofs.Handling.{handled_at_once}
-use Rattle.qu_accepts.proofs.Happenings.{handled_fits}
+use Rattle.qu_accepts.proofs.Happenings.{handled_fits, handles_at}
 use Rattle.qu_runs.proofs.Worlds.LaterLetters.{letter_later}
 use Rattle.qu_runs.specs.Plain.{ArePlain}
 use Rattle.qu_world.proofs.Each.{each_found, set_here}
 use Rattle.qu_runs.proofs.Events.Entries.{entry_recorded}
-use Rattle.qu_shown.proofs.OwnHistories.{IsInPlace, step-in_place}
+use Rattle.qu_shown.proofs.OwnHistories.{IsInPlace}
 use Rattle.qu_shown.proofs.Views.{true_world}
 use Rattle.qu_runs.proofs.Worlds.WorldGrowth.{world_after-next}
 use Rattle.qu_claims.specs.Carried.{Tells, Carries, Brings, handed}
@@ -60,17 +58,20 @@ use Rattle.qu_frames.specs.Formats.{frame_form}
 use Rattle.qu_history.specs.Formats.{sets_form}
 use Rattle.qu_history.specs.declared.sealed.Sealed.{Sealed}
 use Rattle.qu_runs.proofs.Fits.Carrying.{AnswersFit, no_reply, signed_spelled, signed_carries, brings_decoded}
-use Rattle.qu_runs.proofs.Fits.VersionLetters.{CarriesVersion, other_letters_each, no_reply_in}
+use Rattle.qu_runs.proofs.Fits.StepLetters.{CarriesOther, Answered, on_frame_each, no_reply_in}
 use Rattle.qu_runs.proofs.Fits.Fitting.{fit_step, handed_fits}
 use Rattle.qu_frames.specs.Signing.{brought, signed, signature}
 use Rattle.qu_seal.specs.Keys.{Ring}
-use Rattle.qu_replica.proofs.Fits.FitSteps.{blank_sized, request-fits}
+use Rattle.qu_fitting.proofs.FitRequests.{blank_sized, request-fits}
 use Rattle.qu_runs.proofs.Events.Handing.{letter_handed, offered_handed}
 use Rattle.qu_runs.proofs.Fits.FitParts.{fits_parts}
 use Rattle.qu_rows.specs.Allowed.{has_parts}
 use Rattle.qu_trace.specs.Faulty.{is_faulty}
 use Rattle.qu_shown.proofs.AskedLetters.{AskedBy, asked_letter}
 use Rattle.qu_frames.specs.Decoding.{decoded}
+use Rattle.qu_rows.specs.Waiting.{TakenRequest}
+use Rattle.qu_replica.proofs.States.Growth.{accept_all-me}
+use Rattle.qu_replica.proofs.States.Learning.{is_learned}
 
 -- ---- clients send requests
 
@@ -203,16 +204,19 @@ step_sends world (Tick client) =
 
 -- ---- what a reply is
 
--- the verdict is what the replica decided upon a request of this client, number and round
+-- the verdict is what the replica decided upon a request of this client, number and round, with what the frame tells
 record IsDecidedOn (state : ReplicaState) (taken : Frame) (replica : ReplicaId) (client : ClientId)
     (number round : ℕ) (verdict : Verdict) : Type 0 where
-  sets : List SetOf
-  body : Body
-  mac : List ℕ
-  is_request : taken ≡ frame.Request client number round sets body mac
+  request : TakenRequest
+  handles : handled state taken ≡ Some request
+  client_is : request.client ≡ client
+  number_is : request.number ≡ number
+  round_is : request.round ≡ round
   accepted : List Accepted
-  decided : decision_on state (asked_at state client number sets body) body ≡ Answers verdict accepted
-  from : replica ≡ ((replica_on_frame state taken).0).me
+  decided : decision_on (learned state taken)
+      (asked_at (learned state taken) request.client request.number request.sets request.body) request.body
+      ≡ Answers verdict accepted
+  from : replica ≡ state.me
 
 module _ (replica : ReplicaId) (client : ClientId) (number round : ℕ) (verdict : Verdict)
     (culled : List (ObjectId × ReplicaId)) (shown : List Sealed) (seal : List ℕ) where
@@ -224,78 +228,56 @@ module _ (replica : ReplicaId) (client : ClientId) (number round : ℕ) (verdict
       → (me ≡ replica) × (other ≡ client) × (asked ≡ number) × (turn ≡ round) × (given ≡ verdict)
   same_reply me other asked turn given none histories mac same = (cc, cc, cc, cc, cc)
 
-  decided_by : (state : ReplicaState) (other : ClientId) (asked turn : ℕ) (sets : List SetOf) (body : Body)
-      (mac : List ℕ) (accepted : List Accepted) (given : Verdict)
-      → decision_on state (asked_at state other asked sets body) body ≡ Answers given accepted
-      → (accept_all state accepted).me ≡ replica → other ≡ client → asked ≡ number → turn ≡ round → given ≡ verdict
-      → ((replica_on_frame state (frame.Request other asked turn sets body mac)).0).me ≡ replica
-      → IsDecidedOn state (frame.Request other asked turn sets body mac) replica client number round verdict
-  decided_by state other asked turn sets body mac accepted given is from is_client is_number is_round is_verdict
-      me = record {
-        sets = sets;
-        body = body;
-        mac = mac;
-        is_request = cc;
-        accepted = accepted;
-        decided =
-            ap (λ (it : ClientId). decision_on state (asked_at state it number sets body) body) (sym is_client) ∙
-            ap (λ (it : ℕ). decision_on state (asked_at state other it sets body) body) (sym is_number) ∙
-            is ∙
-            ap (λ (it : Verdict). Answers it accepted) is_verdict;
-        from = sym me;
-      }
+  -- a letter that carries the reply is one to such a request
+  abbrev RepliesSo : ReplicaState → Frame → Letter → Type 0
+  RepliesSo state taken sent = Carries sent (frame.Reply replica client number round verdict culled shown seal)
+      → IsDecidedOn state taken replica client number round verdict
 
-  carried_reply : (state : ReplicaState) (other : ClientId) (asked turn : ℕ) (sets : List SetOf) (body : Body)
-      (mac : List ℕ) (decision : Decision)
-      → ((given : Verdict) (accepted : List Accepted) → decision ≡ Answers given accepted
-      → frame_form.Fits (answer_frame (accept_all state accepted) other asked turn sets given))
-      → decision_on state (asked_at state other asked sets body) body ≡ decision
-      → (place : ℕ) (sent : Letter) → slice_get (carried_out state other asked turn sets decision).1 place ≡ Some
-      sent → Carries sent (frame.Reply replica client number round verdict culled shown seal)
-      → IsDecidedOn state (frame.Request other asked turn sets body mac) replica client number round verdict
-  carried_reply state other asked turn sets body mac Waits fits is place sent found is_reply =
-      absurd (none-some sent found)
-  carried_reply state other asked turn sets body mac (Answers given accepted) fits is (suc place) sent found
-      is_reply = absurd (none-some sent found)
-  carried_reply state other asked turn sets body mac (Answers given accepted) fits is zero sent found is_reply =
-      let new : ReplicaState = accept_all state accepted in
-      let to : Party = party.Client other in
-      let made : Frame = answer_frame new other asked turn sets given in
-      let is_sent : sent.text ≡ signed new.keys to made =
-      ap (λ (it : Letter). it.text) (sym (same_Some (reply new other asked turn sets given) sent found)) in
-      let same = same_reply new.me other asked turn given (own.named new sets)
-      (map (sealed_by new.keys) (own.shown new sets))
-      (signature new.keys to made)
-      (sym (signed_carries sent new.keys to made
-      (frame.Reply replica client number round verdict culled shown seal) (fits given accepted refl) is_sent
-      is_reply)) in
-      decided_by state other asked turn sets body mac accepted given is same.0 same.1 same.2 same.3 same.4
-      (ap (λ (it : Decision). ((carried_out state other asked turn sets it).0).me) is ∙ same.0)
+  others : (state : ReplicaState) (taken : Frame) (letter : Letter) → CarriesOther letter
+      → RepliesSo state taken letter
+  others state taken letter other carries =
+      absurd (no_reply_in letter other replica client number round verdict shown
+      (record { culled = culled; mac = seal; carries = carries }))
+
+  answer_decided : (state : ReplicaState) (taken : Frame) → AnswersFit state taken → (request : TakenRequest)
+      → handled state taken ≡ Some request
+      → Answered (RepliesSo state taken) (others state taken) (learned state taken) request
+  answer_decided state taken fits request handles = λ given accepted is is_reply.
+      let mid : ReplicaState = learned state taken in
+      let new : ReplicaState = accept_all mid accepted in
+      let to : Party = party.Client request.client in
+      let made : Frame = answer_frame new request.client request.number request.round request.sets given in
+      let same = same_reply new.me request.client request.number request.round given (own.named new request.sets)
+      (map (sealed_by new.keys) (own.shown new request.sets)) (signature new.keys to made)
+      (sym (signed_carries (reply new request.client request.number request.round request.sets given) new.keys to made
+      (frame.Reply replica client number round verdict culled shown seal) (fits request handles given accepted is)
+      refl is_reply)) in
+      record {
+        request = request;
+        handles = handles;
+        client_is = same.1;
+        number_is = same.2;
+        round_is = same.3;
+        accepted = accepted;
+        decided = is ∙ ap (λ (it : Verdict). Answers it accepted) same.4;
+        from = sym same.0 ∙ accept_all-me mid accepted ∙ (is_learned state taken).me;
+      }
 
   reply_decided : (state : ReplicaState) (taken : Frame) → AnswersFit state taken → (place : ℕ) (sent : Letter)
       → slice_get (replica_on_frame state taken).1 place ≡ Some sent
       → Carries sent (frame.Reply replica client number round verdict culled shown seal)
       → IsDecidedOn state taken replica client number round verdict
-  reply_decided state (frame.Request other asked turn sets body mac) fits place sent found is_reply =
-      carried_reply state other asked turn sets body mac (decision_on state (asked_at state other asked sets body) body)
-      fits refl place sent found is_reply
-  reply_decided state other fits place sent found is_reply =
-      let version : CarriesVersion sent =
-      each_found CarriesVersion (other_letters state (Some other)) place sent
-      (other_letters_each CarriesVersion (λ letter carries. carries) state (Some other)) found in
-      absurd (no_reply_in sent version replica client number round verdict shown
-      (record { culled = culled; mac = seal; carries = is_reply }))
+  reply_decided state taken fits place sent found is_reply =
+      each_found (RepliesSo state taken) (replica_on_frame state taken).1 place sent
+      (on_frame_each (RepliesSo state taken) (others state taken) state taken (answer_decided state taken fits)) found
+      is_reply
 
 -- the same of a text
 record IsDecidedUpon (state : ReplicaState) (text : List ℕ) (replica : ReplicaId) (client : ClientId)
     (number round : ℕ) (verdict : Verdict) : Type 0 where
-  sets : List SetOf
-  body : Body
-  mac : List ℕ
-  brings : Brings state text (frame.Request client number round sets body mac)
-  accepted : List Accepted
-  decided : decision_on state (asked_at state client number sets body) body ≡ Answers verdict accepted
-  from : replica ≡ ((replica_step state text).0).me
+  taken : Frame
+  brings : Brings state text taken
+  on : IsDecidedOn state taken replica client number round verdict
 
 decided_upon : (state : ReplicaState) (text : List ℕ) (replica : ReplicaId) (client : ClientId)
     (number round : ℕ) (verdict : Verdict) (shown : List Sealed) (read : Option Frame)
@@ -307,18 +289,12 @@ decided_upon : (state : ReplicaState) (text : List ℕ) (replica : ReplicaId) (c
 decided_upon state text replica client number round verdict shown None read fits place sent found tells =
     absurd (none-some sent (ap (λ it. slice_get (replica_on_received state it).1 place) (sym read) ∙ found))
 decided_upon state text replica client number round verdict shown (Some taken) read fits place sent found tells =
-    let made : IsDecidedOn state taken replica client number round verdict =
-    reply_decided replica client number round verdict tells.culled shown tells.mac state taken
-    (fits taken (brings_decoded state text taken read)) place sent
-    (ap (λ it. slice_get (replica_on_received state it).1 place) (sym read) ∙ found) tells.carries in
     record {
-      sets = made.sets;
-      body = made.body;
-      mac = made.mac;
-      brings = read ∙ ap (λ (it : Frame). Some it) made.is_request;
-      accepted = made.accepted;
-      decided = made.decided;
-      from = made.from ∙ ap (λ it. ((replica_on_received state it).0).me) (sym read);
+      taken = taken;
+      brings = read;
+      on = reply_decided replica client number round verdict tells.culled shown tells.mac state taken
+          (fits taken (brings_decoded state text taken read)) place sent
+          (ap (λ it. slice_get (replica_on_received state it).1 place) (sym read) ∙ found) tells.carries;
     }
 
 -- ---- the replies of a run
@@ -358,27 +334,38 @@ reply_sent trace is_run have at below entry is_entry letter holding replica clie
     (λ taken decodes. (fit_step trace is_run have at below).answers answer.me answer.state answer.is_state taken
     (handed_fits trace is_run have at entry below (party.Replica answer.me) answer.text handed_here taken decodes))
     place letter answer.sent_by is in
-    let in_place : IsInPlace (answer.me).0 (replica_step answer.state answer.text).0 =
-    step-in_place (answer.me).0 answer.state answer.text
-    ((true_world trace is_run have at (omega arith)).replicas (answer.me).0 answer.state answer.is_state) in
-    let here : (answer.me).0 ≡ replica.0 =
-    named_here answer.me replica (replica_step answer.state answer.text).0 made.from in_place in
-    let steps : (replica_step answer.state answer.text).0 ≡ (replica_on_frame answer.state
-    (frame.Request client number round made.sets made.body made.mac)).0 =
-    ap (λ it. (replica_on_received answer.state it).0) made.brings in
+    let in_place : IsInPlace (answer.me).0 answer.state =
+    (true_world trace is_run have at (omega arith)).replicas (answer.me).0 answer.state answer.is_state in
+    let here : (answer.me).0 ≡ replica.0 = named_here answer.me replica answer.state made.on.from in_place in
+    let request : TakenRequest = made.on.request in
+    let mid : ReplicaState = learned answer.state made.taken in
     subst (λ (it : ℕ). IsReplyTo trace at it client number round verdict) here
     (record {
       old = answer.state;
       new = (replica_step answer.state answer.text).0;
-      handles = handled_at_once trace at (answer.me).0 answer.state (replica_step answer.state answer.text).0
-          answer.is_state answer.is_new entry is_entry answer.text answer.is_handed
-          (frame.Request client number round made.sets made.body made.mac) made.brings steps;
-      sets = made.sets;
-      body = made.body;
-      mac = made.mac;
-      is_request = refl;
-      accepted = made.accepted;
-      decided = made.decided;
+      handles = handles_at trace is_run have at below (answer.me).0 answer.state
+          (replica_step answer.state answer.text).0 answer.is_state answer.is_new (record {
+            takes = record {
+              entry = entry;
+              is_entry = is_entry;
+              text = answer.text;
+              is_handed = answer.is_handed;
+              steps = refl;
+            };
+            taken = made.taken;
+            brings = made.brings;
+          }) request made.on.handles;
+      sets = request.sets;
+      body = request.body;
+      mac = request.mac;
+      is_request = λ i. frame.Request (made.on.client_is i) (made.on.number_is i) (made.on.round_is i) request.sets
+          request.body request.mac;
+      accepted = made.on.accepted;
+      decided =
+          ap (λ (it : ClientId). decision_on mid (asked_at mid it number request.sets request.body) request.body)
+          (sym made.on.client_is)
+          ∙ ap (λ (it : ℕ). decision_on mid (asked_at mid request.client it request.sets request.body) request.body)
+          (sym made.on.number_is) ∙ made.on.decided;
     })
 
 -- ---- its request

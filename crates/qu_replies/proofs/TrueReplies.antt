@@ -88,7 +88,7 @@ ActTells state asked act object (Answers (verdict.Already answer) accepted) =
     HasKept state asked.client asked.number act asked.sets answer object
 ActTells state asked act object (Answers (verdict.Mended other stamp) accepted) = ⊥
 ActTells state asked act object (Answers (verdict.Refused why) accepted) = Unit {0}
-ActTells state asked act object Waits = Unit {0}
+ActTells state asked act object (Waits missing) = Unit {0}
 
 abbrev fresh_of : Asked → ObjectId → Candidate → Candidate
 fresh_of asked object base = record { stamp = fresh_stamp asked object; prior = base.stamp }
@@ -317,7 +317,7 @@ act_tells : (state : ReplicaState) (asked : Asked) (object : ObjectId) (method :
     (decision_on state asked (body.Act ((object, method) ∷ [])))
 act_tells state asked object method is_act =
     let act : Digest = act_digest asked.client asked.number ((object, method) ∷ []) in
-    act_cases (ActTells state asked act object) (λ why. tt) tt state asked ((object, method) ∷ [])
+    act_cases (ActTells state asked act object) (λ why. tt) (λ missing. tt) state asked ((object, method) ∷ [])
     (object ∷ [])
     (retry_tells state asked object method act is_act (method_base state asked object) refl)
     (already_tells state asked object method act is_act)
@@ -330,10 +330,10 @@ IsRefusing (Answers (verdict.Told stamps answer) accepted) = ⊥
 IsRefusing (Answers (verdict.Already answer) accepted) = ⊥
 IsRefusing (Answers (verdict.Mended object stamp) accepted) = ⊥
 IsRefusing (Answers (verdict.Refused why) accepted) = Unit {0}
-IsRefusing Waits = Unit {0}
+IsRefusing (Waits missing) = Unit {0}
 
 passed_first : (one : Option Decision) (later : List (Option Decision)) (decision : Decision)
-    → (IsRefusing decision → ⊥) → Gives IsRefusing one → first_given Waits (one ∷ later) ≡ decision → one ≡ None
+    → (IsRefusing decision → ⊥) → Gives IsRefusing one → first_given (Waits []) (one ∷ later) ≡ decision → one ≡ None
 unfolding first_given
 passed_first None later decision none refuses given = refl
 passed_first (Some other) later decision none refuses given =
@@ -354,7 +354,7 @@ pub update_is_known : (state : ReplicaState) (asked : Asked) (parts : List (Obje
 unfolding decide_act
 update_is_known state asked parts objects given accepted of_update decided =
     passed_first (row_unknown state asked) _ (Answers given accepted)
-    (update_refuses_none given accepted of_update) (unknown IsRefusing (λ why. tt) tt state asked) decided
+    (update_refuses_none given accepted of_update) (unknown IsRefusing (λ why. tt) (λ missing. tt) state asked) decided
 
 module _ (state : ReplicaState) (client : ClientId) (number : ℕ) (sets : List SetOf) (object : ObjectId)
     (method : Method) (accepted : List Accepted) (answer : Answer) where

@@ -1,5 +1,5 @@
 -- What letters ask: those of a replica nothing, those of a client's round one request.
-use Rattle.std.proofs.Common.{◌≡◌, ℕ, zero, suc, ◌+◌, List, [], map, Option, None, Some, refl}
+use Rattle.std.proofs.Common.{◌≡◌, ℕ, zero, suc, ◌+◌, List, map, Option, None, Some, refl}
 use Rattle.std.specs.List.{All}
 use Rattle.std.proofs.lemmas.List.Elements.{All-nil, All-cons}
 use Rattle.qu_base.specs.declared.party.ClientId.{ClientId}
@@ -12,22 +12,20 @@ use Rattle.qu_frames.specs.declared.frame.Body.{Body}
 use Rattle.qu_frames.specs.declared.frame.Frame.{Frame}
 use Rattle.qu_frames.specs.declared.frame.Frame.TheVariants as frame
 use Rattle.qu_frames.specs.declared.frame.Letter.{Letter}
+use Rattle.qu_frames.specs.declared.verdict.Verdict.{Verdict}
 use Rattle.qu_frames.specs.Body.{body_of}
 use Rattle.qu_frames.specs.Formats.{frame_form}
 use Rattle.qu_frames.specs.Signing.{brought, signed, signature, with_mac}
-use Rattle.qu_rows.specs.declared.decision.Decision.{Decision}
-use Rattle.qu_rows.specs.declared.decision.Decision.TheVariants.{Answers, Waits}
 use Rattle.qu_rows.specs.State.{ReplicaState}
 use Rattle.qu_replica.specs.State.{accept_all}
-use Rattle.qu_rows.specs.Rows.{asked_at, decision_on}
-use Rattle.qu_replica.specs.Step.{shown, named, reply, carried_out, replica_step, answer_frame}
+use Rattle.qu_replica.specs.Step.{shown, named, reply, learned, replica_step, answer_frame}
 use Rattle.qu_replica.specs.Step as replica
-use Rattle.qu_replica.proofs.Fits.FitSteps.{blank_sized}
+use Rattle.qu_fitting.proofs.FitRequests.{blank_sized}
 use Rattle.qu_client.specs.declared.work.Work.{Work}
 use Rattle.qu_client.specs.Rounds.{request_of, requests_from}
 use Rattle.qu_claims.specs.Carried.{Carries, Asks}
 use Rattle.qu_runs.proofs.Fits.Carrying.{no_request, signed_spelled, signed_carries}
-use Rattle.qu_runs.proofs.Fits.VersionLetters.{other_letters_all, no_request_in}
+use Rattle.qu_runs.proofs.Fits.StepLetters.{on_frame_all, no_request_in}
 
 -- ---- replicas
 
@@ -37,25 +35,21 @@ AsksNothing letter =
     (client : ClientId) (number round : ℕ) (sets : List SetOf) (asked : Body)
     → Asks letter client number round sets asked → ⊥
 
-answered : (state : ReplicaState) (client : ClientId) (number round : ℕ) (sets : List SetOf) (decision : Decision)
-    → All AsksNothing (carried_out state client number round sets decision).1
-answered state client number round sets Waits = All-nil AsksNothing
-answered state client number round sets (Answers verdict accepted) =
-    let new : ReplicaState = accept_all state accepted in
-    let answer : Frame = answer_frame new client number round sets verdict in
+reply_asks : (state : ReplicaState) (client : ClientId) (number round : ℕ) (sets : List SetOf) (verdict : Verdict)
+    → AsksNothing (reply state client number round sets verdict)
+reply_asks state client number round sets verdict =
+    let answer : Frame = answer_frame state client number round sets verdict in
     let to : Party = party.Client client in
-    All-cons AsksNothing (reply new client number round sets verdict) []
-    (no_request (reply new client number round sets verdict) new.me client number round verdict (named new sets)
-    (map (sealed_by new.keys) (shown new sets)) (signature new.keys to answer)
-    (signed_spelled new.keys to answer blank_sized))
-    (All-nil AsksNothing)
+    no_request (reply state client number round sets verdict) state.me client number round verdict (named state sets)
+    (map (sealed_by state.keys) (shown state sets)) (signature state.keys to answer)
+    (signed_spelled state.keys to answer blank_sized)
 
 frame_asks : (state : ReplicaState) (sent : Frame) → All AsksNothing (replica.replica_on_frame state sent).1
-frame_asks state (frame.Request client number round sets asked mac) =
-    answered state client number round sets (decision_on state (asked_at state client number sets asked) asked)
-frame_asks state other =
-    other_letters_all AsksNothing (λ letter version client number round sets asked asks.
-    no_request_in letter version client number round sets asked asks) state (Some other)
+frame_asks state sent =
+    on_frame_all AsksNothing no_request_in state sent
+    (λ request handles verdict accepted decides.
+    reply_asks (accept_all (learned state sent) accepted) request.client request.number request.round request.sets
+    verdict)
 
 brought_asks : (state : ReplicaState) (found : Option Frame)
     → All AsksNothing (replica.replica_on_received state found).1

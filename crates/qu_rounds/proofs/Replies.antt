@@ -16,15 +16,12 @@ use Rattle.qu_frames.specs.declared.frame.Frame.TheVariants as frame
 use Rattle.qu_frames.specs.declared.frame.Letter.{Letter}
 use Rattle.qu_frames.specs.declared.verdict.Verdict.{Verdict}
 use Rattle.qu_frames.specs.Body.{body_of}
-use Rattle.qu_rows.specs.declared.decision.Accepted.{Accepted}
-use Rattle.qu_rows.specs.declared.decision.Decision.{Decision}
-use Rattle.qu_rows.specs.declared.decision.Decision.TheVariants.{Answers, Waits}
 use Rattle.qu_rows.specs.State.{ReplicaState}
 use Rattle.qu_replica.specs.State.{accept_all}
 use Rattle.qu_replica.specs.Growth.{Grows}
-use Rattle.qu_rows.specs.Rows.{asked_at, decision_on}
-use Rattle.qu_replica.specs.Step.{answer_frame, reply, carried_out, replica_on_frame, replica_on_received}
+use Rattle.qu_replica.specs.Step.{answer_frame, reply, learned, replica_on_frame, replica_on_received}
 use Rattle.qu_replica.proofs.States.Growth.{accept_all-me}
+use Rattle.qu_replica.proofs.States.Learning.{is_learned}
 use Rattle.qu_client.specs.declared.state.ClientState.{ClientState}
 use Rattle.qu_client.specs.declared.work.Work.{Work}
 use Rattle.qu_client.specs.Rounds.{request_of, requests_from}
@@ -45,11 +42,11 @@ use Rattle.qu_frames.specs.Formats.{frame_form}
 use Rattle.qu_runs.specs.Plain.{ArePlain}
 use Rattle.qu_history.specs.declared.sealed.Sealed.{Sealed}
 use Rattle.qu_runs.proofs.Fits.Carrying.{AnswersFit, no_reply, signed_spelled, signed_carries, brings_decoded}
-use Rattle.qu_runs.proofs.Fits.VersionLetters.{other_letters_all, no_reply_in}
+use Rattle.qu_runs.proofs.Fits.StepLetters.{on_frame_all, no_reply_in}
 use Rattle.qu_runs.proofs.Fits.Fitting.{fit_step, from_fits}
 use Rattle.qu_frames.specs.Signing.{brought, signed, signature, with_mac}
 use Rattle.qu_seal.specs.Keys.{Ring}
-use Rattle.qu_replica.proofs.Fits.FitSteps.{blank_sized}
+use Rattle.qu_fitting.proofs.FitRequests.{blank_sized}
 use Rattle.qu_base.specs.declared.party.Party.{Party}
 
 -- ---- the names of replicas
@@ -93,34 +90,31 @@ RepliesWithin bound letter =
     → (replica.0 < bound) × (letter.from ≡ party.Replica replica)
 
 by_replica : (bound : ℕ) (state : ReplicaState) (client : ClientId) (number round : ℕ) (sets : List SetOf)
-    (decision : Decision)
-    → ((verdict : Verdict) (accepted : List Accepted) → decision ≡ Answers verdict accepted
-    → frame_form.Fits (answer_frame (accept_all state accepted) client number round sets verdict))
-    → (state.me).0 < bound → All (RepliesWithin bound) (carried_out state client number round sets decision).1
-by_replica bound state client number round sets (Answers verdict accepted) fits below =
-    let new : ReplicaState = accept_all state accepted in
-    All-cons (RepliesWithin bound) (reply new client number round sets verdict) []
-    (λ replica to asked turn told shown tells.
-    let sent : Frame = answer_frame new client number round sets verdict in
+    (verdict : Verdict) → frame_form.Fits (answer_frame state client number round sets verdict)
+    → (state.me).0 < bound → RepliesWithin bound (reply state client number round sets verdict)
+by_replica bound state client number round sets verdict fits below = λ replica to asked turn told shown tells.
+    let sent : Frame = answer_frame state client number round sets verdict in
     let is : frame.Reply replica to asked turn told tells.culled shown tells.mac ≡ with_mac sent
-    (signature new.keys (party.Client client) sent) =
-    signed_carries (reply new client number round sets verdict) new.keys (party.Client client) sent _
-    (fits verdict accepted refl) refl tells.carries in
-    let named : replica ≡ new.me = cc in (
-      subst (λ (it : ReplicaId). it.0 < bound) (sym (named ∙ accept_all-me state accepted)) below,
+    (signature state.keys (party.Client client) sent) =
+    signed_carries (reply state client number round sets verdict) state.keys (party.Client client) sent _ fits refl
+    tells.carries in
+    let named : replica ≡ state.me = cc in (
+      subst (λ (it : ReplicaId). it.0 < bound) (sym named) below,
       ap (λ (it : ReplicaId). party.Replica it) (sym named),
-    ))
-    (All-nil (RepliesWithin bound))
-by_replica bound state client number round sets Waits fits below = All-nil (RepliesWithin bound)
+    )
 
 frame_replies : (bound : ℕ) (state : ReplicaState) (received : Frame) → AnswersFit state received
     → (state.me).0 < bound → All (RepliesWithin bound) (replica_on_frame state received).1
-frame_replies bound state (frame.Request client number round sets body mac) fits below =
-    by_replica bound state client number round sets (decision_on state (asked_at state client number sets body) body)
-    fits below
-frame_replies bound state other fits below =
-    other_letters_all (RepliesWithin bound) (λ letter version replica client number round verdict shown tells.
-    absurd (no_reply_in letter version replica client number round verdict shown tells)) state (Some other)
+frame_replies bound state received fits below =
+    let mid : ReplicaState = learned state received in
+    on_frame_all (RepliesWithin bound)
+    (λ letter other replica client number round verdict shown tells.
+    absurd (no_reply_in letter other replica client number round verdict shown tells)) state received
+    (λ request handles verdict accepted decides.
+    by_replica bound (accept_all mid accepted) request.client request.number request.round request.sets verdict
+    (fits request handles verdict accepted decides)
+    (subst (λ (it : ReplicaId). it.0 < bound)
+    (sym (accept_all-me mid accepted ∙ (is_learned state received).me)) below))
 
 brought_replies : (bound : ℕ) (state : ReplicaState) (found : Option Frame)
     → ((sent : Frame) → found ≡ Some sent → AnswersFit state sent) → (state.me).0 < bound

@@ -47,7 +47,8 @@ abbrev MayGive : ReplicaState → Option Decision → Type 0
 MayGive state row = (decision : Decision) → row ≡ Some decision → MayDecide state decision
 
 past : (state : ReplicaState) (row : Option Decision) (later : List (Option Decision)) → MayGive state row
-    → (row ≡ None → MayDecide state (first_given Waits later)) → MayDecide state (first_given Waits (row ∷ later))
+    → (row ≡ None → MayDecide state (first_given (Waits []) later))
+    → MayDecide state (first_given (Waits []) (row ∷ later))
 unfolding first_given
 past state None later may next = next refl
 past state (Some decision) later may next = may decision refl
@@ -142,9 +143,11 @@ repeating state (standing.Spent object number) decision given =
 repeating state (standing.Already answer) decision given =
     subst (MayDecide state) (same_Some (Answers (verdict.Already answer) []) decision given) tt
 
-waiting : (state : ReplicaState) (test : Bool) → MayGive state (cond test (Some Waits) None)
-waiting state false decision given = absurd (none-some decision given)
-waiting state true decision given = subst (MayDecide state) (same_Some Waits decision given) tt
+waiting : (state : ReplicaState) (missing : List (ObjectId × Stamp)) (test : Bool)
+    → MayGive state (cond test (Some (Waits missing)) None)
+waiting state missing false decision given = absurd (none-some decision given)
+waiting state missing true decision given =
+    subst (MayDecide state) (same_Some (Waits missing) decision given) tt
 
 retry : (state : ReplicaState) (asked : Asked) (parts : List (ObjectId × Method)) (objects : List ObjectId)
     → MayGive state (row_retry state asked parts objects)
@@ -159,7 +162,7 @@ kept state asked parts objects = repeating state _
 version : (state : ReplicaState) (asked : Asked) (objects : List ObjectId)
     → MayGive state (row_version state asked objects)
 unfolding row_version
-version state asked objects = waiting state _
+version state asked objects = waiting state _ _
 
 told-may : (state : ReplicaState) (asked : Asked) (parts : List (ObjectId × Ask)) (objects : List ObjectId)
     → MayGive state (row_told state asked parts objects)
@@ -235,7 +238,7 @@ done state asked part object unknown current time full decision given =
     (no_first (λ it. NotCurrent it (own_latest state it)) _ object current) (no_first TimeSpent _ object time)
     (no_first HistoryFull _ object full)))
 
-nothing : (state : ReplicaState) → MayDecide state (first_given Waits [])
+nothing : (state : ReplicaState) → MayDecide state (first_given (Waits []) [])
 unfolding first_given
 nothing state = tt
 
@@ -314,7 +317,7 @@ made_in_time mend (Fresh barrier prior) candidate made =
 -- what is made of a request to mend a known object, and has its cause
 caused_may : (state : ReplicaState) (target : ObjectId) (mend : Mend) (version : Option ObjState) (made : Mending)
     → target.0 < length state.histories → HasCause mend (own_candidates state target) version made
-    → MayDecide state (decision_by target made)
+    → MayDecide state (decision_by target mend.remedy made)
 caused_may state target mend version (Mends candidate stored) known cause = record {
   known = known;
   later = (cause.1).above;
@@ -327,10 +330,10 @@ caused_may state target mend version mending.Waits known cause = tt
 
 mended : (state : ReplicaState) (asked : Asked) (target : ObjectId) → row_unknown state asked ≡ None
     → row_few state asked target ≡ None
-    → MayGive state (Some (decision_by target (mending_on state asked target)))
+    → MayGive state (Some (decision_by target (mend_asked state asked target).remedy (mending_on state asked target)))
 mended state asked target known enough decision given =
     let mend : Mend = mend_asked state asked target in
-    subst (MayDecide state) (same_Some (decision_by target (mending_on state asked target)) decision given)
+    subst (MayDecide state) (same_Some (decision_by target mend.remedy (mending_on state asked target)) decision given)
     (caused_may state target mend (wanted_version state target mend.remedy) (mending_on state asked target)
     (known_target state asked target known (enough_shown state asked target enough))
     (decided_has_cause mend (own_candidates state target) (wanted_version state target mend.remedy)))

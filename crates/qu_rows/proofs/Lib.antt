@@ -5,3 +5,4 @@ pub mod Allowed
 pub mod Held
 pub mod Carried
 pub mod Decoded
+pub mod CulledRequests

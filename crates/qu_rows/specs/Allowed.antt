@@ -28,7 +28,7 @@ MayAcceptAll state (first ∷ second ∷ later) = ⊥
 
 abbrev pub MayDecide : ReplicaState → Decision → Type 0
 MayDecide state (Answers verdict accepted) = MayAcceptAll state accepted
-MayDecide state Waits = Unit {0}
+MayDecide state (Waits missing) = Unit {0}
 
 -- the parts of a request are those of an act or a query
 abbrev pub has_parts : Body → Bool

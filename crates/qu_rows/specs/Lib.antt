@@ -3,6 +3,7 @@ pub mod Seen
 pub mod Remedy
 pub mod Mending
 pub mod Causes
+pub mod Waiting
 pub mod State
 pub mod Rows
 pub mod Allowed

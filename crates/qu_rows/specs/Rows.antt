@@ -1,5 +1,5 @@
 -- What a replica makes of a request, row by row (Query/Update: the replica's handling of a request).
-use Rattle.std.specs.Prelude.{ℕ, Bool, false, ◌+◌, nat_lt, nat_le, if◌then◌else◌, List, [], ◌∷◌, length, map, find, Option, None, Some, is_none, option_map, option_and_then, unwrap_or}
+use Rattle.std.specs.Prelude.{ℕ, Bool, false, not, ◌+◌, nat_lt, nat_le, if◌then◌else◌, List, [], ◌∷◌, length, map, filter, find, Option, None, Some, is_none, option_map, option_and_then, unwrap_or}
 use Rattle.std.specs.List.{list_all, list_any, filter_map}
 use Rattle.qu_base.specs.declared.party.ClientId.{ClientId}
 use Rattle.qu_base.specs.declared.party.Digest.{Digest}
@@ -46,7 +46,7 @@ use Rattle.qu_rows.specs.declared.decision.Decision.TheVariants.{Answers, Waits}
 use Rattle.qu_rows.specs.Seen.{seen_in}
 use Rattle.qu_rows.specs.Table.{first_given, has_no_room}
 use Rattle.qu_rows.specs.State.{ReplicaState, own_candidates, own_latest}
-use Rattle.qu_versions.specs.Versions.{version_at}
+use Rattle.qu_versions.specs.Versions.{version_at, has_version}
 
 -- the class that a refusal carries; none of METHOD does
 abbrev pub class_code : Class → Option ClassCode
@@ -131,6 +131,10 @@ abbrev pub base_stamps : ReplicaState → Asked → List ObjectId → List (Obje
 base_stamps state asked objects =
     stamps_by (λ object. option_map (λ base. base.stamp) (method_base state asked object)) objects
 
+-- those of the versions under these stamps that the replica lacks
+abbrev pub missing_of : ReplicaState → List (ObjectId × Stamp) → List (ObjectId × Stamp)
+missing_of state keys = filter (λ key. not (has_version key.0 key.1 state.versions)) keys
+
 abbrev pub base_versions : ReplicaState → Asked → List ObjectId → List ObjState
 base_versions state asked objects = filter_map (λ object. base_version state asked object) objects
 
@@ -204,7 +208,8 @@ row_method state asked objects =
 -- a version upon which the operation rests is missing
 unfoldable pub row_version : ReplicaState → Asked → List ObjectId → Option Decision
 row_version state asked objects =
-    if list_any (λ object. is_none (base_version state asked object)) objects then Some Waits else None
+    if list_any (λ object. is_none (base_version state asked object)) objects
+    then Some (Waits (missing_of state (base_stamps state asked objects))) else None
 
 abbrev pub repeated : Standing → Option Decision
 repeated Fresh = None
@@ -257,7 +262,7 @@ abbrev pub objects_of : {X : Type 0} → List (ObjectId × X) → List ObjectId
 objects_of parts = map (λ part. part.0) parts
 
 unfoldable pub decide_act : ReplicaState → Asked → List (ObjectId × Method) → List ObjectId → Decision
-decide_act state asked parts objects = first_given Waits (
+decide_act state asked parts objects = first_given (Waits []) (
     row_unknown state asked
     ∷ row_thin state asked
     ∷ row_retry state asked parts objects
@@ -271,7 +276,7 @@ decide_act state asked parts objects = first_given Waits (
     ∷ [])
 
 unfoldable pub decide_ask : ReplicaState → Asked → List (ObjectId × Ask) → List ObjectId → Decision
-decide_ask state asked parts objects = first_given Waits (
+decide_ask state asked parts objects = first_given (Waits []) (
     row_unknown state asked
     ∷ row_thin state asked
     ∷ row_current state asked objects
@@ -303,21 +308,26 @@ mending_on state asked target =
     decide_mend (mend_asked state asked target) (own_candidates state target)
     (wanted_version state target (mend_asked state asked target).remedy)
 
+-- the version of the object under this stamp, where there is one, as a key
+abbrev pub keys_at : ObjectId → Option Stamp → List (ObjectId × Stamp)
+keys_at object None = []
+keys_at object (Some stamp) = (object, stamp) ∷ []
+
 -- what is added is accepted, with the version that is stored with it
-abbrev pub decision_by : ObjectId → Mending → Decision
-decision_by target (mending.Mends candidate version) =
+abbrev pub decision_by : ObjectId → Remedy → Mending → Decision
+decision_by target remedy (mending.Mends candidate version) =
     Answers (verdict.Mended target candidate.stamp)
     (record { object = target; candidate = candidate; state = version } ∷ [])
-decision_by target (mending.Holds stamp) = Answers (verdict.Mended target stamp) []
-decision_by target (mending.Refuses why) = refuse why
-decision_by target mending.Waits = Waits
+decision_by target remedy (mending.Holds stamp) = Answers (verdict.Mended target stamp) []
+decision_by target remedy (mending.Refuses why) = refuse why
+decision_by target remedy mending.Waits = Waits (keys_at target (wanted_by remedy))
 
 unfoldable pub decide_repair : ReplicaState → Asked → ObjectId → Decision
-decide_repair state asked target = first_given Waits (
+decide_repair state asked target = first_given (Waits []) (
     row_unknown state asked
     ∷ row_thin state asked
     ∷ row_few state asked target
-    ∷ Some (decision_by target (mending_on state asked target))
+    ∷ Some (decision_by target (mend_asked state asked target).remedy (mending_on state asked target))
     ∷ [])
 
 abbrev pub decision_on : ReplicaState → Asked → Body → Decision

@@ -1,4 +1,4 @@
--- What a replica holds: for each of its objects a history, and versions.
+-- What a replica holds: for each of its objects a history, versions, and what it does to get those that it lacks.
 use Rattle.std.specs.Prelude.{ℕ, Bool, true, ◌+◌, ◌==◌, ◌&&◌, nat_le, List, [], ◌∷◌, slice_get, Option, None, Some, IsTrue}
 use Rattle.qu_base.specs.declared.party.ObjectId.{ObjectId}
 use Rattle.qu_base.specs.declared.party.ReplicaId.{ReplicaId}
@@ -7,14 +7,24 @@ use Rattle.qu_stamp.specs.declared.stamp.Stamp.{Stamp}
 use Rattle.qu_stamp.specs.declared.limits.TheConstants.{LAST_TIME}
 use Rattle.qu_stamp.specs.declared.candidate.Candidate.{Candidate}
 use Rattle.qu_history.specs.History.{ObjectHistory, is_history, latest}
+use Rattle.qu_objects.specs.declared.kind.KindName.{KindName}
 use Rattle.qu_versions.specs.declared.stored.Stored.{Stored}
+use Rattle.qu_rows.specs.Waiting.{Waiting, Running}
 
 pub record ReplicaState : Type 0 where
   pub me : ReplicaId
   pub keys : Ring
-  -- the histories of objects 0, 1, 2, ..
+  -- the kinds and the histories of objects 0, 1, 2, ..
+  pub kinds : List KindName
   pub histories : List ObjectHistory
   pub versions : List Stored
+  -- the waiting request of each client, in slots by their numbers
+  pub waiting : List (Option Waiting)
+  pub fetching : List Running
+
+-- the same without what the replica does to get versions: all that its rows look at
+abbrev pub without_waiting : ReplicaState → ReplicaState
+without_waiting state = record state { kinds = []; waiting = []; fetching = [] }
 
 -- the candidates of an object, none where the replica does not have it
 abbrev pub candidates_in : Option ObjectHistory → List Candidate

@@ -4,7 +4,7 @@ ghost use Rattle.qu_rows.specs.Rows.{refuse};
 use qu_base::{List, NoMemory, ObjectId};
 use qu_frames::{Refusal, Verdict};
 use qu_objects::ObjState;
-use qu_stamp::Candidate;
+use qu_stamp::{Candidate, Stamp};
 use std::alloc::Global;
 
 /// A candidate that a replica accepts on an object.
@@ -51,8 +51,10 @@ pub enum Decision {
         verdict: Verdict,
         accepted: List<Accepted>,
     },
-    /// A version upon which the operation rests is missing: nothing changes, and no letter is sent.
-    Waits,
+    /// These versions are missing, upon which the operation rests: it waits for them, and is not answered.
+    Waits {
+        missing: List<(ObjectId, Stamp)>,
+    },
 }
 
 impl Decision {
@@ -65,7 +67,9 @@ impl Decision {
                 verdict: verdict.copy(alloc)?,
                 accepted: copies(alloc, accepted.as_slice())?,
             },
-            Decision::Waits => Decision::Waits,
+            Decision::Waits { missing } => Decision::Waits {
+                missing: List::from_clones(alloc, missing.as_slice())?,
+            },
         })
     }
 }

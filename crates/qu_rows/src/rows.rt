@@ -7,7 +7,7 @@ ghost use Rattle.qu_rows.specs.State.{AreHistories, are_own, own_latest, one_mor
 ghost use Rattle.qu_versions.specs.Versions.{version_at};
 ghost use Rattle.qu_rows.specs.Allowed.{MayDecide};
 ghost use Rattle.qu_rows.specs.Table.{has_no_room};
-ghost use Rattle.qu_rows.specs.Rows.{shown_of, seen_of, row_few, mending_on, decision_by, decide_repair, base_version, row_unknown, row_current, row_method, row_version, decide_act, decide_ask, decision_on, objects_of};
+ghost use Rattle.qu_rows.specs.Rows.{shown_of, seen_of, row_few, mend_asked, mending_on, keys_at, decision_by, decide_repair, base_version, row_unknown, row_current, row_method, row_version, decide_act, decide_ask, decision_on, objects_of};
 
 mod acting;
 
@@ -15,6 +15,7 @@ use crate::asked::Asked;
 use crate::decision::{Accepted, Decision, refuse};
 use crate::mend::Mend;
 use crate::mending::Mending;
+use crate::remedy::Remedy;
 use crate::seen::Seen;
 use crate::versions::version_of;
 use qu_base::{List, NoMemory, ObjectId, ReplicaId};
@@ -40,7 +41,7 @@ pub struct Rows<'a> {
 }
 
 impl<'a> Model for Rows<'a> {
-    ghost use Rattle.std.specs.Prelude.{IsTrue, ◌++◌};
+    ghost use Rattle.std.specs.Prelude.{IsTrue, [], ◌++◌};
     ghost use Rattle.std.specs.Option.{option_copied};
     ghost use Rattle.qu_rows.specs.State.{ReplicaState, are_own, one_more};
 
@@ -49,8 +50,11 @@ impl<'a> Model for Rows<'a> {
     ghost view = { λ rows. record {
       me = rows.me;
       keys = rows.keys.now;
+      kinds = [];
       histories = rows.histories.now;
       versions = rows.versions.now ++ one_more (option_copied rows.more);
+      waiting = [];
+      fetching = [];
     } };
 
     ghost invariant = { λ rows. IsTrue (are_own rows.me 0 rows.histories.now) };
@@ -72,8 +76,11 @@ impl<'a> Rows<'a> {
         ensures { result ≡ record {
           me = me;
           keys = keys.now;
+          kinds = [];
           histories = histories.now;
           versions = versions.now ++ one_more (option_copied more.entry);
+          waiting = [];
+          fetching = [];
         } }
     {
         Rows {
@@ -131,7 +138,7 @@ impl<'a> Rows<'a> {
         if let Some(kept) = self.row_retry(asked, act, &seen)? {
             return Ok(kept);
         }
-        if let Some(decision) = self.rows_of_base(asked, &seen) {
+        if let Some(decision) = self.rows_of_base(asked, &seen)? {
             return Ok(decision);
         }
         if let Some(kept) = self.row_kept(asked, act, &seen)? {
@@ -175,7 +182,7 @@ impl<'a> Rows<'a> {
             return Ok(refusal);
         }
         let seen = self.seen(asked, object);
-        if let Some(decision) = self.rows_of_base(asked, &seen) {
+        if let Some(decision) = self.rows_of_base(asked, &seen)? {
             return Ok(decision);
         }
         self.row_told(asked, query, &seen)
@@ -193,8 +200,8 @@ impl<'a> Rows<'a> {
         if let Some(refusal) = self.row_few(asked, target) {
             return Ok(refusal);
         }
-        let mending = self.mending(asked, target)?;
-        decision_by(self.alloc, target, mending)
+        let (remedy, mending) = self.mending(asked, target)?;
+        decision_by(self.alloc, target, remedy, mending)
     }
 
     /// Refuses to mend an object of which the sets show fewer entries than a quorum.
@@ -211,10 +218,12 @@ impl<'a> Rows<'a> {
     }
 
     /// What it makes of a request to mend an object that has a quorum of entries.
-    fn mending(&self, asked: &Asked, target: ObjectId) -> Result<Mending, NoMemory>
+    /// The remedy stands beside it.
+    fn mending(&self, asked: &Asked, target: ObjectId) -> Result<(Remedy, Mending), NoMemory>
         requires known { row_unknown self.now asked.now ≡ None }
         requires enough { quorum self.now.keys.bounds ≤ length (shown_of asked.now target) }
-        ensures { IfOk result (λ mending. mending ≡ mending_on self.now asked.now target) }
+        ensures remedy { IfOk result (λ made. made.0 ≡ (mend_asked self.now asked.now target).remedy) }
+        ensures mending { IfOk result (λ made. made.1 ≡ mending_on self.now asked.now target) }
     {
         let Some(own) = self.history(target) else {
             unreachable!()
@@ -230,21 +239,24 @@ impl<'a> Rows<'a> {
             Some(stamp) => self.version(target, &stamp),
             None => None,
         };
-        mend.decide(self.alloc, own, version)
+        Ok((mend.remedy, mend.decide(self.alloc, own, version)?))
     }
 
     /// The rows that look for a version upon which an operation on the object may rest.
-    fn rows_of_base(&self, asked: &Asked, seen: &Seen) -> Option<Decision>
+    fn rows_of_base(&self, asked: &Asked, seen: &Seen) -> Result<Option<Decision>, NoMemory>
         requires { seen.now ≡ seen_of self.now asked.now seen.now.object }
-        ensures version { IfNone result (IsSome (base_version self.now asked.now seen.now.object)) }
-        ensures value { result ≡ option_or (row_current self.now asked.now (seen.now.object ∷ []))
+        ensures version { IfOk result (λ row. IfNone row (IsSome (base_version self.now asked.now seen.now.object))) }
+        ensures value { IfOk result (λ row. row ≡ option_or (row_current self.now asked.now (seen.now.object ∷ []))
             (option_or (row_method self.now asked.now (seen.now.object ∷ []))
-            (row_version self.now asked.now (seen.now.object ∷ []))) }
+            (row_version self.now asked.now (seen.now.object ∷ [])))) }
     {
-        let current = self.row_current(asked, seen);
-        current
-            .or(self.row_method(asked, seen))
-            .or(self.row_version(asked, seen))
+        let refused = self
+            .row_current(asked, seen)
+            .or(self.row_method(asked, seen));
+        match refused {
+            Some(refusal) => Ok(Some(refusal)),
+            None => self.row_version(asked, seen),
+        }
     }
 
     /// What the request's sets show of the object.
@@ -292,9 +304,28 @@ pub(crate) fn has_no_room(own: &History) -> bool
     HISTORY_LIMIT <= own.len()
 }
 
+/// The version of the object under this stamp, where there is one, as a key.
+fn keys_at(
+    alloc: Global,
+    object: ObjectId,
+    stamp: Option<Stamp>,
+) -> Result<List<(ObjectId, Stamp)>, NoMemory>
+    ensures { IfOk result (λ keys. keys ≡ keys_at object stamp) }
+{
+    match stamp {
+        Some(stamp) => List::one(alloc, (object, stamp)),
+        None => Ok(List::new(alloc)),
+    }
+}
+
 /// The decision of a replica that makes this of a request to mend the target.
-fn decision_by(alloc: Global, target: ObjectId, mending: Mending) -> Result<Decision, NoMemory>
-    ensures { IfOk result (λ decision. decision ≡ decision_by target mending) }
+fn decision_by(
+    alloc: Global,
+    target: ObjectId,
+    remedy: Remedy,
+    mending: Mending,
+) -> Result<Decision, NoMemory>
+    ensures { IfOk result (λ decision. decision ≡ decision_by target remedy mending) }
 {
     Ok(match mending {
         Mending::Mends { candidate, version } => {
@@ -313,6 +344,8 @@ fn decision_by(alloc: Global, target: ObjectId, mending: Mending) -> Result<Deci
             accepted: List::new(alloc),
         },
         Mending::Refuses(why) => refuse(alloc, why),
-        Mending::Waits => Decision::Waits,
+        Mending::Waits => Decision::Waits {
+            missing: keys_at(alloc, target, remedy.wanted())?,
+        },
     })
 }

@@ -4,4 +4,4 @@ pub mod FitRequests
 pub mod FitClients
 pub mod Fitting
 pub mod Carrying
-pub mod VersionLetters
+pub mod StepLetters

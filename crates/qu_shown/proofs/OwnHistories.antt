@@ -4,11 +4,9 @@ use Rattle.std.proofs.Common.{◌≡◌, ℕ, zero, suc, ◌+◌, List, [], ◌�
 use Rattle.std.specs.Prelude.{slice_get, slice_set}
 use Rattle.std.specs.Option.{option_and_then}
 use Rattle.std.proofs.lemmas.Option.{none-some, same_Some}
-use Rattle.qu_base.specs.declared.party.ClientId.{ClientId}
 use Rattle.qu_base.specs.declared.party.ObjectId.{ObjectId}
 use Rattle.qu_base.specs.declared.party.ReplicaId.{ReplicaId}
 use Rattle.qu_stamp.specs.declared.candidate.Candidate.{Candidate}
-use Rattle.qu_history.specs.declared.sets.SetOf.{SetOf}
 use Rattle.qu_history.specs.History.{ObjectHistory}
 use Rattle.qu_objects.specs.declared.kind.KindName.{KindName}
 use Rattle.qu_frames.specs.declared.frame.Frame.{Frame}
@@ -19,8 +17,10 @@ use Rattle.qu_rows.specs.declared.decision.Decision.TheVariants.{Answers, Waits}
 use Rattle.qu_rows.specs.State.{ReplicaState}
 use Rattle.qu_replica.specs.State.{with_candidate, accept, accept_all, replica_at_start}
 use Rattle.qu_rows.specs.Rows.{asked_at, decision_on}
-use Rattle.qu_replica.specs.Step.{carried_out, replica_on_frame, replica_on_received, replica_step}
+use Rattle.qu_replica.specs.Step.{with_waiting, carried_out, learned, handled, if_handled, replica_on_frame, replica_on_received, replica_step}
+use Rattle.qu_rows.specs.Waiting.{TakenRequest}
 use Rattle.qu_rows.proofs.Own.{IsOwn, own_history}
+use Rattle.qu_replica.proofs.States.Learning.{Learned, is_learned}
 use Rattle.qu_replica.proofs.States.Own.{opening-histories}
 use Rattle.qu_world.specs.State.{WorldState, opening_replicas, history_at}
 use Rattle.qu_world.proofs.Each.{set_cases}
@@ -93,18 +93,39 @@ accept_all-in_place number state [] in_place = in_place
 accept_all-in_place number state (first ∷ later) in_place =
     accept_all-in_place number (accept state first) later (accept-in_place number state first in_place)
 
-carried_out-in_place : (place : ℕ) (state : ReplicaState) (client : ClientId) (number round : ℕ)
-    (sets : List SetOf) (decision : Decision) → IsInPlace place state
-    → IsInPlace place (carried_out state client number round sets decision).0
-carried_out-in_place place state client number round sets (Answers verdict accepted) in_place =
+-- nothing else of a state matters
+in_place-as : (place : ℕ) (old new : ReplicaState) → new.me ≡ old.me → new.histories ≡ old.histories
+    → IsInPlace place old → IsInPlace place new
+in_place-as place old new me histories in_place = record {
+  me = ap (λ (it : ReplicaId). it.0) me ∙ in_place.me;
+  own = λ at history found.
+      subst (λ (it : ReplicaId). IsOf it at history) (sym me)
+      (in_place.own at history (ap (λ (them : List ObjectHistory). slice_get them at) (sym histories) ∙ found));
+}
+
+carried_out-in_place : (place : ℕ) (state : ReplicaState) (request : TakenRequest) (decision : Decision)
+    → IsInPlace place state → IsInPlace place (carried_out state request decision).0
+carried_out-in_place place state request (Answers verdict accepted) in_place =
     accept_all-in_place place state accepted in_place
-carried_out-in_place place state client number round sets Waits in_place = in_place
+carried_out-in_place place state request (Waits missing) in_place =
+    in_place-as place state (with_waiting state request missing) refl refl in_place
+
+if_handled-in_place : (place : ℕ) (state : ReplicaState) (found : Option TakenRequest) → IsInPlace place state
+    → IsInPlace place (if_handled state found).0
+if_handled-in_place place state None in_place = in_place
+if_handled-in_place place state (Some request) in_place =
+    carried_out-in_place place state request
+    (decision_on state (asked_at state request.client request.number request.sets request.body) request.body) in_place
 
 frame-in_place : (place : ℕ) (state : ReplicaState) (received : Frame) → IsInPlace place state
     → IsInPlace place (replica_on_frame state received).0
 frame-in_place place state (frame.Request client number round sets body mac) in_place =
-    carried_out-in_place place state client number round sets
-    (decision_on state (asked_at state client number sets body) body) in_place
+    if_handled-in_place place state (handled state (frame.Request client number round sets body mac)) in_place
+frame-in_place place state (frame.Fetched replica object stamp version mac) in_place =
+    let taken : Frame = frame.Fetched replica object stamp version mac in
+    let is : Learned state taken (learned state taken) = is_learned state taken in
+    if_handled-in_place place (learned state taken) (handled state taken)
+    (in_place-as place state (learned state taken) is.me is.histories in_place)
 frame-in_place place state _ in_place = in_place
 
 brought-in_place : (place : ℕ) (state : ReplicaState) (found : Option Frame) → IsInPlace place state

@@ -1,9 +1,10 @@
 -- A client that keeps only histories that were held, as their replicas sealed them, sends only those; so does a
 -- replica that shows its own.
-use Rattle.std.proofs.Common.{◌≡◌, ℕ, zero, suc, ◌+◌, List, [], ◌∷◌, map, Option, None, Some, Ok, refl, sym, subst, arith}
+use Rattle.std.proofs.Common.{◌≡◌, ℕ, zero, suc, ◌+◌, ◌≤◌, List, [], ◌∷◌, map, Option, None, Some, Ok, refl, sym, ap, subst, ◌∙◌, arith}
 use Rattle.std.specs.Prelude.{slice_get}
 use Rattle.std.specs.List.{AllByRecursion, cons_option}
 use Rattle.std.proofs.lemmas.Bool.{cond_both}
+use Rattle.std.proofs.lemmas.Option.{none-some}
 use Rattle.qu_base.specs.declared.party.ClientId.{ClientId}
 use Rattle.qu_base.specs.declared.party.Party.TheVariants as party
 use Rattle.qu_base.specs.declared.party.ReplicaId.{ReplicaId}
@@ -21,11 +22,12 @@ use Rattle.qu_frames.specs.Formats.{frame_form}
 use Rattle.qu_frames.specs.Decoding.{decoded}
 use Rattle.qu_rows.specs.declared.decision.Accepted.{Accepted}
 use Rattle.qu_rows.specs.declared.decision.Decision.{Decision}
-use Rattle.qu_rows.specs.declared.decision.Decision.TheVariants.{Answers, Waits}
+use Rattle.qu_rows.specs.declared.decision.Decision.TheVariants.{Answers}
 use Rattle.qu_rows.specs.State.{ReplicaState}
+use Rattle.qu_rows.specs.Waiting.{TakenRequest}
 use Rattle.qu_replica.specs.State.{accept_all}
 use Rattle.qu_rows.specs.Rows.{asked_at, decision_on}
-use Rattle.qu_replica.specs.Step.{shown, answer_frame, reply, carried_out, replica_step}
+use Rattle.qu_replica.specs.Step.{shown, answer_frame, reply, carried_out, learned, handled, if_handled, replica_step}
 use Rattle.qu_replica.specs.Step as replica
 use Rattle.qu_client.specs.declared.kept.Kept.{Kept}
 use Rattle.qu_client.specs.declared.kept.Mark.TheVariants.{Unshown}
@@ -42,7 +44,7 @@ use Rattle.qu_shown.specs.Views.{EachEntry}
 use Rattle.qu_world.proofs.Each.{each_weaker}
 use Rattle.qu_runs.proofs.Fits.FitRequests.{entries_with, entries_next, entries_none, found_among}
 use Rattle.qu_runs.proofs.Fits.Carrying.{AsksFit, AnswersFit, signed_carries}
-use Rattle.qu_runs.proofs.Fits.VersionLetters.{other_letters_each}
+use Rattle.qu_runs.proofs.Fits.StepLetters.{on_frame_each}
 use Rattle.qu_frames.specs.Formats.{frame_kind}
 use Rattle.qu_frames.specs.Signing.{brought, signed}
 use Rattle.qu_seal.specs.Keys.{Ring}
@@ -256,6 +258,29 @@ module _ (Has : ObjectHistory → Type 0) where
       found-held (slice_get state.histories (set.object).0) (shown state later) (has (set.object).0)
       (shown-held state later has)
 
+-- a step that answers a request accepts what it decides
+if_answered : (state : ReplicaState) (found : Option TakenRequest) (request : TakenRequest) → found ≡ Some request
+    → (verdict : Verdict) (accepted : List Accepted)
+    → decision_on state (asked_at state request.client request.number request.sets request.body) request.body
+    ≡ Answers verdict accepted
+    → (if_handled state found).0 ≡ accept_all state accepted
+if_answered state found request is verdict accepted decides =
+    ap (λ (it : Option TakenRequest). (if_handled state it).0) is
+    ∙ ap (λ (decision : Decision). (carried_out state request decision).0) decides
+
+frame_answered : (state : ReplicaState) (received : Frame) (request : TakenRequest)
+    → handled state received ≡ Some request → (verdict : Verdict) (accepted : List Accepted)
+    → decision_on (learned state received)
+    (asked_at (learned state received) request.client request.number request.sets request.body) request.body
+    ≡ Answers verdict accepted
+    → (replica.replica_on_frame state received).0 ≡ accept_all (learned state received) accepted
+frame_answered state (frame.Request client number round sets body mac) =
+    if_answered state (handled state (frame.Request client number round sets body mac))
+frame_answered state (frame.Fetched replica object stamp version mac) =
+    let taken : Frame = frame.Fetched replica object stamp version mac in
+    if_answered (learned state taken) (handled state taken)
+frame_answered state _ = λ request handles verdict accepted decides. absurd (none-some request handles)
+
 module _ (Held : Sealed → Type 0) where
   sealed-held : (keys : Ring) (each : List ObjectHistory)
       → AllByRecursion (λ (history : ObjectHistory). Held (sealed_by keys history)) each
@@ -269,39 +294,33 @@ module _ (Held : Sealed → Type 0) where
       (place : ℕ) (history : ObjectHistory) → slice_get state.histories place ≡ Some history
       → Held (sealed_by state.keys history)
 
-  carried_out-true : (state : ReplicaState) (client : ClientId) (number round : ℕ) (sets : List SetOf)
-      (decision : Decision)
-      → ((verdict : Verdict) (accepted : List Accepted) → decision ≡ Answers verdict accepted
-      → frame_form.Fits (answer_frame (accept_all state accepted) client number round sets verdict))
-      → HasHeld (carried_out state client number round sets decision).0
-      → AllByRecursion (IsTrueLetter Held) (carried_out state client number round sets decision).1
-  carried_out-true state client number round sets (Answers verdict accepted) fits has =
-      let new : ReplicaState = accept_all state accepted in (
-        λ sent carries. subst (IsTrueFrame Held)
-            (sym (signed_carries (reply new client number round sets verdict) new.keys (party.Client client)
-            (answer_frame new client number round sets verdict) sent (fits verdict accepted refl) refl carries))
-            (sealed-held new.keys (shown new sets)
-            (shown-held (λ (history : ObjectHistory). Held (sealed_by new.keys history)) new sets has)),
-        tt,
-      )
-  carried_out-true state client number round sets Waits fits has = tt
+  reply-true : (state : ReplicaState) (client : ClientId) (number round : ℕ) (sets : List SetOf) (verdict : Verdict)
+      → frame_form.Fits (answer_frame state client number round sets verdict) → HasHeld state
+      → IsTrueLetter Held (reply state client number round sets verdict)
+  reply-true state client number round sets verdict fits has = λ sent carries.
+      subst (IsTrueFrame Held)
+      (sym (signed_carries (reply state client number round sets verdict) state.keys (party.Client client)
+      (answer_frame state client number round sets verdict) sent fits refl carries))
+      (sealed-held state.keys (shown state sets)
+      (shown-held (λ (history : ObjectHistory). Held (sealed_by state.keys history)) state sets has))
 
-  -- a version shows no history
-  true_version : (sent : Frame) → frame_kind sent ≡ 4 → IsTrueFrame Held sent
-  true_version (frame.Request client number round sets body mac) kind = absurd (omega (arith, kind))
-  true_version (frame.Reply replica client number round verdict culled shown mac) kind = absurd (omega (arith, kind))
-  true_version _ kind = tt
+  -- a fetch and a version show no history
+  true_other : (sent : Frame) → 3 ≤ frame_kind sent → IsTrueFrame Held sent
+  true_other (frame.Request client number round sets body mac) kind = absurd (omega (arith, kind))
+  true_other (frame.Reply replica client number round verdict culled shown mac) kind = absurd (omega (arith, kind))
+  true_other _ kind = tt
 
   -- a replica answers with histories that it has after its step
   replica_frame-true : (state : ReplicaState) (received : Frame) → AnswersFit state received
       → HasHeld (replica.replica_on_frame state received).0
       → AllByRecursion (IsTrueLetter Held) (replica.replica_on_frame state received).1
-  replica_frame-true state (frame.Request client number round sets body mac) fits has =
-      carried_out-true state client number round sets (decision_on state (asked_at state client number sets body) body)
-      fits has
-  replica_frame-true state other fits has =
-      other_letters_each (IsTrueLetter Held) (λ letter version sent carries. true_version sent (version sent carries))
-      state (Some other)
+  replica_frame-true state received fits has =
+      on_frame_each (IsTrueLetter Held) (λ letter other sent carries. true_other sent (other sent carries))
+      state received
+      (λ request handles verdict accepted decides.
+      reply-true (accept_all (learned state received) accepted) request.client request.number request.round
+      request.sets verdict (fits request handles verdict accepted decides)
+      (subst HasHeld (frame_answered state received request handles verdict accepted decides) has))
 
   replica_brought-true : (state : ReplicaState) (found : Option Frame)
       → ((sent : Frame) → found ≡ Some sent → AnswersFit state sent)

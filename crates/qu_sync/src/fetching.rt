@@ -1,7 +1,7 @@
 ghost use Rattle.std.specs.Prelude.{◌≡◌, ◌<◌, ◌+◌, ℕ, List as Sequence, [], ◌∷◌, ◌++◌, IsTrue, false, Ok, IfOk, OnOk, OnErr};
 ghost use Rattle.qu_base.specs.declared.limits.TheConstants.{REPLICA_IDS};
 ghost use Rattle.qu_vote.specs.Tally.{has_voted, count_of};
-ghost use Rattle.qu_sync.specs.Fetching.{same_bytes, identical_answers, fetched, with_answer};
+ghost use Rattle.qu_sync.specs.Fetching.{same_bytes, identical_answers, completes, fetched, with_answer};
 
 use qu_base::{List, NoMemory, ReplicaId};
 use qu_vote::Tally;
@@ -30,7 +30,7 @@ impl Fetch {
 }
 
 /// A version that is being fetched, and the answers of replicas, of which each is taken once.
-#[derive(Drop)]
+#[derive(Debug, Drop)]
 pub struct Fetching {
     alloc: Global,
     need: u8,
@@ -79,6 +79,20 @@ impl Fetching {
             keep(&mut self.answers, replica, text)?;
             Ok(Fetch::Still)
         }
+    }
+
+    /// Whether this replica answered.
+    pub fn has_answered(&self, replica: ReplicaId) -> bool
+        ensures { result ≡ has_voted replica self.now.votes }
+    {
+        self.answers.has(replica)
+    }
+
+    /// Whether this answer is the first of its replica, and the last of the identical ones that are needed.
+    pub fn completes(&self, replica: ReplicaId, text: &List<u8>) -> bool
+        ensures { result ≡ completes self.now replica text.now }
+    {
+        !self.answers.has(replica) && self.answers.count(text) + 1 == self.need
     }
 
     /// An equal fetch.

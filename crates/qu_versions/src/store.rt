@@ -74,11 +74,11 @@ impl VersionStore {
         Ok(())
     }
 
-    /// Whether there is a place for the versions that were prepared.
-    pub fn has_place(&self, prepared: &Prepared) -> bool
-        ensures { IsTrue result ↔ (length (self.now ++ prepared.now) ≤ MOST_VERSIONS) }
+    /// Whether there is a place for the versions that were prepared, these and those behind them.
+    pub fn has_place(&self, prepared: &Prepared, later: &Prepared) -> bool
+        ensures { IsTrue result ↔ (length ((self.now ++ prepared.now) ++ later.now) ≤ MOST_VERSIONS) }
     {
-        prepared.len() <= MOST_VERSIONS - self.versions.len()
+        prepared.len() + later.len() <= MOST_VERSIONS - self.versions.len()
     }
 
     /// Holds the versions that were prepared, which takes no memory. Where one is held under the same key already,

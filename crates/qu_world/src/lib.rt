@@ -11,5 +11,6 @@ mod refusals;
 mod world;
 
 pub use fail::{BYTE_LIMIT, EVENT_LIMIT, WorldFail, limits_are_these};
+pub use opening::start_replicas;
 pub use parties::Made;
 pub use world::World;

@@ -1,9 +1,9 @@
 -- All that a replica holds fits its format, at the beginning and once it accepted a candidate that fits.
-use Rattle.std.proofs.Common.{◌≡◌, ◌-◌, ℕ, zero, suc, ◌+◌, ◌<◌, ◌≤◌, Bool, true, cond, List, [], ◌∷◌, ◌++◌, length, length-append, Option, None, Some, inl, inr, refl, sym, ap, subst, ◌∙◌, arith}
+use Rattle.std.proofs.Common.{◌≡◌, ◌-◌, ℕ, zero, suc, ◌+◌, ◌<◌, ◌≤◌, true, List, [], ◌∷◌, ◌++◌, length, length-append, Option, None, Some, refl, sym, ap, subst, ◌∙◌, arith, replicate}
 use Rattle.std.specs.Prelude.{IsTrue, IfSome, slice_get}
-use Rattle.std.proofs.lemmas.Bool.{cases_Bool, false≢true}
+use Rattle.std.proofs.lemmas.Bool.{false≢true}
 use Rattle.std.proofs.lemmas.Option.{none-some, same_Some}
-use Rattle.qu_base.specs.declared.limits.TheConstants.{OBJECT_IDS, REPLICA_IDS}
+use Rattle.qu_base.specs.declared.limits.TheConstants.{OBJECT_IDS, REPLICA_IDS, LAST_CLIENT}
 use Rattle.qu_base.specs.declared.party.ObjectId.{ObjectId}
 use Rattle.qu_base.specs.declared.party.ReplicaId.{ReplicaId}
 use Rattle.qu_base.specs.Bounds.{replicas, is_replica_count}
@@ -27,13 +27,15 @@ use Rattle.qu_versions.specs.declared.stored.Stored.{Stored}
 use Rattle.qu_rows.specs.State.{ReplicaState, candidates_in}
 use Rattle.qu_replica.specs.State.{with_candidate, stored_if, accept, accept_all, opening_histories, replica_at_start}
 use Rattle.qu_rows.specs.Allowed.{MayAccept, MayAcceptAll}
-use Rattle.qu_versions.specs.Versions.{is_stored, version_at, opening_store}
-use Rattle.qu_replica.specs.Fits.{ValueFits, VersionFits, VersionsFit, StateFits}
+use Rattle.qu_versions.specs.Versions.{opening_store}
+use Rattle.qu_fitting.specs.Fits.{ValueFits, VersionFits, VersionsFit, SlotFits, StateFits}
 use Rattle.qu_replica.proofs.States.Growth.{length-with_candidate}
 use Rattle.qu_rows.proofs.Own.{own_history}
 use Rattle.qu_replica.proofs.States.Own.{accept-histories, opening-histories}
-use Rattle.qu_replica.proofs.Fits.FitVersions.{none_rising}
-use Rattle.qu_replica.proofs.Fits.FitStamps.{opening_fits, prior_of_opening_fits}
+use Rattle.qu_fitting.proofs.FitVersions.{none_rising, no_links}
+use Rattle.qu_fitting.proofs.FitStamps.{opening_fits, prior_of_opening_fits}
+use Rattle.std.specs.List.{AllByRecursion}
+use Rattle.qu_fitting.proofs.FitAccepted.{AcceptFits, AcceptAllFit}
 
 -- ---- one more candidate of a history
 
@@ -88,11 +90,6 @@ push_fits candidates candidate fits rises later room stamp prior =
 
 -- ---- a candidate is accepted
 
-pub record AcceptFits (accepted : Accepted) : Type 0 where
-  pub stamp : stamp_form.Fits accepted.candidate.stamp
-  pub prior : (prior_form accepted.candidate.stamp).Fits accepted.candidate.prior
-  pub version : IfSome accepted.state VersionFits
-
 histories_with : (number : ℕ) (candidate : Candidate) (histories : List ObjectHistory)
     → ((place : ℕ) (history : ObjectHistory) → slice_get histories place ≡ Some history
     → candidates_form.Fits history.candidates)
@@ -115,7 +112,7 @@ stored_fits : (object : ObjectId) (stamp : Stamp) (version : Option ObjState) �
 stored_fits object stamp None fits = tt
 stored_fits object stamp (Some version) fits = (fits, tt)
 
-versions_with : (versions more : List Stored) → VersionsFit versions → VersionsFit more
+pub versions_with : (versions more : List Stored) → VersionsFit versions → VersionsFit more
     → VersionsFit (versions ++ more)
 versions_with [] more fits here = here
 versions_with (first ∷ later) more fits here = (fits.0, versions_with later more fits.1 here)
@@ -140,11 +137,8 @@ accept-fits state accepted fits may made = record {
       (own_history state (accepted.object).0 history fits.own found).rises later room made.stamp made.prior);
   versions = versions_with state.versions _ fits.versions
       (stored_fits accepted.object accepted.candidate.stamp accepted.state made.version);
+  waiting = fits.waiting;
 }
-
-abbrev pub AcceptAllFit : List Accepted → Type 0
-AcceptAllFit [] = Unit {0}
-AcceptAllFit (accepted ∷ later) = AcceptFits accepted × AcceptAllFit later
 
 pub accept_all-fits : (state : ReplicaState) (accepted : List Accepted) → StateFits state
     → MayAcceptAll state accepted → AcceptAllFit accepted → StateFits (accept_all state accepted)
@@ -181,9 +175,13 @@ opening_store_fits : (first : ℕ) (kinds : List KindName) → VersionsFit (open
 unfolding opening_store
 opening_store_fits first [] = tt
 opening_store_fits first (kind ∷ kinds) = (
-  record { value = fresh_fits kind; kept = tt; rising = none_rising; links = refl },
+  record { value = fresh_fits kind; kept = tt; rising = none_rising; links = no_links },
   opening_store_fits (first + 1) kinds,
 )
+
+none_wait : (count : ℕ) → AllByRecursion SlotFits (replicate count None)
+none_wait zero = tt
+none_wait (suc count) = (tt, none_wait count)
 
 -- a replica begins so
 pub opening-fits : (me : ReplicaId) (keys : Ring) (kinds : List KindName) → me.0 ≤ REPLICA_IDS - 1
@@ -197,22 +195,5 @@ opening-fits me keys kinds within sized few = record {
   own = opening-histories me keys kinds;
   histories = opening_histories_fit me 0 kinds;
   versions = opening_store_fits 0 kinds;
+  waiting = none_wait (LAST_CLIENT + 1);
 }
-
--- ---- a version that is found
-
-pub version_fits : (object : ObjectId) (stamp : Stamp) (versions : List Stored) (version : ObjState)
-    → VersionsFit versions → version_at object stamp versions ≡ Some version → VersionFits version
-unfolding version_at
-version_fits object stamp [] version fits found = absurd (none-some version found)
-version_fits object stamp (first ∷ later) version fits found =
-    elim (cases_Bool (is_stored object stamp first)) [
-      | inl is ↦
-          let here : first.state ≡ version =
-          same_Some first.state version
-          (sym (ap (λ (test : Bool). cond test (Some first.state) (version_at object stamp later)) is) ∙ found) in
-          subst VersionFits here fits.0
-      | inr not ↦
-          version_fits object stamp later version fits.1
-          (sym (ap (λ (test : Bool). cond test (Some first.state) (version_at object stamp later)) not) ∙ found)
-    ]

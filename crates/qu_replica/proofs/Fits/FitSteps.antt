@@ -1,33 +1,25 @@
 -- The letters that answer a text carry frames that fit, and what the replica holds fits after each step.
-use Rattle.std.proofs.Common.{◌≡◌, ℕ, ◌-◌, ◌^◌, ◌≤◌, Bool, true, false, cond, List, [], ◌∷◌, length, map, Option, None, Some, refl, subst, arith}
-use Rattle.std.specs.Prelude.{is_none, slice_get}
+use Rattle.std.proofs.Common.{◌≡◌, ℕ, ◌-◌, ◌^◌, ◌≤◌, Bool, true, false, cond, List, [], ◌∷◌, map, Option, None, Some, refl, subst, arith, set, option_map, ◌++◌, ◌∙◌, zero, suc, ◌+◌, inl, inr, sym, ap}
+use Rattle.std.specs.Prelude.{is_none, slice_get, ◌==◌}
 use Rattle.std.specs.List.{cons_option, AllByRecursion}
-use Rattle.std.proofs.lemmas.Bool.{le-leb, eq-eqb}
-use Rattle.std.proofs.lemmas.Option.{same_Some}
+use Rattle.std.proofs.lemmas.Bool.{le-leb, eq-eqb, cond_both, cases_Bool}
+use Rattle.std.proofs.lemmas.Option.{same_Some, none-some}
 use Rattle.qu_frames.specs.declared.limits.TheConstants.{LAST_ROUND}
 use Rattle.qu_base.specs.declared.limits.TheConstants.{REPLICA_IDS, OBJECT_IDS, LAST_CLIENT}
 use Rattle.qu_base.specs.declared.party.Party.TheVariants as party
 use Rattle.qu_base.specs.declared.party.ClientId.{ClientId}
-use Rattle.qu_base.specs.declared.party.Digest.{Digest}
 use Rattle.qu_base.specs.declared.party.ObjectId.{ObjectId}
 use Rattle.qu_base.specs.Format.{AreBytes}
-use Rattle.qu_seal.proofs.Lengths.{length-digest}
 use Rattle.qu_history.specs.declared.sets.SetOf.{SetOf}
 use Rattle.qu_history.specs.History.{ObjectHistory}
 use Rattle.qu_history.specs.Formats.{set_form, sets_form, sealed_from, shown_form}
-use Rattle.qu_history.specs.Text.{sets_digest}
 use Rattle.qu_history.specs.Culling.{history_digest, culled, left_out}
 use Rattle.qu_history.specs.Sealing.{sealed_by}
-use Rattle.qu_objects.specs.Digesting.{act_digest}
-use Rattle.qu_objects.specs.Formats.{act_form, query_form}
-use Rattle.qu_frames.specs.declared.limits.TheConstants.{LAST_ROUND}
-use Rattle.qu_frames.specs.declared.frame.Body.{Body}
-use Rattle.qu_frames.specs.declared.frame.Body.TheVariants as body
 use Rattle.qu_frames.specs.declared.frame.Frame.{Frame}
 use Rattle.qu_frames.specs.declared.frame.Frame.TheVariants as frame
 use Rattle.qu_frames.specs.declared.verdict.Verdict.{Verdict}
 use Rattle.qu_frames.specs.Blank.{blank_mac}
-use Rattle.qu_frames.specs.Formats.{objects_in_sets, culled_form, verdict_form, body_form, request_frame, reply_frame, kind_form, frame_form, fetch_frame, fetched_frame}
+use Rattle.qu_frames.specs.Formats.{objects_in_sets, culled_form, verdict_form, reply_frame, kind_form, frame_form, fetch_frame, fetched_frame}
 use Rattle.qu_frames.specs.Signing.{with_mac, signature, brought}
 use Rattle.qu_frames.proofs.Signed.{signed_is_spelled, brought_is_decoded}
 use Rattle.qu_frames.proofs.Decoded.{decoded_is_spelled}
@@ -35,28 +27,31 @@ use Rattle.qu_rows.specs.declared.decision.Decision.{Decision}
 use Rattle.qu_rows.specs.declared.decision.Decision.TheVariants.{Answers, Waits}
 use Rattle.qu_rows.specs.State.{ReplicaState}
 use Rattle.qu_replica.specs.State.{accept_all}
-use Rattle.qu_rows.specs.Rows.{Asked, act_asked, asked_at, unknown_in, decision_on}
-use Rattle.qu_replica.specs.Step.{shown, named, answer_frame, carried_out, replica_on_frame, replica_on_received, replica_step, version_letters, other_letters}
+use Rattle.qu_waiting.specs.Slots.{first_waiting, without_request, lacks}
+use Rattle.qu_rows.specs.Rows.{Asked, asked_at, unknown_in, decision_on}
+use Rattle.qu_replica.specs.Step.{shown, named, answer_frame, carried_out, replica_on_frame, replica_on_received, replica_step, version_letters, with_found, with_told, learned, handled, fetches_from, fetches_of, decided, if_handled, is_found}
 use Rattle.qu_rows.specs.Allowed.{MayDecide}
-use Rattle.qu_replica.specs.Fits.{StateFits, StepFits, VersionFits, LetterFits}
+use Rattle.qu_fitting.specs.Fits.{StateFits, StepFits, VersionFits, LetterFits, SlotFits, VersionsFit}
 use Rattle.qu_rows.proofs.Own.{IsOwn, own_history}
 use Rattle.qu_rows.proofs.Allowed.{decision_on-may}
 use Rattle.qu_rows.proofs.Decoded.{body_has_parts}
-use Rattle.qu_replica.proofs.Fits.FitCulled.{seals_fit, culled-fits, left_out-fits, none_named-fit}
-use Rattle.qu_replica.proofs.Fits.FitState.{accept_all-fits, version_fits}
-use Rattle.qu_replica.proofs.Fits.FitDecisions.{AskedFits, DecisionFits, act_decision-fits, ask_decision-fits}
-use Rattle.qu_replica.proofs.Fits.FitMends.{mend_decision-fits}
-use Rattle.qu_replica.proofs.Fits.FitVersions.{act_sized, version-spelled}
+use Rattle.qu_fitting.proofs.FitCulled.{seals_fit, left_out-fits, none_named-fit}
+use Rattle.qu_replica.proofs.Fits.FitState.{accept_all-fits, versions_with}
+use Rattle.qu_fitting.proofs.FitAccepted.{version_fits}
+use Rattle.qu_fitting.proofs.FitDecisions.{DecisionFits, KeyFits}
+use Rattle.qu_fitting.proofs.FitRequests.{blank_sized, RequestFits, request-fits, decision-fits}
+use Rattle.qu_fitting.proofs.FitVersions.{version-spelled, version-read}
 use Rattle.qu_base.specs.declared.party.ReplicaId.{ReplicaId}
 use Rattle.qu_stamp.specs.declared.stamp.Stamp.{Stamp}
 use Rattle.qu_objects.specs.declared.state.ObjState.{ObjState}
-use Rattle.qu_versions.specs.Versions.{version_at}
+use Rattle.qu_versions.specs.Versions.{version_at, has_version}
+use Rattle.qu_seal.specs.Keys.{Ring}
+use Rattle.qu_rows.specs.Waiting.{Waiting, TakenRequest, Running, request_frame_of}
+use Rattle.qu_base.specs.declared.party.Party.{Party}
+use Rattle.qu_base.specs.Bounds.{replicas}
+use Rattle.qu_objects.specs.States.{state_form}
 
 -- ---- a reply
-
-pub blank_sized : length blank_mac ≡ 32
-unfolding blank_mac
-blank_sized = refl
 
 module _ (state : ReplicaState) (fits : StateFits state) where
   one_shown : (object : ObjectId) → object.0 ≤ OBJECT_IDS - 1 → (found : Option ObjectHistory)
@@ -128,99 +123,123 @@ module _ (state : ReplicaState) (fits : StateFits state) where
     ),
   )
 
--- ---- a request
-
--- the fields of a request fit
-pub record RequestFits (client : ClientId) (number round : ℕ) (sets : List SetOf) (asks : Body) : Type 0 where
-  pub low : 1 ≤ client.0
-  pub high : client.0 ≤ LAST_CLIENT
-  pub word : number ≤ 2 ^ 64 - 1
-  pub from_one : 1 ≤ round
-  pub few : round ≤ LAST_ROUND
-  pub shown : sets_form.Fits sets
-  pub asked : (body_form (objects_in_sets sets)).Fits asks
-
-pub request-fits : (client : ClientId) (number round : ℕ) (sets : List SetOf) (asks : Body) (mac : List ℕ)
-    → frame_form.Fits (frame.Request client number round sets asks mac) → RequestFits client number round sets asks
-unfolding frame_form kind_form request_frame
-request-fits client number round sets asks mac fits =
-    let fields = (fits.1).1 in
-    record {
-      low = (fields.0).0;
-      high = (fields.0).1;
-      word = ((fields.1).0).1;
-      from_one = (((fields.1).1).0).0;
-      few = (((fields.1).1).0).1;
-      shown = (((fields.1).1).1).0;
-      asked = ((((fields.1).1).1).1).0;
-    }
-
-sets_sized : (sets : List SetOf) → length (sets_digest sets).0 ≡ 32
-unfolding sets_digest
-sets_sized sets = length-digest _ _
-
-acted_sized : (client : ClientId) (number : ℕ) (asks : Body) (digest : Digest)
-    → act_asked client number asks ≡ Some digest → length digest.0 ≡ 32
-acted_sized client number (body.Act parts) digest is =
-    subst (λ (it : Digest). length it.0 ≡ 32) (same_Some (act_digest client number parts) digest is)
-    (act_sized client number parts)
-acted_sized client number (body.Ask parts) digest is = absurd cc
-acted_sized client number (body.Mend target) digest is = absurd cc
-
-pub decision-fits : (state : ReplicaState) (client : ClientId) (number round : ℕ) (sets : List SetOf)
-    (asks : Body) → StateFits state → RequestFits client number round sets asks
-    → DecisionFits (decision_on state (asked_at state client number sets asks) asks)
-unfolding body_form act_form query_form
-decision-fits state client number round sets asks fits request =
-    let asked : Asked = asked_at state client number sets asks in
-    let asked_fits : AskedFits asked =
-    record {
-      low = request.low;
-      high = request.high;
-      number = request.word;
-      sets = culled-fits state.keys state.me sets request.shown;
-      act = acted_sized client number asks;
-      set = sets_sized (culled state.keys state.me sets);
-    } in
-    decided asks asked asked_fits request.asked
-  where
-    decided : (asks : Body) (asked : Asked) → AskedFits asked → (body_form (objects_in_sets sets)).Fits asks
-        → DecisionFits (decision_on state asked asks)
-    decided (body.Act []) asked asked_fits within = absurd (omega (arith, ((within.1).0).0))
-    decided (body.Act (part ∷ [])) asked asked_fits within =
-        act_decision-fits state asked fits asked_fits part.0 (((((((within.1).1).1).0).0).0).0).1 part.1
-    decided (body.Act (first ∷ second ∷ later)) asked asked_fits within = absurd (omega (arith, ((within.1).0).1))
-    decided (body.Ask []) asked asked_fits within = absurd (omega (arith, ((within.1).0).0))
-    decided (body.Ask (part ∷ [])) asked asked_fits within =
-        ask_decision-fits state asked fits asked_fits part.0 (((((((within.1).1).1).0).0).0).0).1 part
-    decided (body.Ask (first ∷ second ∷ later)) asked asked_fits within = absurd (omega (arith, ((within.1).0).1))
-    decided (body.Mend target) asked asked_fits within =
-        mend_decision-fits state asked fits asked_fits target ((within.1).0).1
-
 -- ---- a step
 
-carried_out-fits : (state : ReplicaState) (client : ClientId) (number round : ℕ) (sets : List SetOf) (asks : Body)
-    (decision : Decision) → StateFits state → RequestFits client number round sets asks
-    → MayDecide state decision → DecisionFits decision → StepFits (carried_out state client number round sets decision)
-carried_out-fits state client number round sets asks (Answers verdict accepted) fits request may made =
+all_append : {X : Type 0} (P : X → Type 0) (items more : List X) → AllByRecursion P items → AllByRecursion P more
+    → AllByRecursion P (items ++ more)
+all_append P [] more all last = last
+all_append P (item ∷ items) more all last = (all.0, all_append P items more all.1 last)
+
+-- a fetch of such a key
+fetch-fits : (me : ReplicaId) (key : ObjectId × Stamp) → me.0 ≤ REPLICA_IDS - 1 → KeyFits key
+    → frame_form.Fits (frame.Fetch me key.0 key.1 blank_mac)
+unfolding frame_form kind_form fetch_frame
+fetch-fits me key within fits = (
+  ((omega arith, omega arith), refl),
+  (
+    ((omega arith, omega arith), refl),
+    ((omega arith, within), ((omega arith, fits.object), (fits.stamp, blank_sized))),
+  ),
+)
+
+module _ (keys : Ring) (me : ReplicaId) (within : me.0 ≤ REPLICA_IDS - 1) where
+  fetches_from-fit : (key : ObjectId × Stamp) → KeyFits key → (replica count : ℕ)
+      → AllByRecursion LetterFits (fetches_from keys me key replica count)
+  unfolding fetches_from
+  fetches_from-fit key fits replica zero = tt
+  fetches_from-fit key fits replica (suc count) =
+      let sent : Frame = frame.Fetch me key.0 key.1 blank_mac in
+      let to : Party = party.Replica (record { 0 = replica }) in
+      let spelled = signed_is_spelled keys to sent (fetch-fits me key within fits) in
+      let rest = fetches_from-fit key fits (replica + 1) count in
+      cond_both (replica == me.0) _ _ (AllByRecursion LetterFits) (λ _. rest) (λ _. (
+        record { sent = with_mac sent (signature keys to sent); fits = spelled.0; text = spelled.1 },
+        rest,
+      ))
+
+  fetches_of-fit : (missing : List (ObjectId × Stamp)) → AllByRecursion KeyFits missing
+      → AllByRecursion LetterFits (fetches_of keys me missing)
+  unfolding fetches_of
+  fetches_of-fit [] fits = tt
+  fetches_of-fit (key ∷ later) fits =
+      all_append LetterFits _ _ (fetches_from-fit key fits.0 0 (replicas keys.bounds)) (fetches_of-fit later fits.1)
+
+-- ---- what waits
+
+slots_with : (slots : List (Option Waiting)) (place : ℕ) (slot : Option Waiting) → AllByRecursion SlotFits slots
+    → SlotFits slot → AllByRecursion SlotFits (set slots place slot)
+slots_with [] place slot all fits = tt
+slots_with (first ∷ later) zero slot all fits = (fits, all.1)
+slots_with (first ∷ later) (suc place) slot all fits = (all.0, slots_with later place slot all.1 fits)
+
+lowest_fits : (object : ObjectId) (stamp : Stamp) (slots : List (Option Waiting)) → AllByRecursion SlotFits slots
+    → (waiting : Waiting) → first_waiting object stamp slots ≡ Some waiting
+    → frame_form.Fits (request_frame_of waiting.request)
+unfolding first_waiting
+lowest_fits object stamp [] all waiting found = absurd (none-some waiting found)
+lowest_fits object stamp (None ∷ later) all waiting found = lowest_fits object stamp later all.1 waiting found
+lowest_fits object stamp (Some first ∷ later) all waiting found =
+    elim (cases_Bool (lacks object stamp first)) [
+      | inl is ↦ subst (λ (it : Waiting). frame_form.Fits (request_frame_of it.request))
+          (same_Some first waiting
+          (sym (ap (λ (test : Bool). cond test (Some first) (first_waiting object stamp later)) is) ∙ found)) all.0
+      | inr not ↦ lowest_fits object stamp later all.1 waiting
+          (sym (ap (λ (test : Bool). cond test (Some first) (first_waiting object stamp later)) not) ∙ found)
+    ]
+
+-- the same with other fetches and other slots
+waiting-fits : (state : ReplicaState) (slots : List (Option Waiting)) (fetching : List Running) → StateFits state
+    → AllByRecursion SlotFits slots → StateFits (record state { waiting = slots; fetching = fetching })
+waiting-fits state slots fetching fits all = record {
+  me = fits.me;
+  bounds = fits.bounds;
+  few = fits.few;
+  own = fits.own;
+  histories = fits.histories;
+  versions = fits.versions;
+  waiting = all;
+}
+
+carried_out-fits : (state : ReplicaState) (request : TakenRequest) (decision : Decision) → StateFits state
+    → frame_form.Fits (request_frame_of request) → MayDecide state decision → DecisionFits decision
+    → StepFits (carried_out state request decision)
+carried_out-fits state request (Answers verdict accepted) fits within may made =
     let new : ReplicaState = accept_all state accepted in
     let after : StateFits new = accept_all-fits state accepted fits may made.1 in
-    let frame : Frame = answer_frame new client number round sets verdict in
-    let frame_fits : frame_form.Fits frame =
-    answer-fits new after client number round sets verdict request.low request.high request.word
-    request.from_one request.few request.shown made.0 in
-    let spelled = signed_is_spelled new.keys (party.Client client) frame frame_fits in (
+    let fields : RequestFits request.client request.number request.round request.sets request.body =
+    request-fits request.client request.number request.round request.sets request.body request.mac within in
+    let answer : Frame = answer_frame new request.client request.number request.round request.sets verdict in
+    let frame_fits : frame_form.Fits answer =
+    answer-fits new after request.client request.number request.round request.sets verdict fields.low fields.high
+    fields.word fields.from_one fields.few fields.shown made.0 in
+    let to : Party = party.Client request.client in
+    let spelled = signed_is_spelled new.keys to answer frame_fits in (
       after,
       (
-        record {
-          sent = with_mac frame (signature new.keys (party.Client client) frame);
-          fits = spelled.0;
-          text = spelled.1;
-        },
+        record { sent = with_mac answer (signature new.keys to answer); fits = spelled.0; text = spelled.1 },
         tt,
       ),
     )
-carried_out-fits state client number round sets asks Waits fits request may made = (fits, tt)
+carried_out-fits state request (Waits missing) fits within may made = (
+  waiting-fits state _ _ fits (slots_with state.waiting (request.client).0 _ fits.waiting within),
+  fetches_of-fit state.keys state.me fits.me missing made,
+)
+
+pub decided-fits : (state : ReplicaState) (request : TakenRequest) → StateFits state
+    → frame_form.Fits (request_frame_of request) → StepFits (decided state request)
+decided-fits state request fits within =
+    let fields : RequestFits request.client request.number request.round request.sets request.body =
+    request-fits request.client request.number request.round request.sets request.body request.mac within in
+    let asked : Asked = asked_at state request.client request.number request.sets request.body in
+    carried_out-fits state request (decision_on state asked request.body) fits within
+    (decision_on-may state asked request.body (body_has_parts (objects_in_sets request.sets) request.body fields.asked))
+    (decision-fits state request.client request.number request.round request.sets request.body fits fields)
+
+pub if_handled-fits : (state : ReplicaState) (found : Option TakenRequest) → StateFits state
+    → ((request : TakenRequest) → found ≡ Some request → frame_form.Fits (request_frame_of request))
+    → StepFits (if_handled state found)
+if_handled-fits state None fits within = (fits, tt)
+if_handled-fits state (Some request) fits within = decided-fits state request fits (within request refl)
 
 -- a version that is held answers a fetch that fits
 fetched_fits : (state : ReplicaState) (to : ReplicaId) (object : ObjectId) (stamp : Stamp) (mac : List ℕ)
@@ -261,30 +280,79 @@ version_letters-fit state to object stamp mac fits within = by (version_at objec
           tt,
         )
 
+-- ---- what a frame tells, and the request that it makes a replica handle
+
+fetched_state : (replica : ReplicaId) (object : ObjectId) (stamp : Stamp) (version : ObjState) (mac : List ℕ)
+    → frame_form.Fits (frame.Fetched replica object stamp version mac) → state_form.Fits version
+unfolding frame_form kind_form fetched_frame
+fetched_state replica object stamp version mac fits = ((((fits.1).1).1).1).1.0
+
+found-fits : (state : ReplicaState) (object : ObjectId) (stamp : Stamp) (version : ObjState) → StateFits state
+    → VersionFits version → StateFits (with_found state object stamp version)
+found-fits state object stamp version fits here = record {
+  me = fits.me;
+  bounds = fits.bounds;
+  few = fits.few;
+  own = fits.own;
+  histories = fits.histories;
+  versions = cond_both (has_version object stamp state.versions) _ _ VersionsFit (λ _. fits.versions)
+      (λ _. versions_with state.versions _ fits.versions (here, tt));
+  waiting = woken (first_waiting object stamp state.waiting);
+}
+  where
+    woken : (found : Option Waiting) → AllByRecursion SlotFits (without_request found state.waiting)
+    woken None = fits.waiting
+    woken (Some waiting) = slots_with state.waiting ((waiting.request).client).0 None fits.waiting tt
+
+told-fits : (state : ReplicaState) (replica : ReplicaId) (object : ObjectId) (stamp : Stamp) (version : ObjState)
+    → StateFits state → StateFits (with_told state replica object stamp version)
+told-fits state replica object stamp version fits =
+    cond_both _ _ _ StateFits (λ _. waiting-fits state state.waiting _ fits fits.waiting) (λ _. fits)
+
+pub learned-fits : (state : ReplicaState) (received : Frame) → StateFits state → frame_form.Fits received
+    → StateFits (learned state received)
+learned-fits state (frame.Fetched replica object stamp version mac) fits within =
+    cond_both _ _ _ StateFits
+    (λ _. found-fits state object stamp version fits
+    (version-read version (fetched_state replica object stamp version mac within)))
+    (λ _. told-fits state replica object stamp version fits)
+learned-fits state (frame.Request client number round sets body mac) fits within = fits
+learned-fits state (frame.Reply replica client number round verdict culled shown mac) fits within = fits
+learned-fits state (frame.Fetch replica object stamp mac) fits within = fits
+
+pub handled-fits : (state : ReplicaState) (received : Frame) → StateFits state → frame_form.Fits received
+    → (request : TakenRequest) → handled state received ≡ Some request
+    → frame_form.Fits (request_frame_of request)
+handled-fits state (frame.Request client number round sets body mac) fits within request is =
+    subst (λ (it : TakenRequest). frame_form.Fits (request_frame_of it)) (same_Some _ request is) within
+handled-fits state (frame.Fetched replica object stamp version mac) fits within request is =
+    by_found (is_found state replica object stamp version) (first_waiting object stamp state.waiting) refl is
+  where
+    by_found : (test : Bool) (found : Option Waiting) → first_waiting object stamp state.waiting ≡ found
+        → cond test (option_map (λ (waiting : Waiting). waiting.request) found) None ≡ Some request
+        → frame_form.Fits (request_frame_of request)
+    by_found false found lowest is = absurd (none-some request is)
+    by_found true None lowest is = absurd (none-some request is)
+    by_found true (Some waiting) lowest is =
+        subst (λ (it : TakenRequest). frame_form.Fits (request_frame_of it)) (same_Some waiting.request request is)
+        (lowest_fits object stamp state.waiting fits.waiting waiting lowest)
+handled-fits state (frame.Reply replica client number round verdict culled shown mac) fits within request is =
+    absurd (none-some request is)
+handled-fits state (frame.Fetch replica object stamp mac) fits within request is = absurd (none-some request is)
+
 pub on_frame-fits : (state : ReplicaState) (received : Frame) → StateFits state → frame_form.Fits received
     → StepFits (replica_on_frame state received)
 on_frame-fits state (frame.Request client number round sets asks mac) fits within =
-    let request : RequestFits client number round sets asks = request-fits client number round sets asks mac within in
-    let asked : Asked = asked_at state client number sets asks in
-    carried_out-fits state client number round sets asks (decision_on state asked asks) fits request
-    (decision_on-may state asked asks (body_has_parts (objects_in_sets sets) asks request.asked))
-    (decision-fits state client number round sets asks fits request)
+    if_handled-fits state (handled state (frame.Request client number round sets asks mac)) fits
+    (handled-fits state (frame.Request client number round sets asks mac) fits within)
+on_frame-fits state (frame.Fetched replica object stamp version mac) fits within =
+    if_handled-fits (learned state (frame.Fetched replica object stamp version mac))
+    (handled state (frame.Fetched replica object stamp version mac))
+    (learned-fits state (frame.Fetched replica object stamp version mac) fits within)
+    (handled-fits state (frame.Fetched replica object stamp version mac) fits within)
 on_frame-fits state (frame.Fetch replica object stamp mac) fits within =
     (fits, version_letters-fit state replica object stamp mac fits within)
-on_frame-fits state _ fits within = (fits, tt)
-
--- what answers a text that is no request fits
-pub other_letters-fit : (state : ReplicaState) (text : List ℕ) → AreBytes text → StateFits state
-    → AllByRecursion LetterFits (other_letters state (brought state.keys (party.Replica state.me) text))
-other_letters-fit state text are fits = by (brought state.keys (party.Replica state.me) text) refl
-  where
-    by : (found : Option Frame) → brought state.keys (party.Replica state.me) text ≡ found
-        → AllByRecursion LetterFits (other_letters state found)
-    by (Some (frame.Fetch replica object stamp mac)) is =
-        version_letters-fit state replica object stamp mac fits
-        (decoded_is_spelled text (frame.Fetch replica object stamp mac) are
-        (brought_is_decoded state.keys (party.Replica state.me) text (frame.Fetch replica object stamp mac) is)).0
-    by _ is = tt
+on_frame-fits state (frame.Reply replica client number round verdict culled shown mac) fits within = (fits, tt)
 
 pub on_received-fits : (state : ReplicaState) (found : Option Frame) → StateFits state
     → ((frame : Frame) → found ≡ Some frame → frame_form.Fits frame) → StepFits (replica_on_received state found)

@@ -1,19 +1,14 @@
 -- The histories once a candidate is accepted.
-use Rattle.std.proofs.Common.{◌≡◌, ℕ, zero, suc, ◌<◌, ◌≤◌, List, [], ◌∷◌, ◌++◌, length, set, get_or, Option, None, Some, refl, sym, subst, ap, ◌∙◌, arith}
-use Rattle.std.specs.Prelude.{slice_get, IfSome}
+use Rattle.std.proofs.Common.{◌≡◌, ℕ, zero, suc, ◌<◌, List, [], ◌∷◌, ◌++◌, length, set, get_or, Some, refl, sym, ap, ◌∙◌, arith}
+use Rattle.std.specs.Prelude.{slice_get}
 use Rattle.std.proofs.lemmas.Option.{none-some, same_Some}
 use Rattle.qu_stamp.specs.declared.candidate.Candidate.{Candidate}
 use Rattle.qu_history.specs.History.{ObjectHistory}
-use Rattle.qu_versions.specs.declared.limits.TheConstants.{MOST_VERSIONS}
-use Rattle.qu_versions.specs.declared.stored.Stored.{Stored}
 use Rattle.qu_rows.specs.declared.decision.Accepted.{Accepted}
-use Rattle.qu_replica.specs.declared.planned.Gain.{Gain}
-use Rattle.qu_rows.specs.State.{ReplicaState}
-use Rattle.qu_replica.specs.State.{with_candidate, stored_if, accept, with_gain}
-use Rattle.qu_rows.specs.State.{AreHistories}
+use Rattle.qu_rows.specs.State.{ReplicaState, AreHistories}
+use Rattle.qu_replica.specs.State.{with_candidate, accept}
 use Rattle.qu_rows.specs.Allowed.{MayAccept}
-use Rattle.qu_replica.specs.Growth.{MayGain}
-use Rattle.qu_replica.proofs.Requests.CulledRequests.{accept_all-named}
+use Rattle.qu_replica.proofs.Requests.NamedEntries.{accept_all-named}
 use Rattle.qu_replica.proofs.States.Growth.{accept_all-me, accept_all-keys, accept_all-bounds}
 use Rattle.qu_rows.proofs.Own.{own_history}
 use Rattle.qu_replica.proofs.States.Own.{accept-histories}
@@ -66,52 +61,12 @@ put_history (suc number) candidate (here ∷ later) history found =
     ap (λ (rest : List ObjectHistory). here ∷ rest) (put_history number candidate later history found)
 
 -- the place of the history that the candidate makes is that of its object
-grown_place : (state : ReplicaState) (accepted : Accepted) (history : ObjectHistory) → AreHistories state
+pub grown_place : (state : ReplicaState) (accepted : Accepted) (history : ObjectHistory) → AreHistories state
     → MayAccept state accepted
     → slice_get (with_candidate (accepted.object).0 accepted.candidate state.histories) (accepted.object).0 ≡ Some
     history → (history.object).0 ≡ (accepted.object).0
 grown_place state accepted history own may found =
     (own_history (accept state accepted) (accepted.object).0 history (accept-histories state accepted own may)
     found).object
-
--- a history with the candidate and its version are what accepting it makes
-pub gain_is_accepted : (state : ReplicaState) (accepted : Accepted) (gain : Gain) → AreHistories state
-    → MayAccept state accepted
-    → slice_get (with_candidate (accepted.object).0 accepted.candidate state.histories) (accepted.object).0 ≡ Some
-    gain.history
-    → gain.versions ≡ stored_if accepted.object accepted.candidate.stamp accepted.state
-    → with_gain state (Some gain) ≡ accept state accepted
-gain_is_accepted state accepted gain own may found stored =
-    let place : ((gain.history).object).0 ≡ (accepted.object).0 =
-    grown_place state accepted gain.history own may found in
-    let put : set state.histories ((gain.history).object).0 gain.history
-    ≡ with_candidate (accepted.object).0 accepted.candidate state.histories =
-    ap (λ (at : ℕ). set state.histories at gain.history) place
-    ∙ put_history (accepted.object).0 accepted.candidate state.histories gain.history found in
-    ap (λ (them : List ObjectHistory). record state { histories = them; versions = state.versions ++ gain.versions })
-    put
-    ∙ ap (λ (them : List Stored). record (accept state accepted) { versions = state.versions ++ them }) stored
-
-pub gain_may : (state : ReplicaState) (accepted : Accepted) (gain : Gain) → AreHistories state
-    → MayAccept state accepted
-    → slice_get (with_candidate (accepted.object).0 accepted.candidate state.histories) (accepted.object).0 ≡ Some
-    gain.history
-    → gain.versions ≡ stored_if accepted.object accepted.candidate.stamp accepted.state
-    → length (state.versions ++ gain.versions) ≤ MOST_VERSIONS → MayGain state gain
-gain_may state accepted gain own may found stored room =
-    let place : ((gain.history).object).0 ≡ (accepted.object).0 =
-    grown_place state accepted gain.history own may found in
-    record {
-      known = rw place may.known;
-      own = subst AreHistories (sym (gain_is_accepted state accepted gain own may found stored))
-          (accept-histories state accepted own may);
-      room = omega (arith, room);
-    }
-
--- what was accepted so is kept
-pub after-histories : (state : ReplicaState) (gain : Option Gain) → AreHistories state
-    → IfSome gain (MayGain state) → AreHistories (with_gain state gain)
-after-histories state None own may = own
-after-histories state (Some gain) own may = may.own
 
 pub ruleset answers = (accept_all-me, accept_all-keys, accept_all-bounds, accept_all-named)

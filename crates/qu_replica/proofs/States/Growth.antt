@@ -1,16 +1,11 @@
 -- A replica's state only grows.
-use Rattle.std.proofs.Common.{◌≡◌, ℕ, zero, suc, List, [], ◌∷◌, ◌++◌, length, Option, None, Some, refl, sym, ap, ◌∙◌, append_assoc}
+use Rattle.std.proofs.Common.{◌≡◌, ℕ, zero, suc, List, [], ◌∷◌, ◌++◌, length, Option, None, Some, refl, sym, ap, ◌∙◌, append_assoc, inl, inr}
 use Rattle.std.specs.Prelude.{slice_get}
 use Rattle.std.proofs.lemmas.List.{append-nil}
 use Rattle.qu_base.specs.declared.party.Party.TheVariants as party
-use Rattle.qu_base.specs.declared.party.ClientId.{ClientId}
-use Rattle.qu_base.specs.declared.party.ObjectId.{ObjectId}
-use Rattle.qu_stamp.specs.declared.stamp.Stamp.{Stamp}
 use Rattle.qu_stamp.specs.declared.candidate.Candidate.{Candidate}
 use Rattle.qu_seal.specs.Keys.{Ring}
-use Rattle.qu_history.specs.declared.sets.SetOf.{SetOf}
 use Rattle.qu_history.specs.History.{ObjectHistory}
-use Rattle.qu_objects.specs.declared.state.ObjState.{ObjState}
 use Rattle.qu_frames.specs.declared.frame.Frame.{Frame}
 use Rattle.qu_frames.specs.Signing.{brought}
 use Rattle.qu_frames.specs.declared.frame.Frame.TheVariants as frame
@@ -21,10 +16,10 @@ use Rattle.qu_rows.specs.declared.decision.Decision.TheVariants.{Answers, Waits}
 use Rattle.qu_rows.specs.State.{ReplicaState, candidates_in, own_candidates}
 use Rattle.qu_replica.specs.State.{with_candidate, stored_if, accept, accept_all}
 use Rattle.qu_rows.specs.Rows.{asked_at, decision_on}
-use Rattle.qu_replica.specs.Step.{carried_out, replica_on_frame, replica_on_received, replica_step}
-use Rattle.qu_versions.specs.Versions.{version_at}
+use Rattle.qu_rows.specs.Waiting.{TakenRequest}
+use Rattle.qu_replica.proofs.States.Learning.{Learned, is_learned}
+use Rattle.qu_replica.specs.Step.{with_waiting, carried_out, learned, handled, if_handled, replica_on_frame, replica_on_received, replica_step}
 use Rattle.qu_replica.specs.Growth.{Grows}
-use Rattle.qu_versions.proofs.Lookup.{append_grows}
 
 pub length-with_candidate : (number : ℕ) (candidate : Candidate) (histories : List ObjectHistory)
     → length (with_candidate number candidate histories) ≡ length histories
@@ -101,15 +96,51 @@ pub accept_all-bounds : (state : ReplicaState) (accepted : List Accepted)
     → (accept_all state accepted).keys.bounds ≡ state.keys.bounds
 accept_all-bounds state accepted = ap (λ (it : Ring). it.bounds) (accept_all-keys state accepted)
 
-pub carried_out-grows : (state : ReplicaState) (client : ClientId) (number round : ℕ) (sets : List SetOf)
-    (decision : Decision) → Grows state (carried_out state client number round sets decision).0
-carried_out-grows state client number round sets (Answers verdict accepted) = accept_all-grows state accepted
-carried_out-grows state client number round sets Waits = grows-self state
+-- what waits and what is fetched is no part of it
+pub grows-waiting : (old new : ReplicaState) → new.me ≡ old.me → new.keys ≡ old.keys → new.histories ≡ old.histories
+    → (more : List Stored) → new.versions ≡ old.versions ++ more → Grows old new
+grows-waiting old new me keys histories more versions = record {
+  me = me;
+  keys = keys;
+  number = ap length histories;
+  candidates = λ object. (
+    [],
+    ap (λ (it : List ObjectHistory). candidates_in (slice_get it object.0)) histories ∙ sym (append-nil _),
+  );
+  versions = (more, versions);
+}
+
+pub carried_out-grows : (state : ReplicaState) (request : TakenRequest) (decision : Decision)
+    → Grows state (carried_out state request decision).0
+carried_out-grows state request (Answers verdict accepted) = accept_all-grows state accepted
+carried_out-grows state request (Waits missing) =
+    grows-waiting state (with_waiting state request missing) refl refl refl [] (sym (append-nil _))
+
+pub if_handled-grows : (state : ReplicaState) (request : Option TakenRequest)
+    → Grows state (if_handled state request).0
+if_handled-grows state None = grows-self state
+if_handled-grows state (Some request) =
+    carried_out-grows state request
+    (decision_on state (asked_at state request.client request.number request.sets request.body) request.body)
+
+pub learned-grows : (state : ReplicaState) (frame : Frame) → Grows state (learned state frame)
+learned-grows state frame =
+    let is : Learned state frame (learned state frame) = is_learned state frame in
+    elim is.versions [
+      | inl same ↦ grows-waiting state (learned state frame) is.me is.keys is.histories []
+          (same ∙ sym (append-nil _))
+      | inr found ↦ grows-waiting state (learned state frame) is.me is.keys is.histories _ found.versions
+    ]
 
 -- a step forgets nothing
 pub on_frame-grows : (state : ReplicaState) (frame : Frame) → Grows state (replica_on_frame state frame).0
 on_frame-grows state (frame.Request client number round sets body mac) =
-    carried_out-grows state client number round sets (decision_on state (asked_at state client number sets body) body)
+    if_handled-grows state (handled state (frame.Request client number round sets body mac))
+on_frame-grows state (frame.Fetched replica object stamp version mac) =
+    grows-chain state (learned state (frame.Fetched replica object stamp version mac)) _
+    (learned-grows state (frame.Fetched replica object stamp version mac))
+    (if_handled-grows (learned state (frame.Fetched replica object stamp version mac))
+    (handled state (frame.Fetched replica object stamp version mac)))
 on_frame-grows state _ = grows-self state
 
 on_received-grows : (state : ReplicaState) (found : Option Frame) → Grows state (replica_on_received state found).0
@@ -118,10 +149,3 @@ on_received-grows state None = grows-self state
 
 pub step-grows : (state : ReplicaState) (text : List ℕ) → Grows state (replica_step state text).0
 step-grows state text = on_received-grows state (brought state.keys (party.Replica state.me) text)
-
--- a version stays
-pub version_at-grows : (old new : ReplicaState) → Grows old new → (object : ObjectId) (stamp : Stamp)
-    (version : ObjState) → version_at object stamp old.versions ≡ Some version
-    → version_at object stamp new.versions ≡ Some version
-version_at-grows old new grows object stamp version found =
-    append_grows old.versions (grows.versions).0 new.versions (grows.versions).1 object stamp version found

@@ -13,17 +13,10 @@ use Rattle.qu_stamp.proofs.Order.{is_below-self}
 use Rattle.qu_history.specs.History.{ObjectHistory, is_history, latest, greatest_stamp}
 use Rattle.qu_history.proofs.Rising.{is_history_opening, is_history_push, latest_push}
 use Rattle.qu_objects.specs.declared.kind.KindName.{KindName}
-use Rattle.qu_base.specs.declared.party.ClientId.{ClientId}
-use Rattle.qu_history.specs.declared.sets.SetOf.{SetOf}
-use Rattle.qu_rows.specs.declared.decision.Decision.{Decision}
-use Rattle.qu_rows.specs.declared.decision.Decision.TheVariants.{Answers, Waits}
-use Rattle.qu_rows.specs.Allowed.{MayDecide}
-use Rattle.qu_replica.specs.Step.{carried_out}
 use Rattle.qu_rows.specs.declared.decision.Accepted.{Accepted}
-use Rattle.qu_rows.specs.State.{ReplicaState, candidates_in}
-use Rattle.qu_replica.specs.State.{with_candidate, opening_histories, replica_at_start, accept, accept_all}
-use Rattle.qu_rows.specs.State.{is_own, are_own, AreHistories}
-use Rattle.qu_rows.specs.Allowed.{MayAccept, MayAcceptAll}
+use Rattle.qu_rows.specs.State.{ReplicaState, candidates_in, is_own, are_own, AreHistories}
+use Rattle.qu_replica.specs.State.{with_candidate, opening_histories, replica_at_start, accept}
+use Rattle.qu_rows.specs.Allowed.{MayAccept}
 
 -- a history stays its replica's own where a later candidate in time follows
 is_own_push : (me : ReplicaId) (number : ℕ) (history : ObjectHistory) (candidate : Candidate)
@@ -60,13 +53,6 @@ pub accept-histories : (state : ReplicaState) (accepted : Accepted) → AreHisto
 accept-histories state accepted own may =
     are_own-with_candidate state.me 0 (accepted.object).0 accepted.candidate state.histories own may.later may.in_time
 
-pub accept_all-histories : (state : ReplicaState) (accepted : List Accepted) → AreHistories state
-    → MayAcceptAll state accepted → AreHistories (accept_all state accepted)
-unfolding accept_all
-accept_all-histories state [] own may = own
-accept_all-histories state (first ∷ []) own may = accept-histories state first own may
-accept_all-histories state (first ∷ second ∷ later) own may = absurd may
-
 is_own-opening : (me : ReplicaId) (number : ℕ)
     → is_own me number (record { object = record { 0 = number }; replica = me; candidates = opening ∷ [] }) ≡ true
 unfolding is_own greatest_stamp
@@ -84,10 +70,3 @@ are_own_opening me first (kind ∷ kinds) = and_from _ _ (is_own-opening me firs
 pub opening-histories : (me : ReplicaId) (keys : Ring) (kinds : List KindName)
     → AreHistories (replica_at_start me keys kinds)
 opening-histories me keys kinds = are_own_opening me 0 kinds
-
-pub carried_out-histories : (state : ReplicaState) (client : ClientId) (number round : ℕ) (sets : List SetOf)
-    (decision : Decision) → AreHistories state → MayDecide state decision
-    → AreHistories (carried_out state client number round sets decision).0
-carried_out-histories state client number round sets (Answers verdict accepted) own may =
-    accept_all-histories state accepted own may
-carried_out-histories state client number round sets Waits own may = own

@@ -1,20 +1,31 @@
-ghost use Rattle.std.specs.Prelude.{◌≡◌, IfOk};
+ghost use Rattle.std.specs.Prelude.{◌≡◌, false, IfOk};
 ghost use Rattle.qu_base.specs.declared.party.Party.TheVariants as party;
-ghost use Rattle.qu_frames.specs.Signing.{brought};
+ghost use Rattle.qu_frames.specs.Decoding.{decoded};
+ghost use Rattle.qu_frames.specs.Reading.{is_request};
+ghost use Rattle.qu_frames.specs.Signing.{signed};
 ghost use Rattle.qu_versions.specs.Versions.{version_at};
-ghost use Rattle.qu_replica.specs.Step.{other_letters, version_letters};
+ghost use Rattle.qu_rows.specs.State.{AreHistories};
+ghost use Rattle.qu_replica.specs.State.{with_gain};
+ghost use Rattle.qu_replica.specs.Growth.{MayGain};
+ghost use Rattle.qu_replica.specs.Step.{version_letters, replica_step};
 
-use super::Replica;
+use super::{Replica, are_bytes};
+use crate::planned::{Gain, Planned};
 use qu_base::{List, NoMemory, ObjectId, Party, ReplicaId};
 use qu_frames::{Frame, Letter, blank_mac, receive};
 use qu_stamp::Stamp;
 
 impl Replica {
-    /// The letters that answer a text that is no request: to a fetch of a version that it holds there is one.
-    pub(super) fn answer_other(&self, text: &[u8]) -> Result<List<Letter>, NoMemory>
-        ensures { IfOk result (λ letters. letters ≡ other_letters self.now
-            (brought self.now.keys (party.Replica self.now.me) text.now)) }
+    /// What `step` will make of a text that is no request.
+    pub(super) fn plan_other(&self, text: &[u8]) -> Result<Planned, NoMemory>
+        requires { is_request (decoded text.now) ≡ false }
+        ensures state { IfOk result (λ planned. with_gain self.now planned.gain
+            ≡ (replica_step self.now text.now).0) }
+        ensures letters { IfOk result (λ planned. planned.letters ≡ (replica_step self.now text.now).1) }
+        ensures may { IfOk result (λ planned. MayGain self.now planned.gain) }
+        ensures histories { AreHistories self.now }
     {
+        are_bytes(text);
         match receive(self.alloc, &self.keys, Party::Replica(self.me), text)? {
             Some(
                 Frame::Fetch {
@@ -23,11 +34,31 @@ impl Replica {
                     stamp,
                     ..
                 },
-            ) => self.version_letters(replica, object, &stamp),
-            Some(Frame::Request { .. } | Frame::Reply { .. } | Frame::Fetched { .. }) | None => {
-                Ok(List::new(self.alloc))
-            }
+            ) => self.plan_letters(self.version_letters(replica, object, &stamp)?),
+            Some(
+                Frame::Fetched {
+                    replica,
+                    object,
+                    stamp,
+                    state,
+                    ..
+                },
+            ) => self.plan_fetched(replica, object, stamp, state),
+            Some(Frame::Request { .. }) => unreachable!(),
+            Some(Frame::Reply { .. }) | None => self.plan_letters(List::new(self.alloc)),
         }
+    }
+
+    /// The plan of a step that only sends these letters.
+    pub(super) fn plan_letters(&self, letters: List<Letter>) -> Result<Planned, NoMemory>
+        ensures state { IfOk result (λ planned. with_gain self.now planned.gain ≡ self.now) }
+        ensures letters { IfOk result (λ planned. planned.letters ≡ letters) }
+        ensures may { IfOk result (λ planned. MayGain self.now planned.gain) }
+        ensures histories { AreHistories self.now }
+    {
+        let gain = Gain::nothing(self.alloc);
+        self.check_room(&gain)?;
+        Ok(Planned { gain, letters })
     }
 
     /// The letter with a version for the replica that fetches it, where the version is held.
@@ -50,14 +81,22 @@ impl Replica {
             state: version.copy(self.alloc)?,
             mac: blank_mac(),
         };
+        List::one(self.alloc, self.letter_for(to, &frame)?)
+    }
+
+    /// The letter that carries a frame to another replica, signed for it.
+    pub(super) fn letter_for(&self, to: ReplicaId, frame: &Frame) -> Result<Letter, NoMemory>
+        ensures { IfOk result (λ letter. letter ≡ record {
+          from = party.Replica self.now.me;
+          to = party.Replica to;
+          text = signed self.now.keys (party.Replica to) frame.now;
+        }) }
+    {
         let to = Party::Replica(to);
-        List::one(
-            self.alloc,
-            Letter {
-                from: Party::Replica(self.me),
-                to,
-                text: frame.signed(self.alloc, &self.keys, to)?,
-            },
-        )
+        Ok(Letter {
+            from: Party::Replica(self.me),
+            to,
+            text: frame.signed(self.alloc, &self.keys, to)?,
+        })
     }
 }

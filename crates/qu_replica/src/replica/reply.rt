@@ -1,9 +1,11 @@
-ghost use Rattle.std.specs.Prelude.{◌≡◌, [], ◌∷◌, map, slice_get, Some, IfOk, IfSome};
+ghost use Rattle.std.specs.Prelude.{◌≡◌, ◌≤◌, [], ◌∷◌, ◌++◌, length, map, slice_get, None, IfOk, OnOk};
 ghost use Rattle.qu_history.specs.Sealing.{sealed_by};
 ghost use Rattle.qu_replica.specs.State.{accept, accept_all, with_gain};
-ghost use Rattle.qu_replica.specs.Step.{shown, named, reply, carried_out};
-ghost use Rattle.qu_rows.specs.Allowed.{MayAccept, MayAcceptAll, MayDecide};
+ghost use Rattle.qu_replica.specs.Step.{shown, named, reply};
+ghost use Rattle.qu_versions.specs.declared.limits.TheConstants.{MOST_VERSIONS};
+ghost use Rattle.qu_rows.specs.Allowed.{MayAccept, MayAcceptAll};
 ghost use Rattle.qu_replica.specs.Growth.{MayGain};
+ghost use Rattle.qu_waiting.specs.Slots.{TurnFits};
 
 use super::Replica;
 use crate::planned::{Gain, Planned};
@@ -11,46 +13,70 @@ use crate::versions;
 use qu_base::{List, NoMemory, ObjectId, Party, ReplicaId};
 use qu_frames::{Frame, Letter, Reading, Verdict, blank_mac};
 use qu_history::{AddFail, History, Sealed, Sets};
-use qu_rows::{Accepted, Decision};
+use qu_rows::Accepted;
 
 impl Replica {
-    /// What it will make to carry a decision out.
-    pub(super) fn plan_decision(
+    /// What it will make to answer a request, upon the state with what it gained before.
+    pub(super) fn plan_answer(
         &self,
+        gain: Gain,
         reading: &Reading,
         culled: List<(ObjectId, ReplicaId)>,
-        decision: Decision,
+        verdict: Verdict,
+        accepted: &[Accepted],
     ) -> Result<Planned, NoMemory>
-        requires may { MayDecide self.now decision }
+        requires history { gain.history ≡ None }
+        requires versions { gain.versions ≡ [] }
+        requires turn { TurnFits self.now.waiting gain.turn }
+        requires may { MayAcceptAll self.now accepted.now }
         requires named { culled ≡ named self.now reading.now.sets }
         ensures state { IfOk result (λ planned. with_gain self.now planned.gain
-            ≡ (carried_out self.now reading.now.client reading.now.number reading.now.round
-            reading.now.sets decision).0) }
-        ensures letters { IfOk result (λ planned. planned.letters
-            ≡ (carried_out self.now reading.now.client reading.now.number reading.now.round
-            reading.now.sets decision).1) }
-        ensures may { IfOk result (λ planned. IfSome planned.gain (MayGain self.now)) }
+            ≡ accept_all (with_gain self.now gain) accepted.now) }
+        ensures letters { IfOk result (λ planned. planned.letters ≡ reply (accept_all self.now accepted.now)
+            reading.now.client reading.now.number reading.now.round reading.now.sets verdict ∷ []) }
+        ensures may { IfOk result (λ planned. MayGain self.now planned.gain) }
     {
-        match decision {
-            Decision::Answers { verdict, accepted } => Ok(Planned {
-                letters: self.reply(reading, culled, verdict, accepted.as_slice())?,
-                gain: self.gain_of(accepted.as_slice())?,
-            }),
-            Decision::Waits => Ok(Planned::nothing(self.alloc)),
+        Ok(Planned {
+            letters: self.reply(reading, culled, verdict, accepted)?,
+            gain: self.accepted(gain, accepted)?,
+        })
+    }
+
+    /// What the state gains with at most one candidate that is accepted, and its version.
+    fn accepted(&self, gain: Gain, accepted: &[Accepted]) -> Result<Gain, NoMemory>
+        requires history { gain.history ≡ None }
+        requires versions { gain.versions ≡ [] }
+        requires turn { TurnFits self.now.waiting gain.turn }
+        requires may { MayAcceptAll self.now accepted.now }
+        ensures state { IfOk result (λ made. with_gain self.now made
+            ≡ accept_all (with_gain self.now gain) accepted.now) }
+        ensures may { IfOk result (MayGain self.now) }
+    {
+        match accepted {
+            [] => {
+                self.check_room(&gain)?;
+                Ok(gain)
+            }
+            [accepted] => {
+                let history = self.grown(accepted)?;
+                let gain = gain.with_accepted(history, versions::stored(self.alloc, accepted)?);
+                self.check_room(&gain)?;
+                Ok(gain)
+            }
+            _ => unreachable!(),
         }
     }
 
-    /// What the state gains by accepting at most one candidate with its version.
-    #[tactic(auto, unfolding(crate::specs::State::accept_all))]
-    fn gain_of(&self, accepted: &[Accepted]) -> Result<Option<Gain>, NoMemory>
-        requires { MayAcceptAll self.now accepted.now }
-        ensures state { IfOk result (λ gain. with_gain self.now gain ≡ accept_all self.now accepted.now) }
-        ensures may { IfOk result (λ gain. IfSome gain (MayGain self.now)) }
+    /// Whether there is a place for the versions that are gained. More than a list holds take more memory than there
+    /// is.
+    pub(super) fn check_room(&self, gain: &Gain) -> Result<(), NoMemory>
+        ensures { OnOk result (length ((self.now.versions ++ gain.now.found) ++ gain.now.versions)
+            ≤ MOST_VERSIONS) }
     {
-        match accepted {
-            [] => Ok(None),
-            [accepted] => Ok(Some(self.gain(accepted)?)),
-            _ => unreachable!(),
+        if self.versions.has_place(&gain.found, &gain.versions) {
+            Ok(())
+        } else {
+            Err(NoMemory)
         }
     }
 
@@ -181,22 +207,5 @@ impl Replica {
             Err(AddFail::NoMemory) => Err(NoMemory),
             Err(AddFail::NotLater(_) | AddFail::HistoryFull) => unreachable!(),
         }
-    }
-
-    /// What the state gains by accepting a candidate, with its version where it has one. More versions than a list
-    /// holds take more memory than there is.
-    fn gain(&self, accepted: &Accepted) -> Result<Gain, NoMemory>
-        requires { MayAccept self.now accepted.now }
-        ensures state { IfOk result (λ gain. with_gain self.now (Some gain) ≡ accept self.now accepted.now) }
-        ensures may { IfOk result (MayGain self.now) }
-    {
-        let versions = versions::stored(self.alloc, accepted)?;
-        if !self.versions.has_place(&versions) {
-            return Err(NoMemory);
-        }
-        Ok(Gain {
-            history: self.grown(accepted)?,
-            versions,
-        })
     }
 }

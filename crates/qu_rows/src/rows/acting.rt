@@ -4,7 +4,7 @@ ghost use Rattle.qu_stamp.specs.declared.limits.TheConstants.{LAST_TIME};
 ghost use Rattle.qu_history.specs.Sets.{latest_of};
 ghost use Rattle.qu_objects.specs.Performing.{performed_answer};
 ghost use Rattle.qu_kept.specs.Performing.{performed_states};
-ghost use Rattle.qu_rows.specs.Rows.{shown_of, seen_of, class_code, base_version, fresh_act, is_held, unknown_in, unknown_refused, row_thin, standing_in, done_again, repeated, row_retry, row_current, row_method, row_version, row_kept, row_time, row_full, row_done, row_told};
+ghost use Rattle.qu_rows.specs.Rows.{shown_of, seen_of, class_code, base_version, missing_of, base_stamps, fresh_act, is_held, unknown_in, unknown_refused, row_thin, standing_in, done_again, repeated, row_retry, row_current, row_method, row_version, row_kept, row_time, row_full, row_done, row_told};
 
 use super::{Rows, has_no_room};
 use crate::asked::Asked;
@@ -122,14 +122,33 @@ impl<'a> Rows<'a> {
 
     /// Waits where the version is missing upon which the operation rests.
     #[tactic(auto, unfolding(crate::specs::Rows::row_version))]
-    pub(super) fn row_version(&self, asked: &Asked, seen: &Seen) -> Option<Decision>
+    pub(super) fn row_version(
+        &self,
+        asked: &Asked,
+        seen: &Seen,
+    ) -> Result<Option<Decision>, NoMemory>
         requires seen { seen.now ≡ seen_of self.now asked.now seen.now.object }
-        ensures version { IfNone result (IsSome (base_version self.now asked.now seen.now.object)) }
-        ensures value { result ≡ row_version self.now asked.now (seen.now.object ∷ []) }
+        ensures version { IfOk result (λ row. IfNone row (IsSome (base_version self.now asked.now seen.now.object))) }
+        ensures value { IfOk result (λ row. row ≡ row_version self.now asked.now (seen.now.object ∷ [])) }
     {
         match self.base_version(asked, seen) {
-            Some(_) => None,
-            None => Some(Decision::Waits),
+            Some(_) => Ok(None),
+            None => Ok(Some(Decision::Waits {
+                missing: self.missing_base(asked, seen)?,
+            })),
+        }
+    }
+
+    /// The stamp of the missing version upon which the operation rests, where it rests upon one.
+    fn missing_base(&self, asked: &Asked, seen: &Seen) -> Result<List<(ObjectId, Stamp)>, NoMemory>
+        requires seen { seen.now ≡ seen_of self.now asked.now seen.now.object }
+        requires missing { base_version self.now asked.now seen.now.object ≡ None }
+        ensures { IfOk result (λ missing. missing
+            ≡ missing_of self.now (base_stamps self.now asked.now (seen.now.object ∷ []))) }
+    {
+        match &seen.method {
+            Some(base) => List::one(self.alloc, (seen.object, base.stamp)),
+            None => Ok(List::new(self.alloc)),
         }
     }
 

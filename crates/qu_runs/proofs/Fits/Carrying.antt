@@ -31,13 +31,14 @@ use Rattle.qu_rows.specs.declared.decision.Decision.TheVariants.{Answers}
 use Rattle.qu_rows.specs.Rows.{asked_at, decision_on}
 use Rattle.qu_rows.specs.State.{ReplicaState}
 use Rattle.qu_replica.specs.State.{accept_all}
-use Rattle.qu_replica.specs.Step.{answer_frame}
+use Rattle.qu_replica.specs.Step.{answer_frame, handled, learned}
 use Rattle.qu_client.specs.declared.state.ClientState.{ClientState}
 use Rattle.qu_client.specs.declared.work.Work.{Work}
 use Rattle.qu_client.specs.Rounds as rounds
 use Rattle.qu_world.specs.State.{WorldState, numbered, with_numbered, letter_of}
 use Rattle.qu_claims.specs.Carried.{Carries, Brings, Asks, Tells}
 use Rattle.qu_world.proofs.Each.{set_here}
+use Rattle.qu_rows.specs.Waiting.{TakenRequest}
 
 -- ---- a letter carries what was sent
 
@@ -107,11 +108,13 @@ AsksFit state =
 
 -- what the replica answers to a frame fits
 abbrev pub AnswersFit : ReplicaState → Frame → Type 0
-AnswersFit state (frame.Request client number round sets body mac) =
-    (verdict : Verdict) (accepted : List Accepted) → decision_on state (asked_at state client number sets body)
-    body ≡ Answers verdict accepted
-    → frame_form.Fits (answer_frame (accept_all state accepted) client number round sets verdict)
-AnswersFit state _ = Unit {0}
+AnswersFit state received =
+    (request : TakenRequest) → handled state received ≡ Some request → (verdict : Verdict) (accepted : List Accepted)
+    → decision_on (learned state received)
+    (asked_at (learned state received) request.client request.number request.sets request.body) request.body
+    ≡ Answers verdict accepted
+    → frame_form.Fits (answer_frame (accept_all (learned state received) accepted) request.client request.number
+    request.round request.sets verdict)
 
 -- what an event makes the parties send fits
 pub record IsFitStep (old new : WorldState) : Type 0 where

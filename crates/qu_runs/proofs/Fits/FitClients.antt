@@ -29,7 +29,7 @@ use Rattle.qu_client.specs.Sound.{NumbersWithin, IsSoundWork, IsSound}
 use Rattle.qu_client.specs.Rounds.{request_of, requests_from}
 use Rattle.qu_client.proofs.Cases.{counted_cases, step_cases, invoke_cases}
 use Rattle.qu_history.specs.declared.sets.SetOf.{SetOf}
-use Rattle.qu_replica.specs.Fits.{LetterFits}
+use Rattle.qu_fitting.specs.Fits.{LetterFits}
 use Rattle.qu_world.specs.State.{opening_clients, numbered}
 use Rattle.qu_client.proofs.Laws.{client_step-me, client_step-bounds, client_invoke-me, client_invoke-bounds, NumbersWithin-opening, NumbersWithin-step, NumbersWithin-invoke, IsSound-step, IsSound-invoke, work_within, sound_work}
 use Rattle.qu_runs.specs.Plain.{HasOpParts}

@@ -11,7 +11,7 @@ use Rattle.qu_frames.specs.declared.frame.Frame.{Frame}
 use Rattle.qu_frames.specs.declared.frame.Frame.TheVariants as frame
 use Rattle.qu_frames.specs.Formats.{body_form, frame_form, objects_in_sets}
 use Rattle.qu_rows.specs.Allowed.{has_parts, HasParts}
-use Rattle.qu_replica.proofs.Fits.FitSteps.{request-fits}
+use Rattle.qu_fitting.proofs.FitRequests.{request-fits}
 
 one_part : {X : Type 0} (form : Format X) (known : ObjectId → Bool) (parts : List (ObjectId × X))
     → (parts_form form known).Fits parts → are_parts parts ≡ true

@@ -30,7 +30,7 @@ use Rattle.qu_client.specs.State.{is_shown, kept_of}
 use Rattle.qu_client.specs.Rounds.{entries_from, set_of, sets_of, request_of}
 use Rattle.qu_runs.specs.Plain.{HasOpParts}
 use Rattle.qu_objects.proofs.Text.{method_fits}
-use Rattle.qu_replica.proofs.Fits.FitSteps.{blank_sized}
+use Rattle.qu_fitting.proofs.FitRequests.{blank_sized}
 
 -- ---- the entries of an object, replica by replica
 

@@ -19,13 +19,15 @@ use Rattle.qu_frames.proofs.Decoded.{decoded_is_spelled}
 use Rattle.qu_frames.specs.Formats.{frame_form}
 use Rattle.qu_frames.specs.Decoding.{decoded}
 use Rattle.qu_rows.specs.declared.decision.Decision.{Decision}
-use Rattle.qu_replica.specs.Fits.{StateFits, LetterFits, StepFits}
+use Rattle.qu_fitting.specs.Fits.{StateFits, LetterFits, StepFits}
 use Rattle.qu_rows.specs.State.{ReplicaState}
 use Rattle.qu_replica.specs.State.{accept_all, replica_at_start}
-use Rattle.qu_replica.specs.Step.{carried_out, replica_step}
-use Rattle.qu_replica.proofs.Fits.FitDecisions.{DecisionFits}
+use Rattle.qu_rows.specs.Waiting.{request_frame_of}
+use Rattle.qu_replica.specs.Step.{carried_out, learned, replica_step}
+use Rattle.qu_fitting.proofs.FitDecisions.{DecisionFits}
 use Rattle.qu_replica.proofs.Fits.FitState.{opening-fits}
-use Rattle.qu_replica.proofs.Fits.FitSteps.{RequestFits, request-fits, decision-fits, answer-fits, on_frame-fits, on_received-fits}
+use Rattle.qu_replica.proofs.Fits.FitSteps.{answer-fits, decided-fits, learned-fits, handled-fits, on_received-fits}
+use Rattle.qu_fitting.proofs.FitRequests.{RequestFits, request-fits, decision-fits}
 use Rattle.qu_client.specs.declared.state.ClientState.{ClientState}
 use Rattle.qu_client.specs.declared.state.Stepped.{Stepped}
 use Rattle.qu_client.specs.Steps.{client_invoke, client_step, client_tick}
@@ -236,16 +238,19 @@ carried_in_run trace is_run plain count within number letter is carried carries 
 -- the answer to a frame that fits, fits
 pub answers_fit : (state : ReplicaState) (received : Frame) → StateFits state → frame_form.Fits received
     → AnswersFit state received
-answers_fit state (frame.Request client number round sets body mac) fits within =
-    λ verdict accepted given.
-    let request : RequestFits client number round sets body = request-fits client number round sets body mac within in
-    let after : StateFits (accept_all state accepted) =
-    subst (λ (it : Decision). StateFits (carried_out state client number round sets it).0) given
-    (on_frame-fits state (frame.Request client number round sets body mac) fits within).0 in
-    answer-fits (accept_all state accepted) after client number round sets verdict request.low request.high
-    request.word request.from_one request.few request.shown
-    (subst DecisionFits given (decision-fits state client number round sets body fits request)).0
-answers_fit state _ fits within = tt
+answers_fit state received fits within = λ request handles verdict accepted given.
+    let mid : ReplicaState = learned state received in
+    let mid_fits : StateFits mid = learned-fits state received fits within in
+    let asked : frame_form.Fits (request_frame_of request) = handled-fits state received fits within request handles in
+    let fields : RequestFits request.client request.number request.round request.sets request.body =
+    request-fits request.client request.number request.round request.sets request.body request.mac asked in
+    let after : StateFits (accept_all mid accepted) =
+    subst (λ (it : Decision). StateFits (carried_out mid request it).0) given
+    (decided-fits mid request mid_fits asked).0 in
+    answer-fits (accept_all mid accepted) after request.client request.number request.round request.sets verdict
+    fields.low fields.high fields.word fields.from_one fields.few fields.shown
+    (subst DecisionFits given (decision-fits mid request.client request.number request.round request.sets request.body
+    mid_fits fields)).0
 
 -- what an event makes the parties send fits
 pub fit_step : (trace : Trace) → IsRun trace → ArePlain trace → (count : ℕ) → count < length trace.entries

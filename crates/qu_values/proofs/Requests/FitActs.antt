@@ -18,7 +18,7 @@ use Rattle.qu_frames.specs.declared.frame.Letter.{Letter}
 use Rattle.qu_frames.specs.Formats.{body_form, frame_form, objects_in_sets}
 use Rattle.qu_frames.specs.Signing.{brought}
 use Rattle.qu_frames.proofs.Decoded.{decoded_is_spelled}
-use Rattle.qu_replica.proofs.Fits.FitSteps.{RequestFits, request-fits}
+use Rattle.qu_fitting.proofs.FitRequests.{RequestFits, request-fits}
 use Rattle.qu_trace.specs.declared.event.Event.{Event}
 use Rattle.qu_trace.specs.declared.event.Event.TheVariants.{Invoke, Deliver, Tick, Inject}
 use Rattle.qu_trace.specs.declared.trace.Entry.{Entry}

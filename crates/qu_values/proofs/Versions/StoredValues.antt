@@ -36,16 +36,18 @@ use Rattle.qu_runs.proofs.Worlds.OpeningReplicas.{opening_at}
 use Rattle.qu_values.proofs.Versions.BegunVersions.{at_start, opening-versioned}
 use Rattle.qu_versions.specs.declared.stored.Stored.{Stored}
 use Rattle.std.proofs.lemmas.List.{append-nil}
-use Rattle.qu_claims.specs.Handling.{HoldsAlike, WasFound, Learns, Handles}
+use Rattle.qu_claims.specs.Handling.{WasFound, Learns, Handles}
 use Rattle.qu_versions.proofs.Lookup.{append_grows}
 use Rattle.qu_versions.specs.Versions.{is_stored}
-use Rattle.qu_accepts.proofs.Handling.{alike_candidates, mid_candidates}
+use Rattle.qu_accepts.proofs.ActAcceptance.{alike_candidates}
+use Rattle.qu_accepts.proofs.Handling.{mid_candidates}
 use Rattle.qu_accepts.proofs.Happenings.{moves_at, handled_moves}
 use Rattle.qu_accepts.proofs.Performed.{stored_cases}
 use Rattle.qu_values.proofs.Versions.SteppedVersions.{later_of_stamp, version_of_stamp, moved-versioned, request_adds, none_is_one, same_behind}
 use Rattle.qu_stamp.specs.Stamp.{same_stamp}
 use Rattle.qu_stamp.proofs.Order.{equal_by_same_stamp}
 use Rattle.std.proofs.lemmas.List.Elements.{All-head, All-tail}
+use Rattle.qu_replica.specs.Growth.{HoldsAlike}
 
 -- ---- what is learned
 

@@ -6,7 +6,7 @@ use Rattle.qu_listing.proofs.events.put_events.Goals as goal
 
 pub loop-index-init : goal.loop-index-init
 unfolding listing
-loop-index-init c = record { text = refl; known = c.new-known.ensures c.args.receivers.now }
+loop-index-init c = record { text = refl; known = c.in_ok-known.ensures }
 
 pub loop-index-preserved : goal.loop-index-preserved
 loop-index-preserved c =

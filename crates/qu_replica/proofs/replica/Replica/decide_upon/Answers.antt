@@ -2,13 +2,12 @@
 use Rattle.std.proofs.Common.{rules, ◌≡◌, ap, ◌∙◌}
 use Rattle.qu_rows.specs.State.{ReplicaState}
 use Rattle.qu_rows.specs.Rows.{asked_at, row_unknown}
-use Rattle.qu_replica.proofs.Requests.CulledRequests.{known_passes}
+use Rattle.qu_rows.proofs.CulledRequests.{known_passes}
 use Rattle.qu_replica.proofs.replica.Replica.decide_upon.Goals as goal
 
 pub decide-requires : goal.decide-requires
 decide-requires c =
-    let state : ReplicaState = c.args.self.now in
+    let state : ReplicaState = c.args.rows.now in
     let read = c.args.reading.now in
     let asked : c.in_ok-asked.asked ≡ asked_at state read.client read.number read.sets read.body = search rules in
-    ap (λ (viewed : ReplicaState). row_unknown viewed c.in_ok-asked.asked) c.rows.ensures.value
-    ∙ ap (row_unknown state) asked ∙ known_passes state read.sets read.client read.number read.body c.requires.known
+    ap (row_unknown state) asked ∙ known_passes state read.sets read.client read.number read.body c.requires.known

@@ -3,8 +3,7 @@ use Rattle.std.proofs.Common.{sym, subst, ◌∙◌}
 use Rattle.std.specs.List.{AllByRecursion}
 use Rattle.qu_rows.specs.State.{AreHistories}
 use Rattle.qu_replica.specs.Growth.{Grows}
-use Rattle.qu_replica.specs.Fits.{StateFits, LetterFits}
-use Rattle.qu_replica.proofs.States.Accepting.{after-histories}
+use Rattle.qu_fitting.specs.Fits.{StateFits, LetterFits}
 use Rattle.qu_replica.proofs.States.Growth.{step-grows}
 use Rattle.qu_replica.proofs.Fits.FitSteps.{step-fits}
 use Rattle.qu_replica.proofs.replica.Replica.step_read.Goals as goal
@@ -13,10 +12,7 @@ pub returns-in_err-planned-clause-histories : goal.returns-in_err-planned-clause
 returns-in_err-planned-clause-histories c = c.plan_read.ensures.histories
 
 pub returns-clause-histories : goal.returns-clause-histories
-returns-clause-histories c =
-    subst AreHistories (sym c.carry_out.ensures.state)
-    (after-histories c.args.self.now c.in_ok-planned.planned.gain c.plan_read.ensures.histories
-    c.in_ok-planned.ensures.may)
+returns-clause-histories c = subst AreHistories (sym c.carry_out.ensures.state) c.in_ok-planned.ensures.may.own
 
 pub returns-clause-grows : goal.returns-clause-grows
 returns-clause-grows c =

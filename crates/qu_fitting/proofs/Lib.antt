@@ -1,0 +1,9 @@
+pub mod FitStamps
+pub mod FitCulled
+pub mod FitVersions
+pub mod FitVerdicts
+pub mod FitAccepted
+pub mod FitDecisions
+pub mod FitRepairs
+pub mod FitMends
+pub mod FitRequests

@@ -1,0 +1,187 @@
+//! Versions that replicas fetch: which requests wait, and whether what another replica sends counts.
+ghost use Rattle.std.specs.Prelude.{◌≡◌, ◌++◌, if◌then◌else◌, OnOk, IfOk, Some, string_bytes, codes};
+ghost use Rattle.std.specs.Option.{option_copied};
+ghost use Rattle.qu_trace.specs.Letters.{offered_by};
+ghost use Rattle.qu_trace.specs.Starts.{AreStarts};
+ghost use Rattle.qu_listing.specs.Fetching.{is_fetch, waits_text, wakes_text, found_text, counting_text, frame_noted, noted_text};
+
+use super::receivers::Receivers;
+use super::so_far::SoFar;
+use qu_base::{NoMemory, ObjectId, Party, ReadFail};
+use qu_frames::{Frame, Letter, decode};
+use qu_replica::Replica;
+use qu_stamp::Stamp;
+use qu_trace::{Entry, Event, Sent as Letters};
+use qu_waiting::{Counting, Waiting};
+use std::alloc::Global;
+
+/// Whether one replica asks another for a version.
+fn is_fetch(alloc: Global, letter: &Letter) -> Result<bool, NoMemory>
+    ensures { IfOk result (λ is. is ≡ is_fetch letter.now) }
+{
+    let (Party::Replica(_), Party::Replica(_)) = (letter.from, letter.to) else {
+        return Ok(false);
+    };
+    match decode(alloc, letter.text.as_slice()) {
+        Ok(Frame::Fetch { .. }) => Ok(true),
+        Ok(_) | Err(ReadFail::Bad(_)) => Ok(false),
+        Err(ReadFail::NoMemory) => Err(NoMemory),
+    }
+}
+
+/// Writes whether a request waits, by the letters of its event.
+pub fn put_waits(alloc: Global, text: &mut String, letters: &[Letter]) -> Result<(), NoMemory>
+    ensures { OnOk result (string_bytes text.new ≡ string_bytes text.old ++ waits_text letters.now) }
+{
+    let Some(letter) = letters.first() else {
+        return Ok(());
+    };
+    if is_fetch(alloc, letter)? {
+        text.push_str(", waits")?;
+    }
+    Ok(())
+}
+
+/// Writes what the party that is offered a text at an event makes of it.
+pub fn put_noted(
+    alloc: Global,
+    text: &mut String,
+    receivers: &Receivers,
+    known: &SoFar,
+    earlier: &[Entry],
+    event: &Event,
+) -> Result<(), NoMemory>
+    requires { AreStarts earlier.now known.now.starts }
+    ensures { OnOk result (string_bytes text.new ≡ string_bytes text.old
+        ++ noted_text receivers.now known.now.replicas.items (offered_by earlier.now event.now)) }
+{
+    let replicas = known.replicas.as_slice();
+    match event {
+        Event::Deliver(number) => {
+            let letters = Letters::new(earlier, known.starts.places.as_slice());
+            let Some(letter) = letters.letter(*number) else {
+                return Ok(());
+            };
+            let (to, bytes) = (letter.to, letter.text.as_slice());
+            put_offered(alloc, text, receivers, replicas, to, bytes)
+        }
+        Event::Inject(to, bytes) => {
+            put_offered(alloc, text, receivers, replicas, *to, bytes.as_slice())
+        }
+        Event::Invoke(_, _) | Event::Tick(_) => Ok(()),
+    }
+}
+
+/// Writes what a party makes of the bytes that it is offered.
+fn put_offered(
+    alloc: Global,
+    text: &mut String,
+    receivers: &Receivers,
+    replicas: &[Replica],
+    to: Party,
+    bytes: &[u8],
+) -> Result<(), NoMemory>
+    ensures { OnOk result (string_bytes text.new ≡ string_bytes text.old
+        ++ noted_text receivers.now replicas.now (Some (to, bytes.now))) }
+{
+    let Party::Replica(me) = to else {
+        return Ok(());
+    };
+    let Some(replica) = replicas.get(usize::from(me.0)) else {
+        return Ok(());
+    };
+    let frame = receivers.take(alloc, to, bytes)?;
+    put_frame_noted(text, replica, &frame)
+}
+
+fn put_frame_noted(
+    text: &mut String,
+    replica: &Replica,
+    frame: &Option<Frame>,
+) -> Result<(), NoMemory>
+    ensures { OnOk result (string_bytes text.new ≡ string_bytes text.old ++ frame_noted replica.now frame.now) }
+{
+    let Some(
+        Frame::Fetched {
+            replica: from,
+            object,
+            stamp,
+            state,
+            ..
+        },
+    ) = frame
+    else {
+        return Ok(());
+    };
+    let counting = replica.counting(*from, *object, stamp, state)?;
+    put_counting(text, counting, replica, *object, stamp)
+}
+
+/// Writes whether a version that another replica sends counts as its answer.
+fn put_counting(
+    text: &mut String,
+    counting: Counting,
+    replica: &Replica,
+    object: ObjectId,
+    stamp: &Stamp,
+) -> Result<(), NoMemory>
+    ensures { OnOk result (string_bytes text.new ≡ string_bytes text.old
+        ++ counting_text counting replica.now object stamp.now) }
+{
+    match counting {
+        Counting::NotFetched => {
+            text.push_str(", not counted, not fetched")?;
+            Ok(())
+        }
+        Counting::OtherKind => {
+            text.push_str(", not counted, another kind")?;
+            Ok(())
+        }
+        Counting::Twice => {
+            text.push_str(", not counted, answered before")?;
+            Ok(())
+        }
+        Counting::Counted => {
+            text.push_str(", counted")?;
+            Ok(())
+        }
+        Counting::Found => put_found(text, replica, object, stamp),
+    }
+}
+
+/// Writes that a version is found, whether one is held already, and which request it wakes.
+fn put_found(
+    text: &mut String,
+    replica: &Replica,
+    object: ObjectId,
+    stamp: &Stamp,
+) -> Result<(), NoMemory>
+    ensures { OnOk result (string_bytes text.new ≡ string_bytes text.old ++ found_text replica.now object stamp.now) }
+{
+    put_held(text, replica.version(object, stamp).is_some())?;
+    put_wakes(text, replica.first_waiting(object, stamp))
+}
+
+fn put_held(text: &mut String, held: bool) -> Result<(), NoMemory>
+    ensures { OnOk result (string_bytes text.new
+        ≡ string_bytes text.old ++ (if held then codes ", counted, found, held" else codes ", counted, found")) }
+{
+    if held {
+        text.push_str(", counted, found, held")?;
+    } else {
+        text.push_str(", counted, found")?;
+    }
+    Ok(())
+}
+
+fn put_wakes(text: &mut String, waiting: Option<&Waiting>) -> Result<(), NoMemory>
+    ensures { OnOk result (string_bytes text.new
+        ≡ string_bytes text.old ++ wakes_text (option_copied waiting.entry)) }
+{
+    let Some(waiting) = waiting else {
+        return Ok(());
+    };
+    let (client, number) = (waiting.reading.client().0, waiting.reading.number());
+    write!(text, ", wakes {client}.{number}")?;
+    Ok(())
+}

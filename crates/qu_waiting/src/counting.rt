@@ -1,0 +1,14 @@
+/// Whether a version that a replica sends counts as its answer to a fetch.
+#[derive(Clone, Copy, Debug, PartialEq, Eq)]
+pub enum Counting {
+    /// No fetch of the version runs.
+    NotFetched,
+    /// The object has another kind, or the replica does not have the object.
+    OtherKind,
+    /// The replica answered before.
+    Twice,
+    /// It counts, and more identical ones are needed.
+    Counted,
+    /// It counts, and is the last of the identical ones that are needed.
+    Found,
+}

@@ -1,0 +1,39 @@
+ghost use Rattle.std.specs.Prelude.{◌≡◌, IfOk};
+
+use qu_base::{NoMemory, ObjectId};
+use qu_stamp::Stamp;
+use qu_sync::Fetching;
+use std::marker::Model;
+
+/// A version that other replicas were asked for, and what they answered.
+#[derive(Debug, Drop)]
+pub struct Running {
+    pub object: ObjectId,
+    pub stamp: Stamp,
+    pub answers: Fetching,
+}
+
+impl Model for Running {
+    ghost use Rattle.qu_rows.specs.Waiting.{Running as Runs};
+
+    ghost Value = { Runs };
+
+    ghost view = { λ running. record {
+      object = running.object;
+      stamp = running.stamp;
+      answers = running.answers;
+    } };
+}
+
+impl Running {
+    /// An equal fetch.
+    pub fn copy(&self) -> Result<Running, NoMemory>
+        ensures { IfOk result (λ running. running ≡ self.now) }
+    {
+        Ok(Running {
+            object: self.object,
+            stamp: self.stamp,
+            answers: self.answers.copy()?,
+        })
+    }
+}
