@@ -1,0 +1,305 @@
+//! The rows that no run of a script reaches.
+
+ghost use Rattle.std.specs.Prelude.{◌≤◌};
+
+use qu_base::{Bounds, ClientId, Digest, List, ObjectId, Party, ReplicaId};
+use qu_frames::{Body, ClassCode, Frame, Letter, Refusal, Verdict, blank_mac, decode};
+use qu_history::{History, SetOf, Sets};
+use qu_objects::{Act, Answer, Item, KindName, Method, ObjState, Value};
+use qu_replica::Replica;
+use qu_seal::KeyRing;
+use qu_stamp::{Candidate, LAST_TIME, Stamp};
+use qu_testing::holds;
+use std::alloc::Global;
+use std::test::Fail;
+
+const COUNTER: ObjectId = ObjectId(0);
+
+/// The keys of two clients and so many replicas that this number may lie.
+fn keys_for(b: u8) -> Result<KeyRing, Fail> {
+    Ok(KeyRing::derive(7, &Bounds::new(b)?, 2))
+}
+
+/// The keys of 6 replicas and two clients.
+fn keys() -> Result<KeyRing, Fail> {
+    keys_for(1)
+}
+
+/// Replica 0 of these, with one counter.
+fn started_with(alloc: Global, keys: KeyRing) -> Result<Replica, Fail> {
+    Ok(Replica::start(alloc, ReplicaId(0), keys, &[KindName::Counter])?)
+}
+
+/// Replica 0 of 6, with one counter.
+fn started(alloc: Global) -> Result<Replica, Fail> {
+    started_with(alloc, keys()?)
+}
+
+/// The sets of a quorum whose histories end with this stamp, sealed by these keys.
+fn sets(alloc: Global, keys: &KeyRing, latest: Stamp) -> Result<Sets, Fail> {
+    torn(alloc, keys, latest, latest)
+}
+
+/// The sets of a quorum, sealed by these keys, where the histories of so many replicas as a repair needs end with the
+/// first stamp, and those of the others with the second.
+fn torn(alloc: Global, keys: &KeyRing, first: Stamp, second: Stamp) -> Result<Sets, Fail> {
+    let mut entries = List::new(alloc);
+    for replica in 0..keys.bounds().q() {
+        let mut history = History::opening(alloc, COUNTER, ReplicaId(replica))?;
+        let latest = if replica < keys.bounds().r() {
+            first
+        } else {
+            second
+        };
+        if latest != Stamp::opening() {
+            let prior = Stamp::opening();
+            history.add(Candidate {
+                stamp: latest,
+                prior,
+            })?;
+        }
+        entries.push(history.sealed(alloc, keys)?)?;
+    }
+    let set = SetOf {
+        object: COUNTER,
+        entries,
+    };
+    Ok(Sets::new(List::one(alloc, set)?).ok_or("no sets")?)
+}
+
+/// The verdict on an act of client 1 with this number upon this stamp.
+fn verdict(
+    alloc: Global,
+    replica: &mut Replica,
+    number: u64,
+    latest: Stamp,
+) -> Result<Verdict, Fail> {
+    let sets = sets(alloc, &keys()?, latest)?;
+    Ok(answer(alloc, replica, number, sets)?.0)
+}
+
+/// The verdict on an act of client 1 with this number and these sets, and the entries that the reply names.
+fn answer(
+    alloc: Global,
+    replica: &mut Replica,
+    number: u64,
+    sets: Sets,
+) -> Result<(Verdict, List<(ObjectId, ReplicaId)>), Fail> {
+    answer_to(alloc, replica, &act(alloc, number, sets)?)
+}
+
+/// The request of an act of client 1 with this number and these sets.
+fn act(alloc: Global, number: u64, sets: Sets) -> Result<Frame, Fail> {
+    let parts = List::one(alloc, (COUNTER, Method::Add(1)))?;
+    Ok(Frame::Request {
+        client: ClientId(1),
+        number,
+        round: 1,
+        sets,
+        body: Body::Act(Act::new(parts)?),
+        mac: blank_mac(),
+    })
+}
+
+/// The verdict on a request of client 2 to mend the counter upon these sets.
+fn mended(alloc: Global, replica: &mut Replica, sets: Sets) -> Result<Verdict, Fail> {
+    let request = Frame::Request {
+        client: ClientId(2),
+        number: 1,
+        round: 1,
+        sets,
+        body: Body::Mend(COUNTER),
+        mac: blank_mac(),
+    };
+    Ok(answer_to(alloc, replica, &request)?.0)
+}
+
+/// The verdict of the reply that a frame brings about, and the entries that the reply names.
+fn answer_to(
+    alloc: Global,
+    replica: &mut Replica,
+    frame: &Frame,
+) -> Result<(Verdict, List<(ObjectId, ReplicaId)>), Fail> {
+    answer_with(alloc, &keys()?, replica, frame)
+}
+
+/// The same under these keys.
+fn answer_with(
+    alloc: Global,
+    keys: &KeyRing,
+    replica: &mut Replica,
+    frame: &Frame,
+) -> Result<(Verdict, List<(ObjectId, ReplicaId)>), Fail> {
+    let letters = stepped(alloc, keys, replica, frame)?;
+    let letter = letters.get(0).ok_or("nothing is sent")?;
+    match decode(alloc, letter.text.as_slice()) {
+        Ok(
+            Frame::Reply {
+                verdict,
+                culled,
+                ..
+            },
+        ) => Ok((verdict, culled)),
+        _ => Err("no reply")?,
+    }
+}
+
+/// The letters that answer a frame which its sender has signed with these keys.
+fn stepped(
+    alloc: Global,
+    keys: &KeyRing,
+    replica: &mut Replica,
+    frame: &Frame,
+) -> Result<List<Letter>, Fail> {
+    let text = frame.signed(alloc, keys, Party::Replica(ReplicaId(0)))?;
+    Ok(replica.step(text.as_slice())?)
+}
+
+/// The stamp of an act at this time.
+fn stamp_at(time: u64) -> Stamp {
+    Stamp {
+        time,
+        barrier: false,
+        client: ClientId(1),
+        act: None,
+        set: Digest([2; 32]),
+    }
+}
+
+/// What another replica tells where it is asked for the version under this stamp: what the counter is.
+fn told(alloc: Global, from: u8, stamp: Stamp, count: u64) -> Frame {
+    let state = ObjState {
+        value: Value::Counter(count),
+        kept: List::new(alloc),
+        links: List::new(alloc),
+    };
+    Frame::Fetched {
+        replica: ReplicaId(from),
+        object: COUNTER,
+        stamp,
+        state,
+        mac: blank_mac(),
+    }
+}
+
+#[test]
+fn time_can_be_spent(rt: HostRuntime) -> Result<(), Fail> {
+    let (alloc, keys, stamp) = (rt.alloc(), keys()?, stamp_at(LAST_TIME));
+    let mut replica = started(alloc)?;
+    let request = act(alloc, 1, sets(alloc, &keys, stamp)?)?;
+    let fetches = stepped(alloc, &keys, &mut replica, &request)?;
+    assert_eq!(rt; fetches.len(), 5);
+    let first = stepped(alloc, &keys, &mut replica, &told(alloc, 1, stamp, 5))?;
+    assert!(rt; first.is_empty());
+    let found = answer_to(alloc, &mut replica, &told(alloc, 2, stamp, 5))?.0;
+    assert_eq!(rt; found, Verdict::Refused(Refusal::TimeSpent(COUNTER)));
+    Ok(())
+}
+
+/// What the counter is taken for where b replicas tell that it is 9, and then others that it is 5, of which each but
+/// the last is answered by nothing.
+fn found_behind_lies(alloc: Global, b: u8) -> Result<Value, Fail>
+    requires { b ≤ 3 }
+{
+    let (keys, stamp) = (keys_for(b)?, stamp_at(1));
+    let mut replica = started_with(alloc, keys)?;
+    let request = act(alloc, 1, sets(alloc, &keys, stamp)?)?;
+    stepped(alloc, &keys, &mut replica, &request)?;
+    for from in 1..=2 * b {
+        let count = if from <= b { 9 } else { 5 };
+        let letters = stepped(alloc, &keys, &mut replica, &told(alloc, from, stamp, count))?;
+        holds(letters.is_empty(), "nothing is sent")?;
+    }
+    let last = told(alloc, 2 * b + 1, stamp, 5);
+    let verdict = answer_with(alloc, &keys, &mut replica, &last)?.0;
+    holds(matches!(&verdict, Verdict::Done { .. }), "the act is done")?;
+    Ok(replica.version(COUNTER, &stamp).ok_or("no version")?.value)
+}
+
+#[test]
+fn lies_of_as_many_replicas_as_may_lie_are_not_taken(rt: HostRuntime) -> Result<(), Fail> {
+    for b in 1..4 {
+        assert_eq!(rt; found_behind_lies(rt.alloc(), b)?, Value::Counter(5));
+    }
+    Ok(())
+}
+
+#[test]
+fn a_history_can_be_full(rt: HostRuntime) -> Result<(), Fail> {
+    let mut replica = started(rt.alloc())?;
+    let mut latest = Stamp::opening();
+    for number in 1..1024 {
+        verdict(rt.alloc(), &mut replica, number, latest)?;
+        latest = replica.history(COUNTER).ok_or("no history")?.latest();
+    }
+    assert_eq!(rt; latest.time, 1023);
+    let found = verdict(rt.alloc(), &mut replica, 1024, latest)?;
+    assert_eq!(rt; found, Verdict::Refused(Refusal::HistoryFull(COUNTER)));
+    Ok(())
+}
+
+#[test]
+fn a_repeated_act_is_told_its_answer(rt: HostRuntime) -> Result<(), Fail> {
+    let mut replica = started(rt.alloc())?;
+    verdict(rt.alloc(), &mut replica, 2, Stamp::opening())?;
+    let latest = replica.history(COUNTER).ok_or("no history")?.latest();
+    let again = verdict(rt.alloc(), &mut replica, 2, latest)?;
+    let items = List::one(rt.alloc(), Item::Number(1))?;
+    assert_eq!(rt; again, Verdict::Already(Answer::Ok(items)));
+    let lower = verdict(rt.alloc(), &mut replica, 1, latest)?;
+    assert_eq!(rt; lower, Verdict::Refused(Refusal::Spent(COUNTER, 2)));
+    Ok(())
+}
+
+#[test]
+fn entries_under_other_keys_are_named_and_do_not_count(rt: HostRuntime) -> Result<(), Fail> {
+    let mut replica = started(rt.alloc())?;
+    let others = KeyRing::derive(8, &Bounds::new(1)?, 1);
+    let sets = sets(rt.alloc(), &others, Stamp::opening())?;
+    let (verdict, named) = answer(rt.alloc(), &mut replica, 1, sets)?;
+    assert_eq!(rt; verdict, Verdict::Refused(Refusal::Thin(COUNTER)));
+    let all = [0, 1, 2, 3, 4].map(|replica| (COUNTER, ReplicaId(replica)));
+    assert_eq!(rt; named.as_slice(), &all[..]);
+    Ok(())
+}
+
+#[test]
+fn a_torn_object_gets_one_barrier(rt: HostRuntime) -> Result<(), Fail> {
+    let alloc = rt.alloc();
+    let mut replica = started(alloc)?;
+    verdict(alloc, &mut replica, 1, Stamp::opening())?;
+    let first = replica.history(COUNTER).ok_or("no history")?.latest();
+    let mut second = first;
+    second.client = ClientId(2);
+    let sets = torn(alloc, &keys()?, first, second)?;
+    let stamp = Stamp {
+        time: 2,
+        barrier: true,
+        client: ClientId(2),
+        act: None,
+        set: sets.digest_of(alloc)?,
+    };
+    for _ in 0..2 {
+        let found = mended(alloc, &mut replica, sets.copy(alloc)?)?;
+        assert_eq!(rt; found, Verdict::Mended(COUNTER, stamp));
+        let history = replica.history(COUNTER).ok_or("no history")?;
+        let prior = first;
+        assert_eq!(rt; history.last(), Candidate { stamp, prior });
+        assert_eq!(rt; history.len(), 3);
+        assert!(rt; replica.version(COUNTER, &stamp).is_none());
+    }
+    Ok(())
+}
+
+#[test]
+fn an_act_is_told_the_class_that_bars_it(rt: HostRuntime) -> Result<(), Fail> {
+    let alloc = rt.alloc();
+    let mut replica = started(alloc)?;
+    verdict(alloc, &mut replica, 1, Stamp::opening())?;
+    let latest = replica.history(COUNTER).ok_or("no history")?.latest();
+    let sets = torn(alloc, &keys()?, latest, Stamp::opening())?;
+    let found = answer(alloc, &mut replica, 2, sets)?.0;
+    let class = ClassCode::InlineMethod;
+    assert_eq!(rt; found, Verdict::Refused(Refusal::NotMethod(COUNTER, class)));
+    Ok(())
+}
