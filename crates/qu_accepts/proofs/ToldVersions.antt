@@ -3,7 +3,6 @@ use Rattle.std.proofs.Common.{◌≡◌, ℕ, zero, suc, ◌+◌, List, [], ◌�
 use Rattle.std.specs.Prelude.{◌==◌}
 use Rattle.std.specs.List.{AllByRecursion}
 use Rattle.std.proofs.lemmas.Bool.{cond_both}
-use Rattle.qu_base.specs.declared.party.ClientId.{ClientId}
 use Rattle.qu_base.specs.declared.party.ObjectId.{ObjectId}
 use Rattle.qu_base.specs.declared.party.Party.{Party}
 use Rattle.qu_base.specs.declared.party.Party.TheVariants as party
@@ -11,8 +10,6 @@ use Rattle.qu_base.specs.declared.party.ReplicaId.{ReplicaId}
 use Rattle.qu_base.specs.Bounds.{replicas}
 use Rattle.qu_seal.specs.Keys.{Ring}
 use Rattle.qu_stamp.specs.declared.stamp.Stamp.{Stamp}
-use Rattle.qu_history.specs.declared.sets.SetOf.{SetOf}
-use Rattle.qu_objects.specs.declared.op.Op.{Op}
 use Rattle.qu_objects.specs.declared.state.ObjState.{ObjState}
 use Rattle.qu_objects.specs.States.{state_form}
 use Rattle.qu_versions.specs.Versions.{version_at}
@@ -36,9 +33,9 @@ use Rattle.qu_fitting.proofs.FitRequests.{blank_sized}
 use Rattle.qu_fitting.proofs.FitVersions.{version-spelled}
 use Rattle.qu_client.specs.declared.state.ClientState.{ClientState}
 use Rattle.qu_client.specs.declared.work.Work.{Work}
-use Rattle.qu_client.specs.Rounds.{request_of, requests_from}
-use Rattle.qu_client.specs.Steps.{client_invoke, client_step}
-use Rattle.qu_client.proofs.Cases.{step_cases, invoke_cases}
+use Rattle.qu_client.specs.declared.whom.Whom.{Whom}
+use Rattle.qu_client.specs.Rounds.{request_of, requests}
+use Rattle.qu_client.proofs.Sent.{each_letter}
 use Rattle.qu_claims.specs.Carried.{Carries}
 use Rattle.qu_runs.proofs.Fits.Carrying.{same_kind, signed_spelled, signed_carries}
 use Rattle.qu_world.proofs.Each.{each_append}
@@ -84,34 +81,15 @@ module _ (P : ObjectId → Stamp → ObjState → Type 0) where
 
   -- ---- clients
 
-  requests_tell : (keys : Ring) (replica count : ℕ) (me : ClientId) (work : Work) (sets : List SetOf)
-      → AllByRecursion (TellsOnly P) (requests_from keys replica count me work sets)
-  unfolding requests_from
-  requests_tell keys replica zero me work sets = tt
-  requests_tell keys replica (suc count) me work sets =
+  pub asked_tells : (state : ClientState) (work : Work) (whom : Whom)
+      → AllByRecursion (TellsOnly P) (requests state.keys state.me work whom)
+  asked_tells state work whom =
+      let sent : Frame = request_of state.me work in
+      each_letter state.keys state.me work whom (TellsOnly P) (replicas state.keys.bounds) 0
+      (λ replica below asked.
       let to : Party = party.Replica (record { 0 = replica }) in
-      let sent : Frame = request_of me work sets in (
-        other_tells (record { from = party.Client me; to = to; text = signed keys to sent }) keys to sent
-            blank_sized refl (λ same. omega arith),
-        requests_tell keys (replica + 1) count me work sets,
-      )
-
-  pub client_step_tells : (state : ClientState) (text : List ℕ)
-      → AllByRecursion (TellsOnly P) (client_step state text).letters
-  client_step_tells state text =
-      step_cases state (λ stepped. AllByRecursion (TellsOnly P) stepped.letters)
-      tt (λ _. tt) (λ _ _ _ _ _ _ _ _ _. tt) (λ _ _. tt)
-      (λ kept work replies acted is asking below.
-      requests_tell state.keys 0 (replicas state.keys.bounds) state.me _ _)
-      (λ _ _ _ _ _ _. tt)
-      text
-
-  pub client_invoke_tells : (state : ClientState) (op : Op)
-      → AllByRecursion (TellsOnly P) (client_invoke state op).letters
-  client_invoke_tells state op =
-      invoke_cases state op (λ stepped. AllByRecursion (TellsOnly P) stepped.letters)
-      (λ kept acted marked. requests_tell state.keys 0 (replicas state.keys.bounds) state.me _ _)
-      (λ kept marked. tt)
+      other_tells (record { from = party.Client state.me; to = to; text = signed state.keys to sent }) state.keys to
+      sent blank_sized refl (λ same. omega arith))
 
   -- ---- replicas
 

@@ -52,7 +52,8 @@ use Rattle.qu_runs.proofs.Small.{some_entry}
 use Rattle.qu_runs.proofs.Worlds.Objects.{few_kinds}
 use Rattle.qu_runs.proofs.Worlds.OpeningReplicas.{opening_at, all_replicas, keys_are, me_is, bounds_are}
 use Rattle.qu_runs.proofs.Worlds.WorldGrowth.{world_after-none, world_after-next}
-use Rattle.qu_accepts.proofs.ToldVersions.{TellsOnly, fetched_fit, client_step_tells, client_invoke_tells, on_received_tells}
+use Rattle.qu_accepts.proofs.ToldVersions.{TellsOnly, fetched_fit, asked_tells, on_received_tells}
+use Rattle.qu_runs.proofs.Fits.ClientLetters.{step_sends, tick_sends, invoke_sends}
 use Rattle.qu_accepts.proofs.Votes.{BringsVote, Counts, AreCounted, on_received_counted, opening_counted}
 
 -- the version under this key
@@ -268,6 +269,10 @@ module _ (trace : Trace) (is_run : IsRun trace) (have : ArePlain trace) (count :
           ];
         }
 
+  -- what clients send tells no version
+  abbrev Sent : List Letter → Type 0
+  Sent letters = AllByRecursion (TellsOnly (IsOfCorrect trace (count + 1))) letters
+
   step_true : (event : Event) → IsPlain before event → IsTrueWorld trace (count + 1) (world_step before event)
   step_true event plain =
       world_cases before (λ (new : WorldState). IsTrueWorld trace (count + 1) new)
@@ -275,10 +280,11 @@ module _ (trace : Trace) (is_run : IsRun trace) (have : ArePlain trace) (count :
       tt)
       (λ event text me state from hands found. replica_moves me text state from found event)
       (λ client op state found. others_move _ _ refl refl
-      (client_invoke_tells (IsOfCorrect trace (count + 1)) state op))
+      (invoke_sends state Sent tt (asked_tells (IsOfCorrect trace (count + 1)) state) op))
       (λ event text client state from hands found. others_move _ _ refl refl
-      (client_step_tells (IsOfCorrect trace (count + 1)) state text))
-      (λ client state found. others_move _ _ refl refl tt)
+      (step_sends state Sent tt (asked_tells (IsOfCorrect trace (count + 1)) state) text))
+      (λ client state found. others_move _ _ refl refl
+      (tick_sends state Sent tt (asked_tells (IsOfCorrect trace (count + 1)) state)))
       event plain
 
 -- ---- runs

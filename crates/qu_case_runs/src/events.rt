@@ -3,7 +3,7 @@
 ghost use Rattle.std.specs.Prelude.{IfOk};
 ghost use Rattle.qu_world.specs.Run.{IsRun};
 
-use super::scripts::{apply, script_of, trace_of, world_of};
+use super::scripts::{apply, rest_left, script_of, trace_of, world_of};
 use qu_base::{ClientId, LAST_CLIENT, List, Party};
 use qu_case_forms::{
     Named, NoAnswer, bytes_of, one_frame, party, put_frame, put_outcome, put_party, signed_text,
@@ -141,7 +141,7 @@ fn make_scripted(
     Ok(())
 }
 
-/// Makes the call, the deliveries or the injection of a line.
+/// Makes the call, the deliveries, the ticks or the injection of a line.
 fn make_all(
     alloc: Global,
     line: &Line,
@@ -158,6 +158,11 @@ fn make_all(
             let event = Event::Inject(*to, text.copy(alloc)?);
             Ok(make(alloc, world, event, out)?)
         }
+        Line::Tick(client, count) => Ok(tick(alloc, *client, *count, world, out)?),
+        Line::Wake(client) => {
+            let left = rest_left(world, *client);
+            Ok(tick(alloc, *client, left, world, out)?)
+        }
         // Replicas are held and letters lost for flows alone.
         Line::Flow(_) | Line::Hold(_) | Line::Free(_) | Line::Lose => Err(NoAnswer::Flow),
         Line::Fake(..) => Err(NoAnswer::Made),
@@ -172,6 +177,20 @@ fn deliver(
 ) -> Result<(), AllocError> {
     for letter in letters {
         make(alloc, world, Event::Deliver(*letter), out)?;
+    }
+    Ok(())
+}
+
+/// Lets time pass at a client, so many ticks.
+fn tick(
+    alloc: Global,
+    client: ClientId,
+    count: u64,
+    world: &mut World,
+    out: &mut String,
+) -> Result<(), AllocError> {
+    for index in 0..count {
+        make(alloc, world, Event::Tick(client), out)?;
     }
     Ok(())
 }

@@ -4,7 +4,7 @@
 ghost use Rattle.std.specs.Prelude.{IfOk};
 ghost use Rattle.qu_world.specs.Run.{IsRun, IsSetup};
 
-use qu_base::NoMemory;
+use qu_base::{ClientId, NoMemory};
 use qu_case_forms::NoAnswer;
 use qu_script::{Script, play_script, read_script};
 use qu_trace::{Event, Setup, Trace};
@@ -54,6 +54,14 @@ pub fn start(alloc: Global, setup: Setup) -> Result<World, NoMemory>
 
 pub fn apply(world: &mut World, event: Event) -> Result<(), WorldFail> {
     world.apply(event)
+}
+
+/// How many ticks are left of a client's rest.
+pub fn rest_left(world: &World, client: ClientId) -> u64 {
+    let Some(client) = world.client(client) else {
+        return 0;
+    };
+    client.rest_left().map_or(0, u64::from)
 }
 
 /// What the run of a world has become.

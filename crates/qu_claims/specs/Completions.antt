@@ -9,6 +9,7 @@ use Rattle.qu_objects.specs.declared.answer.Answer.{Answer}
 use Rattle.qu_frames.specs.declared.frame.Letter.{Letter}
 use Rattle.qu_frames.specs.declared.verdict.Verdict.{Verdict}
 use Rattle.qu_frames.specs.Verdict.{same_verdict}
+use Rattle.qu_frames.specs.Body.{body_of}
 use Rattle.qu_client.specs.Steps.{fitting}
 use Rattle.qu_machine.specs.declared.record.OpRecord.{OpRecord}
 use Rattle.qu_trace.specs.declared.trace.Entry.{Entry}
@@ -44,7 +45,7 @@ pub record Replied (trace : Trace) (before : ℕ) (client : ClientId) (number ro
 pub record IsCompleted (trace : Trace) (operation : OpRecord) (event : ℕ) (answer : Answer) : Type 0 where
   pub round : ℕ
   pub verdict : Verdict
-  pub fits : fitting operation.op verdict ≡ Some answer
+  pub fits : fitting (body_of operation.op) verdict ≡ Some answer
   pub delivered : delivered_round trace (numbered trace.entries event) ≡ Some round
   pub members : List ℕ
   pub different : AllPairs (λ (a b : ℕ). a ≢ b) members

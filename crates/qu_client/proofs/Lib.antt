@@ -1,7 +1,10 @@
 pub mod Keeping
-pub mod Asking
-pub mod Own
-pub mod Judging
+pub mod Gathered
+pub mod Requesting
 pub mod Marks
+pub mod Planning
 pub mod Cases
 pub mod Laws
+pub mod Trimmed
+pub mod Targets
+pub mod Sent

@@ -1,5 +1,7 @@
 pub mod State
 pub mod Leaving
+pub mod Question
 pub mod Rounds
 pub mod Steps
+pub mod Plans
 pub mod Sound

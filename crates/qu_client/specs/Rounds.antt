@@ -1,129 +1,131 @@
--- How a client begins a round of an operation (Query/Update: the client's requests).
-use Rattle.std.specs.Prelude.{ℕ, zero, suc, Bool, true, false, not, ◌+◌, ◌==◌, ◌&&◌, nat_lt, if◌then◌else◌, List, [], ◌∷◌, map, length, None, Some, is_some}
-use Rattle.std.specs.List.{list_all, list_any}
-use Rattle.qu_base.specs.declared.limits.TheConstants.{OBJECT_IDS}
+-- How a client begins a round of an operation, and the letters of a round.
+use Rattle.std.specs.Prelude.{ℕ, zero, suc, Bool, true, false, not, ◌+◌, ◌==◌, if◌then◌else◌, List, [], ◌∷◌, map, None, Some}
+use Rattle.std.specs.List.{list_any}
 use Rattle.qu_base.specs.declared.party.ClientId.{ClientId}
 use Rattle.qu_base.specs.declared.party.ObjectId.{ObjectId}
 use Rattle.qu_base.specs.declared.party.Party.TheVariants as party
-use Rattle.qu_base.specs.Bounds.{replicas, quorum}
+use Rattle.qu_base.specs.declared.party.ReplicaId.{ReplicaId}
+use Rattle.qu_base.specs.Bounds.{replicas}
 use Rattle.qu_seal.specs.Keys.{Ring}
 use Rattle.qu_history.specs.declared.sets.SetOf.{SetOf}
-use Rattle.qu_history.specs.declared.sealed.Sealed.{Sealed}
-use Rattle.qu_history.specs.Sets.{histories, method_at}
+use Rattle.qu_history.specs.Sets.{entries_of}
 use Rattle.qu_objects.specs.declared.op.Op.{Op}
-use Rattle.qu_objects.specs.declared.op.Op.TheVariants as op
 use Rattle.qu_frames.specs.declared.frame.Frame.{Frame}
 use Rattle.qu_frames.specs.declared.frame.Frame.TheVariants as frame
 use Rattle.qu_frames.specs.declared.frame.Letter.{Letter}
-use Rattle.qu_frames.specs.Body.{body_of}
 use Rattle.qu_frames.specs.Blank.{blank_mac}
 use Rattle.qu_frames.specs.Signing.{signed}
+use Rattle.qu_pick.specs.AskedFirst.{is_preferred}
 use Rattle.qu_client.specs.declared.kept.Kept.{Kept}
 use Rattle.qu_client.specs.declared.kept.Mark.{Mark}
 use Rattle.qu_client.specs.declared.kept.Mark.TheVariants.{Unshown, Shown, LeftOut}
-use Rattle.qu_client.specs.declared.work.Phase.TheVariants.{Asking, Halted}
+use Rattle.qu_client.specs.declared.whom.Whom.{Whom}
+use Rattle.qu_client.specs.declared.whom.Whom.TheVariants.{All, Preferred, Others}
+use Rattle.qu_client.specs.declared.work.Phase.{Phase}
+use Rattle.qu_client.specs.declared.work.Phase.TheVariants.{Asking, Resting}
 use Rattle.qu_client.specs.declared.work.Work.{Work}
-use Rattle.qu_client.specs.State.{ClientState, is_left_out, kept_of}
+use Rattle.qu_client.specs.State.{ClientState, Stepped, is_left_out}
+use Rattle.qu_client.specs.Question.{Question, operation_objects, lowest_of, question_of}
 
--- the objects that an operation names
-abbrev pub operation_objects : Op → List ObjectId
-operation_objects (op.Act parts) = map (λ part. part.0) parts
-operation_objects (op.Query parts) = map (λ part. part.0) parts
+-- ---- marks
 
--- one object that has a number
-abbrev pub are_objects : List ObjectId → Bool
-are_objects [] = false
-are_objects (object ∷ []) = nat_lt object.0 OBJECT_IDS
-are_objects (first ∷ second ∷ objects) = false
+-- the sets hold an entry of this object and this replica
+abbrev pub are_showing : List SetOf → ObjectId → ReplicaId → Bool
+are_showing sets object replica = list_any (λ entry. (entry.replica).0 == replica.0) (entries_of object sets)
 
-abbrev pub is_act : Op → Bool
-is_act (op.Act parts) = true
-is_act (op.Query parts) = false
-
--- an entry's mark from the beginning of a round upon these objects on
-abbrev pub mark_in : List ObjectId → Kept → Mark
-mark_in objects held =
+-- an entry's mark from the beginning of a round upon these sets on
+abbrev pub mark_in : List SetOf → Kept → Mark
+mark_in sets held =
     if is_left_out held.mark then LeftOut
-    else if list_any (λ object. object.0 == ((held.sealed.history).object).0) objects then Shown
+    else if are_showing sets (held.sealed.history).object (held.sealed.history).replica then Shown
     else Unshown
 
--- the entries of these objects are shown, but for those that are left out
-unfoldable pub marked_shown : List ObjectId → List Kept → List Kept
-marked_shown objects kept = map (λ (held : Kept). record held { mark = mark_in objects held }) kept
+-- the entries of the sets are shown
+unfoldable pub marked_shown : List SetOf → List Kept → List Kept
+marked_shown sets kept = map (λ (held : Kept). record held { mark = mark_in sets held }) kept
 
--- the entries of an object that are shown of so many replicas from this one on
-unfoldable pub entries_from : ObjectId → ℕ → ℕ → List Kept → List Sealed
-entries_from object replica zero kept = []
-entries_from object replica (suc count) kept =
-    elim (kept_of object replica kept) [
-      | None ↦ entries_from object (replica + 1) count kept
-      | Some sealed ↦
-          sealed ∷ entries_from object (replica + 1) count kept
-    ]
+-- ---- letters
 
-abbrev pub set_of : ℕ → List Kept → ObjectId → SetOf
-set_of bounds kept object = record { object = object; entries = entries_from object 0 (replicas bounds) kept }
+-- whether a request goes to the replica with this number
+abbrev pub is_asked : ℕ → Whom → ℕ → Bool
+is_asked bounds All replica = true
+is_asked bounds (Preferred object) replica = is_preferred bounds object (record { 0 = replica })
+is_asked bounds (Others object) replica = not (is_preferred bounds object (record { 0 = replica }))
 
--- the sets of a round: of each object what is shown of it
-abbrev pub sets_of : ℕ → List Kept → Op → List SetOf
-sets_of bounds kept op = map (λ object. set_of bounds kept object) (operation_objects op)
+-- what is asked in the round under way, before its HMAC is made
+abbrev pub request_of : ClientId → Work → Frame
+request_of me work = frame.Request me work.number work.round work.sets work.body blank_mac
 
--- each object has a quorum of entries
-abbrev pub are_full : ℕ → List SetOf → Bool
-are_full bounds sets = list_all (λ set. not (nat_lt (length set.entries) (quorum bounds))) sets
+-- the request to those who are asked of so many replicas from this one on, signed for each
+unfoldable pub requests_from : Ring → ℕ → ℕ → ClientId → Work → Whom → List Letter
+requests_from keys replica zero me work whom = []
+requests_from keys replica (suc count) me work whom =
+    if is_asked keys.bounds whom replica then
+    (record {
+      from = party.Client me;
+      to = party.Replica (record { 0 = replica });
+      text = signed keys (party.Replica (record { 0 = replica })) (request_of me work);
+    }) ∷ requests_from keys (replica + 1) count me work whom
+    else requests_from keys (replica + 1) count me work whom
 
--- each object is of class METHOD
-abbrev pub are_current : ℕ → List SetOf → Bool
-are_current bounds sets = list_all (λ set. is_some (method_at bounds (histories set.entries))) sets
+-- the round's request to these replicas
+abbrev pub requests : Ring → ClientId → Work → Whom → List Letter
+requests keys me work whom = requests_from keys 0 (replicas keys.bounds) me work whom
 
--- what is asked in a round, before its HMAC is made
-abbrev pub request_of : ClientId → Work → List SetOf → Frame
-request_of me work sets = frame.Request me work.number work.round sets (body_of work.op) blank_mac
+-- ---- rounds
 
--- the same request to so many replicas from this one on, signed for each
-unfoldable pub requests_from : Ring → ℕ → ℕ → ClientId → Work → List SetOf → List Letter
-requests_from keys replica zero me work sets = []
-requests_from keys replica (suc count) me work sets = (record {
-  from = party.Client me;
-  to = party.Replica (record { 0 = replica });
-  text = signed keys (party.Replica (record { 0 = replica })) (request_of me work sets);
-}) ∷ requests_from keys (replica + 1) count me work sets
+-- the lowest object of an operation: it tells the preferred replicas
+abbrev pub first_object : Op → ObjectId
+first_object op = lowest_of (operation_objects op)
 
--- the answers to a round's request are awaited
-abbrev pub asking : ClientState → Work → ClientState
-asking state work = record state {
-  last_request = Some (work.number, work.round);
-  work = Some (record work { phase = Asking; replies = [] });
+-- who is asked in a round that is in this phase; in a rest no verdict counts, whoever was asked
+abbrev pub whom_in : Op → Phase → Whom
+whom_in op (Asking true) = All
+whom_in op (Asking false) = Preferred (first_object op)
+whom_in op (Resting ticks) = All
+
+-- who was asked so far in the round under way
+abbrev pub whom_asked : Work → Whom
+whom_asked work = whom_in work.op work.phase
+
+-- an operation in a round that asks this
+abbrev pub work_asking : Op → ℕ → ℕ → Question → Work
+work_asking op number round question = record {
+  op = op;
+  number = number;
+  round = round;
+  phase = Asking question.all;
+  sets = question.sets;
+  body = question.body;
+  replies = [];
 }
 
--- all replicas are asked
-abbrev pub asked : ClientState → Work → List SetOf → ClientState × List Letter
-asked state work sets = (
-  record state {
+-- a round begins that asks this
+abbrev pub begins : ClientState → Work → Stepped
+begins state work = record {
+  state = record state {
+    kept = marked_shown work.sets state.kept;
     last_request = Some (work.number, work.round);
-    work = Some (record work { phase = Asking; replies = [] });
-  },
-  requests_from state.keys 0 (replicas state.keys.bounds) state.me work sets,
-)
+    work = Some work;
+  };
+  letters = requests state.keys state.me work (whom_asked work);
+  ended = None;
+}
 
--- nothing is sent, and the operation stays open
-abbrev pub halted : ClientState → Work → ClientState × List Letter
-halted state work = (record state { work = Some (record work { phase = Halted; replies = [] }) }, [])
+-- a round of an operation begins, upon the operation's objects and what is kept
+abbrev pub begin_round : ClientState → Op → ℕ → ℕ → Stepped
+begin_round state op number round =
+    begins state
+    (work_asking op number round (question_of state.keys.bounds op round state.kept (operation_objects op)))
 
--- with a quorum of entries of each object an operation is sent where they all are current, and an
--- act only once
-abbrev pub begin_full : ClientState → Work → List SetOf → ClientState × List Letter
-begin_full state work sets =
-    if are_current state.keys.bounds sets && not (is_act work.op && work.acted)
-    then asked state (record work { acted = true }) sets
-    else halted state work
+-- the round in which all are asked, where the preferred ones were
+abbrev pub asking_all : Work → Work
+asking_all work = record work { phase = Asking true }
 
--- a round upon what is shown; where that is less than a quorum, the replicas' answers show more
-abbrev pub begin_shown : ClientState → Work → ClientState × List Letter
-begin_shown state work =
-    let sets = sets_of state.keys.bounds state.kept work.op in
-    if are_full state.keys.bounds sets then begin_full state work sets else asked state work sets
-
--- a round begins from what is kept
-abbrev pub begin_round : ClientState → Work → ClientState × List Letter
-begin_round state work = begin_shown (record state { kept = marked_shown (operation_objects work.op) state.kept }) work
+-- the preferred replicas were asked, and now the same is asked of the others
+abbrev pub asks_others : ClientState → Work → Stepped
+asks_others state work = record {
+  state = record state { work = Some (asking_all work) };
+  letters = requests state.keys state.me (asking_all work) (Others (first_object work.op));
+  ended = None;
+}

@@ -1,18 +1,34 @@
 -- What a client holds: the histories that it was sent, and the operation under way.
-use Rattle.std.specs.Prelude.{ℕ, Bool, true, false, ◌==◌, ◌&&◌, ◌||◌, nat_lt, if◌then◌else◌, List, [], ◌∷◌, map, Option, None, Some}
+use Rattle.std.specs.Prelude.{ℕ, Bool, true, false, not, ◌==◌, ◌&&◌, ◌||◌, nat_lt, if◌then◌else◌, List, [], ◌∷◌, map, Option, None, Some}
 use Rattle.qu_base.specs.declared.party.ClientId.{ClientId}
 use Rattle.qu_base.specs.declared.party.ObjectId.{ObjectId}
 use Rattle.qu_seal.specs.Keys.{Ring}
 use Rattle.qu_history.specs.History.{ObjectHistory}
 use Rattle.qu_history.specs.declared.sealed.Sealed.{Sealed}
+use Rattle.qu_objects.specs.declared.op.Outcome.{Outcome}
+use Rattle.qu_frames.specs.declared.frame.Letter.{Letter}
+use Rattle.qu_pick.specs.Waits.{wait_words}
 use Rattle.qu_client.specs.declared.kept.Kept.{Kept}
 use Rattle.qu_client.specs.declared.kept.Mark.{Mark}
 use Rattle.qu_client.specs.declared.kept.Mark.TheVariants.{Unshown, Shown, LeftOut}
 pub use Rattle.qu_client.specs.declared.state.ClientState.{ClientState}
 
-abbrev pub client_at_start : ClientId → Ring → ClientState
-client_at_start me keys =
-    record { me = me; keys = keys; kept = []; last_request = None; work = None }
+-- what a step makes: the state, the letters that it sends, and the end of the operation
+pub record Stepped : Type 0 where
+  pub state : ClientState
+  pub letters : List Letter
+  pub ended : Option Outcome
+
+-- a client that was sent nothing yet; its rests are drawn from the words of this seed
+abbrev pub client_at_start : ClientId → Ring → ℕ → ClientState
+client_at_start me keys seed = record {
+  me = me;
+  keys = keys;
+  waits = wait_words seed me;
+  kept = [];
+  last_request = None;
+  work = None;
+}
 
 abbrev pub is_shown : Mark → Bool
 is_shown Unshown = false
@@ -51,10 +67,10 @@ keep_all number round (sealed ∷ later) kept =
     keep_all number round later
     (keep (record { sealed = sealed; number = number; round = round; mark = Unshown }) kept)
 
--- the sealed history that is shown of those that are kept of an object and a replica
+-- the sealed history that is kept of an object and a replica, unless it is left out
 unfoldable pub kept_of : ObjectId → ℕ → List Kept → Option Sealed
 kept_of object replica [] = None
 kept_of object replica (held ∷ later) =
     if ((held.sealed.history).object).0 == object.0
-    && (((held.sealed.history).replica).0 == replica && is_shown held.mark) then Some held.sealed
+    && (((held.sealed.history).replica).0 == replica && not (is_left_out held.mark)) then Some held.sealed
     else kept_of object replica later

@@ -1,120 +1,160 @@
 -- The client's step: a function from its state and an invocation, a text or a tick to a state,
 -- letters and possibly an end.
-use Rattle.std.specs.Prelude.{ℕ, Bool, true, false, not, ◌+◌, ◌-◌, ◌==◌, ◌&&◌, nat_lt, nat_le, if◌then◌else◌, List, [], ◌∷◌, ◌++◌, length, count_by, max, Option, None, Some}
-use Rattle.std.specs.List.{list_any}
+use Rattle.std.specs.Prelude.{ℕ, Bool, true, false, not, ◌+◌, ◌-◌, ◌==◌, ◌&&◌, ◌||◌, nat_lt, nat_le, if◌then◌else◌, List, [], ◌∷◌, ◌++◌, length, count_by, max, Option, None, Some, is_some}
+use Rattle.std.specs.List.{list_any, range_with_len}
 use Rattle.qu_base.specs.declared.party.Party.TheVariants as party
 use Rattle.qu_base.specs.declared.party.ObjectId.{ObjectId}
 use Rattle.qu_base.specs.declared.party.ReplicaId.{ReplicaId}
 use Rattle.qu_base.specs.Bounds.{replicas, quorum}
 use Rattle.qu_objects.specs.declared.answer.Answer.{Answer}
 use Rattle.qu_objects.specs.declared.op.Op.{Op}
-use Rattle.qu_objects.specs.declared.op.Op.TheVariants as op
 use Rattle.qu_objects.specs.declared.op.Outcome.{Outcome}
 use Rattle.qu_objects.specs.declared.op.Outcome.TheVariants as outcome
+use Rattle.qu_frames.specs.declared.frame.Body.{Body}
+use Rattle.qu_frames.specs.declared.frame.Body.TheVariants as body
 use Rattle.qu_frames.specs.declared.frame.Frame.{Frame}
 use Rattle.qu_frames.specs.declared.frame.Frame.TheVariants as frame
-use Rattle.qu_frames.specs.declared.frame.Letter.{Letter}
+use Rattle.qu_frames.specs.declared.limits.TheConstants.{LAST_ROUND}
 use Rattle.qu_frames.specs.declared.verdict.Verdict.{Verdict}
 use Rattle.qu_frames.specs.declared.verdict.Verdict.TheVariants as verdict
+use Rattle.qu_frames.specs.declared.verdict.Refusal.TheVariants as refusal
 use Rattle.qu_frames.specs.Verdict.{same_verdict}
 use Rattle.qu_frames.specs.Signing.{brought}
+use Rattle.qu_pick.specs.Waits.{next_wait}
+use Rattle.qu_client.specs.declared.whom.Whom.{Whom}
 use Rattle.qu_client.specs.declared.work.Counted.{Counted}
 use Rattle.qu_client.specs.declared.work.Phase.{Phase}
-use Rattle.qu_client.specs.declared.work.Phase.TheVariants.{Asking, Halted}
+use Rattle.qu_client.specs.declared.work.Phase.TheVariants.{Asking, Resting}
 use Rattle.qu_client.specs.declared.work.Work.{Work}
-use Rattle.qu_frames.specs.declared.limits.TheConstants.{LAST_ROUND}
-pub use Rattle.qu_client.specs.declared.state.Stepped.{Stepped}
-use Rattle.qu_client.specs.State.{ClientState, keep_all, unmarked}
+use Rattle.qu_client.specs.State.{ClientState, Stepped, keep_all, unmarked}
 use Rattle.qu_client.specs.Leaving.{after_replies}
-use Rattle.qu_client.specs.Rounds.{begin_round}
+use Rattle.qu_client.specs.Rounds.{is_asked, whom_asked, begin_round, asks_others}
 
 abbrev pub stays : ClientState → Stepped
 stays state = record { state = state; letters = []; ended = None }
 
-abbrev pub goes_on : ClientState × List Letter → Stepped
-goes_on begun = record { state = begun.0; letters = begun.1; ended = None }
-
 abbrev pub ends : ClientState → Outcome → Stepped
 ends state outcome = record { state = record state { work = None }; letters = []; ended = Some outcome }
 
--- the answer of a verdict that fits the operation: an act was performed now, or was performed before; a query was
--- answered
-abbrev pub fitting : Op → Verdict → Option Answer
-fitting (op.Act parts) (verdict.Done stamps answer) = Some answer
-fitting (op.Act parts) (verdict.Already answer) = Some answer
-fitting (op.Query parts) (verdict.Told stamps answer) = Some answer
+-- ---- verdicts
+
+-- the answer of a verdict that fits what was asked, where it tells one: an act was performed now, or was performed
+-- before; a query was answered
+abbrev pub fitting : Body → Verdict → Option Answer
+fitting (body.Act parts) (verdict.Done stamps answer) = Some answer
+fitting (body.Act parts) (verdict.Already answer) = Some answer
+fitting (body.Ask parts) (verdict.Told stamps answer) = Some answer
 fitting _ _ = None
 
-abbrev pub fits : Op → Verdict → Bool
-fits op verdict = elim (fitting op verdict) [ None ↦ false | Some answer ↦ true ]
+-- an object was to be mended, and one was
+abbrev pub is_mended : Body → Verdict → Bool
+is_mended (body.Mend target) (verdict.Mended object stamp) = true
+is_mended _ _ = false
+
+-- a verdict that fits what was asked
+abbrev pub fits : Body → Verdict → Bool
+fits body verdict = is_some (fitting body verdict) || is_mended body verdict
 
 -- how many verdicts are identical to this one
 unfoldable pub identical_verdicts : Verdict → List Counted → ℕ
 identical_verdicts verdict replies = count_by (λ counted. same_verdict counted.verdict verdict) replies
 
 -- the greatest number of identical verdicts that fit, among these verdicts
-unfoldable pub best_of : Op → List Counted → List Counted → ℕ
-best_of op [] replies = 0
-best_of op (counted ∷ later) replies =
-    max (if fits op counted.verdict then identical_verdicts counted.verdict replies else 0) (best_of op later replies)
+unfoldable pub best_of : Body → List Counted → List Counted → ℕ
+best_of body [] replies = 0
+best_of body (counted ∷ later) replies =
+    max (if fits body counted.verdict then identical_verdicts counted.verdict replies else 0)
+    (best_of body later replies)
 
--- a quorum replied, and those that did not can make no quorum of any verdict that fits
-abbrev pub is_hopeless : ℕ → Op → List Counted → Bool
-is_hopeless bounds op replies =
-    nat_le (quorum bounds) (length replies) && nat_lt
-    (best_of op replies replies + (replicas bounds - length replies)) (quorum bounds)
+-- a verdict of the replica is among those that count
+abbrev pub has_replied : List Counted → ℕ → Bool
+has_replied replies replica = list_any (λ counted. (counted.replica).0 == replica) replies
 
--- a round that ended without an answer leaves out what its replies name, and the next one begins
+-- how many replicas are silent: they were asked, and have not replied
+unfoldable pub silent : ℕ → Whom → List Counted → ℕ
+silent bounds whom replies =
+    count_by (λ replica. is_asked bounds whom replica && not (has_replied replies replica))
+    (range_with_len 0 (replicas bounds))
+
+-- a quorum replied, and those that are silent can make no quorum of any verdict that fits
+abbrev pub is_hopeless : ℕ → Body → Whom → List Counted → Bool
+is_hopeless bounds body whom replies =
+    nat_le (quorum bounds) (length replies)
+    && nat_lt (best_of body replies replies + silent bounds whom replies) (quorum bounds)
+
+-- ---- the end of a round
+
+-- after a round the next one begins, unless it was the last
 abbrev pub next_round : ClientState → Work → Stepped
 next_round state work =
-    if nat_le LAST_ROUND work.round then ends state outcome.GaveUp else goes_on
-    (begin_round (record state { kept = after_replies state.keys.bounds work.replies state.kept })
-    (record work { round = work.round + 1 }))
+    if nat_le LAST_ROUND work.round then ends state outcome.GaveUp
+    else begin_round state work.op work.number (work.round + 1)
 
--- the answer of a verdict with which a quorum agrees
-abbrev pub agreed : ClientState → Work → Verdict → Option Answer → Option Answer
-agreed state work verdict None = None
-agreed state work verdict (Some answer) =
-    if nat_le (quorum state.keys.bounds) (identical_verdicts verdict work.replies) then Some answer else None
+-- the replica has a later candidate than the sets showed
+abbrev pub is_behind : Verdict → Bool
+is_behind (verdict.Refused (refusal.NotCurrent object latest)) = true
+is_behind _ = false
 
--- the round ends where no answer can come any more
-abbrev pub unanswered : ClientState → Work → Stepped
-unanswered state work =
-    if is_hopeless state.keys.bounds work.op work.replies then next_round state work else stays
-    (record state { work = Some work })
+-- the sets were behind a replica, and a round is left
+abbrev pub is_rest_due : ℕ → List Counted → Bool
+is_rest_due round replies = nat_lt round LAST_ROUND && list_any (λ counted. is_behind counted.verdict) replies
 
--- the round with a verdict more, which has this answer where it fits
-abbrev pub judged : ClientState → Work → Verdict → Option Answer → Stepped
-judged state work verdict None =
-    if is_hopeless state.keys.bounds work.op work.replies then next_round state work else stays
-    (record state { work = Some work })
-judged state work verdict (Some answer) =
-    if nat_le (quorum state.keys.bounds) (identical_verdicts verdict work.replies) then ends state (outcome.Done answer)
-    else if is_hopeless state.keys.bounds work.op work.replies then next_round state work
+-- before the next round the client rests as long as is drawn for the round that ended
+abbrev pub rests : ClientState → Work → Stepped
+rests state work =
+    let drawn = next_wait work.round state.waits in
+    stays (record state { waits = drawn.1; work = Some (record work { phase = Resting drawn.0; replies = [] }) })
+
+-- the client rests, or the next round begins at once
+abbrev pub goes_on : ClientState → Work → Stepped
+goes_on state work = if is_rest_due work.round work.replies then rests state work else next_round state work
+
+-- a round that ended without an answer leaves out what its replies name
+abbrev pub ends_round : ClientState → Work → Stepped
+ends_round state work =
+    goes_on (record state { kept = after_replies state.keys.bounds work.replies state.kept }) work
+
+-- ---- replies
+
+-- a quorum tells this answer, or where there is none that an object was mended
+abbrev pub agreed : ClientState → Work → Option Answer → Stepped
+agreed state work None = ends_round state work
+agreed state work (Some answer) = ends state (outcome.Done answer)
+
+-- a verdict that fits, with which a quorum agrees
+abbrev pub is_agreed : ℕ → Body → List Counted → Verdict → Bool
+is_agreed bounds body replies verdict =
+    fits body verdict && nat_le (quorum bounds) (identical_verdicts verdict replies)
+
+-- the round whose last verdict is this one
+abbrev pub judged : ClientState → Work → Verdict → Stepped
+judged state work verdict =
+    if is_agreed state.keys.bounds work.body work.replies verdict then agreed state work (fitting work.body verdict)
+    else if is_hopeless state.keys.bounds work.body (whom_asked work) work.replies then ends_round state work
     else stays (record state { work = Some work })
 
 abbrev pub is_asking : Phase → Bool
-is_asking Asking = true
-is_asking Halted = false
+is_asking (Asking all) = true
+is_asking (Resting ticks) = false
 
 -- a verdict counts where it is of the round under way, and the first of its replica
 abbrev pub counts : Work → ReplicaId → ℕ → ℕ → Bool
 counts work replica number round =
-    is_asking work.phase
-    && (number == work.number && (round == work.round && not
-    (list_any (λ counted. (counted.replica).0 == replica.0) work.replies)))
+    is_asking work.phase && (number == work.number && (round == work.round && not (has_replied work.replies replica.0)))
+
+-- the verdicts that count, with one more
+abbrev pub with_reply : List Counted → ReplicaId → Verdict → List (ObjectId × ReplicaId) → List Counted
+with_reply replies replica verdict culled =
+    replies ++ (record { replica = replica; verdict = verdict; culled = culled }) ∷ []
 
 -- an operation with a verdict more
 abbrev pub with_verdict : Work → ReplicaId → Verdict → List (ObjectId × ReplicaId) → Work
-with_verdict work replica verdict culled = record work {
-  replies = work.replies ++ (record { replica = replica; verdict = verdict; culled = culled }) ∷ [];
-}
+with_verdict work replica verdict culled = record work { replies = with_reply work.replies replica verdict culled }
 
 abbrev pub counted_in : ClientState → Option Work → ReplicaId → ℕ → ℕ → Verdict → List (ObjectId × ReplicaId) → Stepped
 counted_in state None replica number round verdict culled = stays state
 counted_in state (Some work) replica number round verdict culled =
-    if counts work replica number round
-    then judged state (with_verdict work replica verdict culled) verdict (fitting work.op verdict)
+    if counts work replica number round then judged state (with_verdict work replica verdict culled) verdict
     else stays state
 
 -- a frame that is no reply to this client is ignored; a reply's histories are kept, and then its
@@ -135,24 +175,46 @@ client_on_received state (Some frame) = client_on_frame state frame
 abbrev pub client_step : ClientState → List ℕ → Stepped
 client_step state text = client_on_received state (brought state.keys (party.Client state.me) text)
 
--- the state after a step that was planned; none is planned where nothing changes
-abbrev pub client_planned : ClientState → Option ClientState → ClientState
-client_planned old None = old
-client_planned old (Some new) = new
+-- ---- ticks
 
--- a tick changes nothing
+-- a tick of a rest: after the last one the next round begins
+abbrev pub rest_ticked : ClientState → Work → ℕ → Stepped
+rest_ticked state work ticks =
+    if nat_le ticks 1 then next_round state work
+    else stays (record state { work = Some (record work { phase = Resting (ticks - 1) }) })
+
+-- where the preferred replicas were asked, the others are asked too; where all were, the round ends
+abbrev pub ticked_in : ClientState → Work → Phase → Stepped
+ticked_in state work (Resting ticks) = rest_ticked state work ticks
+ticked_in state work (Asking false) = asks_others state work
+ticked_in state work (Asking true) = ends_round state work
+
+-- a client with no operation under way stays
+abbrev pub ticked : ClientState → Option Work → Stepped
+ticked state None = stays state
+ticked state (Some work) = ticked_in state work work.phase
+
 abbrev pub client_tick : ClientState → Stepped
-client_tick state = stays state
+client_tick state = ticked state state.work
+
+-- how many ticks are left of a rest
+abbrev pub rest_left : Phase → Option ℕ
+rest_left (Asking all) = None
+rest_left (Resting ticks) = Some ticks
+
+-- the same of the operation under way
+abbrev pub rest_of : Option Work → Option ℕ
+rest_of None = None
+rest_of (Some work) = rest_left work.phase
+
+-- ---- invocations
 
 -- the number of the next operation
 abbrev pub next_number : Option (ℕ × ℕ) → ℕ
 next_number None = 1
 next_number (Some last) = last.0 + 1
 
-abbrev pub first_work : Op → ℕ → Work
-first_work op number = record { op = op; number = number; round = 1; phase = Asking; acted = false; replies = [] }
-
 -- an operation begins with its first round, in which no entry is left out
 abbrev pub client_invoke : ClientState → Op → Stepped
-client_invoke state op = goes_on
-    (begin_round (record state { kept = unmarked state.kept }) (first_work op (next_number state.last_request)))
+client_invoke state op =
+    begin_round (record state { kept = unmarked state.kept }) op (next_number state.last_request) 1

@@ -1,14 +1,18 @@
-ghost use Rattle.std.specs.Prelude.{◌≡◌, ◌<◌, ◌-◌, ◌^◌, ◌↔◌, Err, None, IsTrue, IsSome, IfOk, OnOk, OnErr, IfSome, option_map, []};
+ghost use Rattle.std.specs.Prelude.{◌≡◌, ◌<◌, ◌-◌, ◌^◌, ◌↔◌, Err, None, IsTrue, IsSome, IfOk, OnOk, OnErr, IfSome, option_map};
+ghost use Rattle.std.specs.Option.{option_copied};
 ghost use Rattle.qu_client.specs.State.{client_at_start};
-ghost use Rattle.qu_client.specs.Steps.{client_invoke, client_step, client_on_frame, client_tick, next_number, client_planned};
+ghost use Rattle.qu_client.specs.Steps.{client_invoke, client_step, client_on_frame, client_tick, next_number, rest_of};
+ghost use Rattle.qu_client.specs.Plans.{after_turn, planned_state, planned_step};
 
+use super::kept::{keep_all, unmarked};
 use super::rounds::begin_round;
-use super::state::{shown_to, unmarked_state};
 use super::steps::counted_in;
-use super::{ClientState, Stepped, Work};
-use qu_base::{Bounds, ClientId, List, NoMemory, Party};
+use super::ticks::ticked_in;
+use super::{ClientState, Counted, Kept, Moved, Phase, Planned, Turn, Work};
+use qu_base::{ClientId, List, NoMemory, Party};
 use qu_frames::{Frame, Letter, receive};
-use qu_objects::{Op, Outcome};
+use qu_objects::Op;
+use qu_pick::Backoff;
 use qu_seal::KeyRing;
 use std::alloc::Global;
 use std::marker::Model;
@@ -32,65 +36,11 @@ impl From<NoMemory> for InvokeFail {
     }
 }
 
-/// What a step made: letters to send, and the end of the operation if it ended.
-#[derive(Debug, Drop)]
-pub struct Moved {
-    pub letters: List<Letter>,
-    pub ended: Option<Outcome>,
-}
-
-impl Moved {
-    /// Equal letters and an equal end.
-    pub fn copy(&self, alloc: Global) -> Result<Moved, NoMemory>
-        ensures { IfOk result (λ moved. moved ≡ self.now) }
-    {
-        let letters = Letter::copy_all(alloc, self.letters.as_slice())?;
-        let ended = match &self.ended {
-            Some(outcome) => Some(outcome.copy(alloc)?),
-            None => None,
-        };
-        Ok(Moved { letters, ended })
-    }
-
-    /// What is made where nothing happens.
-    fn nothing(alloc: Global) -> Moved
-        ensures letters { result.letters ≡ [] }
-        ensures ended { result.ended ≡ None }
-    {
-        Moved {
-            letters: List::new(alloc),
-            ended: None,
-        }
-    }
-}
-
-/// What a step of a client will make. To carry it out takes no memory.
-#[derive(Debug, Drop)]
-pub struct Planned {
-    /// The client's state after the step, or none where the step changes nothing.
-    pub state: Option<ClientState>,
-    pub moved: Moved,
-}
-
 /// One client. Its operations run one at a time.
 #[derive(Debug, Drop)]
 pub struct Client {
     alloc: Global,
     state: ClientState,
-}
-
-impl Planned {
-    /// The plan of a step in which nothing happens.
-    fn nothing(alloc: Global) -> Planned
-        ensures state { result.state ≡ None }
-        ensures letters { result.moved.letters ≡ [] }
-        ensures ended { result.moved.ended ≡ None }
-    {
-        Planned {
-            state: None,
-            moved: Moved::nothing(alloc),
-        }
-    }
 }
 
 impl Model for Client {
@@ -102,15 +52,16 @@ impl Model for Client {
 }
 
 impl Client {
-    /// A client that was sent nothing yet.
-    pub fn start(alloc: Global, me: ClientId, keys: KeyRing) -> Client
-        ensures { result ≡ client_at_start me keys }
+    /// A client that was sent nothing yet. Its rests are drawn from this seed, and from its own number.
+    pub fn start(alloc: Global, me: ClientId, keys: KeyRing, seed: u64) -> Client
+        ensures { result ≡ client_at_start me keys seed }
     {
         Client {
             alloc,
             state: ClientState {
                 me,
                 keys,
+                waits: Backoff::seeded(seed, me),
                 kept: List::new(alloc),
                 last_request: None,
                 work: None,
@@ -125,11 +76,19 @@ impl Client {
         self.state.work.is_some()
     }
 
-    /// Whether the client waits before its next round.
+    /// Whether the client rests before its next round.
     pub fn rests(&self) -> bool
-        ensures { IsTrue result ↔ ⊥ }
+        ensures { IsTrue result ↔ IsSome (rest_of self.now.work) }
     {
-        false
+        self.rest_left().is_some()
+    }
+
+    /// How many ticks are left of its rest, `None` where it does not rest.
+    pub fn rest_left(&self) -> Option<u32>
+        ensures { result ≡ rest_of self.now.work }
+    {
+        let work = self.state.work.as_ref()?;
+        work.phase.rest_left()
     }
 
     /// Number and round of its last request.
@@ -147,6 +106,20 @@ impl Client {
         Some(work.number)
     }
 
+    /// The operation under way.
+    pub fn work(&self) -> Option<&Work>
+        ensures { option_copied result ≡ self.now.work }
+    {
+        self.state.work.as_ref()
+    }
+
+    /// The newest sealed histories that it was sent.
+    pub fn kept(&self) -> &[Kept]
+        ensures { result.now ≡ self.now.kept }
+    {
+        self.state.kept.as_slice()
+    }
+
     /// Begins an operation, and tells the letters of its first round.
     pub fn invoke(&mut self, op: Op) -> Result<List<Letter>, InvokeFail>
         requires { IfSome self.old.last_request (λ last. last.0 < 2 ^ 64 - 1) }
@@ -156,13 +129,8 @@ impl Client {
         ensures letters { IfOk result (λ letters. letters ≡ (client_invoke self.old op).letters) }
         ensures err { OnErr result (self.new ≡ self.old) }
     {
-        if self.state.work.is_some() {
-            return Err(InvokeFail::Busy);
-        }
-        let work = Work::new(self.alloc, op, self.next_number());
-        let idle = unmarked_state(self.alloc, &self.state)?;
-        let Stepped { state, letters, .. } = begin_round(self.alloc, idle, work)?;
-        self.state = state;
+        let planned = self.plan_invoke(op)?;
+        let Moved { letters, .. } = self.carry_out(planned);
         Ok(letters)
     }
 
@@ -178,27 +146,46 @@ impl Client {
         Ok(self.carry_out(planned))
     }
 
+    /// Takes a tick of the clock. Without memory the client is as before.
+    pub fn tick(&mut self) -> Result<Moved, NoMemory>
+        ensures state { OnOk result (self.new ≡ (client_tick self.old).state) }
+        ensures letters { IfOk result (λ moved. moved.letters ≡ (client_tick self.old).letters) }
+        ensures ended { IfOk result (λ moved. moved.ended ≡ (client_tick self.old).ended) }
+        ensures err { OnErr result (self.new ≡ self.old) }
+    {
+        let planned = self.plan_tick()?;
+        Ok(self.carry_out(planned))
+    }
+
+    /// What `invoke` will make of this operation. All that it takes of memory is taken here.
+    pub fn plan_invoke(&self, op: Op) -> Result<Planned, InvokeFail>
+        requires { IfSome self.now.last_request (λ last. last.0 < 2 ^ 64 - 1) }
+        ensures busy { result ≡ Err InvokeFail.Busy ↔ IsSome self.now.work }
+        ensures step { IfOk result (λ planned. planned_step self.now planned ≡ client_invoke self.now op) }
+    {
+        if self.state.work.is_some() {
+            return Err(InvokeFail::Busy);
+        }
+        let kept = unmarked(self.alloc, self.state.kept.as_slice())?;
+        let number = self.next_number();
+        let planned = begin_round(self.alloc, &self.state, kept, op, number, 1)?;
+        Ok(planned)
+    }
+
     /// What `step` will make of these bytes. All that the step takes of memory is taken here.
     pub fn plan(&self, text: &[u8]) -> Result<Planned, NoMemory>
-        ensures state { IfOk result (λ planned. client_planned self.now planned.state
-            ≡ (client_step self.now text.now).state) }
-        ensures letters { IfOk result (λ planned. planned.moved.letters ≡ (client_step self.now text.now).letters) }
-        ensures ended { IfOk result (λ planned. planned.moved.ended ≡ (client_step self.now text.now).ended) }
+        ensures { IfOk result (λ planned. planned_step self.now planned ≡ client_step self.now text.now) }
     {
         let me = Party::Client(self.state.me);
         match receive(self.alloc, &self.state.keys, me, text)? {
             Some(frame) => self.plan_frame(&frame),
-            None => Ok(Planned::nothing(self.alloc)),
+            None => Ok(Planned::turned(self.alloc, Turn::Stays)),
         }
     }
 
     /// What a frame will make. One that is no reply to this client is ignored.
     fn plan_frame(&self, frame: &Frame) -> Result<Planned, NoMemory>
-        ensures state { IfOk result (λ planned. client_planned self.now planned.state
-            ≡ (client_on_frame self.now frame.now).state) }
-        ensures letters { IfOk result (λ planned. planned.moved.letters
-            ≡ (client_on_frame self.now frame.now).letters) }
-        ensures ended { IfOk result (λ planned. planned.moved.ended ≡ (client_on_frame self.now frame.now).ended) }
+        ensures { IfOk result (λ planned. planned_step self.now planned ≡ client_on_frame self.now frame.now) }
     {
         match frame {
             Frame::Reply {
@@ -211,43 +198,83 @@ impl Client {
                 shown,
                 ..
             } if client.0 == self.state.me.0 => {
-                let state = shown_to(self.alloc, &self.state, *number, *round, shown.as_slice())?;
-                let Stepped {
-                    state,
-                    letters,
-                    ended,
-                } = counted_in(
-                    self.alloc, state, *replica, *number, *round, verdict, culled,
-                )?;
-                Ok(Planned {
-                    state: Some(state),
-                    moved: Moved { letters, ended },
-                })
+                let held = self.state.kept.as_slice();
+                let kept = keep_all(self.alloc, *number, *round, shown.as_slice(), held)?;
+                counted_in(
+                    self.alloc,
+                    &self.state,
+                    kept,
+                    *replica,
+                    *number,
+                    *round,
+                    verdict,
+                    culled,
+                )
             }
-            _ => Ok(Planned::nothing(self.alloc)),
+            _ => Ok(Planned::turned(self.alloc, Turn::Stays)),
         }
     }
 
-    /// Makes what was planned, which takes no memory.
+    /// What `tick` will make. All that it takes of memory is taken here.
+    pub fn plan_tick(&self) -> Result<Planned, NoMemory>
+        ensures { IfOk result (λ planned. planned_step self.now planned ≡ client_tick self.now) }
+    {
+        match &self.state.work {
+            Some(work) => ticked_in(self.alloc, &self.state, work),
+            None => Ok(Planned::turned(self.alloc, Turn::Stays)),
+        }
+    }
+
+    /// Makes what was planned of the state that the client has, which takes no memory.
     pub fn carry_out(&mut self, planned: Planned) -> Moved
-        ensures state { self.new ≡ client_planned self.old planned.state }
+        ensures state { self.new ≡ planned_state self.old planned }
         ensures moved { result ≡ planned.moved }
     {
-        let Planned { state, moved } = planned;
-        if let Some(state) = state {
-            self.state = state;
+        let Planned { kept, turn, moved } = planned;
+        if let Some(kept) = kept {
+            self.state.kept = kept;
         }
+        self.turn(turn);
         moved
     }
 
-    /// Takes a tick of the clock, upon which nothing happens.
-    pub fn tick(&mut self) -> Result<Moved, NoMemory>
-        ensures state { OnOk result (self.new ≡ (client_tick self.old).state) }
-        ensures letters { IfOk result (λ moved. moved.letters ≡ (client_tick self.old).letters) }
-        ensures ended { IfOk result (λ moved. moved.ended ≡ (client_tick self.old).ended) }
-        ensures err { OnErr result (self.new ≡ self.old) }
+    /// The operation under way stands so from now on.
+    fn turn(&mut self, turn: Turn)
+        ensures { self.new ≡ after_turn self.old turn }
     {
-        Ok(Moved::nothing(self.alloc))
+        match turn {
+            Turn::Stays => {}
+            Turn::Ends => self.state.work = None,
+            Turn::Begins(work) => {
+                self.state.last_request = Some((work.number, work.round));
+                self.state.work = Some(work);
+            }
+            Turn::Counts(replies) => self.count(replies),
+            Turn::Rests { ticks, waits } => {
+                self.state.waits = waits;
+                self.count(List::new(self.alloc));
+                self.pass(Phase::Resting { ticks });
+            }
+            Turn::Passes(phase) => self.pass(phase),
+        }
+    }
+
+    /// These verdicts count.
+    fn count(&mut self, replies: List<Counted>)
+        ensures { self.new ≡ after_turn self.old (Turn.Counts replies) }
+    {
+        if let Some(work) = &mut self.state.work {
+            work.replies = replies;
+        }
+    }
+
+    /// The round goes on in this phase.
+    fn pass(&mut self, phase: Phase)
+        ensures { self.new ≡ after_turn self.old (Turn.Passes phase) }
+    {
+        if let Some(work) = &mut self.state.work {
+            work.phase = phase;
+        }
     }
 
     /// The number of the next operation.

@@ -1,13 +1,13 @@
 ghost use Rattle.std.specs.Prelude.{◌≡◌, IfOk};
 
-use qu_base::{List, NoMemory, ObjectId};
+use super::Shared;
+use qu_base::NoMemory;
 use qu_history::Sealed;
-use std::alloc::Global;
 
 /// What a kept history is to the operation under way.
 #[derive(Clone, Copy, Debug, PartialEq, Eq)]
 pub enum Mark {
-    /// The round's sets do not hold it: it is of another object, or came since the round began.
+    /// The round's sets do not hold it: it is of another object, or was trimmed away, or came since the round began.
     Unshown,
     /// The round's sets hold it.
     Shown,
@@ -18,7 +18,7 @@ pub enum Mark {
 /// The newest sealed history of an object that a replica sent, and which request it answered.
 #[derive(Debug, Drop)]
 pub struct Kept {
-    pub sealed: Sealed,
+    pub sealed: Shared<Sealed>,
     pub number: u64,
     pub round: u8,
     pub mark: Mark,
@@ -53,8 +53,8 @@ impl Kept {
     fn is_of_source(&self, other: &Kept) -> bool
         ensures { result ≡ same_source self.now.sealed.history other.now.sealed.history }
     {
-        let mine = &self.sealed.history;
-        let theirs = &other.sealed.history;
+        let mine = &self.sealed.get().history;
+        let theirs = &other.sealed.get().history;
         mine.object().0 == theirs.object().0 && mine.replica().0 == theirs.replica().0
     }
 
@@ -65,12 +65,12 @@ impl Kept {
         self.number < other.number || self.number == other.number && self.round < other.round
     }
 
-    /// An equal history of the same answer.
-    pub fn copy(&self, alloc: Global) -> Result<Kept, NoMemory>
+    /// The same history of the same answer, which is not copied.
+    pub fn share(&self) -> Result<Kept, NoMemory>
         ensures { IfOk result (λ kept. kept ≡ self.now) }
     {
         Ok(Kept {
-            sealed: self.sealed.copy(alloc)?,
+            sealed: self.sealed.share()?,
             number: self.number,
             round: self.round,
             mark: self.mark,
@@ -81,5 +81,5 @@ impl Kept {
 mod keeping;
 mod marking;
 
-pub use keeping::{keep_all, kept_of};
+pub use keeping::{copies, keep_all, kept_of};
 pub use marking::{marked_shown, unmarked};

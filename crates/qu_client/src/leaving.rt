@@ -18,7 +18,7 @@ pub fn after_replies(
 {
     let mut all = List::new(alloc);
     for held in kept {
-        let mut entry = held.copy(alloc)?;
+        let mut entry = held.share()?;
         if leaves(bounds, replies, kept, held) {
             entry.mark = Mark::LeftOut;
         }
@@ -74,13 +74,14 @@ fn comes_after(replies: &[Counted], held: &Kept, other: &Kept) -> bool
     let mine = names_of(replies, held);
     let theirs = names_of(replies, other);
     mine < theirs
-        || mine == theirs && held.sealed.history.replica().0 < other.sealed.history.replica().0
+        || mine == theirs
+            && held.sealed.get().history.replica().0 < other.sealed.get().history.replica().0
 }
 
 fn of_same_object(held: &Kept, other: &Kept) -> bool
     ensures { result ≡ of_same_object held.now other.now }
 {
-    other.sealed.history.object().0 == held.sealed.history.object().0
+    other.sealed.get().history.object().0 == held.sealed.get().history.object().0
 }
 
 /// How many of the replies name the entry.
@@ -97,12 +98,13 @@ fn names_of(replies: &[Counted], held: &Kept) -> usize
 fn names(counted: &Counted, held: &Kept) -> bool
     ensures { result ≡ names counted.now held.now }
 {
-    counted.culled.iter().any(|pair| is_name_of(held, pair))
+    let culled = counted.culled.get();
+    culled.iter().any(|pair| is_name_of(held, pair))
 }
 
 fn is_name_of(held: &Kept, pair: &(ObjectId, ReplicaId)) -> bool
     ensures { result ≡ is_name_of held.now pair.now }
 {
-    let history = &held.sealed.history;
+    let history = &held.sealed.get().history;
     pair.0.0 == history.object().0 && pair.1.0 == history.replica().0
 }

@@ -1,5 +1,6 @@
-ghost use Rattle.std.specs.Prelude.{◌≡◌, ◌≤◌, IfOk, IsTrue, map};
-ghost use Rattle.qu_client.specs.Rounds.{operation_objects, are_objects, entries_from, sets_of, are_full, are_current};
+ghost use Rattle.std.specs.Prelude.{◌≡◌, IfOk, IsTrue, map};
+ghost use Rattle.qu_client.specs.Question.{operation_objects, are_objects, lowest_of, entries_from, whole_sets, sets_of, are_full, are_current};
+ghost use Rattle.qu_client.specs.Rounds.{first_object};
 
 use super::Kept;
 use super::kept::kept_of;
@@ -9,15 +10,38 @@ use qu_history::{Sealed, SetOf, Sets};
 use qu_objects::Op;
 use std::alloc::Global;
 
-/// The sets of a round: of each object of the operation what is shown of it.
-#[tactic(auto, using(crate::proofs::Asking::are_sets_kept))]
-pub fn sets_of(alloc: Global, bounds: Bounds, kept: &[Kept], op: &Op) -> Result<Sets, NoMemory>
-    ensures { IfOk result (λ sets. sets ≡ sets_of bounds kept.now op.now) }
+/// The sets of a round upon these objects: in rounds 1, 3 and so on they are trimmed.
+pub fn sets_of(
+    alloc: Global,
+    bounds: Bounds,
+    round: u8,
+    kept: &[Kept],
+    objects: &[ObjectId],
+) -> Result<Sets, NoMemory>
+    requires { IsTrue (are_objects objects.now) }
+    ensures { IfOk result (λ sets. sets ≡ sets_of bounds round kept.now objects.now) }
+{
+    let whole = whole_sets(alloc, bounds, kept, objects)?;
+    if round % 2 == 1 {
+        whole.trim(alloc, &bounds)
+    } else {
+        Ok(whole)
+    }
+}
+
+/// Of each of the objects all that is kept of it, without what is left out.
+fn whole_sets(
+    alloc: Global,
+    bounds: Bounds,
+    kept: &[Kept],
+    objects: &[ObjectId],
+) -> Result<Sets, NoMemory>
+    requires { IsTrue (are_objects objects.now) }
+    ensures { IfOk result (λ sets. sets ≡ whole_sets bounds kept.now objects.now) }
 {
     let replicas = bounds.n();
-    let objects = operation_objects(alloc, op)?;
     let mut sets = List::new(alloc);
-    for object in objects.as_slice() {
+    for object in objects {
         let entries = entries_of(alloc, replicas, kept, *object)?;
         sets.push(SetOf {
             object: *object,
@@ -38,21 +62,17 @@ pub fn are_full(bounds: Bounds, sets: &Sets) -> bool
     sets.objects().iter().all(|set| set.entries.len() >= quorum)
 }
 
-/// Whether each object is of class METHOD.
-#[tactic(auto, using(crate::proofs::Own::are_current_no, crate::proofs::Own::are_current_more))]
-pub fn are_current(bounds: Bounds, sets: &Sets) -> bool
-    ensures { result ≡ are_current bounds sets.now }
+/// Whether each of the objects is of class METHOD.
+pub fn are_current(bounds: Bounds, sets: &Sets, objects: &[ObjectId]) -> bool
+    ensures { result ≡ are_current bounds sets.now objects.now }
 {
-    for set in sets.objects().as_slice() {
-        if method_at(sets, set.object, &bounds).is_none() {
-            return false;
-        }
-    }
-    true
+    objects
+        .iter()
+        .all(|object| method_at(sets, *object, &bounds).is_some())
 }
 
 /// The objects that an operation names, in rising order.
-#[tactic(auto, using(crate::proofs::Asking::are_objects_of_parts))]
+#[tactic(auto, using(crate::proofs::Gathered::are_objects_of_parts))]
 pub fn operation_objects(alloc: Global, op: &Op) -> Result<List<ObjectId>, NoMemory>
     ensures value { IfOk result (λ objects. objects ≡ operation_objects op.now) }
     ensures in_order { IfOk result (λ objects. IsTrue (are_objects objects)) }
@@ -74,7 +94,37 @@ fn objects_in<T>(alloc: Global, parts: &[(ObjectId, T)]) -> Result<List<ObjectId
     Ok(objects)
 }
 
-/// The sealed histories that are shown of an object, by rising replica.
+/// The lowest object that an operation names.
+pub fn first_object(op: &Op) -> ObjectId
+    ensures { result ≡ first_object op.now }
+{
+    match op {
+        Op::Act(act) => first_in(act.parts().as_slice()),
+        Op::Query(query) => first_in(query.parts().as_slice()),
+    }
+}
+
+/// The object of the first part.
+fn first_in<T>(parts: &[(ObjectId, T)]) -> ObjectId
+    ensures { result ≡ lowest_of (map (λ part. part.0) parts.now) }
+{
+    match parts {
+        [] => ObjectId(0),
+        [first, ..] => first.0,
+    }
+}
+
+/// The lowest of some objects, which rise.
+pub fn lowest_of(objects: &[ObjectId]) -> ObjectId
+    ensures { result ≡ lowest_of objects.now }
+{
+    match objects {
+        [] => ObjectId(0),
+        [first, ..] => *first,
+    }
+}
+
+/// The sealed histories of an object that are kept and not left out, by rising replica.
 fn entries_of(
     alloc: Global,
     replicas: u8,

@@ -1,148 +1,83 @@
 ghost use Rattle.std.specs.Prelude.{◌≡◌, IfOk, Some};
-ghost use Rattle.std.specs.Option.{option_copied};
-ghost use Rattle.qu_objects.specs.declared.op.Outcome.TheVariants as Outcome;
-ghost use Rattle.qu_client.specs.Steps.{stays, ends, fitting, agreed, unanswered, judged, next_round, with_verdict, counted_in};
+ghost use Rattle.qu_client.specs.Steps.{fitting, agreed, judged, with_reply, counted_in};
+ghost use Rattle.qu_client.specs.Plans.{planned_step};
 
-use super::leaving::after_replies;
-use super::rounds::begin_round;
-use super::verdicts::{fitting, identical_verdicts, is_hopeless};
-use super::{ClientState, Stepped, Work};
+use super::endings::ends_round;
+use super::verdicts::{fitting, is_agreed, is_hopeless};
+use super::{ClientState, Counted, Kept, Planned, Turn, Work};
 use qu_base::{List, NoMemory, ObjectId, ReplicaId};
-use qu_frames::{LAST_ROUND, Verdict};
-use qu_objects::{Answer, Outcome};
+use qu_frames::Verdict;
+use qu_objects::Outcome;
 use std::alloc::Global;
 
-/// A verdict counts where it is of the round under way, and the first of its replica.
+/// What a reply makes: its verdict counts where it is of the round under way, and the first of its replica. These
+/// histories are kept.
 pub fn counted_in(
     alloc: Global,
-    mut state: ClientState,
+    state: &ClientState,
+    kept: List<Kept>,
     replica: ReplicaId,
     number: u64,
     round: u8,
     verdict: &Verdict,
     culled: &List<(ObjectId, ReplicaId)>,
-) -> Result<Stepped, NoMemory>
-    ensures { IfOk result (λ stepped. stepped ≡ counted_in state state.work replica number round verdict.now
-        culled.now) }
+) -> Result<Planned, NoMemory>
+    ensures { IfOk result (λ planned. planned_step state.now planned
+        ≡ counted_in (record state.now { kept = kept }) state.now.work replica number round verdict.now culled.now) }
 {
-    let Some(work) = state.work.take() else {
-        return Ok(stays(alloc, state));
-    };
-    if work.counts(replica, number, round) {
-        counted_more(alloc, state, work, replica, verdict, culled)
-    } else {
-        Ok(resumed(alloc, state, work))
+    match &state.work {
+        Some(work) if work.counts(replica, number, round) => {
+            let replies = work.with_reply(alloc, replica, verdict, culled)?;
+            judged(alloc, state, kept, work, replies, verdict)
+        }
+        _ => Ok(Planned::kept(alloc, kept, Turn::Stays)),
     }
 }
 
-/// A verdict that counts is judged with those that came before it.
-#[tactic(auto, using(crate::proofs::Judging::judged_of_any))]
-fn counted_more(
-    alloc: Global,
-    state: ClientState,
-    mut work: Work,
-    replica: ReplicaId,
-    verdict: &Verdict,
-    culled: &List<(ObjectId, ReplicaId)>,
-) -> Result<Stepped, NoMemory>
-    ensures { IfOk result (λ stepped. stepped ≡ judged state (with_verdict work replica verdict.now culled.now)
-        verdict.now (fitting work.op verdict.now)) }
-{
-    work.count(alloc, replica, verdict, culled)?;
-    judged(alloc, state, work, verdict)
-}
-
-/// The round with this verdict more ends where a quorum agrees with it, or where none can agree.
-#[tactic(auto, using(crate::proofs::Judging::judged_agreed, crate::proofs::Judging::judged_unanswered))]
+/// The round whose last verdict is this one: a quorum agrees with it, or the round ends since none can agree, or more
+/// verdicts are awaited.
+#[tactic(auto, using(crate::proofs::Planning::counted))]
 fn judged(
     alloc: Global,
-    state: ClientState,
-    work: Work,
+    state: &ClientState,
+    kept: List<Kept>,
+    work: &Work,
+    replies: List<Counted>,
     verdict: &Verdict,
-) -> Result<Stepped, NoMemory>
-    ensures { IfOk result (λ stepped. stepped ≡ judged state work verdict.now (fitting work.op verdict.now)) }
+) -> Result<Planned, NoMemory>
+    requires { state.now.work ≡ Some work.now }
+    ensures { IfOk result (λ planned. planned_step state.now planned
+        ≡ judged (record state.now { kept = kept }) (record work.now { replies = replies }) verdict.now) }
 {
-    match agreed(&state, &work, verdict) {
-        Some(answer) => answered(alloc, state, answer),
-        None => unanswered(alloc, state, work),
+    let bounds = state.keys.bounds();
+    if is_agreed(bounds, &work.body, replies.as_slice(), verdict) {
+        return agreed(alloc, state, kept, work, replies.as_slice(), verdict);
     }
-}
-
-/// The answer of a verdict with which a quorum agrees.
-fn agreed<'v>(state: &ClientState, work: &Work, verdict: &'v Verdict) -> Option<&'v Answer>
-    ensures { option_copied result ≡ agreed state.now work.now verdict.now (fitting work.now.op verdict.now) }
-{
-    let answer = fitting(&work.op, verdict)?;
-    if identical_verdicts(verdict, work.replies.as_slice())
-        >= usize::from(state.keys.bounds().q())
-    {
-        Some(answer)
-    } else {
-        None
+    if is_hopeless(bounds, &work.body, work.whom_asked(), replies.as_slice()) {
+        return ends_round(alloc, state, kept.as_slice(), work, replies.as_slice());
     }
+    Ok(Planned::kept(alloc, kept, Turn::Counts(replies)))
 }
 
-/// The operation ends with this answer.
-fn answered(alloc: Global, state: ClientState, answer: &Answer) -> Result<Stepped, NoMemory>
-    ensures { IfOk result (λ stepped. stepped ≡ ends state (Outcome.Done answer.now)) }
+/// A quorum agrees with this verdict: the operation ends with its answer, or where it tells none the round ends.
+fn agreed(
+    alloc: Global,
+    state: &ClientState,
+    kept: List<Kept>,
+    work: &Work,
+    replies: &[Counted],
+    verdict: &Verdict,
+) -> Result<Planned, NoMemory>
+    requires { state.now.work ≡ Some work.now }
+    ensures { IfOk result (λ planned. planned_step state.now planned
+        ≡ agreed (record state.now { kept = kept }) (record work.now { replies = replies.now })
+        (fitting work.now.body verdict.now)) }
 {
-    let answer = answer.copy(alloc)?;
-    Ok(ends(alloc, state, Outcome::Done(answer)))
-}
-
-/// The round ends where no answer can come any more.
-fn unanswered(alloc: Global, state: ClientState, work: Work) -> Result<Stepped, NoMemory>
-    ensures { IfOk result (λ stepped. stepped ≡ unanswered state work) }
-{
-    if is_hopeless(state.keys.bounds(), &work.op, work.replies.as_slice()) {
-        next_round(alloc, state, work)
-    } else {
-        Ok(resumed(alloc, state, work))
-    }
-}
-
-/// A round that ended without an answer leaves out what its replies name, and the next one begins.
-fn next_round(alloc: Global, mut state: ClientState, mut work: Work) -> Result<Stepped, NoMemory>
-    ensures { IfOk result (λ stepped. stepped ≡ next_round state work) }
-{
-    if work.round >= LAST_ROUND {
-        return Ok(ends(alloc, state, Outcome::GaveUp));
-    }
-    state.kept = after_replies(
-        alloc,
-        state.keys.bounds(),
-        work.replies.as_slice(),
-        state.kept.as_slice(),
-    )?;
-    work.round += 1;
-    begin_round(alloc, state, work)
-}
-
-fn stays(alloc: Global, state: ClientState) -> Stepped
-    ensures { result ≡ stays state }
-{
-    Stepped {
-        state,
-        letters: List::new(alloc),
-        ended: None,
-    }
-}
-
-/// The operation stays under way.
-fn resumed(alloc: Global, mut state: ClientState, work: Work) -> Stepped
-    ensures { result ≡ stays (record state { work = Some work }) }
-{
-    state.work = Some(work);
-    stays(alloc, state)
-}
-
-fn ends(alloc: Global, mut state: ClientState, outcome: Outcome) -> Stepped
-    ensures { result ≡ ends state outcome }
-{
-    state.work = None;
-    Stepped {
-        state,
-        letters: List::new(alloc),
-        ended: Some(outcome),
+    match fitting(&work.body, verdict) {
+        Some(answer) => {
+            let outcome = Outcome::Done(answer.copy(alloc)?);
+            Ok(Planned::ended(alloc, kept, outcome))
+        }
+        None => ends_round(alloc, state, kept.as_slice(), work, replies),
     }
 }

@@ -1,8 +1,11 @@
-ghost use Rattle.std.specs.Prelude.{◌≡◌, ◌==◌, IfOk, OnOk};
-ghost use Rattle.std.specs.List.{list_any};
+ghost use Rattle.std.specs.Prelude.{◌≡◌, IfOk};
 
+use super::sets::first_object;
+use super::verdicts::has_replied;
+use super::{Question, Shared, Whom};
 use qu_base::{List, NoMemory, ObjectId, ReplicaId};
-use qu_frames::Verdict;
+use qu_frames::{Body, Verdict};
+use qu_history::Sets;
 use qu_objects::Op;
 use std::alloc::Global;
 
@@ -10,18 +13,18 @@ use std::alloc::Global;
 #[derive(Debug, Drop)]
 pub struct Counted {
     pub replica: ReplicaId,
-    pub verdict: Verdict,
+    pub verdict: Shared<Verdict>,
     /// What the reply names as culled.
-    pub culled: List<(ObjectId, ReplicaId)>,
+    pub culled: Shared<List<(ObjectId, ReplicaId)>>,
 }
 
 /// Where an operation stands.
 #[derive(Clone, Copy, Debug, PartialEq, Eq)]
 pub enum Phase {
-    /// The replicas were asked in this round, and their verdicts are counted.
-    Asking,
-    /// Nothing more is sent: the operation stays open.
-    Halted,
+    /// Replicas were asked in this round, all of them or the preferred ones alone, and their verdicts are counted.
+    Asking { all: bool },
+    /// The round ended, and the next one begins after so many ticks.
+    Resting { ticks: u32 },
 }
 
 /// The operation under way.
@@ -33,8 +36,10 @@ pub struct Work {
     /// From 1 to `LAST_ROUND`.
     pub round: u8,
     pub phase: Phase,
-    /// Whether the act was sent with a quorum of entries for each object.
-    pub acted: bool,
+    /// The sets of the round's request, which may be sent again.
+    pub sets: Sets,
+    /// What the round's request asks for.
+    pub body: Body,
     /// The verdicts that count in this round, in the order in which they came.
     pub replies: List<Counted>,
 }
@@ -53,29 +58,44 @@ impl Counted {
         let culled = culled.copy(alloc)?;
         Ok(Counted {
             replica,
-            verdict: verdict.copy(alloc)?,
-            culled,
+            verdict: Shared::new(alloc, verdict.copy(alloc)?)?,
+            culled: Shared::new(alloc, culled)?,
         })
     }
 
-    /// An equal verdict of the same replica.
-    pub fn copy(&self, alloc: Global) -> Result<Counted, NoMemory>
+    /// The same verdict of the same replica, which is not copied.
+    pub fn share(&self) -> Result<Counted, NoMemory>
         ensures { IfOk result (λ counted. counted ≡ self.now) }
     {
-        Counted::of(alloc, self.replica, &self.verdict, &self.culled)
+        let culled = self.culled.share()?;
+        Ok(Counted {
+            replica: self.replica,
+            verdict: self.verdict.share()?,
+            culled,
+        })
     }
 }
 
 impl Phase {
-    ghost use Rattle.qu_client.specs.Steps.{is_asking};
+    ghost use Rattle.qu_client.specs.Steps.{is_asking, rest_left};
 
     /// Whether verdicts are counted.
-    fn is_asking(self) -> bool
+    pub fn is_asking(self) -> bool
         ensures { result ≡ is_asking self }
     {
         match self {
-            Phase::Asking => true,
-            Phase::Halted => false,
+            Phase::Asking { all: _ } => true,
+            Phase::Resting { ticks: _ } => false,
+        }
+    }
+
+    /// How many ticks are left of a rest.
+    pub fn rest_left(self) -> Option<u32>
+        ensures { result ≡ rest_left self }
+    {
+        match self {
+            Phase::Asking { all: _ } => None,
+            Phase::Resting { ticks } => Some(ticks),
         }
     }
 }
@@ -88,42 +108,41 @@ impl Drop for Work {
             number: _,
             round: _,
             phase: _,
-            acted: _,
+            sets: _,
+            body: _,
             replies: _,
         } = self;
     }
 }
 
 impl Work {
-    ghost use Rattle.qu_client.specs.Steps.{counts, first_work, with_verdict};
+    ghost use Rattle.qu_client.specs.Rounds.{whom_asked, work_asking};
+    ghost use Rattle.qu_client.specs.Steps.{counts, with_reply};
 
-    /// An operation in its first round.
-    pub fn new(alloc: Global, op: Op, number: u64) -> Work
-        ensures { result ≡ first_work op number }
+    /// An operation in a round that asks this.
+    pub fn asking(alloc: Global, op: Op, number: u64, round: u8, question: Question) -> Work
+        ensures { result ≡ work_asking op number round question }
     {
+        let Question { sets, body, all } = question;
         Work {
             op,
             number,
-            round: 1,
-            phase: Phase::Asking,
-            acted: false,
+            round,
+            phase: Phase::Asking { all },
+            sets,
+            body,
             replies: List::new(alloc),
         }
     }
 
-    /// An equal operation.
-    pub fn copy(&self, alloc: Global) -> Result<Work, NoMemory>
-        ensures { IfOk result (λ work. work ≡ self.now) }
+    /// Who was asked so far in the round under way.
+    pub fn whom_asked(&self) -> Whom
+        ensures { result ≡ whom_asked self.now }
     {
-        let replies = copies(alloc, self.replies.as_slice())?;
-        Ok(Work {
-            op: self.op.copy(alloc)?,
-            number: self.number,
-            round: self.round,
-            phase: self.phase,
-            acted: self.acted,
-            replies,
-        })
+        match self.phase {
+            Phase::Asking { all: false } => Whom::Preferred(first_object(&self.op)),
+            Phase::Asking { all: true } | Phase::Resting { ticks: _ } => Whom::All,
+        }
     }
 
     /// Whether a verdict counts: it is of the round under way, and the first of its replica.
@@ -133,40 +152,33 @@ impl Work {
         self.phase.is_asking()
             && number == self.number
             && round == self.round
-            && !self.has_replied(replica)
+            && !has_replied(self.replies.as_slice(), replica.0)
     }
 
-    /// Takes a verdict more of a replica, and what its reply names as culled.
-    pub fn count(
-        &mut self,
+    /// The verdicts that count, with one more, and with what its reply names as culled.
+    pub fn with_reply(
+        &self,
         alloc: Global,
         replica: ReplicaId,
         verdict: &Verdict,
         culled: &List<(ObjectId, ReplicaId)>,
-    ) -> Result<(), NoMemory>
-        ensures { OnOk result (self.new ≡ with_verdict self.old replica verdict.now culled.now) }
+    ) -> Result<List<Counted>, NoMemory>
+        ensures { IfOk result
+            (λ replies. replies ≡ with_reply self.now.replies replica verdict.now culled.now) }
     {
-        let counted = Counted::of(alloc, replica, verdict, culled)?;
-        self.replies.push(counted)?;
-        Ok(())
-    }
-
-    /// Whether a verdict of the replica is among those that count.
-    fn has_replied(&self, replica: ReplicaId) -> bool
-        ensures { result ≡ list_any (λ counted. (counted.replica).0 == replica.0) self.now.replies }
-    {
-        self.replies
-            .iter()
-            .any(|counted| counted.replica.0 == replica.0)
+        let mut replies = copies(alloc, self.replies.as_slice())?;
+        replies.push(Counted::of(alloc, replica, verdict, culled)?)?;
+        Ok(replies)
     }
 }
 
+/// The same verdicts, none of which is copied.
 fn copies(alloc: Global, replies: &[Counted]) -> Result<List<Counted>, NoMemory>
     ensures { IfOk result (λ copies. copies ≡ replies.now) }
 {
     let mut copies = List::new(alloc);
     for counted in replies {
-        copies.push(counted.copy(alloc)?)?;
+        copies.push(counted.share()?)?;
     }
     Ok(copies)
 }

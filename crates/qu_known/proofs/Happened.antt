@@ -2,6 +2,7 @@
 use Rattle.std.proofs.Common.{◌≡◌, ◌⊎◌, ℕ, zero, suc, ◌+◌, List, [], ◌∷◌, ◌++◌, Option, None, Some, Result, Ok, inl, inr, refl, sym, ap, ◌∙◌}
 use Rattle.std.specs.Prelude.{option_map, slice_get, slice_set}
 use Rattle.std.specs.List.{AllByRecursion, cons_option, filter_map}
+use Rattle.std.proofs.lemmas.Bool.{cond_both}
 use Rattle.qu_base.specs.declared.party.ClientId.{ClientId}
 use Rattle.qu_base.specs.declared.party.Party.{Party}
 use Rattle.qu_base.specs.declared.party.Party.TheVariants as party
@@ -10,26 +11,23 @@ use Rattle.qu_base.specs.Bounds.{replicas}
 use Rattle.qu_base.specs.declared.bad_text.BadText.{BadText}
 use Rattle.qu_base.specs.declared.party.ObjectId.{ObjectId}
 use Rattle.qu_seal.specs.Keys.{Ring}
-use Rattle.qu_history.specs.declared.sets.SetOf.{SetOf}
 use Rattle.qu_history.specs.declared.sealed.Sealed.{Sealed}
-use Rattle.qu_objects.specs.declared.op.Op.{Op}
 use Rattle.qu_frames.specs.declared.frame.Letter.{Letter}
 use Rattle.qu_frames.specs.declared.frame.Frame.{Frame}
 use Rattle.qu_frames.specs.declared.frame.Frame.TheVariants as frame
 use Rattle.qu_frames.specs.declared.verdict.Verdict.{Verdict}
-use Rattle.qu_frames.specs.Body.{body_of}
 use Rattle.qu_frames.specs.Decoding.{decoded}
 use Rattle.qu_frames.specs.Signing.{brought, signature, signed}
 use Rattle.qu_rows.specs.State.{ReplicaState}
 use Rattle.qu_replica.specs.Step.{replica_step, replica_on_frame, replica_on_received}
 use Rattle.qu_fitting.proofs.FitRequests.{blank_sized}
 use Rattle.qu_client.specs.declared.state.ClientState.{ClientState}
-use Rattle.qu_client.specs.declared.state.Stepped.{Stepped}
+use Rattle.qu_client.specs.State.{Stepped}
 use Rattle.qu_client.specs.declared.work.Work.{Work}
-use Rattle.qu_client.specs.Rounds.{requests_from, request_of}
+use Rattle.qu_client.specs.declared.whom.Whom.{Whom}
+use Rattle.qu_client.specs.Rounds.{is_asked, requests_from, requests, request_of}
 use Rattle.qu_client.specs.Steps.{client_invoke, client_step, client_tick}
-use Rattle.qu_client.proofs.Cases.{invoke_cases}
-use Rattle.qu_client.proofs.Cases as client
+use Rattle.qu_runs.proofs.Fits.ClientLetters.{step_sends, tick_sends, invoke_sends}
 use Rattle.qu_trace.specs.declared.event.Event.{Event}
 use Rattle.qu_trace.specs.declared.event.Event.TheVariants.{Invoke, Deliver, Tick, Inject}
 use Rattle.qu_trace.specs.declared.trace.Entry.{Entry}
@@ -85,47 +83,40 @@ no_answer (Ok (frame.Reply replica client number round verdict culled shown mac)
     absurd (none replica client number round verdict culled shown mac refl)
 no_answer _ none = refl
 
-request_answers : (keys : Ring) (to : Party) (me : ClientId) (work : Work) (sets : List SetOf)
-    → round_answered (decoded (signed keys to (request_of me work sets))) ≡ None
-request_answers keys to me work sets =
-    let sent : Frame = request_of me work sets in
+request_answers : (keys : Ring) (to : Party) (me : ClientId) (work : Work)
+    → round_answered (decoded (signed keys to (request_of me work))) ≡ None
+request_answers keys to me work =
+    let sent : Frame = request_of me work in
     let letter : Letter = record { from = party.Client me; to = to; text = signed keys to sent } in
     no_answer (decoded (signed keys to sent)) (λ replica client number round verdict culled shown mac carries.
-    no_reply letter me work.number work.round sets (body_of work.op) (signature keys to sent)
+    no_reply letter me work.number work.round work.sets work.body (signature keys to sent)
     (signed_spelled keys to sent blank_sized) replica client number round verdict shown
     (record { culled = culled; mac = mac; carries = carries }))
 
-requests_tell : (keys : Ring) (replica count : ℕ) (me : ClientId) (work : Work) (sets : List SetOf)
-    → TellNothing (requests_from keys replica count me work sets)
+requests_tell : (keys : Ring) (replica count : ℕ) (me : ClientId) (work : Work) (whom : Whom)
+    → TellNothing (requests_from keys replica count me work whom)
 unfolding requests_from see_letters rounds_told
-requests_tell keys replica zero me work sets = ((λ seen. refl), refl)
-requests_tell keys replica (suc count) me work sets =
-    let later : TellNothing (requests_from keys (replica + 1) count me work sets) =
-    requests_tell keys (replica + 1) count me work sets in (
+requests_tell keys replica zero me work whom = ((λ seen. refl), refl)
+requests_tell keys replica (suc count) me work whom =
+    let rest : List Letter = requests_from keys (replica + 1) count me work whom in
+    let later : TellNothing rest = requests_tell keys (replica + 1) count me work whom in
+    cond_both (is_asked keys.bounds whom replica) _ _ TellNothing
+    (λ _. (
       (λ seen. later.0 seen),
       later.1
-          ∙ ap (λ (found : Option Answered). cons_option found
-          (filter_map letter_answered (requests_from keys (replica + 1) count me work sets)))
-          (sym (request_answers keys (party.Replica (record { 0 = replica })) me work sets)),
-    )
+          ∙ ap (λ (found : Option Answered). cons_option found (filter_map letter_answered rest))
+          (sym (request_answers keys (party.Replica (record { 0 = replica })) me work)),
+    ))
+    (λ _. later)
 
 pub none_tells : TellNothing []
 unfolding see_letters rounds_told
 none_tells = ((λ seen. refl), refl)
 
-invoke_tells : (state : ClientState) (op : Op) → TellNothing (client_invoke state op).letters
-invoke_tells state op =
-    invoke_cases state op (λ (stepped : Stepped). TellNothing stepped.letters)
-    (λ kept acted marked. requests_tell state.keys 0 (replicas state.keys.bounds) state.me _ _)
-    (λ kept marked. none_tells)
-
-step_tells : (state : ClientState) (text : List ℕ) → TellNothing (client_step state text).letters
-step_tells state text =
-    client.step_cases state (λ (stepped : Stepped). TellNothing stepped.letters) none_tells (λ kept. none_tells)
-    (λ kept work replica number round verdict culled is counting. none_tells) (λ kept end. none_tells)
-    (λ kept work replies acted is asking more.
-    requests_tell state.keys 0 (replicas state.keys.bounds) state.me _ _)
-    (λ kept work replies is asking more. none_tells) text
+-- the letters of a client
+asked_tells : (state : ClientState) (work : Work) (whom : Whom)
+    → TellNothing (requests state.keys state.me work whom)
+asked_tells state = requests_tell state.keys 0 (replicas state.keys.bounds) state.me
 
 -- ---- replicas
 
@@ -208,7 +199,8 @@ received_happens world event (party.Replica me) text offers =
     replica_happens world event me text (slice_get world.replicas me.0) offers refl
 received_happens world event (party.Client me) text offers =
     client_happens world event me (λ (state : ClientState). client_step state text)
-    (numbered world.clients me.0) (λ state. step_tells state text)
+    (numbered world.clients me.0)
+    (λ state. step_sends state TellNothing none_tells (asked_tells state) text)
 
 delivered_happens : (world : WorldState) (number : ℕ) (found : Option Letter) → letter_of world number ≡ found
     → Happens world (Deliver number) (delivered world (Deliver number) found)
@@ -221,13 +213,15 @@ happens world (Invoke client op) =
     step_cases (Happens world (Invoke client op)) world (Invoke client op)
     (unchanged_happens world (Invoke client op)) (λ correct.
     client_happens world (Invoke client op) client (λ (state : ClientState). client_invoke state op)
-    (numbered world.clients client.0) (λ state. invoke_tells state op))
+    (numbered world.clients client.0)
+    (λ state. invoke_sends state TellNothing none_tells (asked_tells state) op))
 happens world (Deliver number) =
     step_cases (Happens world (Deliver number)) world (Deliver number) (unchanged_happens world (Deliver number))
     (λ correct. delivered_happens world number (letter_of world number) refl)
 happens world (Tick client) =
     step_cases (Happens world (Tick client)) world (Tick client) (unchanged_happens world (Tick client)) (λ correct.
-    client_happens world (Tick client) client client_tick (numbered world.clients client.0) (λ state. none_tells))
+    client_happens world (Tick client) client client_tick (numbered world.clients client.0)
+    (λ state. tick_sends state TellNothing none_tells (asked_tells state)))
 happens world (Inject to text) =
     step_cases (Happens world (Inject to text)) world (Inject to text) (unchanged_happens world (Inject to text))
     (λ correct. received_happens world (Inject to text) to text refl)

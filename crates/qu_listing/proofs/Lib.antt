@@ -3,4 +3,4 @@ pub mod DigestFacts
 pub mod EventFacts
 pub mod LetterFacts
 pub mod ReceiverFacts
-pub mod ReplicaFacts
+pub mod WorldFacts

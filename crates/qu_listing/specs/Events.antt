@@ -3,6 +3,7 @@ use Rattle.std.specs.Prelude.{ℕ, ◌+◌, List, [], ◌∷◌, ◌++◌, lengt
 use Rattle.std.specs.List.{flat_map, enumerate_from}
 use Rattle.std.specs.Fmt.{decimal}
 use Rattle.qu_base.specs.declared.party.ClientId.{ClientId}
+use Rattle.qu_base.specs.declared.party.Party.{Party}
 use Rattle.qu_base.specs.declared.party.Party.TheVariants as party
 use Rattle.qu_objects.specs.declared.op.Outcome.{Outcome}
 use Rattle.qu_objects.specs.declared.op.Outcome.TheVariants.{Done, GaveUp}
@@ -17,13 +18,16 @@ use Rattle.qu_trace.specs.declared.trace.Setup.{Setup}
 use Rattle.qu_trace.specs.declared.trace.Trace.{Trace}
 use Rattle.qu_trace.specs.Letters.{letters_of, numbered, offered_by}
 use Rattle.qu_trace.specs.Operation.{begun_by}
+use Rattle.qu_world.specs.State.{WorldState}
 use Rattle.qu_print.specs.Lines.{lines_text}
 use Rattle.qu_print.specs.Words.{name_text, op_text, answer_text}
 use Rattle.qu_listing.specs.Names.{party_text, count_text}
 use Rattle.qu_listing.specs.Frames.{frame_text, carried_text}
 use Rattle.qu_listing.specs.Receivers.{frame_taken}
-use Rattle.qu_listing.specs.Replicas.{replicas_after}
+use Rattle.qu_listing.specs.declared.stood.Stood.{Stood}
 use Rattle.qu_listing.specs.Fetching.{noted_text, waits_text}
+use Rattle.qu_listing.specs.Rounds.{stood_before, rounds_text}
+use Rattle.qu_listing.specs.World.{followed, world_behind}
 
 -- ---- the line of a letter
 
@@ -74,12 +78,24 @@ abbrev pub end_text : Option (ClientId × ℕ × Outcome) → List ℕ
 end_text None = []
 end_text (Some ended) = codes ", ends " ++ name_text ended.0 ended.1 ++ outcome_text ended.2
 
--- the event behind these entries has the number that comes next
+-- what is told in the world before the event. The event behind these entries has the number that comes next
+abbrev pub front_text : Setup → List Entry → WorldState → Entry → Option (Party × List ℕ) → List ℕ
+front_text setup earlier world entry offered =
+    codes "event " ++ decimal (length earlier + 1) ++ codes " " ++ event_text setup earlier entry.event
+    ++ noted_text setup world.replicas offered ++ waits_text entry.letters
+
+-- what is told in the world behind it
+abbrev pub back_text : WorldState → Entry → Option Stood → List ℕ
+back_text world entry stood = rounds_text stood world ++ end_text entry.ended
+
+abbrev pub told_in : Setup → List Entry → WorldState → Entry → Option (Party × List ℕ) → List ℕ
+told_in setup earlier world entry offered =
+    front_text setup earlier world entry offered
+    ++ back_text (followed world entry.event) entry (stood_before setup world offered entry.event)
+
 unfoldable pub event_line : Setup → List Entry → Entry → List ℕ
 event_line setup earlier entry =
-    codes "event " ++ decimal (length earlier + 1) ++ codes " " ++ event_text setup earlier entry.event
-    ++ noted_text setup (replicas_after setup earlier) (offered_by earlier entry.event) ++ waits_text entry.letters
-    ++ end_text entry.ended
+    told_in setup earlier (world_behind setup earlier) entry (offered_by earlier entry.event)
 
 -- ---- the listing
 

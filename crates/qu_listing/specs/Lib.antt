@@ -3,7 +3,8 @@ pub mod Names
 pub mod Verdicts
 pub mod Frames
 pub mod Receivers
-pub mod Replicas
+pub mod World
 pub mod Fetching
+pub mod Rounds
 pub mod Events
 pub mod SoFar

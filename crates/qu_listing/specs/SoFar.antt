@@ -11,7 +11,7 @@ use Rattle.qu_trace.specs.Letters.{letters_of}
 use Rattle.qu_trace.specs.Operation.{begun_by}
 use Rattle.qu_trace.specs.Starts.{AreStarts}
 use Rattle.qu_listing.specs.Receivers.{frame_taken}
-use Rattle.qu_listing.specs.Replicas.{replicas_after}
+use Rattle.qu_listing.specs.World.{world_behind}
 use Rattle.qu_listing.specs.declared.so_far.Sent.{Sent}
 use Rattle.qu_listing.specs.declared.so_far.SoFar.{SoFar}
 
@@ -29,4 +29,4 @@ pub record IsSoFar (setup : Setup) (entries : List Entry) (known : SoFar) : Type
   pub sent : known.sent ≡ map (sent_of setup) (letters_of entries)
   pub calls : CountsCalls entries known.calls
   pub starts : AreStarts entries known.starts
-  pub replicas : known.replicas.items ≡ replicas_after setup entries
+  pub world : known.world ≡ world_behind setup entries

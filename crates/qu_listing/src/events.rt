@@ -1,27 +1,30 @@
-ghost use Rattle.std.specs.Prelude.{◌≡◌, ◌∷◌, [], ◌++◌, ◌≤◌, length, IfOk, OnOk, string_bytes};
-ghost use Rattle.qu_base.specs.declared.limits.TheConstants.{LAST_CLIENT, OBJECT_IDS};
+ghost use Rattle.std.specs.Prelude.{◌≡◌, ◌∷◌, [], ◌++◌, IfOk, OnOk, string_bytes};
+ghost use Rattle.qu_world.specs.Run.{IsSetup};
 ghost use Rattle.qu_print.specs.Lines.{lines_text};
-ghost use Rattle.qu_listing.specs.Events.{events_text, listing, event_line, entry_lines, event_text, outcome_text, end_text};
+ghost use Rattle.qu_listing.specs.Events.{events_text, listing, event_line, front_text, back_text, entry_lines, event_text, outcome_text, end_text};
 ghost use Rattle.qu_listing.specs.SoFar.{IsSoFar};
 
 use super::deliveries::{put_delivery, put_injection};
 use super::fetching::{put_noted, put_waits};
 use super::letters::put_letters;
 use super::names::put_party;
+use super::offer::Offer;
 use super::receivers::Receivers;
+use super::rounds::put_rounds;
 use super::so_far::SoFar;
+use super::stood::{Stood, stood_before};
 use qu_base::{ClientId, List, NoMemory, Party};
 use qu_objects::Outcome;
 use qu_print::{put_answer, put_op};
 use qu_trace::{Entry, Event, Trace};
+use qu_world::World;
 use std::alloc::Global;
 
 /// A line for each event of a run, with the operation that it ends, and below it a line for each letter
 /// that it sends. A text of which its receiver takes no frame is told as ignored.
 #[tactic(auto, unfolding(crate::specs::Events::events_text))]
 pub fn events_text(alloc: Global, trace: &Trace) -> Result<List<u8>, NoMemory>
-    requires clients { trace.now.setup.clients ≤ LAST_CLIENT }
-    requires kinds { length trace.now.setup.kinds ≤ OBJECT_IDS }
+    requires { IsSetup trace.now.setup }
     ensures { IfOk result (λ text. text ≡ events_text trace.now) }
 {
     let receivers = Receivers::new(&trace.setup);
@@ -38,7 +41,7 @@ fn put_events(
     receivers: &Receivers,
     entries: &[Entry],
 ) -> Result<(), NoMemory>
-    requires { length receivers.now.kinds ≤ OBJECT_IDS }
+    requires { IsSetup receivers.now }
     ensures { OnOk result (string_bytes text.new
         ≡ string_bytes text.old ++ lines_text (listing receivers.now entries.now)) }
 {
@@ -50,7 +53,7 @@ fn put_events(
 }
 
 /// Writes the lines of the event behind the earlier ones, and then knows of it too.
-#[tactic(auto, unfolding(qu_print::specs::Lines::lines_text, crate::specs::Events::entry_lines))]
+#[tactic(auto, unfolding(qu_print::specs::Lines::lines_text, crate::specs::Events::entry_lines, crate::specs::Events::event_line))]
 fn put_event(
     alloc: Global,
     text: &mut String,
@@ -64,7 +67,11 @@ fn put_event(
         ≡ string_bytes text.old ++ lines_text (entry_lines receivers.now earlier.now entry.now)) }
     ensures known { OnOk result (IsSoFar receivers.now (earlier.now ++ entry.now ∷ []) known.new) }
 {
-    put_event_line(alloc, text, receivers, known, earlier, entry)?;
+    let offered = known.offered(earlier, &entry.event);
+    let stood = stood_before(alloc, receivers, &known.world, &offered, &entry.event)?;
+    put_front(alloc, text, receivers, known, earlier, entry, &offered)?;
+    known.note(alloc, earlier, entry)?;
+    put_back(text, &known.world, entry, &stood)?;
     put_letters(
         alloc,
         text,
@@ -72,29 +79,41 @@ fn put_event(
         &mut known.sent,
         entry.letters.as_slice(),
     )?;
-    known.note(receivers, earlier, entry)?;
     Ok(())
 }
 
-/// Writes the line of an event.
-#[tactic(auto, unfolding(crate::specs::Events::event_line))]
-fn put_event_line(
+/// Writes of an event's line what is told in the world before it.
+fn put_front(
     alloc: Global,
     text: &mut String,
     receivers: &Receivers,
     known: &SoFar,
     earlier: &[Entry],
     entry: &Entry,
+    offered: &Option<Offer>,
 ) -> Result<(), NoMemory>
     requires { IsSoFar receivers.now earlier.now known.now }
-    ensures { OnOk result (string_bytes text.new
-        ≡ string_bytes text.old ++ event_line receivers.now earlier.now entry.now ++ 10 ∷ []) }
+    ensures { OnOk result (string_bytes text.new ≡ string_bytes text.old
+        ++ front_text receivers.now earlier.now known.now.world entry.now offered.now) }
 {
     let number = earlier.len() as u64 + 1;
     write!(text, "event {number} ")?;
     put_happened(alloc, text, receivers, known, earlier, &entry.event)?;
-    put_noted(alloc, text, receivers, known, earlier, &entry.event)?;
-    put_waits(alloc, text, entry.letters.as_slice())?;
+    put_noted(alloc, text, receivers, &known.world, offered)?;
+    put_waits(alloc, text, entry.letters.as_slice())
+}
+
+/// Writes of an event's line what is told in the world behind it, for a client that stood so before.
+fn put_back(
+    text: &mut String,
+    world: &World,
+    entry: &Entry,
+    stood: &Option<Stood>,
+) -> Result<(), NoMemory>
+    ensures { OnOk result (string_bytes text.new
+        ≡ string_bytes text.old ++ back_text world.now entry.now stood.now ++ 10 ∷ []) }
+{
+    put_rounds(text, stood, world)?;
     put_end(text, &entry.ended)?;
     text.push_str("\n")?;
     Ok(())

@@ -1,18 +1,16 @@
 //! Versions that replicas fetch: which requests wait, and whether what another replica sends counts.
-ghost use Rattle.std.specs.Prelude.{◌≡◌, ◌++◌, if◌then◌else◌, OnOk, IfOk, Some, string_bytes, codes};
+ghost use Rattle.std.specs.Prelude.{◌≡◌, ◌++◌, if◌then◌else◌, OnOk, IfOk, string_bytes, codes};
 ghost use Rattle.std.specs.Option.{option_copied};
-ghost use Rattle.qu_trace.specs.Letters.{offered_by};
-ghost use Rattle.qu_trace.specs.Starts.{AreStarts};
 ghost use Rattle.qu_listing.specs.Fetching.{is_fetch, waits_text, wakes_text, found_text, counting_text, frame_noted, noted_text};
 
+use super::offer::Offer;
 use super::receivers::Receivers;
-use super::so_far::SoFar;
 use qu_base::{NoMemory, ObjectId, Party, ReadFail};
 use qu_frames::{Frame, Letter, decode};
 use qu_replica::Replica;
 use qu_stamp::Stamp;
-use qu_trace::{Entry, Event, Sent as Letters};
 use qu_waiting::{Counting, Waiting};
+use qu_world::World;
 use std::alloc::Global;
 
 /// Whether one replica asks another for a version.
@@ -42,55 +40,27 @@ pub fn put_waits(alloc: Global, text: &mut String, letters: &[Letter]) -> Result
     Ok(())
 }
 
-/// Writes what the party that is offered a text at an event makes of it.
+/// Writes what the party that is offered bytes makes of them.
 pub fn put_noted(
     alloc: Global,
     text: &mut String,
     receivers: &Receivers,
-    known: &SoFar,
-    earlier: &[Entry],
-    event: &Event,
-) -> Result<(), NoMemory>
-    requires { AreStarts earlier.now known.now.starts }
-    ensures { OnOk result (string_bytes text.new ≡ string_bytes text.old
-        ++ noted_text receivers.now known.now.replicas.items (offered_by earlier.now event.now)) }
-{
-    let replicas = known.replicas.as_slice();
-    match event {
-        Event::Deliver(number) => {
-            let letters = Letters::new(earlier, known.starts.places.as_slice());
-            let Some(letter) = letters.letter(*number) else {
-                return Ok(());
-            };
-            let (to, bytes) = (letter.to, letter.text.as_slice());
-            put_offered(alloc, text, receivers, replicas, to, bytes)
-        }
-        Event::Inject(to, bytes) => {
-            put_offered(alloc, text, receivers, replicas, *to, bytes.as_slice())
-        }
-        Event::Invoke(_, _) | Event::Tick(_) => Ok(()),
-    }
-}
-
-/// Writes what a party makes of the bytes that it is offered.
-fn put_offered(
-    alloc: Global,
-    text: &mut String,
-    receivers: &Receivers,
-    replicas: &[Replica],
-    to: Party,
-    bytes: &[u8],
+    world: &World,
+    offered: &Option<Offer>,
 ) -> Result<(), NoMemory>
     ensures { OnOk result (string_bytes text.new ≡ string_bytes text.old
-        ++ noted_text receivers.now replicas.now (Some (to, bytes.now))) }
+        ++ noted_text receivers.now world.now.replicas offered.now) }
 {
-    let Party::Replica(me) = to else {
+    let Some(offer) = offered else {
         return Ok(());
     };
-    let Some(replica) = replicas.get(usize::from(me.0)) else {
+    let Party::Replica(me) = offer.to else {
         return Ok(());
     };
-    let frame = receivers.take(alloc, to, bytes)?;
+    let Some(replica) = world.replicas().get(usize::from(me.0)) else {
+        return Ok(());
+    };
+    let frame = receivers.take(alloc, offer.to, offer.text)?;
     put_frame_noted(text, replica, &frame)
 }
 

@@ -5,12 +5,15 @@ mod deliveries;
 mod digests;
 mod events;
 mod fetching;
+mod following;
 mod frames;
 mod letters;
 mod names;
+mod offer;
 mod receivers;
-mod replicas;
+mod rounds;
 mod so_far;
+mod stood;
 mod told;
 mod verdicts;
 

@@ -1,16 +1,16 @@
-ghost use Rattle.std.specs.Prelude.{◌≡◌, ◌≤◌, length, Ok, IfOk, is_none};
-ghost use Rattle.qu_base.specs.declared.limits.TheConstants.{LAST_CLIENT, OBJECT_IDS};
+ghost use Rattle.std.specs.Prelude.{◌≡◌, ◌≤◌, Ok, IfOk, is_none};
+ghost use Rattle.qu_base.specs.declared.limits.TheConstants.{LAST_CLIENT};
 ghost use Rattle.qu_frames.specs.Decoding.{decoded};
 ghost use Rattle.qu_trace.specs.Faulty.{is_faulty};
 ghost use Rattle.qu_listing.specs.Receivers.{frame_taken};
-ghost use Rattle.qu_listing.specs.Replicas.{replicas_before};
+ghost use Rattle.qu_world.specs.Run.{IsSetup};
+ghost use Rattle.qu_world.specs.State.{opening_world};
 
-use qu_base::{NoMemory, Party};
+use qu_base::{Bounds, NoMemory, Party};
 use qu_frames::{Frame, receive};
-use qu_replica::Replica;
 use qu_seal::KeyRing;
 use qu_trace::Setup;
-use qu_world::start_replicas;
+use qu_world::World;
 use std::alloc::Global;
 use std::marker::Model;
 
@@ -52,12 +52,19 @@ impl<'a> Receivers<'a> {
         self.setup.is_faulty(who)
     }
 
-    /// The replicas among them, as they begin.
-    pub fn start_replicas(&self, alloc: Global) -> Result<Vec<Replica>, NoMemory>
-        requires { length self.now.kinds ≤ OBJECT_IDS }
-        ensures { IfOk result (λ started. started.items ≡ replicas_before self.now) }
+    /// How many of the replicas may lie.
+    pub fn bounds(&self) -> Bounds
+        ensures { result ≡ self.now.bounds }
     {
-        start_replicas(alloc, self.keys, self.setup)
+        self.setup.bounds
+    }
+
+    /// The world of the parties, in which nothing happened yet.
+    pub fn start_world(&self, alloc: Global) -> Result<World, NoMemory>
+        requires { IsSetup self.now }
+        ensures { IfOk result (λ world. world ≡ opening_world self.now) }
+    {
+        World::start(alloc, self.setup.copy(alloc)?)
     }
 
     /// The frame that a party takes of a text.

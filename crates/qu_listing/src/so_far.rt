@@ -1,16 +1,17 @@
-ghost use Rattle.std.specs.Prelude.{◌≡◌, [], ◌∷◌, ◌++◌, ◌<◌, ◌≤◌, ◌^◌, length, IfOk, OnOk, option_map};
-ghost use Rattle.qu_base.specs.declared.limits.TheConstants.{OBJECT_IDS};
+ghost use Rattle.std.specs.Prelude.{◌≡◌, [], ◌∷◌, ◌++◌, ◌<◌, ◌^◌, IfOk, OnOk, option_map};
 ghost use Rattle.qu_trace.specs.Operation.{begun_by};
 ghost use Rattle.qu_trace.specs.Letters.{letters_of, numbered, offered_by};
 ghost use Rattle.qu_trace.specs.Starts.{AreStarts};
-ghost use Rattle.qu_listing.specs.Replicas.{replicas_after, with_offer};
+ghost use Rattle.qu_world.specs.Run.{IsSetup};
+ghost use Rattle.qu_listing.specs.World.{followed};
 ghost use Rattle.qu_listing.specs.SoFar.{IsSoFar, CountsCalls, sent_of};
 
+use super::following::follow;
+use super::offer::Offer;
 use super::receivers::Receivers;
-use super::replicas::step_offered;
 use qu_base::{ClientId, List, NoMemory, Party};
-use qu_replica::Replica;
 use qu_trace::{Entry, Event, Sent as Letters, Starts};
+use qu_world::World;
 use std::alloc::Global;
 use std::collections::HashMap;
 
@@ -31,22 +32,22 @@ pub struct SoFar {
     pub calls: HashMap<u16, u64>,
     /// Where the letters of each event begin.
     pub starts: Starts,
-    /// The replicas.
-    pub replicas: Vec<Replica>,
+    /// The parties as they are behind the earlier events.
+    pub world: World,
 }
 
 impl SoFar {
     /// What is known before the first event.
     #[tactic(auto, unfolding(qu_trace::specs::Operation::begun_by, qu_trace::specs::Letters::letters_of))]
     pub fn new(alloc: Global, receivers: &Receivers) -> Result<SoFar, NoMemory>
-        requires { length receivers.now.kinds ≤ OBJECT_IDS }
+        requires { IsSetup receivers.now }
         ensures { IfOk result (IsSoFar receivers.now []) }
     {
         Ok(SoFar {
             sent: List::new(alloc),
             calls: HashMap::new(alloc),
             starts: Starts::none(alloc),
-            replicas: receivers.start_replicas(alloc)?,
+            world: receivers.start_world(alloc)?,
         })
     }
 
@@ -75,24 +76,38 @@ impl SoFar {
         self.sent.get(number as usize - 1).copied()
     }
 
-    /// Knows of the next event too, whose letters are known already.
-    #[tactic(auto, using(crate::proofs::ReplicaFacts::replicas_more))]
-    pub fn note(
-        &mut self,
-        receivers: &Receivers,
-        earlier: &[Entry],
-        entry: &Entry,
-    ) -> Result<(), NoMemory>
+    /// What a party is offered at the next event.
+    pub fn offered<'e>(&'e self, earlier: &'e [Entry], event: &'e Event) -> Option<Offer<'e>>
+        requires { AreStarts earlier.now self.now.starts }
+        ensures { result ≡ offered_by earlier.now event.now }
+    {
+        match event {
+            Event::Deliver(number) => {
+                let letters = Letters::new(earlier, self.starts.places.as_slice());
+                let letter = letters.letter(*number)?;
+                Some(Offer {
+                    to: letter.to,
+                    text: letter.text.as_slice(),
+                })
+            }
+            Event::Inject(to, text) => Some(Offer {
+                to: *to,
+                text: text.as_slice(),
+            }),
+            Event::Invoke(_, _) | Event::Tick(_) => None,
+        }
+    }
+
+    /// Knows of the next event too, but for its letters.
+    pub fn note(&mut self, alloc: Global, earlier: &[Entry], entry: &Entry) -> Result<(), NoMemory>
         requires calls { CountsCalls earlier.now self.old.calls }
         requires starts { AreStarts earlier.now self.old.starts }
-        requires replicas { self.old.replicas.items ≡ replicas_after receivers.now earlier.now }
         ensures sent { self.new.sent ≡ self.old.sent }
         ensures calls { OnOk result (CountsCalls (earlier.now ++ entry.now ∷ []) self.new.calls) }
         ensures starts { OnOk result (AreStarts (earlier.now ++ entry.now ∷ []) self.new.starts) }
-        ensures replicas { OnOk result (self.new.replicas.items
-            ≡ replicas_after receivers.now (earlier.now ++ entry.now ∷ [])) }
+        ensures world { OnOk result (self.new.world ≡ followed self.old.world entry.now.event) }
     {
-        self.note_step(receivers, earlier, &entry.event)?;
+        follow(alloc, &mut self.world, &entry.event)?;
         self.note_letters(earlier, entry)?;
         self.note_call(earlier, entry)
     }
@@ -102,7 +117,7 @@ impl SoFar {
         requires { AreStarts earlier.now self.old.starts }
         ensures sent { self.new.sent ≡ self.old.sent }
         ensures calls { self.new.calls ≡ self.old.calls }
-        ensures replicas { self.new.replicas ≡ self.old.replicas }
+        ensures world { self.new.world ≡ self.old.world }
         ensures starts { OnOk result (AreStarts (earlier.now ++ entry.now ∷ []) self.new.starts) }
     {
         let starts = &mut self.starts;
@@ -111,42 +126,12 @@ impl SoFar {
         Ok(())
     }
 
-    /// Lets the replica step that is offered a text at the next event, if one is.
-    fn note_step(
-        &mut self,
-        receivers: &Receivers,
-        earlier: &[Entry],
-        event: &Event,
-    ) -> Result<(), NoMemory>
-        requires { AreStarts earlier.now self.old.starts }
-        ensures sent { self.new.sent ≡ self.old.sent }
-        ensures calls { self.new.calls ≡ self.old.calls }
-        ensures starts { self.new.starts ≡ self.old.starts }
-        ensures replicas { OnOk result (self.new.replicas.items
-            ≡ with_offer receivers.now (offered_by earlier.now event.now) self.old.replicas.items) }
-    {
-        match event {
-            Event::Deliver(number) => {
-                let letters = Letters::new(earlier, self.starts.places.as_slice());
-                let Some(letter) = letters.letter(*number) else {
-                    return Ok(());
-                };
-                let (to, text) = (letter.to, letter.text.as_slice());
-                step_offered(receivers, &mut self.replicas, to, text)
-            }
-            Event::Inject(to, text) => {
-                step_offered(receivers, &mut self.replicas, *to, text.as_slice())
-            }
-            Event::Invoke(_, _) | Event::Tick(_) => Ok(()),
-        }
-    }
-
     /// Counts the operation that begins at the next event, if one does.
     fn note_call(&mut self, earlier: &[Entry], entry: &Entry) -> Result<(), NoMemory>
         requires { CountsCalls earlier.now self.old.calls }
         ensures sent { self.new.sent ≡ self.old.sent }
         ensures starts { self.new.starts ≡ self.old.starts }
-        ensures replicas { self.new.replicas ≡ self.old.replicas }
+        ensures world { self.new.world ≡ self.old.world }
         ensures calls { OnOk result (CountsCalls (earlier.now ++ entry.now ∷ []) self.new.calls) }
     {
         if let Event::Invoke(client, _) = &entry.event {

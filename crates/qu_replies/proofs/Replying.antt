@@ -2,7 +2,7 @@
 use Rattle.qu_world.proofs.Steps as steps
 use Rattle.qu_world.proofs.Steps.{AtCorrect}
 use Rattle.qu_world.specs.Step.{moved}
-use Rattle.std.proofs.Common.{◌≤◌, ◌≡◌, ℕ, zero, suc, ◌+◌, ◌<◌, List, [], ◌∷◌, ◌++◌, length, get_or, Option, None, Some, refl, sym, subst, ap, ◌∙◌, arith, map, IsTrue, false, Ok}
+use Rattle.std.proofs.Common.{◌≤◌, ◌≡◌, ℕ, ◌+◌, ◌<◌, List, [], ◌∷◌, ◌++◌, length, get_or, Option, None, Some, refl, sym, subst, ap, ◌∙◌, arith, map, IsTrue, false, Ok}
 use Rattle.std.specs.Prelude.{slice_get, Contains}
 use Rattle.std.specs.List.{AllByRecursion}
 use Rattle.std.proofs.lemmas.Option.{none-some, get_or_from_slice_get}
@@ -13,13 +13,11 @@ use Rattle.qu_base.specs.declared.party.Party.TheVariants as party
 use Rattle.qu_base.specs.declared.party.ReplicaId.{ReplicaId}
 use Rattle.qu_base.specs.Bounds.{replicas}
 use Rattle.qu_history.specs.declared.sets.SetOf.{SetOf}
-use Rattle.qu_objects.specs.declared.op.Op.{Op}
 use Rattle.qu_frames.specs.declared.frame.Body.{Body}
 use Rattle.qu_frames.specs.declared.frame.Frame.{Frame}
 use Rattle.qu_frames.specs.declared.frame.Frame.TheVariants as frame
 use Rattle.qu_frames.specs.declared.frame.Letter.{Letter}
 use Rattle.qu_frames.specs.declared.verdict.Verdict.{Verdict}
-use Rattle.qu_frames.specs.Body.{body_of}
 use Rattle.qu_history.specs.Sealing.{sealed_by}
 use Rattle.qu_rows.specs.declared.decision.Accepted.{Accepted}
 use Rattle.qu_rows.specs.declared.decision.Decision.TheVariants.{Answers}
@@ -29,11 +27,13 @@ use Rattle.qu_rows.specs.Rows.{asked_at, decision_on}
 use Rattle.qu_replica.specs.Step.{answer_frame, reply, replica_on_frame, replica_on_received, replica_step, learned, handled}
 use Rattle.qu_replica.specs.Step as own
 use Rattle.qu_client.specs.declared.state.ClientState.{ClientState}
-use Rattle.qu_client.specs.declared.state.Stepped.{Stepped}
+use Rattle.qu_client.specs.State.{Stepped}
 use Rattle.qu_client.specs.declared.work.Work.{Work}
-use Rattle.qu_client.specs.Rounds.{request_of, requests_from}
+use Rattle.qu_client.specs.declared.whom.Whom.{Whom}
+use Rattle.qu_client.specs.Rounds.{request_of, requests}
+use Rattle.qu_client.proofs.Sent.{each_letter}
 use Rattle.qu_client.specs.Steps.{client_invoke, client_step, client_tick}
-use Rattle.qu_client.proofs.Cases.{step_cases, invoke_cases}
+use Rattle.qu_runs.proofs.Fits.ClientLetters.{step_sends as client_step_sends, tick_sends, invoke_sends}
 use Rattle.qu_machine.proofs.Firsts.{at_contains}
 use Rattle.qu_trace.specs.declared.event.Event.{Event}
 use Rattle.qu_trace.specs.declared.event.Event.TheVariants.{Invoke, Deliver, Tick, Inject}
@@ -61,7 +61,6 @@ use Rattle.qu_runs.proofs.Fits.Carrying.{AnswersFit, no_reply, signed_spelled, s
 use Rattle.qu_runs.proofs.Fits.StepLetters.{CarriesOther, Answered, on_frame_each, no_reply_in}
 use Rattle.qu_runs.proofs.Fits.Fitting.{fit_step, handed_fits}
 use Rattle.qu_frames.specs.Signing.{brought, signed, signature}
-use Rattle.qu_seal.specs.Keys.{Ring}
 use Rattle.qu_fitting.proofs.FitRequests.{blank_sized, request-fits}
 use Rattle.qu_runs.proofs.Events.Handing.{letter_handed, offered_handed}
 use Rattle.qu_runs.proofs.Fits.FitParts.{fits_parts}
@@ -84,29 +83,15 @@ IsNoReply letter =
 abbrev SendsNoReply : Stepped → Type 0
 SendsNoReply stepped = AllByRecursion IsNoReply stepped.letters
 
-requests : (keys : Ring) (replica count : ℕ) (me : ClientId) (work : Work) (sets : List SetOf)
-    → AllByRecursion IsNoReply (requests_from keys replica count me work sets)
-unfolding requests_from
-requests keys replica zero me work sets = tt
-requests keys replica (suc count) me work sets =
+asked_no_reply : (state : ClientState) (work : Work) (whom : Whom)
+    → AllByRecursion IsNoReply (requests state.keys state.me work whom)
+asked_no_reply state work whom =
+    let sent : Frame = request_of state.me work in
+    each_letter state.keys state.me work whom IsNoReply (replicas state.keys.bounds) 0
+    (λ replica below asked.
     let to : Party = party.Replica (record { 0 = replica }) in
-    let sent : Frame = request_of me work sets in (
-      no_reply (record { from = party.Client me; to = to; text = signed keys to sent }) me work.number work.round
-          sets (body_of work.op) (signature keys to sent) (signed_spelled keys to sent blank_sized),
-      requests keys (replica + 1) count me work sets,
-    )
-
-invoke_requests : (state : ClientState) (op : Op) → SendsNoReply (client_invoke state op)
-invoke_requests state op =
-    invoke_cases state op SendsNoReply
-    (λ kept acted marked. requests state.keys 0 (replicas state.keys.bounds) state.me _ _) (λ kept marked. tt)
-
-step_requests : (state : ClientState) (text : List ℕ) → SendsNoReply (client_step state text)
-step_requests state text =
-    step_cases state SendsNoReply tt (λ kept. tt) (λ kept work replica number round verdict culled is counting. tt)
-    (λ kept end. tt)
-    (λ kept work replies acted is asking more. requests state.keys 0 (replicas state.keys.bounds) state.me _ _)
-    (λ kept work replies is asking more. tt) text
+    no_reply (record { from = party.Client state.me; to = to; text = signed state.keys to sent }) state.me work.number
+    work.round work.sets work.body (signature state.keys to sent) (signed_spelled state.keys to sent blank_sized))
 
 -- ---- who sends a reply
 
@@ -175,7 +160,8 @@ received_sends world event (party.Replica me) text hands =
     replica_sends world event text me (slice_get world.replicas me.0) hands refl
 received_sends world event (party.Client me) text hands =
     client_sends world event me (λ (state : ClientState). client_step state text)
-    (numbered world.clients me.0) (λ state. step_requests state text)
+    (numbered world.clients me.0)
+    (λ state. client_step_sends state (AllByRecursion IsNoReply) tt (asked_no_reply state) text)
 
 delivered_sends : (world : WorldState) (asked : ℕ) → AtCorrect world (Deliver asked) → (found : Option Letter)
     → letter_of world asked ≡ found → Sends world (delivered world (Deliver asked) found) (Deliver asked)
@@ -192,7 +178,8 @@ step_sends : (world : WorldState) (event : Event) → Sends world (world_step wo
 step_sends world (Invoke client op) =
     step_sent world (Invoke client op) (λ correct.
     client_sends world (Invoke client op) client (λ (state : ClientState). client_invoke state op)
-    (numbered world.clients client.0) (λ state. invoke_requests state op))
+    (numbered world.clients client.0)
+    (λ state. invoke_sends state (AllByRecursion IsNoReply) tt (asked_no_reply state) op))
 step_sends world (Inject to text) =
     step_sent world (Inject to text) (λ correct.
     received_sends world (Inject to text) to text (offered_handed world (Inject to text) to text correct refl))
@@ -200,7 +187,8 @@ step_sends world (Deliver asked) =
     step_sent world (Deliver asked) (λ correct. delivered_sends world asked correct (letter_of world asked) refl)
 step_sends world (Tick client) =
     step_sent world (Tick client) (λ correct.
-    client_sends world (Tick client) client client_tick (numbered world.clients client.0) (λ state. tt))
+    client_sends world (Tick client) client client_tick (numbered world.clients client.0)
+    (λ state. tick_sends state (AllByRecursion IsNoReply) tt (asked_no_reply state)))
 
 -- ---- what a reply is
 

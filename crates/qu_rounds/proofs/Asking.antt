@@ -1,7 +1,8 @@
 -- What letters ask: those of a replica nothing, those of a client's round one request.
-use Rattle.std.proofs.Common.{◌≡◌, ℕ, zero, suc, ◌+◌, List, map, Option, None, Some, refl}
+use Rattle.std.proofs.Common.{◌≡◌, ℕ, List, map, Option, None, Some, refl}
 use Rattle.std.specs.List.{All}
-use Rattle.std.proofs.lemmas.List.Elements.{All-nil, All-cons}
+use Rattle.std.proofs.lemmas.List.Elements.{All-nil}
+use Rattle.qu_base.specs.Bounds.{replicas}
 use Rattle.qu_base.specs.declared.party.ClientId.{ClientId}
 use Rattle.qu_base.specs.declared.party.Party.{Party}
 use Rattle.qu_base.specs.declared.party.Party.TheVariants as party
@@ -13,7 +14,6 @@ use Rattle.qu_frames.specs.declared.frame.Frame.{Frame}
 use Rattle.qu_frames.specs.declared.frame.Frame.TheVariants as frame
 use Rattle.qu_frames.specs.declared.frame.Letter.{Letter}
 use Rattle.qu_frames.specs.declared.verdict.Verdict.{Verdict}
-use Rattle.qu_frames.specs.Body.{body_of}
 use Rattle.qu_frames.specs.Formats.{frame_form}
 use Rattle.qu_frames.specs.Signing.{brought, signed, signature, with_mac}
 use Rattle.qu_rows.specs.State.{ReplicaState}
@@ -22,7 +22,9 @@ use Rattle.qu_replica.specs.Step.{shown, named, reply, learned, replica_step, an
 use Rattle.qu_replica.specs.Step as replica
 use Rattle.qu_fitting.proofs.FitRequests.{blank_sized}
 use Rattle.qu_client.specs.declared.work.Work.{Work}
-use Rattle.qu_client.specs.Rounds.{request_of, requests_from}
+use Rattle.qu_client.specs.declared.whom.Whom.{Whom}
+use Rattle.qu_client.specs.Rounds.{request_of, requests}
+use Rattle.qu_client.proofs.Sent.{all_letters}
 use Rattle.qu_claims.specs.Carried.{Carries, Asks}
 use Rattle.qu_runs.proofs.Fits.Carrying.{no_request, signed_spelled, signed_carries}
 use Rattle.qu_runs.proofs.Fits.StepLetters.{on_frame_all, no_request_in}
@@ -68,17 +70,15 @@ CarriesOnly keys sent letter =
     (carried : Frame) → Carries letter carried → carried ≡ with_mac sent (signature keys letter.to sent)
 
 -- all letters of a round carry one request
-pub requests_carry : (keys : Ring) (replica many : ℕ) (me : ClientId) (work : Work) (sets : List SetOf)
-    → frame_form.Fits (request_of me work sets)
-    → All (CarriesOnly keys (request_of me work sets)) (requests_from keys replica many me work sets)
-unfolding requests_from
-requests_carry keys replica zero me work sets fits = All-nil (CarriesOnly keys (request_of me work sets))
-requests_carry keys replica (suc many) me work sets fits =
+pub requests_carry : (keys : Ring) (me : ClientId) (work : Work) (whom : Whom) → frame_form.Fits (request_of me work)
+    → All (CarriesOnly keys (request_of me work)) (requests keys me work whom)
+requests_carry keys me work whom fits =
+    let sent : Frame = request_of me work in
+    all_letters keys me work whom (CarriesOnly keys sent) (replicas keys.bounds) 0
+    (λ replica below asked carried.
     let to : Party = party.Replica (record { 0 = replica }) in
-    let sent : Frame = request_of me work sets in
-    let first : Letter = record { from = party.Client me; to = to; text = signed keys to sent } in
-    All-cons (CarriesOnly keys sent) first _ (λ carried. signed_carries first keys to sent carried fits refl)
-    (requests_carry keys (replica + 1) many me work sets fits)
+    signed_carries (record { from = party.Client me; to = to; text = signed keys to sent }) keys to sent carried fits
+    refl)
 
 -- two requests that are one
 pub record IsSameRequest (client other : ClientId) (number second round turn : ℕ) (sets others : List SetOf)
@@ -97,12 +97,12 @@ same_request client other number second round turn sets others asked besides mac
     record { client_is = cc; number_is = cc; round_is = cc; sets_are = cc; body_is = cc }
 
 -- what a letter of a round asks is the request of this round
-pub asks_only : (keys : Ring) (me : ClientId) (work : Work) (sets : List SetOf) (letter : Letter)
-    → CarriesOnly keys (request_of me work sets) letter
+pub asks_only : (keys : Ring) (me : ClientId) (work : Work) (letter : Letter)
+    → CarriesOnly keys (request_of me work) letter
     → (client : ClientId) (number round : ℕ) (others : List SetOf) (asked : Body)
     → Asks letter client number round others asked
-    → IsSameRequest client me number work.number round work.round others sets asked (body_of work.op)
-asks_only keys me work sets letter only client number round others asked is =
-    same_request client me number work.number round work.round others sets asked (body_of work.op) is.mac
-    (signature keys letter.to (request_of me work sets))
+    → IsSameRequest client me number work.number round work.round others work.sets asked work.body
+asks_only keys me work letter only client number round others asked is =
+    same_request client me number work.number round work.round others work.sets asked work.body is.mac
+    (signature keys letter.to (request_of me work))
     (only (frame.Request client number round others asked is.mac) is.carries)

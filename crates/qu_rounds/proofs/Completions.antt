@@ -14,6 +14,9 @@ use Rattle.qu_base.specs.Bounds.{replicas, quorum}
 use Rattle.qu_objects.specs.declared.answer.Answer.{Answer}
 use Rattle.qu_objects.specs.declared.op.Op.{Op}
 use Rattle.qu_objects.specs.declared.op.Outcome.TheVariants as outcome
+use Rattle.qu_frames.specs.declared.frame.Body.{Body}
+use Rattle.qu_frames.specs.declared.frame.Body.TheVariants as body
+use Rattle.qu_frames.specs.Body.{body_of}
 use Rattle.qu_frames.specs.declared.frame.Frame.{Frame}
 use Rattle.qu_frames.specs.declared.frame.Frame.TheVariants as frame
 use Rattle.qu_frames.specs.declared.frame.Letter.{Letter}
@@ -23,6 +26,7 @@ use Rattle.qu_client.specs.declared.state.ClientState.{ClientState}
 use Rattle.qu_client.specs.declared.work.Counted.{Counted}
 use Rattle.qu_client.specs.declared.work.Work.{Work}
 use Rattle.qu_client.specs.Steps.{fitting, identical_verdicts, is_asking, counts, client_invoke, client_step, client_tick, with_verdict}
+use Rattle.qu_client.specs.Sound.{IsFor}
 use Rattle.qu_client.proofs.Cases.{invoke_cases}
 use Rattle.qu_machine.specs.declared.record.OpRecord.{OpRecord}
 use Rattle.qu_trace.specs.declared.event.Event.{Event}
@@ -37,7 +41,7 @@ use Rattle.qu_claims.specs.Answers.{round_in, round_of, delivered_round}
 use Rattle.qu_claims.specs.Completions.{Replied, IsCompleted}
 use Rattle.qu_runs.proofs.Events.Recording.{entry_cases, letter_stays}
 use Rattle.qu_rounds.proofs.Counted.{WasAnswered, AreDifferent, Counts, counts_world, work_answered, with_answered, different_more, WasTold, answers_from}
-use Rattle.qu_rounds.proofs.Endings.{TextCompletes, EndsAt, operation_ends, EndedBy, ended_so, ReplyCompletes, completes}
+use Rattle.qu_rounds.proofs.Endings.{TextCompletes, EndsAt, operation_ends, EndedBy, ended_so, ReplyCompletes, completes, tick_completes_not}
 use Rattle.qu_claims.specs.Carried.{handed}
 use Rattle.qu_runs.specs.Plain.{ArePlain, IsFrom}
 use Rattle.qu_client.proofs.Laws.{sound_work}
@@ -250,6 +254,14 @@ round_handed trace is index within entry to text given =
     by_event (Inject who other) hands =
         ap (λ (it : Party × List ℕ). round_in (decoded it.1)) (same_Some (who, other) (to, text) hands)
 
+-- a verdict that fits what was asked in a round of an operation, and tells an answer, fits the operation
+fits_operation : (what : Op) (asked : Body) (given : Verdict) (answer : Answer) → IsFor what asked
+    → fitting asked given ≡ Some answer → fitting (body_of what) given ≡ Some answer
+fits_operation what asked given answer (inl same) fits = ap (λ (it : Body). fitting it given) (sym same) ∙ fits
+fits_operation what (body.Act parts) given answer (inr mends) fits = absurd mends
+fits_operation what (body.Ask parts) given answer (inr mends) fits = absurd mends
+fits_operation what (body.Mend target) given answer (inr mends) fits = absurd (none-some answer fits)
+
 -- the text at this event completed the operation that its client had under way
 by_text : (trace : Trace) → IsRun trace → ArePlain trace → WorkIsRecorded trace → IsOneRecord trace
     → (operation : OpRecord) → Contains (operations_of trace) operation → (index : ℕ) (answer : Answer)
@@ -304,7 +316,9 @@ by_text trace is have recorded one operation among index answer text client stat
     record {
       round = work.round;
       verdict = done.verdict;
-      fits = ap (λ (it : Op). fitting it done.verdict) of_op ∙ done.fits;
+      fits = ap (λ (it : Op). fitting (body_of it) done.verdict) of_op
+          ∙ fits_operation work.op work.body done.verdict answer
+          (sound_work state work holds.sound done.under_way).asks done.fits;
       delivered =
           ap (delivered_round trace) is_entry ∙
           round_handed trace is index (omega arith) made (party.Client client) text hands ∙
@@ -340,7 +354,7 @@ by_text trace is have recorded one operation among index answer text client stat
 
 no_end_of_invocation : (state : ClientState) (op : Op) → (client_invoke state op).ended ≡ None
 no_end_of_invocation state op = invoke_cases state op (λ stepped. stepped.ended ≡ None)
-    (λ kept acted marked. refl) (λ kept marked. refl)
+    (λ work first. refl)
 
 -- the entry that records the end was made by a text
 by_entry : (trace : Trace) → IsRun trace → ArePlain trace → WorkIsRecorded trace → IsOneRecord trace
@@ -372,7 +386,7 @@ by_entry trace is have recorded one operation among index answer entry is_entry 
     (λ client state found there ends.
     let ended : EndedBy operation.client client operation.number state.work (client_tick state).ended how =
     ended_so operation.client client operation.number state.work (client_tick state).ended how ends in
-    absurd (none-some how ended.is_end))
+    absurd (tick_completes_not state answer ended.is_end))
     is_entry
 
 -- a completed operation was answered by so many different correct replicas with one verdict, in one round

@@ -1,5 +1,5 @@
 -- The verdicts of correct replicas that a client counts were sent by them, to the round that is under way.
-use Rattle.std.proofs.Common.{◌≡◌, ◌≢◌, ℕ, zero, suc, ◌+◌, ◌<◌, ◌≤◌, true, false, eqb, List, length, get_or, Option, None, Some, IfSome, refl, sym, ap, subst, ◌∙◌, arith, inl, inr, add-one, slice_get, All, AllPairs, Contains, Ok, Err, Result, Bool, not, if◌then◌else◌}
+use Rattle.std.proofs.Common.{◌≡◌, ◌≢◌, ℕ, zero, suc, ◌+◌, ◌<◌, ◌≤◌, true, false, eqb, List, length, get_or, Option, None, Some, IfSome, refl, sym, ap, subst, ◌∙◌, arith, inl, inr, add-one, slice_get, All, AllPairs, Contains, Ok, Err, Result, Bool, not, if◌then◌else◌, []}
 use Rattle.std.specs.List.{list_any}
 use Rattle.std.proofs.lemmas.Bool.{not-true, and_parts, eqb-true, cond_both, ltb-true, false≢true}
 use Rattle.std.proofs.lemmas.List.Elements.{All-nil, All-push, All-weaker, All-contains}
@@ -14,14 +14,15 @@ use Rattle.qu_frames.specs.declared.frame.Frame.TheVariants as frame
 use Rattle.qu_frames.specs.declared.frame.Letter.{Letter}
 use Rattle.qu_frames.specs.declared.verdict.Verdict.{Verdict}
 use Rattle.qu_client.specs.declared.state.ClientState.{ClientState}
-use Rattle.qu_client.specs.declared.state.Stepped.{Stepped}
+use Rattle.qu_client.specs.State.{Stepped}
 use Rattle.qu_client.specs.declared.work.Counted.{Counted}
 use Rattle.qu_client.specs.declared.work.Work.{Work}
 use Rattle.qu_client.specs.State.{client_at_start, keep_all}
-use Rattle.qu_client.specs.Steps.{is_asking, counts, client_on_frame, client_on_received, client_step, client_invoke, client_tick, with_verdict}
+use Rattle.qu_client.specs.Steps.{is_asking, counts, client_on_frame, client_on_received, client_step, client_invoke, client_tick, next_round, ends_round, with_verdict}
 use Rattle.qu_client.specs.Sound.{IsSound}
-use Rattle.qu_client.proofs.Cases.{counted_cases, invoke_cases}
-use Rattle.qu_client.proofs.Laws.{client_step-me, client_step-bounds, client_invoke-me, client_invoke-bounds, IsSound-opening, IsSound-step, IsSound-invoke, other_replica}
+use Rattle.qu_rounds.proofs.Ticking.{clock_cases}
+use Rattle.qu_client.proofs.Cases.{counted_cases, next_cases, ended_cases, invoke_cases}
+use Rattle.qu_client.proofs.Laws.{client_step-me, client_step-bounds, client_tick-me, client_tick-bounds, client_invoke-me, client_invoke-bounds, IsSound-opening, IsSound-step, IsSound-tick, IsSound-invoke, other_replica}
 use Rattle.qu_trace.specs.declared.event.Event.{Event}
 use Rattle.qu_trace.specs.declared.trace.Entry.{Entry}
 use Rattle.qu_trace.specs.declared.trace.Trace.{Trace}
@@ -235,34 +236,57 @@ with_answered trace before client work replica number round verdict culled answe
     (subst (λ (it : ℕ). WasAnswered trace before client work.number it counted) rounds
     (subst (λ (it : ℕ). WasAnswered trace before client it round counted) numbers answered))
 
+-- ---- what a client makes of them
+
+-- a round that begins has no verdict yet
+fresh_answered : (trace : Trace) (before : ℕ) (client : ClientId) (work : Work) → work.replies ≡ []
+    → AreAnswered trace before client work
+fresh_answered trace before client work fresh =
+    subst (All (WasAnswered trace before client work.number work.round)) (sym fresh)
+    (All-nil (WasAnswered trace before client work.number work.round))
+
+-- a client after a step has verdicts that were sent so
+abbrev StepAnswered : Trace → ℕ → ClientId → Stepped → Type 0
+StepAnswered trace before me stepped = WorkAnswered trace before me stepped.state.work
+
+next_answered : (trace : Trace) (before : ℕ) (me : ClientId) (state : ClientState) (work : Work)
+    → StepAnswered trace before me (next_round state work)
+next_answered trace before me state work =
+    next_cases state work (StepAnswered trace before me) (λ spent. tt)
+    (λ begun more round. fresh_answered trace before me begun round.fresh)
+
+over_answered : (trace : Trace) (before : ℕ) (me : ClientId) (state : ClientState) (work : Work)
+    → StepAnswered trace before me (ends_round state work)
+over_answered trace before me state work =
+    ended_cases state work (StepAnswered trace before me) (λ left same spent. tt)
+    (λ left same more. All-nil (WasAnswered trace before me work.number work.round))
+    (λ left begun same more round. fresh_answered trace before me begun round.fresh)
+
 -- what a text makes of them
 answered_frame : (trace : Trace) (before : ℕ) (text : List ℕ) (state : ClientState) → AreAnswers trace before text
     → WorkAnswered trace before state.me state.work → (received : Frame) → decoded text ≡ Ok received
     → WorkAnswered trace (before + 1) state.me (client_on_frame state received).state.work
 answered_frame trace before text state answers are
     (frame.Reply replica client number round verdict culled shown mac) is_frame =
-    let P : Stepped → Type 0 = λ stepped. WorkAnswered trace (before + 1) state.me stepped.state.work in
+    let P : Stepped → Type 0 = StepAnswered trace (before + 1) state.me in
     let same : WorkAnswered trace (before + 1) state.me state.work = work_more trace before state.me state.work are in
     let counted : Counted = record { replica = replica; verdict = verdict; culled = culled } in
+    let kept : ClientState = record state { kept = keep_all number round shown state.kept } in
     cond_both (eqb client.0 (state.me).0) _ _ P
     (λ mine.
     let answered : WasAnswered trace before state.me number round counted =
     subst (λ (it : ClientId). WasAnswered trace before it number round counted)
     (client_is client state.me (eqb-true client.0 (state.me).0 mine))
     (answers replica client number round verdict culled shown mac is_frame) in
-    counted_cases (record state { kept = keep_all number round shown state.kept }) replica number round verdict culled
-    P
+    counted_cases kept replica number round verdict culled P
     same
     (λ work under_way counting.
     are_more trace before state.me (with_verdict work replica verdict culled)
     (with_answered trace before state.me work replica number round verdict culled answered
     counting (work_answered trace before state.me state.work work under_way are)))
     (λ work answer under_way counting fits enough. tt)
-    (λ work under_way counting last. tt)
-    (λ kept work acted marked under_way counting below. All-nil
-    (WasAnswered trace (before + 1) state.me work.number (work.round + 1)))
-    (λ kept work marked under_way counting below. All-nil
-    (WasAnswered trace (before + 1) state.me work.number (work.round + 1))))
+    (λ work under_way counting.
+    over_answered trace (before + 1) state.me kept (with_verdict work replica verdict culled)))
     (λ other. same)
 answered_frame trace before text state answers are _ is_frame = work_more trace before state.me state.work are
 
@@ -281,12 +305,22 @@ answered_step : (trace : Trace) (before : ℕ) (text : List ℕ) (state : Client
 answered_step trace before text state answers are =
     answered_brought trace before text state answers are (brought state.keys (party.Client state.me) text) refl
 
+-- what a tick makes of them
+answered_tick : (trace : Trace) (before : ℕ) (state : ClientState) → WorkAnswered trace before state.me state.work
+    → WorkAnswered trace (before + 1) state.me (client_tick state).state.work
+answered_tick trace before state are =
+    let same : (work : Work) → state.work ≡ Some work → AreAnswered trace (before + 1) state.me work =
+    λ work is. are_more trace before state.me work (work_answered trace before state.me state.work work is are) in
+    clock_cases state (StepAnswered trace (before + 1) state.me) (work_more trace before state.me state.work are)
+    (λ work is. over_answered trace (before + 1) state.me state work)
+    (λ work is. next_answered trace (before + 1) state.me state work)
+    (λ work ticks is. same work is) (λ work is. same work is)
+
 answered_invoke : (trace : Trace) (before : ℕ) (state : ClientState) (op : Op)
     → WorkAnswered trace before state.me (client_invoke state op).state.work
 answered_invoke trace before state op =
-    invoke_cases state op (λ stepped. WorkAnswered trace before state.me stepped.state.work)
-    (λ kept acted marked. All-nil (WasAnswered trace before state.me _ _))
-    (λ kept marked. All-nil (WasAnswered trace before state.me _ _))
+    invoke_cases state op (StepAnswered trace before state.me)
+    (λ work first. fresh_answered trace before state.me work first.fresh)
 
 -- ---- every client of a run
 
@@ -363,22 +397,24 @@ counts_step trace is have before within each event plain =
     (answered_step trace before text state (answers_from trace is have before within client text from)
     holds.answered) holds))
     (λ client state found.
+    let holds : Counts trace before client.0 state = each client.0 state found in
     counts_with trace before client.0 clients (client_tick state).state each
-    (counts_more trace before client.0 state (each client.0 state found)))
+    (counts_moved trace before client.0 state (client_tick state).state (client_tick-me state)
+    (client_tick-bounds state) (IsSound-tick state holds.sound)
+    (answered_tick trace before state holds.answered) holds))
     event plain
 
 counts_opening : (trace : Trace) → Each (Counts trace 0) (opening_world trace.setup).clients
 counts_opening trace zero state found = absurd (none-some state found)
 counts_opening trace (suc place) state found =
-    let opens : state ≡ client_at_start (record { 0 = 1 + place }) (ring_of trace.setup) =
+    let opens : state ≡ client_at_start (record { 0 = 1 + place }) (ring_of trace.setup) trace.setup.seed =
     opening_client 1 trace.setup.clients (ring_of trace.setup) place state found in
     let holds : Counts trace 0 (suc place)
-    (client_at_start (record { 0 = 1 + place }) (ring_of trace.setup)) =
+    (client_at_start (record { 0 = 1 + place }) (ring_of trace.setup) trace.setup.seed) =
     record {
       me = omega arith;
       bounds = refl;
-      sound = IsSound-opening (record { 0 = 1 + place })
-          (ring_of trace.setup);
+      sound = IsSound-opening (record { 0 = 1 + place }) (ring_of trace.setup) trace.setup.seed;
       answered = tt;
     } in
     subst (Counts trace 0 (suc place)) (sym opens) holds

@@ -13,11 +13,12 @@ use Rattle.qu_frames.specs.declared.frame.Frame.{Frame}
 use Rattle.qu_frames.specs.declared.frame.Frame.TheVariants as frame
 use Rattle.qu_frames.specs.declared.verdict.Verdict.{Verdict}
 use Rattle.qu_client.specs.declared.state.ClientState.{ClientState}
-use Rattle.qu_client.specs.declared.state.Stepped.{Stepped}
+use Rattle.qu_client.specs.State.{Stepped}
 use Rattle.qu_client.specs.declared.work.Work.{Work}
 use Rattle.qu_client.specs.State.{keep_all}
-use Rattle.qu_client.specs.Steps.{fitting, identical_verdicts, counts, client_on_frame, client_on_received, client_step, with_verdict}
-use Rattle.qu_client.proofs.Cases.{counted_cases}
+use Rattle.qu_client.specs.Steps.{fitting, identical_verdicts, counts, client_on_frame, client_on_received, client_step, client_tick, next_round, ends_round, with_verdict}
+use Rattle.qu_rounds.proofs.Ticking.{clock_cases}
+use Rattle.qu_client.proofs.Cases.{counted_cases, next_cases, ended_cases}
 use Rattle.qu_machine.specs.declared.record.OpRecord.{OpRecord}
 use Rattle.qu_trace.specs.declared.event.Event.{Event}
 use Rattle.qu_trace.specs.declared.event.Event.TheVariants.{Invoke, Deliver, Tick, Inject}
@@ -160,7 +161,7 @@ pub record ReplyCompletes (state : ClientState) (received : Frame) (answer : Ans
   pub work : Work
   pub under_way : state.work ≡ Some work
   pub counting : counts work replica number round ≡ true
-  pub fits : fitting work.op verdict ≡ Some answer
+  pub fits : fitting work.body verdict ≡ Some answer
   pub enough : quorum state.keys.bounds ≤ identical_verdicts verdict (with_verdict work replica verdict culled).replies
 
 same_answer : (first second : Answer) → Some (outcome.Done first) ≡ Some (outcome.Done second) → first ≡ second
@@ -168,6 +169,27 @@ same_answer first second same = cc
 
 gave_up : (answer : Answer) → Some outcome.GaveUp ≡ Some (outcome.Done answer) → ⊥
 gave_up answer same = cc
+
+-- a round that ends completes nothing
+abbrev CompletesNot : Answer → Stepped → Type 0
+CompletesNot answer stepped = stepped.ended ≡ Some (outcome.Done answer) → ⊥
+
+over_completes_not : (state : ClientState) (work : Work) (answer : Answer) → CompletesNot answer (ends_round state work)
+over_completes_not state work answer =
+    ended_cases state work (CompletesNot answer) (λ left same spent. gave_up answer)
+    (λ left same more. none-some (outcome.Done answer)) (λ left begun same more round. none-some (outcome.Done answer))
+
+next_completes_not : (state : ClientState) (work : Work) (answer : Answer) → CompletesNot answer (next_round state work)
+next_completes_not state work answer =
+    next_cases state work (CompletesNot answer) (λ spent. gave_up answer)
+    (λ begun more round. none-some (outcome.Done answer))
+
+-- nor does a tick
+pub tick_completes_not : (state : ClientState) (answer : Answer) → CompletesNot answer (client_tick state)
+tick_completes_not state answer =
+    clock_cases state (CompletesNot answer) (none-some (outcome.Done answer))
+    (λ work is. over_completes_not state work answer) (λ work is. next_completes_not state work answer)
+    (λ work ticks is. none-some (outcome.Done answer)) (λ work is. none-some (outcome.Done answer))
 
 pub frame_completes : (state : ClientState) (received : Frame) (answer : Answer)
     → (client_on_frame state received).ended ≡ Some (outcome.Done answer) → ReplyCompletes state received answer
@@ -196,9 +218,9 @@ frame_completes state (frame.Reply replica client number round verdict culled sh
       fits = fits ∙ ap (λ (it : Answer). Some it) (same_answer given answer ended);
       enough = enough;
     })
-    (λ work under_way counting last ended. absurd (gave_up answer ended))
-    (λ kept work acted marked under_way counting below ended. absurd (none-some (outcome.Done answer) ended))
-    (λ kept work marked under_way counting below ended. absurd (none-some (outcome.Done answer) ended)))
+    (λ work under_way counting ended.
+    absurd (over_completes_not (record state { kept = keep_all number round shown state.kept })
+    (with_verdict work replica verdict culled) answer ended)))
     (λ other ended. absurd (none-some (outcome.Done answer) ended))
     ends
 frame_completes state _ answer ended = absurd (none-some (outcome.Done answer) ended)

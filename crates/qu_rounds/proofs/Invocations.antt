@@ -13,7 +13,6 @@ use Rattle.qu_base.specs.declared.party.Party.{Party}
 use Rattle.qu_base.specs.declared.party.Party.TheVariants as party
 use Rattle.qu_history.specs.declared.sets.SetOf.{SetOf}
 use Rattle.qu_objects.specs.declared.op.Op.{Op}
-use Rattle.qu_objects.specs.declared.op.Op.TheVariants as op
 use Rattle.qu_frames.specs.declared.frame.Body.{Body}
 use Rattle.qu_frames.specs.declared.frame.Frame.TheVariants as frame
 use Rattle.qu_frames.specs.declared.frame.Letter.{Letter}
@@ -21,7 +20,7 @@ use Rattle.qu_frames.specs.Body.{body_of}
 use Rattle.qu_rows.specs.State.{ReplicaState}
 use Rattle.qu_replica.specs.Step.{replica_step}
 use Rattle.qu_client.specs.declared.state.ClientState.{ClientState}
-use Rattle.qu_client.specs.declared.state.Stepped.{Stepped}
+use Rattle.qu_client.specs.State.{Stepped}
 use Rattle.qu_client.specs.declared.work.Work.{Work}
 use Rattle.qu_client.specs.State.{client_at_start}
 use Rattle.qu_client.specs.Steps.{client_step, client_invoke, client_tick}
@@ -39,10 +38,10 @@ use Rattle.qu_world.specs.Step.{world_step, at_client, at_replica, received, del
 use Rattle.qu_world.specs.Run.{bar_of, IsRun}
 use Rattle.qu_runs.proofs.Digests.Plain.{setup_after}
 use Rattle.qu_claims.specs.Times.{world_after}
-use Rattle.qu_rounds.specs.Invocations.{IsFor, IsRequestOf}
+use Rattle.qu_rounds.specs.Invocations.{IsRequestOf}
 use Rattle.qu_runs.proofs.Worlds.WorldGrowth.{world_after-next, world_after-none}
 use Rattle.qu_runs.proofs.Events.Beginning.{operation_begun, begun_one, begun_same, happens, IsFree, may_invoke}
-use Rattle.qu_rounds.proofs.Requesting.{IsAsked, asked_later, replica_asked, IsUnderWay, IsAtWork, IsClientAt, client_later, client_steps, client_step-asked, client_begins, client_begins-asked}
+use Rattle.qu_rounds.proofs.Requesting.{IsAsked, asked_later, replica_asked, IsUnderWay, IsAtWork, IsClientAt, client_later, client_steps, client_step-asked, client_ticks, client_tick-asked, client_begins, client_begins-asked, op_for}
 use Rattle.qu_runs.proofs.Small.{some_entry}
 use Rattle.qu_world.proofs.Each.{with_cases}
 use Rattle.qu_claims.specs.Carried.{Asks}
@@ -188,7 +187,11 @@ module _ (trace : Trace) (count : ℕ) (world : WorldState) (shown : IsShown tra
         → IsShown trace (count + 1) (at_client world event me client_tick (numbered world.clients me.0))
     ticked_shown me fits =
         client_shown me client_tick (numbered world.clients me.0) refl
-        (λ state is fit. (is, All-nil (IsAsked trace (count + 1)))) fits
+        (λ state is fit. (
+          client_ticks trace (count + 1) (begun_at trace (count + 1) me.0) me.0 state is fit,
+          client_tick-asked trace (count + 1) (begun_at trace (count + 1) me.0) me.0 state is fit,
+        ))
+        fits
 
   -- an event at which a client begins an operation
   invoked_shown : (client : ClientId) (what : Op) → IsFree world.clients client
@@ -321,7 +324,7 @@ opening_from : (trace : Trace) (first many : ℕ) (keys : Ring) (index number : 
 unfolding opening_clients
 opening_from trace first zero keys index number state at found = absurd cc
 opening_from trace first (suc many) keys zero number state at found =
-    subst (IsClientAt trace 0 0 number) (same_Some (client_at_start (record { 0 = first }) keys) state found)
+    subst (IsClientAt trace 0 0 number) (same_Some (client_at_start (record { 0 = first }) keys keys.seed) state found)
     (record { named = omega arith; sound = tt; at_work = refl })
 opening_from trace first (suc many) keys (suc index) number state at found =
     opening_from trace (first + 1) many keys index number state (omega arith) found
@@ -399,18 +402,6 @@ work_of trace is have count within client state found work working =
     state.last_request held) working at.at_work in
     subst (λ (me : ClientId). IsRequestOf trace count me work.number (body_of work.op))
     (client_is state.me client at.named) under_way.request
-
-same_op : (first second : Op) → body_of first ≡ body_of second → first ≡ second
-same_op (op.Act parts) (op.Act others) same = cc
-same_op (op.Act parts) (op.Query others) same = absurd cc
-same_op (op.Query parts) (op.Act others) same = absurd cc
-same_op (op.Query parts) (op.Query others) same = cc
-
--- what asks for an act or a query asks for no other operation, and for no repair
-pub op_for : (what other : Op) → IsFor other (body_of what) → other ≡ what
-op_for what other (inl same) = same_op other what (sym same)
-op_for (op.Act parts) other (inr mends) = absurd mends
-op_for (op.Query parts) other (inr mends) = absurd mends
 
 -- what asks for an operation is a request of this operation alone
 pub op_of : (trace : Trace) (count : ℕ) (client : ClientId) (number : ℕ) (what : Op)

@@ -2,6 +2,7 @@ pub mod Asking
 pub mod Requesting
 pub mod Invocations
 pub mod Replies
+pub mod Ticking
 pub mod Counted
 pub mod Endings
 pub mod Completions

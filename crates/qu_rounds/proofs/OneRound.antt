@@ -1,6 +1,6 @@
 -- In every run a client sends one request in a round: its letters of one operation and round have the same
 -- sets and body.
-use Rattle.std.proofs.Common.{◌≡◌, ℕ, zero, suc, ◌+◌, ◌<◌, ◌≤◌, List, [], ◌∷◌, ◌++◌, length, get_or, None, Some, sym, ap, subst, arith, add-one, inl, inr}
+use Rattle.std.proofs.Common.{◌≡◌, ℕ, zero, suc, ◌+◌, ◌<◌, ◌≤◌, List, [], ◌∷◌, ◌++◌, length, get_or, Option, None, Some, sym, ap, subst, arith, add-one, inl, inr}
 use Rattle.std.specs.List.{Contains}
 use Rattle.std.proofs.lemmas.List.Elements.{All-contains, All-nil, Contains-append_cases}
 use Rattle.std.proofs.lemmas.Option.{none-some, slice_get_within, get_or_from_slice_get}
@@ -11,7 +11,7 @@ use Rattle.qu_frames.specs.declared.frame.Letter.{Letter}
 use Rattle.qu_machine.proofs.Equalities.{client_is}
 use Rattle.qu_replica.specs.Step.{replica_step}
 use Rattle.qu_client.specs.declared.state.ClientState.{ClientState}
-use Rattle.qu_client.specs.declared.state.Stepped.{Stepped}
+use Rattle.qu_client.specs.State.{Stepped}
 use Rattle.qu_client.specs.Steps.{client_invoke, client_step, client_tick}
 use Rattle.qu_trace.specs.declared.event.Event.{Event}
 use Rattle.qu_trace.specs.declared.event.Event.TheVariants.{Invoke, Tick}
@@ -34,17 +34,26 @@ use Rattle.qu_runs.proofs.Small.{some_entry}
 use Rattle.qu_runs.proofs.Worlds.WorldGrowth.{world_after-none, world_after-next}
 use Rattle.qu_rounds.proofs.Asking.{AsksNothing, replica_asks}
 use Rattle.qu_rounds.proofs.Counted.{Each, Counts, counts_world}
-use Rattle.qu_rounds.proofs.RoundSent.{OrNew, AreOneRound, AreUpTo, IsRoundStep, IsRoundIf, before_more, one_round_more, quiet, client_step-round, client_invoke-round}
+use Rattle.qu_client.specs.declared.work.Work.{Work}
+use Rattle.qu_rounds.proofs.RoundSent.{OrNew, AreOneRound, AreUpTo, HasOwn, IsRoundStep, IsRoundIf, before_more, work_more, one_round_more, client_step-round, client_tick-round, client_invoke-round}
 
 -- ---- what holds of all clients and letters
 
 record AreRounds (Sent : Letter → Type 0) (clients : List ClientState) : Type 0 where
   up_to : (client : ClientId) (state : ClientState) → numbered clients client.0 ≡ Some state
       → AreUpTo Sent client state.last_request
+  work : (client : ClientId) (state : ClientState) → numbered clients client.0 ≡ Some state
+      → HasOwn Sent client state.work
   alike : AreOneRound Sent
 
 abbrev IsRoundWorld : WorldState → Type 0
 IsRoundWorld world = AreRounds (Contains (letters_of world.entries)) world.clients
+
+-- fewer letters
+own_of : (More Sent : Letter → Type 0) → ((letter : Letter) → Sent letter → More letter) → (client : ClientId)
+    (found : Option Work) → HasOwn More client found → HasOwn Sent client found
+own_of More Sent either client None has = tt
+own_of More Sent either client (Some work) has = λ letter held. has letter (either letter held)
 
 -- the letters of one entry more
 pushed : (entries : List Entry) (entry : Entry) (clients : List ClientState)
@@ -55,8 +64,14 @@ pushed entries entry clients before =
     → OrNew (Contains (letters_of entries)) entry.letters letter =
     λ letter held. Contains-append_cases (letters_of entries) entry.letters letter
     (subst (λ (all : List Letter). Contains all letter) (letters-push entries entry) held) in
+    let own : (client : ClientId) (found : Option Work)
+    → HasOwn (OrNew (Contains (letters_of entries)) entry.letters) client found
+    → HasOwn (Contains (letters_of (entries ++ entry ∷ []))) client found =
+    λ client found has. own_of (OrNew (Contains (letters_of entries)) entry.letters)
+    (Contains (letters_of (entries ++ entry ∷ []))) either client found has in
     record {
       up_to = λ client state is letter held. before.up_to client state is letter (either letter held);
+      work = λ client state is. own client state.work (before.work client state is);
       alike = λ first second one two. before.alike first second (either first one) (either second two);
     }
 
@@ -67,6 +82,8 @@ replied : (Sent : Letter → Type 0) (new : List Letter) (clients : List ClientS
 replied Sent new clients none before = record {
   up_to = λ client state is.
       before_more Sent new client _ _ (λ letter fresh. none letter fresh client) (before.up_to client state is);
+  work = λ client state is.
+      work_more Sent new client state.work (λ letter fresh. none letter fresh client) (before.work client state is);
   alike = one_round_more Sent new none before.alike;
 }
 
@@ -85,6 +102,17 @@ moved Sent clients me stepped before step = record {
         (λ letter new number round sets asks asked.
         other.0 (ap (λ (it : ClientId). it.0) (step.own letter new client number round sets asks asked)))
         (before.up_to client state other.1)
+  ];
+  work = λ client state is. elim (with_cases clients me.0 client.0 stepped.state state is) [
+    | inl here ↦
+        subst (λ (it : ClientState). HasOwn (OrNew Sent stepped.letters) client it.work) (sym here.1)
+        (subst (λ (it : ClientId). HasOwn (OrNew Sent stepped.letters) it stepped.state.work)
+        (sym (client_is client me here.0)) step.work)
+    | inr other ↦
+        work_more Sent stepped.letters client state.work
+        (λ letter new number round sets asks asked.
+        other.0 (ap (λ (it : ClientId). it.0) (step.own letter new client number round sets asks asked)))
+        (before.work client state other.1)
   ];
   alike = step.alike before.alike;
 }
@@ -107,14 +135,17 @@ module _ (trace : Trace) (count : ℕ) (world : WorldState) (counts : Each (Coun
 
   client-round : (event : Event) (me : ClientId) (move : ClientState → Stepped) (state : ClientState)
       → numbered world.clients me.0 ≡ Some state
-      → (AreUpTo Sent state.me state.last_request → IsRoundIf Sent state.me (move state))
+      → (AreUpTo Sent state.me state.last_request → HasOwn Sent state.me state.work
+      → IsRoundIf Sent state.me (move state))
       → DoFit (at_client world event me move (Some state)) → IsRoundWorld (at_client world event me move (Some state))
   client-round event me move state is step fits =
       let named : state.me ≡ me = client_is state.me me (counts me.0 state is).me in
       let up_to : AreUpTo Sent state.me state.last_request =
       subst (λ (it : ClientId). AreUpTo Sent it state.last_request) (sym named) (before.up_to me state is) in
+      let work : HasOwn Sent state.me state.work =
+      subst (λ (it : ClientId). HasOwn Sent it state.work) (sym named) (before.work me state is) in
       let made : IsRoundStep Sent state.me (move state) =
-      step up_to (fits me.0 (move state).state (numbered_here world.clients me.0 state (move state).state is)) in
+      step up_to work (fits me.0 (move state).state (numbered_here world.clients me.0 state (move state).state is)) in
       pushed world.entries _ (with_numbered world.clients me.0 (move state).state)
       (moved Sent world.clients me (move state) before
       (subst (λ (it : ClientId). IsRoundStep Sent it (move state)) named made))
@@ -130,23 +161,31 @@ module _ (trace : Trace) (count : ℕ) (world : WorldState) (counts : Each (Coun
       (λ letter. All-contains AsksNothing (replica_step state text).1 letter (replica_asks state text)))
       (λ client operation state found.
       client-round (Invoke client operation) client (λ (it : ClientState). client_invoke it operation) state found
-      (client_invoke-round Sent state operation))
+      (λ up_to own. client_invoke-round Sent state operation up_to))
       (λ event text client state from hands found.
       client-round event client (λ (it : ClientState). client_step it text) state found
-      (client_step-round Sent state text (counts client.0 state found).sound))
+      (λ up_to own. client_step-round Sent state (counts client.0 state found).sound up_to own text))
       (λ client state found.
       client-round (Tick client) client client_tick state found
-      (λ up_to fits. quiet Sent state.me state None up_to))
+      (client_tick-round Sent state (counts client.0 state found).sound))
 
 -- ---- all worlds of a run
+
+no_letters : ((letter : Letter) → Contains [] letter → ⊥) → (client : ClientId) (found : Option Work)
+    → HasOwn (Contains []) client found
+no_letters none client None = tt
+no_letters none client (Some work) = λ letter held. absurd (none letter held)
 
 opening_world-round : (setup : Setup) → IsRoundWorld (opening_world setup)
 unfolding letters_of
 opening_world-round setup =
     let none : (letter : Letter) → Contains [] letter → ⊥ =
     λ letter. All-contains (λ (it : Letter). ⊥) [] letter (All-nil (λ (it : Letter). ⊥)) in
+    let none_own : (client : ClientId) (found : Option Work) → HasOwn (Contains []) client found =
+    λ client found. no_letters (λ letter held. none letter held) client found in
     record {
       up_to = λ client state is letter held. absurd (none letter held);
+      work = λ client state is. none_own client state.work;
       alike = λ first second one. absurd (none first one);
     }
 

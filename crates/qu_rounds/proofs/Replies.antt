@@ -2,7 +2,7 @@
 use Rattle.std.proofs.Common.{◌≡◌, ℕ, zero, suc, ◌+◌, ◌-◌, ◌<◌, ◌≤◌, List, [], ◌∷◌, length, take, Some, refl, sym, ap, subst, ◌∙◌, arith, inl, inr, slice_get, All, Contains, None, Option}
 use Rattle.std.specs.List.{AllZip}
 use Rattle.std.proofs.lemmas.Bool.{cases_lt}
-use Rattle.std.proofs.lemmas.List.Elements.{All-nil, All-cons}
+use Rattle.std.proofs.lemmas.List.Elements.{All-nil}
 use Rattle.std.proofs.lemmas.Option.{none-some, same_Some, slice_get_within, get_or_from_slice_get}
 use Rattle.qu_base.specs.declared.party.ClientId.{ClientId}
 use Rattle.qu_base.specs.declared.party.Party.TheVariants as party
@@ -10,12 +10,10 @@ use Rattle.qu_base.specs.declared.party.ReplicaId.{ReplicaId}
 use Rattle.qu_base.specs.Bounds.{replicas}
 use Rattle.qu_history.specs.declared.sets.SetOf.{SetOf}
 use Rattle.qu_objects.specs.declared.kind.KindName.{KindName}
-use Rattle.qu_objects.specs.declared.op.Op.{Op}
 use Rattle.qu_frames.specs.declared.frame.Frame.{Frame}
 use Rattle.qu_frames.specs.declared.frame.Frame.TheVariants as frame
 use Rattle.qu_frames.specs.declared.frame.Letter.{Letter}
 use Rattle.qu_frames.specs.declared.verdict.Verdict.{Verdict}
-use Rattle.qu_frames.specs.Body.{body_of}
 use Rattle.qu_rows.specs.State.{ReplicaState}
 use Rattle.qu_replica.specs.State.{accept_all}
 use Rattle.qu_replica.specs.Growth.{Grows}
@@ -24,9 +22,10 @@ use Rattle.qu_replica.proofs.States.Growth.{accept_all-me}
 use Rattle.qu_replica.proofs.States.Learning.{is_learned}
 use Rattle.qu_client.specs.declared.state.ClientState.{ClientState}
 use Rattle.qu_client.specs.declared.work.Work.{Work}
-use Rattle.qu_client.specs.Rounds.{request_of, requests_from}
-use Rattle.qu_client.specs.Steps.{client_invoke, client_step}
-use Rattle.qu_client.proofs.Cases.{step_cases, invoke_cases}
+use Rattle.qu_client.specs.declared.whom.Whom.{Whom}
+use Rattle.qu_client.specs.Rounds.{request_of, requests}
+use Rattle.qu_client.proofs.Sent.{all_letters}
+use Rattle.qu_runs.proofs.Fits.ClientLetters.{step_sends, tick_sends, invoke_sends}
 use Rattle.qu_trace.specs.declared.trace.Entry.{Entry}
 use Rattle.qu_trace.specs.declared.trace.Trace.{Trace}
 use Rattle.qu_trace.specs.Letters.{letters_of}
@@ -123,36 +122,16 @@ brought_replies bound state (Some taken) fits below = frame_replies bound state 
 brought_replies bound state None fits below = All-nil (RepliesWithin bound)
 
 -- requests are no replies
-by_client : (bound : ℕ) (keys : Ring) (replica count : ℕ) (me : ClientId) (work : Work) (sets : List SetOf)
-    → All (RepliesWithin bound) (requests_from keys replica count me work sets)
-unfolding requests_from
-by_client bound keys replica zero me work sets = All-nil (RepliesWithin bound)
-by_client bound keys replica (suc count) me work sets =
-    All-cons (RepliesWithin bound) _ _
-    (λ from client number round verdict shown tells.
+asked_replies : (bound : ℕ) (state : ClientState) (work : Work) (whom : Whom)
+    → All (RepliesWithin bound) (requests state.keys state.me work whom)
+asked_replies bound state work whom =
+    let sent : Frame = request_of state.me work in
+    all_letters state.keys state.me work whom (RepliesWithin bound) (replicas state.keys.bounds) 0
+    (λ replica below asked from client number round verdict shown tells.
     let to : Party = party.Replica (record { 0 = replica }) in
-    let sent : Frame = request_of me work sets in
-    absurd (no_reply (record { from = party.Client me; to = to; text = signed keys to sent })
-    me work.number work.round sets (body_of work.op) (signature keys to sent)
-    (signed_spelled keys to sent blank_sized) from client number round verdict shown tells))
-    (by_client bound keys (replica + 1) count me work sets)
-
-step_replies : (bound : ℕ) (state : ClientState) (text : List ℕ) → All (RepliesWithin bound)
-    (client_step state text).letters
-step_replies bound state text =
-    let none : All (RepliesWithin bound) [] = All-nil (RepliesWithin bound) in
-    step_cases state (λ stepped. All (RepliesWithin bound) stepped.letters)
-    none (λ _. none) (λ _ _ _ _ _ _ _ _ _. none) (λ _ _. none)
-    (λ kept work replies acted is asking below. by_client bound state.keys 0 (replicas state.keys.bounds) state.me _ _)
-    (λ _ _ _ _ _ _. none)
-    text
-
-invoke_replies : (bound : ℕ) (state : ClientState) (op : Op) → All (RepliesWithin bound)
-    (client_invoke state op).letters
-invoke_replies bound state op =
-    invoke_cases state op (λ stepped. All (RepliesWithin bound) stepped.letters)
-    (λ kept acted marked. by_client bound state.keys 0 (replicas state.keys.bounds) state.me _ _)
-    (λ kept marked. All-nil (RepliesWithin bound))
+    absurd (no_reply (record { from = party.Client state.me; to = to; text = signed state.keys to sent })
+    state.me work.number work.round work.sets work.body (signature state.keys to sent)
+    (signed_spelled state.keys to sent blank_sized) from client number round verdict shown tells))
 
 -- each reply among a run's letters is from one of its replicas
 pub replies_within : (trace : Trace) → IsRun trace → ArePlain trace → (index : ℕ) (entry : Entry)
@@ -169,9 +148,10 @@ replies_within trace is have index entry is_entry =
     (from_fits trace is have index (omega arith) (party.Replica me) text from taken
     (brings_decoded state text taken brings)))
     (replica_within trace index me.0 state found))
-    (λ client op state found. invoke_replies bound state op)
-    (λ event text client state from hands found. step_replies bound state text)
-    (λ client state found. none)
+    (λ client op state found. invoke_sends state (All (RepliesWithin bound)) none (asked_replies bound state) op)
+    (λ event text client state from hands found.
+    step_sends state (All (RepliesWithin bound)) none (asked_replies bound state) text)
+    (λ client state found. tick_sends state (All (RepliesWithin bound)) none (asked_replies bound state))
 
 -- ---- where a letter was sent
 

@@ -11,7 +11,7 @@ use Rattle.qu_stamp.specs.Stamp.{same_stamp}
 use Rattle.qu_stamp.proofs.Order.{same_stamp-self, equal_by_same_stamp}
 use Rattle.qu_objects.specs.declared.act.Method.{Method}
 use Rattle.qu_objects.specs.declared.answer.Answer.{Answer}
-use Rattle.qu_objects.specs.declared.op.Op.TheVariants as op
+use Rattle.qu_frames.specs.declared.frame.Body.TheVariants as body
 use Rattle.qu_frames.specs.declared.verdict.Verdict.{Verdict}
 use Rattle.qu_frames.specs.declared.verdict.Verdict.TheVariants as verdict
 use Rattle.qu_frames.specs.Verdict.{same_verdict, same_object, same_stamps}
@@ -81,7 +81,7 @@ pub record IsDone (given : Verdict) (answer : Answer) : Type 0 where
 
 -- only Done and Already fit an act
 pub fits_act : (act : List (ObjectId × Method)) (given : Verdict) (answer : Answer)
-    → fitting (op.Act act) given ≡ Some answer → IsDone given answer ⊎ (given ≡ verdict.Already answer)
+    → fitting (body.Act act) given ≡ Some answer → IsDone given answer ⊎ (given ≡ verdict.Already answer)
 fits_act act (verdict.Done stamps told) answer fits = inl (record {
   stamps = stamps;
   is = ap (λ (it : Answer). verdict.Done stamps it) (same_Some told answer fits);

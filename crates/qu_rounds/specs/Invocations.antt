@@ -1,23 +1,11 @@
 -- Requests belong to operations that began before.
-use Rattle.std.specs.Prelude.{◌≡◌, ◌⊎◌, ℕ, ◌≤◌, Contains}
+use Rattle.std.specs.Prelude.{◌≡◌, ℕ, ◌≤◌, Contains}
 use Rattle.qu_base.specs.declared.party.ClientId.{ClientId}
-use Rattle.qu_objects.specs.declared.op.Op.{Op}
 use Rattle.qu_frames.specs.declared.frame.Body.{Body}
-use Rattle.qu_frames.specs.declared.frame.Body.TheVariants as body
-use Rattle.qu_frames.specs.Body.{body_of}
+use Rattle.qu_client.specs.Sound.{IsFor}
 use Rattle.qu_machine.specs.declared.record.OpRecord.{OpRecord}
 use Rattle.qu_trace.specs.declared.trace.Trace.{Trace}
 use Rattle.qu_trace.specs.Operation.{operations_of}
-
--- a repair is asked for
-abbrev pub IsMend : Body → Type 0
-IsMend (body.Act parts) = ⊥
-IsMend (body.Ask parts) = ⊥
-IsMend (body.Mend target) = Unit {0}
-
--- what a client may ask for under the number of an operation: the operation itself, or a repair
-abbrev pub IsFor : Op → Body → Type 0
-IsFor op asked = (asked ≡ body_of op) ⊎ IsMend asked
 
 -- the operation of which a request is one; it began before
 pub record IsRequestOf (trace : Trace) (count : ℕ) (client : ClientId) (number : ℕ) (asked : Body) : Type 0 where

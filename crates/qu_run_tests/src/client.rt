@@ -18,14 +18,14 @@ fn keys() -> Result<KeyRing, Fail> {
 /// A client that has begun to read, and how many letters it sent.
 fn begun(alloc: Global) -> Result<(Client, usize), Fail> {
     let (keys, op) = (keys()?, read(alloc)?);
-    let mut client = Client::start(alloc, ClientId(1), keys);
+    let mut client = Client::start(alloc, ClientId(1), keys, 7);
     let letters = client.invoke(op)?.len();
     Ok((client, letters))
 }
 
 #[test]
 fn a_client_begins_idle(rt: HostRuntime) -> Result<(), Fail> {
-    let client = Client::start(rt.alloc(), ClientId(1), keys()?);
+    let client = Client::start(rt.alloc(), ClientId(1), keys()?, 7);
     holds(
         !client.busy() && client.working_on().is_none(),
         "nothing under way",
@@ -45,15 +45,22 @@ fn an_operation_asks_all_replicas(rt: HostRuntime) -> Result<(), Fail> {
     )
 }
 
-/// Whether a tick makes no letter and no end.
-fn is_quiet(alloc: Global, client: &mut Client) -> Result<bool, Fail> {
-    let moved = client.tick()?.copy(alloc)?;
-    Ok(moved.letters.is_empty() && moved.ended.is_none())
+#[test]
+fn a_tick_of_an_idle_client_makes_nothing(rt: HostRuntime) -> Result<(), Fail> {
+    let mut client = Client::start(rt.alloc(), ClientId(1), keys()?, 7);
+    let moved = client.tick()?.copy(rt.alloc())?;
+    holds(
+        moved.letters.is_empty() && moved.ended.is_none() && !client.busy(),
+        "no letter and no end",
+    )
 }
 
 #[test]
-fn nothing_happens_upon_a_tick(rt: HostRuntime) -> Result<(), Fail> {
+fn a_tick_ends_a_round_in_which_all_were_asked(rt: HostRuntime) -> Result<(), Fail> {
     let (mut client, _) = begun(rt.alloc())?;
-    let is_quiet = is_quiet(rt.alloc(), &mut client)?;
-    holds(is_quiet && !client.rests(), "nothing, and no rest")
+    let moved = client.tick()?.copy(rt.alloc())?;
+    holds(
+        moved.letters.len() == 6 && client.last_request() == Some((1, 2)) && !client.rests(),
+        "the second round",
+    )
 }

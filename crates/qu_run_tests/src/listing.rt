@@ -1,5 +1,5 @@
-ghost use Rattle.std.specs.Prelude.{◌≤◌, length, IfOk};
-ghost use Rattle.qu_base.specs.declared.limits.TheConstants.{LAST_CLIENT, OBJECT_IDS};
+ghost use Rattle.std.specs.Prelude.{IfOk};
+ghost use Rattle.qu_world.specs.Run.{IsSetup};
 
 use qu_base::{Bounds, ClientId, List, Party, ReplicaId};
 use qu_frames::Letter;
@@ -49,8 +49,7 @@ fn no_frame(alloc: Global) -> Result<Letter, Fail> {
 }
 
 fn trace_of(alloc: Global, entries: List<Entry>) -> Result<Trace, Fail>
-    ensures clients { IfOk result (λ trace. trace.setup.clients ≤ LAST_CLIENT) }
-    ensures kinds { IfOk result (λ trace. length trace.setup.kinds ≤ OBJECT_IDS) }
+    ensures { IfOk result (λ trace. IsSetup trace.setup) }
 {
     let setup = Setup {
         bounds: Bounds::new(1)?,

@@ -5,3 +5,4 @@ pub mod FitClients
 pub mod Fitting
 pub mod Carrying
 pub mod StepLetters
+pub mod ClientLetters

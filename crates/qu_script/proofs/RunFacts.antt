@@ -1,13 +1,14 @@
 -- Facts on the events of lines, one after another.
 use Rattle.std.proofs.Common.{◌≡◌, ℕ, zero, suc, ◌+◌, ◌<◌, ◌≤◌, List, length, get_or, drop, Option, None, Some, Result, Ok, Err, refl, sym, ap, subst, ◌∙◌}
 use Rattle.std.proofs.lemmas.List.{at_drop_more, at_drop_all}
+use Rattle.qu_base.specs.declared.party.ClientId.{ClientId}
 use Rattle.qu_trace.specs.declared.event.Event.TheVariants as event
 use Rattle.qu_script.specs.declared.bad.Bad.{Bad}
 use Rattle.qu_script.specs.declared.bad.ScriptFail.{ScriptFail}
 use Rattle.qu_script.specs.declared.bad.ScriptFail.TheVariants as fails
 use Rattle.qu_script.specs.declared.line.Line.{Line}
 use Rattle.qu_script.specs.Script.{then_good, Fails}
-use Rattle.qu_script.specs.Events.{Playing, MakesPlay, event_made, deliveries_made, if_waiting, lowest_waiting, flow_made, line_made, lines_made}
+use Rattle.qu_script.specs.Events.{Playing, MakesPlay, event_made, deliveries_made, if_waiting, lowest_waiting, flow_made, ticks_made, line_made, lines_made}
 
 -- ---- fails
 
@@ -103,6 +104,35 @@ flow_rests number (suc left) playing none =
 pub flow_end : (number count : ℕ) (playing : Playing) → count ≡ 0 → flow_made number count playing ≡ Ok playing
 unfolding flow_made
 flow_end number count playing is = ap (λ (it : ℕ). flow_made number it playing) is
+
+-- ---- time
+
+ticks_step : (number left : ℕ) (client : ClientId) (playing : Playing)
+    → ticks_made number client (suc left) playing
+    ≡ then_good (event_made number playing (event.Tick client)) (λ after. ticks_made number client left after)
+unfolding ticks_made
+ticks_step number left client playing = refl
+
+pub ticks_more : (number left count : ℕ) (client : ClientId) (playing after : Playing) → count ≡ suc left
+    → event_made number playing (event.Tick client) ≡ Ok after
+    → ticks_made number client left after ≡ ticks_made number client count playing
+ticks_more number left count client playing after is made =
+    sym (ap (λ (it : ℕ). ticks_made number client it playing) is ∙ ticks_step number left client playing
+    ∙ ap (λ (it : Result Playing Bad). then_good it (λ after. ticks_made number client left after)) made)
+
+pub ticks_stop : (number left count : ℕ) (client : ClientId) (playing : Playing) (fail : ScriptFail)
+    (meant : Result Playing Bad) → count ≡ suc left → ticks_made number client count playing ≡ meant
+    → Fails fail (event_made number playing (event.Tick client)) → Fails fail meant
+ticks_stop number left count client playing fail meant is same here =
+    fails_as fail _ meant (sym (ticks_step number left client playing)
+    ∙ ap (λ (it : ℕ). ticks_made number client it playing) (sym is) ∙ same)
+    (fails_then fail (event_made number playing (event.Tick client))
+    (λ after. ticks_made number client left after) here)
+
+pub ticks_end : (number count : ℕ) (client : ClientId) (playing : Playing) → count ≡ 0
+    → ticks_made number client count playing ≡ Ok playing
+unfolding ticks_made
+ticks_end number count client playing is = ap (λ (it : ℕ). ticks_made number client it playing) is
 
 -- ---- lines
 

@@ -1,6 +1,6 @@
 -- The run that a script describes: the fold of its lines, each of which is some events in the world
 -- in which it stands, or the first line that cannot be.
-use Rattle.std.specs.Prelude.{◌≡◌, ℕ, zero, suc, ◌+◌, Bool, true, false, List, [], ◌∷◌, length, Option, None, Some, Result, Ok, Err}
+use Rattle.std.specs.Prelude.{◌≡◌, ℕ, zero, suc, ◌+◌, Bool, true, false, List, [], ◌∷◌, length, Option, None, Some, Result, Ok, Err, unwrap_or, option_and_then}
 use Rattle.qu_base.specs.Bounds.{replicas}
 use Rattle.qu_base.specs.declared.party.ClientId.{ClientId}
 use Rattle.qu_base.specs.declared.party.Party.TheVariants as party
@@ -15,7 +15,9 @@ use Rattle.qu_trace.specs.Letters.{letters_of}
 use Rattle.qu_world.specs.declared.fail.WorldFail.{WorldFail}
 use Rattle.qu_world.specs.declared.fail.WorldFail.TheVariants as fail
 use Rattle.qu_world.specs.declared.fail.TheConstants.{EVENT_LIMIT}
-use Rattle.qu_world.specs.State.{WorldState, opening_world}
+use Rattle.qu_client.specs.declared.state.ClientState.{ClientState}
+use Rattle.qu_client.specs.Steps.{rest_of}
+use Rattle.qu_world.specs.State.{WorldState, opening_world, correct_client}
 use Rattle.qu_world.specs.Step.{world_step}
 use Rattle.qu_world.specs.Refusals.{refusal_of}
 use Rattle.qu_world.specs.Run.{trace_of}
@@ -24,7 +26,7 @@ use Rattle.qu_script.specs.declared.bad.BadKind.{BadKind}
 use Rattle.qu_script.specs.declared.bad.BadKind.TheVariants as kind
 use Rattle.qu_script.specs.declared.bad.ScriptFail.{ScriptFail}
 use Rattle.qu_script.specs.declared.line.Line.{Line}
-use Rattle.qu_script.specs.declared.line.Line.TheVariants.{Call, Deliver, Flow, Hold, Free, Lose, Inject, Fake}
+use Rattle.qu_script.specs.declared.line.Line.TheVariants.{Call, Deliver, Flow, Hold, Free, Lose, Tick, Wake, Inject, Fake}
 use Rattle.qu_script.specs.declared.line.Script.{Script}
 use Rattle.qu_script.specs.Fake.{fake_of}
 use Rattle.qu_script.specs.Script.{then_good, script_of, Fails}
@@ -111,6 +113,19 @@ abbrev pub fake_made : ℕ → Playing → ClientId → Option (List ℕ) → Re
 fake_made number playing client None = Err (record { line = number; kind = kind.NoRequest })
 fake_made number playing client (Some text) = event_made number playing (event.Inject (party.Client client) text)
 
+-- ---- time
+
+-- so many ticks of a client's clock
+unfoldable pub ticks_made : ℕ → ClientId → ℕ → Playing → Result Playing Bad
+ticks_made number client zero playing = Ok playing
+ticks_made number client (suc count) playing =
+    then_good (event_made number playing (event.Tick client)) (λ after. ticks_made number client count after)
+
+-- how many ticks are left of a client's rest, none where it does not rest
+abbrev pub rest_ticks : Playing → ClientId → ℕ
+rest_ticks playing client =
+    unwrap_or (option_and_then (λ (state : ClientState). rest_of state.work) (correct_client playing.world client)) 0
+
 -- ---- lines
 
 abbrev pub line_made : ℕ → Playing → Line → Result Playing Bad
@@ -120,6 +135,8 @@ line_made number playing (Flow count) = flow_made number (flow_count count) play
 line_made number playing (Hold those) = Ok (replicas_marked true playing those)
 line_made number playing (Free those) = Ok (replicas_marked false playing those)
 line_made number playing Lose = Ok (letters_lost playing)
+line_made number playing (Tick client count) = ticks_made number client count playing
+line_made number playing (Wake client) = ticks_made number client (rest_ticks playing client) playing
 line_made number playing (Inject who text) = event_made number playing (event.Inject who text)
 line_made number playing (Fake me client how good) =
     fake_made number playing client (fake_of playing.world me client how good)

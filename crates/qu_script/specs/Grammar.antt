@@ -11,8 +11,9 @@ use Rattle.qu_objects.specs.declared.query.Ask.TheVariants.{Read}
 use Rattle.qu_objects.specs.declared.op.Op.{Op}
 use Rattle.qu_objects.specs.declared.op.Op.TheVariants as op
 use Rattle.qu_trace.specs.declared.trace.Setup.{Setup}
+use Rattle.qu_script.specs.declared.limits.TheConstants.{MOST_TICKS}
 use Rattle.qu_script.specs.declared.line.Line.{Line}
-use Rattle.qu_script.specs.declared.line.Line.TheVariants.{Call, Deliver, Flow}
+use Rattle.qu_script.specs.declared.line.Line.TheVariants.{Call, Deliver, Flow, Tick, Wake}
 use Rattle.qu_script.specs.declared.setup.SetupLine.{SetupLine}
 use Rattle.qu_script.specs.declared.setup.SetupLine.TheVariants.{Bounds, Seed, Clients, Object}
 use Rattle.qu_script.specs.Holding.{outage_line}
@@ -121,6 +122,33 @@ unfoldable pub flow_of : List (List ℕ) → Option Line
 flow_of [] = Some (Flow None)
 flow_of (word ∷ words) = option_map (λ count. Flow (Some count)) (only_number 0 greatest_number (word ∷ words))
 
+-- one tick, or `N` of them
+unfoldable pub ticks_of : List (List ℕ) → Option ℕ
+ticks_of [] = Some 1
+ticks_of (word ∷ words) = only_number 1 MOST_TICKS (word ∷ words)
+
+abbrev pub tick_by : Option ClientId → Option ℕ → Option Line
+tick_by None count = None
+tick_by (Some client) None = None
+tick_by (Some client) (Some count) = Some (Tick client count)
+
+-- `C` or `C N`, of a correct client
+unfoldable pub tick_of : Setup → List (List ℕ) → Option Line
+tick_of setup [] = None
+tick_of setup (client ∷ words) = tick_by (correct_client_in setup client) (ticks_of words)
+
+-- `C`, of a correct client
+unfoldable pub wake_of : Setup → List (List ℕ) → Option Line
+wake_of setup [] = None
+wake_of setup (client ∷ []) = option_map (λ client. Wake client) (correct_client_in setup client)
+wake_of setup (client ∷ second ∷ later) = None
+
+-- a line at which time passes, or none of its own letters
+unfoldable pub quiet_line : Setup → List ℕ → List (List ℕ) → Option Line
+quiet_line setup verb words =
+    if bytes_eq verb (codes "tick") then tick_of setup words
+    else (if bytes_eq verb (codes "wake") then wake_of setup words else outage_line setup verb words)
+
 -- a line behind the setup, by its first word
 unfoldable pub line_of_words : Setup → List (List ℕ) → Option Line
 line_of_words setup [] = None
@@ -129,4 +157,4 @@ line_of_words setup (verb ∷ words) =
     else (if bytes_eq verb (codes "deliver") then deliver_of words
     else (if bytes_eq verb (codes "flow") then flow_of words
     else (if bytes_eq verb (codes "inject") then inject_of setup words
-    else (if bytes_eq verb (codes "fake") then fake_line setup words else outage_line setup verb words))))
+    else (if bytes_eq verb (codes "fake") then fake_line setup words else quiet_line setup verb words))))

@@ -3,10 +3,10 @@ ghost use Rattle.qu_script.specs.Grammar.{amount_of, update_by, read_op, op_of, 
 
 use super::Line;
 use super::cut::next_word;
-use super::holding::read_outage;
 use super::injecting::{read_fake, read_inject};
 use super::numbers::{read_number_in, read_numbers, read_only_number};
 use super::parties::read_correct_client;
+use super::ticking::read_quiet;
 use qu_base::{List, NoMemory, ObjectId};
 use qu_objects::{Act, Ask, Method, Op, Query};
 use qu_trace::Setup;
@@ -31,7 +31,7 @@ pub fn read_event(alloc: Global, setup: &Setup, words: &[&[u8]]) -> Result<Optio
     } else if verb == b"fake".as_slice() {
         read_fake(alloc, setup, rest)
     } else {
-        read_outage(alloc, setup, verb, rest)
+        read_quiet(alloc, setup, verb, rest)
     }
 }
 

@@ -19,9 +19,10 @@ mod player;
 mod read;
 mod run;
 mod setup;
+mod ticking;
 
 pub use bad::{Bad, BadKind, ScriptFail};
-pub use limits::{SCRIPT_LIMIT, limits_are_these};
+pub use limits::{MOST_TICKS, SCRIPT_LIMIT, limits_are_these};
 pub use line::{How, Line, Script};
 pub use read::read_script;
 pub use run::play_script;

@@ -32,6 +32,10 @@ pub enum Line {
     Free(List<ReplicaId>),
     /// The letters that were sent so far and not delivered are lost: no flow takes them any more.
     Lose,
+    /// Time passes at a client, so many ticks of its clock.
+    Tick(ClientId, u64),
+    /// Time passes at a client as long as it rests.
+    Wake(ClientId),
     /// These bytes reach a party.
     Inject(Party, List<u8>),
     /// A reply reaches the client as the replica's, whose HMACs for these replicas are right: for
@@ -51,6 +55,8 @@ impl Line {
             Line::Hold(replicas) => Line::Hold(replicas.copy(alloc)?),
             Line::Free(replicas) => Line::Free(replicas.copy(alloc)?),
             Line::Lose => Line::Lose,
+            Line::Tick(client, count) => Line::Tick(*client, *count),
+            Line::Wake(client) => Line::Wake(*client),
             Line::Inject(party, text) => Line::Inject(*party, text.copy(alloc)?),
             Line::Fake(replica, client, how, Some(good)) => {
                 Line::Fake(*replica, *client, *how, Some(good.copy(alloc)?))

@@ -1,6 +1,6 @@
 ghost use Rattle.std.specs.Prelude.{◌≡◌, IfOk};
 ghost use Rattle.qu_world.specs.Run.{IsRun, IsSetup, trace_of};
-ghost use Rattle.qu_script.specs.Events.{opening_play, event_made, deliveries_made, flow_made, fake_made, line_made, lines_made, lowest_waiting, replicas_marked, letters_lost, MakesPlay};
+ghost use Rattle.qu_script.specs.Events.{opening_play, event_made, deliveries_made, flow_made, fake_made, ticks_made, rest_ticks, line_made, lines_made, lowest_waiting, replicas_marked, letters_lost, MakesPlay};
 ghost use Rattle.qu_script.specs.Player.{world_fail_at};
 
 use super::fake::fake;
@@ -88,6 +88,11 @@ impl Player {
                 Ok(())
             }
             Line::Lose => Ok(self.lose()?),
+            Line::Tick(client, count) => self.tick(number, *client, *count),
+            Line::Wake(client) => {
+                let left = self.rest_left(*client);
+                self.tick(number, *client, left)
+            }
             Line::Inject(party, text) => {
                 let text = text.copy(alloc)?;
                 self.make_event(number, Event::Inject(*party, text))
@@ -132,6 +137,26 @@ impl Player {
                 kind: BadKind::NoRequest,
             })),
         }
+    }
+
+    /// Lets time pass at a client, so many ticks.
+    fn tick(&mut self, number: u64, client: ClientId, count: u64) -> Result<(), ScriptFail>
+        ensures { MakesPlay result self.new (ticks_made number client count self.old) }
+    {
+        for index in 0..count {
+            self.make_event(number, Event::Tick(client))?;
+        }
+        Ok(())
+    }
+
+    /// How many ticks are left of a client's rest.
+    fn rest_left(&self, client: ClientId) -> u64
+        ensures { result ≡ rest_ticks self.now client }
+    {
+        let Some(client) = self.world.client(client) else {
+            return 0;
+        };
+        client.rest_left().map_or(0, u64::from)
     }
 
     /// Delivers these letters, in this order.

@@ -1,13 +1,12 @@
 -- A client that keeps only histories that were held, as their replicas sealed them, sends only those; so does a
 -- replica that shows its own.
-use Rattle.std.proofs.Common.{◌≡◌, ℕ, zero, suc, ◌+◌, ◌≤◌, List, [], ◌∷◌, map, Option, None, Some, Ok, refl, sym, ap, subst, ◌∙◌, arith}
-use Rattle.std.specs.Prelude.{slice_get}
+use Rattle.std.proofs.Common.{◌≡◌, ℕ, ◌+◌, ◌≤◌, List, [], ◌∷◌, map, Option, None, Some, Ok, refl, sym, ap, subst, ◌∙◌, arith}
+use Rattle.std.specs.Prelude.{slice_get, IfSome}
 use Rattle.std.specs.List.{AllByRecursion, cons_option}
 use Rattle.std.proofs.lemmas.Bool.{cond_both}
 use Rattle.std.proofs.lemmas.Option.{none-some}
 use Rattle.qu_base.specs.declared.party.ClientId.{ClientId}
 use Rattle.qu_base.specs.declared.party.Party.TheVariants as party
-use Rattle.qu_base.specs.declared.party.ReplicaId.{ReplicaId}
 use Rattle.qu_base.specs.Bounds.{replicas}
 use Rattle.qu_history.specs.declared.sets.SetOf.{SetOf}
 use Rattle.qu_history.specs.declared.sealed.Sealed.{Sealed}
@@ -33,16 +32,21 @@ use Rattle.qu_client.specs.declared.kept.Kept.{Kept}
 use Rattle.qu_client.specs.declared.kept.Mark.TheVariants.{Unshown}
 use Rattle.qu_client.specs.declared.work.Work.{Work}
 use Rattle.qu_client.specs.declared.state.ClientState.{ClientState}
-use Rattle.qu_client.specs.declared.state.Stepped.{Stepped}
-use Rattle.qu_client.specs.State.{client_at_start, is_older, same_source, keep, keep_all, kept_of}
-use Rattle.qu_client.specs.Rounds.{operation_objects, entries_from, set_of, sets_of, request_of, requests_from, asked}
-use Rattle.qu_client.specs.Steps.{goes_on, counted_in, client_on_frame, client_on_received, client_step, client_invoke}
-use Rattle.qu_client.proofs.Marks.{IsRemarked, each_remarked}
-use Rattle.qu_client.proofs.Cases.{counted_cases, invoke_cases}
+use Rattle.qu_client.specs.State.{Stepped}
+use Rattle.qu_client.specs.State.{client_at_start, is_older, same_source, keep, keep_all}
+use Rattle.qu_client.specs.declared.whom.Whom.{Whom}
+use Rattle.qu_client.specs.declared.whom.Whom.TheVariants.{Others}
+use Rattle.qu_client.specs.State.{unmarked}
+use Rattle.qu_client.specs.Question.{operation_objects}
+use Rattle.qu_client.specs.Rounds.{request_of, whom_asked, marked_shown, first_object, asking_all, begins, requests}
+use Rattle.qu_client.proofs.Trimmed.{each_of_sets}
+use Rattle.qu_client.proofs.Sent.{each_letter}
+use Rattle.qu_client.specs.Steps.{client_step, client_invoke, client_tick, next_number}
+use Rattle.qu_client.proofs.Marks.{each_remarked, unmarked-remarked, shown_in-remarked}
+use Rattle.qu_client.proofs.Cases.{IsRound, OfEach, IsOfHistories, step_cases, tick_cases, invoke_cases}
 use Rattle.qu_claims.specs.Carried.{Carries}
 use Rattle.qu_shown.specs.Views.{EachEntry}
 use Rattle.qu_world.proofs.Each.{each_weaker}
-use Rattle.qu_runs.proofs.Fits.FitRequests.{entries_with, entries_next, entries_none, found_among}
 use Rattle.qu_runs.proofs.Fits.Carrying.{AsksFit, AnswersFit, signed_carries}
 use Rattle.qu_runs.proofs.Fits.StepLetters.{on_frame_each}
 use Rattle.qu_frames.specs.Formats.{frame_kind}
@@ -50,7 +54,6 @@ use Rattle.qu_frames.specs.Signing.{brought, signed}
 use Rattle.qu_seal.specs.Keys.{Ring}
 use Rattle.qu_frames.proofs.Signed.{brought_is_decoded}
 use Rattle.qu_base.specs.declared.party.Party.{Party}
-use Rattle.qu_base.specs.declared.party.ObjectId.{ObjectId}
 
 -- each history in the frame was held
 abbrev pub IsTrueFrame : (Sealed → Type 0) → Frame → Type 0
@@ -70,9 +73,14 @@ shows_held Held _ true_frame = tt
 abbrev pub IsTrueLetter : (Sealed → Type 0) → Letter → Type 0
 IsTrueLetter Held letter = (sent : Frame) → Carries letter sent → IsTrueFrame Held sent
 
--- each history that the client keeps was held
+-- each history of the sets of the operation under way was held
+abbrev pub HasTrueSets : (Sealed → Type 0) → Option Work → Type 0
+HasTrueSets Held found = IfSome found (λ work. EachEntry Held work.sets)
+
+-- each history that the client keeps or shows was held
 pub record IsTrueClient (Held : Sealed → Type 0) (state : ClientState) : Type 0 where
   pub kept : AllByRecursion (λ (it : Kept). Held it.sealed) state.kept
+  pub work : HasTrueSets Held state.work
 
 pub record IsTrueStep (Held : Sealed → Type 0) (stepped : Stepped) : Type 0 where
   pub state : IsTrueClient Held stepped.state
@@ -81,10 +89,17 @@ pub record IsTrueStep (Held : Sealed → Type 0) (stepped : Stepped) : Type 0 wh
 -- ---- what was held stays so
 
 module _ (Old New : Sealed → Type 0) (more : (sealed : Sealed) → Old sealed → New sealed) where
-  frame-more : (sent : Frame) → IsTrueFrame Old sent → IsTrueFrame New sent
-  frame-more (frame.Request client number round sets body mac) true_frame =
+  sets-more : (sets : List SetOf) → EachEntry Old sets → EachEntry New sets
+  sets-more sets each =
       each_weaker (λ (set : SetOf). AllByRecursion Old set.entries) (λ (set : SetOf). AllByRecursion New set.entries)
-      sets (λ set. each_weaker Old New set.entries more) true_frame
+      sets (λ set. each_weaker Old New set.entries more) each
+
+  work-more : (found : Option Work) → HasTrueSets Old found → HasTrueSets New found
+  work-more None each = tt
+  work-more (Some work) each = sets-more work.sets each
+
+  frame-more : (sent : Frame) → IsTrueFrame Old sent → IsTrueFrame New sent
+  frame-more (frame.Request client number round sets body mac) true_frame = sets-more sets true_frame
   frame-more (frame.Reply replica client number round verdict culled shown mac) true_frame =
       each_weaker Old New shown more true_frame
   frame-more _ true_frame = tt
@@ -99,6 +114,7 @@ module _ (Old New : Sealed → Type 0) (more : (sealed : Sealed) → Old sealed 
   client-more state client = record {
     kept = each_weaker (λ (it : Kept). Old it.sealed) (λ (it : Kept). New it.sealed)
         state.kept (λ it. more it.sealed) client.kept;
+    work = work-more state.work client.work;
   }
 
   pub clients-more : (states : List ClientState) → AllByRecursion (IsTrueClient Old) states
@@ -132,113 +148,98 @@ module _ (Held : Sealed → Type 0) where
 
   -- ---- what the client sends
 
-  with-held : (found : Option Sealed) (later : List Sealed)
-      → ((sealed : Sealed) → found ≡ Some sealed → Held sealed) → AllByRecursion Held later
-      → AllByRecursion Held (entries_with found later)
-  with-held None later here each = each
-  with-held (Some sealed) later here each = (here sealed refl, each)
-
-  entries-held : (object : ObjectId) (replica count : ℕ) (kept : List Kept) → AllByRecursion IsHeld kept
-      → AllByRecursion Held (entries_from object replica count kept)
-  entries-held object replica zero kept each =
-      subst (AllByRecursion Held) (sym (entries_none object replica kept)) tt
-  entries-held object replica (suc count) kept each =
-      subst (AllByRecursion Held) (sym (entries_next object replica count kept))
-      (with-held (kept_of object replica kept) (entries_from object (replica + 1) count kept)
-      (λ sealed found. (found_among Held object replica kept sealed each found).is)
-      (entries-held object (replica + 1) count kept each))
-
-  -- sets of what is kept show what was held
-  sets-held : (size : ℕ) (kept : List Kept) (objects : List ObjectId) → AllByRecursion IsHeld kept
-      → EachEntry Held (map (λ (object : ObjectId). set_of size kept object) objects)
-  sets-held size kept [] each = tt
-  sets-held size kept (object ∷ later) each =
-      (entries-held object 0 (replicas size) kept each, sets-held size kept later each)
-
-  requests-true : (keys : Ring) (replica count : ℕ) (me : ClientId) (work : Work) (sets : List SetOf)
-      → frame_form.Fits (request_of me work sets) → EachEntry Held sets
-      → AllByRecursion (IsTrueLetter Held) (requests_from keys replica count me work sets)
-  unfolding requests_from
-  requests-true keys replica zero me work sets fits held = tt
-  requests-true keys replica (suc count) me work sets fits held =
+  requests-true : (keys : Ring) (me : ClientId) (work : Work) (whom : Whom) → frame_form.Fits (request_of me work)
+      → EachEntry Held work.sets → AllByRecursion (IsTrueLetter Held) (requests keys me work whom)
+  requests-true keys me work whom fits held =
+      let asks : Frame = request_of me work in
+      each_letter keys me work whom (IsTrueLetter Held) (replicas keys.bounds) 0
+      (λ replica below asked sent carries.
       let to : Party = party.Replica (record { 0 = replica }) in
-      let asks : Frame = request_of me work sets in (
-        λ sent carries. subst (IsTrueFrame Held)
-            (sym (signed_carries (record { from = party.Client me; to = to; text = signed keys to asks }) keys to
-            asks sent fits refl carries)) held,
-        requests-true keys (replica + 1) count me work sets fits held,
-      )
+      subst (IsTrueFrame Held)
+      (sym (signed_carries (record { from = party.Client me; to = to; text = signed keys to asks }) keys to
+      asks sent fits refl carries)) held)
 
-  -- all replicas are asked, by the sets of what is kept
-  asked-true : (state : ClientState) (work : Work)
-      → frame_form.Fits (request_of state.me work (sets_of state.keys.bounds state.kept work.op))
-      → IsTrueClient Held state
-      → IsTrueStep Held (goes_on (asked state work (sets_of state.keys.bounds state.kept work.op)))
-  asked-true state work fits client = record {
-    state = record { kept = client.kept };
-    letters = requests-true state.keys 0 (replicas state.keys.bounds) state.me work
-        (sets_of state.keys.bounds state.kept work.op) fits
-        (sets-held state.keys.bounds state.kept (operation_objects work.op) client.kept);
+  under_way : (found : Option Work) (work : Work) → found ≡ Some work → HasTrueSets Held found
+      → EachEntry Held work.sets
+  under_way found work is held = subst (HasTrueSets Held) is held
+
+  -- whatever a client does
+  abbrev IsTrueIf : Stepped → Type 0
+  IsTrueIf stepped = AsksFit stepped.state → IsTrueStep Held stepped
+
+  -- a round begins upon what is kept
+  begins-true : (state : ClientState) (kept : List Kept) (op : Op) (number round : ℕ) (work : Work)
+      → AllByRecursion IsHeld kept → IsRound state.keys.bounds kept op number round work
+      → IsTrueIf (begins (record state { kept = kept }) work)
+  begins-true state kept op number round work held is fits =
+      let sets : EachEntry Held work.sets =
+      subst (EachEntry Held) (sym is.sets_are)
+      (each_of_sets Held state.keys.bounds round kept (operation_objects op) held) in
+      record {
+        state = record {
+          kept = each_remarked Held kept (marked_shown work.sets kept) (shown_in-remarked work.sets kept) held;
+          work = sets;
+        };
+        letters = requests-true state.keys state.me work (whom_asked work)
+            (fits work refl) sets;
+      }
+
+  each-true : (state : ClientState) → IsTrueClient Held state → OfEach state (AllByRecursion IsHeld) IsTrueIf
+  each-true state client = record {
+    quiet = record {
+      same = λ fits. record { state = client; letters = tt };
+      keeps = λ kept held fits. record { state = record { kept = held; work = client.work }; letters = tt };
+      counts = λ kept work replica number round verdict culled held is counting fits. record {
+        state = record { kept = held; work = under_way state.work work is client.work };
+        letters = tt;
+      };
+      ends = λ kept work end held is fits. record { state = record { kept = held; work = tt }; letters = tt };
+      rests = λ kept work held is more fits. record {
+        state = record { kept = held; work = under_way state.work work is client.work };
+        letters = tt;
+      };
+      ticks = λ work ticks is fits. record {
+        state = record { kept = client.kept; work = under_way state.work work is client.work };
+        letters = tt;
+      };
+    };
+    begins = λ kept work held next.
+        begins-true state kept next.last.op next.last.number (next.last.round + 1) work held next.round;
+    asks_others = λ work is preferred fits.
+        let sets : EachEntry Held work.sets = under_way state.work work is client.work in
+        record {
+          state = record { kept = client.kept; work = sets };
+          letters = requests-true state.keys state.me (asking_all work)
+              (Others (first_object work.op)) (fits (asking_all work) refl) sets;
+        };
   }
 
-  -- other marks change nothing of what is kept
-  remarked-true : (state : ClientState) (kept : List Kept) → IsRemarked state.kept kept
-      → IsTrueClient Held state → IsTrueClient Held (record state { kept = kept })
-  remarked-true state kept marked client = record { kept = each_remarked Held state.kept kept marked client.kept }
-
-  counted-true : (state : ClientState) (replica : ReplicaId) (number round : ℕ) (verdict : Verdict)
-      (culled : List (ObjectId × ReplicaId)) → IsTrueClient Held state
-      → AsksFit (counted_in state state.work replica number round verdict culled).state
-      → IsTrueStep Held (counted_in state state.work replica number round verdict culled)
-  counted-true state replica number round verdict culled client =
-      counted_cases state replica number round verdict culled
-      (λ stepped. AsksFit stepped.state → IsTrueStep Held stepped)
-      (λ fits. record { state = client; letters = tt })
-      (λ work is _ fits. record { state = record { kept = client.kept }; letters = tt })
-      (λ work answer is _ _ _ fits. record { state = record { kept = client.kept }; letters = tt })
-      (λ work is _ _ fits. record { state = record { kept = client.kept }; letters = tt })
-      (λ kept work acted marked is _ _ fits.
-      asked-true (record state { kept = kept }) _ (fits _ refl) (remarked-true state kept marked client))
-      (λ kept work marked is _ _ fits.
-      record { state = record { kept = each_remarked Held state.kept kept marked client.kept }; letters = tt })
-
-  client_frame-true : (state : ClientState) (received : Frame) → ShowsHeld Held received
-      → IsTrueClient Held state → AsksFit (client_on_frame state received).state
-      → IsTrueStep Held (client_on_frame state received)
-  client_frame-true state (frame.Reply replica client number round verdict culled shown mac) true_frame client_is fits =
-      let kept : List Kept = keep_all number round shown state.kept in
-      cond_both _ _ _ (λ stepped. AsksFit stepped.state → IsTrueStep Held stepped)
-      (λ _. counted-true (record state { kept = kept }) replica number round verdict culled
-      (record { kept = keep_all-held number round shown state.kept true_frame client_is.kept }))
-      (λ _ fit. record { state = client_is; letters = tt })
-      fits
-  client_frame-true state _ true_frame client_is fits = record { state = client_is; letters = tt }
-
-  client_brought-true : (state : ClientState) (found : Option Frame)
-      → ((sent : Frame) → found ≡ Some sent → ShowsHeld Held sent) → IsTrueClient Held state
-      → AsksFit (client_on_received state found).state → IsTrueStep Held (client_on_received state found)
-  client_brought-true state (Some taken) true_frame client_is fits =
-      client_frame-true state taken (true_frame taken refl) client_is fits
-  client_brought-true state None true_frame client_is fits = record { state = client_is; letters = tt }
+  histories-true : IsOfHistories (AllByRecursion IsHeld)
+  histories-true kept marked same held = each_remarked Held kept marked same held
 
   pub client_step-true : (state : ClientState) (text : List ℕ)
       → ((sent : Frame) → decoded text ≡ Ok sent → ShowsHeld Held sent) → IsTrueClient Held state
-      → AsksFit (client_step state text).state → IsTrueStep Held (client_step state text)
-  client_step-true state text true_frame =
-      client_brought-true state (brought state.keys (party.Client state.me) text)
-      (λ sent brings. true_frame sent (brought_is_decoded state.keys (party.Client state.me) text sent brings))
+      → IsTrueIf (client_step state text)
+  client_step-true state text true_frame client =
+      step_cases state (AllByRecursion IsHeld) IsTrueIf histories-true (each-true state client) text
+      (λ replica number_of number round verdict culled shown mac is.
+      keep_all-held number round shown state.kept
+      (true_frame _ (brought_is_decoded state.keys (party.Client state.me) text _ is)) client.kept)
+
+  pub client_tick-true : (state : ClientState) → IsTrueClient Held state → IsTrueIf (client_tick state)
+  client_tick-true state client =
+      tick_cases state (AllByRecursion IsHeld) IsTrueIf histories-true (each-true state client) client.kept
 
   pub client_invoke-true : (state : ClientState) (op : Op) → IsTrueClient Held state
-      → AsksFit (client_invoke state op).state → IsTrueStep Held (client_invoke state op)
+      → IsTrueIf (client_invoke state op)
   client_invoke-true state op client =
-      invoke_cases state op (λ stepped. AsksFit stepped.state → IsTrueStep Held stepped)
-      (λ kept acted marked fits.
-      asked-true (record state { kept = kept }) _ (fits _ refl) (remarked-true state kept marked client))
-      (λ kept marked fits.
-      record { state = record { kept = each_remarked Held state.kept kept marked client.kept }; letters = tt })
+      invoke_cases state op IsTrueIf
+      (λ work first.
+      begins-true state (unmarked state.kept) op (next_number state.last_request) 1 work
+      (each_remarked Held state.kept (unmarked state.kept) (unmarked-remarked state.kept) client.kept) first)
 
-  pub opening-true : (me : ClientId) (keys : Ring) → IsTrueClient Held (client_at_start me keys)
-  opening-true me keys = record { kept = tt }
+  pub opening-true : (me : ClientId) (keys : Ring) → IsTrueClient Held (client_at_start me keys keys.seed)
+  opening-true me keys = record { kept = tt; work = tt }
 
 -- ---- the steps of a replica
 

@@ -23,7 +23,7 @@ use Rattle.qu_frames.specs.Decoding.{decoded}
 use Rattle.qu_rows.specs.State.{ReplicaState}
 use Rattle.qu_replica.specs.Step.{replica_step}
 use Rattle.qu_client.specs.declared.state.ClientState.{ClientState}
-use Rattle.qu_client.specs.declared.state.Stepped.{Stepped}
+use Rattle.qu_client.specs.State.{Stepped}
 use Rattle.qu_client.specs.Steps.{client_invoke, client_step, client_tick}
 use Rattle.qu_trace.specs.declared.event.Event.{Event}
 use Rattle.qu_trace.specs.declared.event.Event.TheVariants.{Invoke, Deliver, Tick, Inject}
@@ -40,7 +40,7 @@ use Rattle.qu_runs.specs.Plain.{IsPlain, ArePlain, IsOfFaulty}
 use Rattle.qu_runs.proofs.Worlds.WorldGrowth.{world_after-none, world_after-next}
 use Rattle.qu_world.proofs.Each.{each_append, each_numbered, each_with_numbered, set_here}
 use Rattle.qu_shown.proofs.OwnHistories.{IsInPlace, AreInPlace, step-in_place, opening-all_in_place, set-in_place, found_where_named}
-use Rattle.qu_shown.proofs.TrueLetters.{IsTrueFrame, IsTrueLetter, IsTrueClient, IsTrueStep, letters-more, clients-more, client_step-true, client_invoke-true, opening-true, replica_step-true, ShowsHeld, shows_held}
+use Rattle.qu_shown.proofs.TrueLetters.{IsTrueFrame, IsTrueLetter, IsTrueClient, IsTrueStep, letters-more, clients-more, client_step-true, client_tick-true, client_invoke-true, opening-true, replica_step-true, ShowsHeld, shows_held}
 use Rattle.qu_runs.proofs.Small.{some_entry}
 use Rattle.qu_runs.proofs.Fits.Carrying.{AsksFit, AnswersFit, IsFitStep, numbered_here}
 use Rattle.qu_runs.proofs.Fits.Fitting.{fit_step}
@@ -194,7 +194,7 @@ module _ (Held : Sealed → Type 0) where
   world_step-true world (Tick client) parts of_faulty fits before now =
       step_true world (Tick client) before (λ correct fits has.
       at_client-true world (Tick client) client client_tick (numbered world.clients client.0) refl
-      (λ state is fit. record { state = is; letters = tt }) fits before) fits now
+      (λ state is. client_tick-true Held state is) fits before) fits now
   world_step-true world (Inject to text) plain of_faulty fits before now =
       injected_cases world to text
       (λ (event : Event) (new : WorldState). IsFitStep world new → HasHeld new → IsTrueWorld Held new)

@@ -24,7 +24,8 @@ replicas_none number count at keys kinds none = let e : count - at ≡ 0 = omega
 
 pub clients_more : (number count at : ℕ) (keys : Ring) → at < count
     → opening_clients number (count - at) keys
-    ≡ client.client_at_start (record { 0 = number }) keys ∷ opening_clients (number + 1) (count - (at + 1)) keys
+    ≡ client.client_at_start (record { 0 = number }) keys keys.seed
+    ∷ opening_clients (number + 1) (count - (at + 1)) keys
 unfolding opening_clients
 clients_more number count at keys more =
     let e : count - at ≡ suc (count - (at + 1)) = omega arith in rw e refl
@@ -58,7 +59,7 @@ replicas_started started all number count keys kinds none so_far =
 pub client_started : (started new all : List ClientState) (state : ClientState) (before count : ℕ) (keys : Ring)
     → before < count
     → started ++ opening_clients (before + 1) (count - before) keys ≡ all
-    → state ≡ client.client_at_start (record { 0 = before + 1 }) keys → new ≡ started ++ state ∷ []
+    → state ≡ client.client_at_start (record { 0 = before + 1 }) keys keys.seed → new ≡ started ++ state ∷ []
     → new ++ opening_clients (before + 1 + 1) (count - (before + 1)) keys ≡ all
 client_started started new all state before count keys more so_far is new_is =
     ap (λ front. front ++ opening_clients (before + 1 + 1) (count - (before + 1)) keys) new_is

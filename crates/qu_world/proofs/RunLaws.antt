@@ -13,7 +13,7 @@ use Rattle.qu_seal.specs.Keys.{Ring}
 use Rattle.qu_frames.specs.declared.frame.Letter.{Letter}
 use Rattle.qu_rows.specs.State.{ReplicaState}
 use Rattle.qu_client.specs.declared.state.ClientState.{ClientState}
-use Rattle.qu_client.specs.declared.state.Stepped.{Stepped}
+use Rattle.qu_client.specs.State.{Stepped}
 use Rattle.qu_client.specs.Steps.{client_invoke, client_step, client_tick}
 use Rattle.qu_client.specs.Sound.{NumbersWithin}
 use Rattle.qu_client.proofs.Laws.{NumbersWithin-opening, NumbersWithin-step, NumbersWithin-invoke, NumbersWithin-tick, may_invoke, last_within}
@@ -222,7 +222,7 @@ numbers_opening : (number count : ℕ) (keys : Ring) → AllByRecursion (Numbers
 unfolding opening_clients
 numbers_opening number zero keys = tt
 numbers_opening number (suc count) keys =
-    (NumbersWithin-opening (record { 0 = number }) keys, numbers_opening (number + 1) count keys)
+    (NumbersWithin-opening (record { 0 = number }) keys keys.seed, numbers_opening (number + 1) count keys)
 
 -- the numbers of operations are at most the number of events
 pub numbers_world : (world : WorldState) → IsWorld world → AllByRecursion (NumbersWithin (length world.entries))

@@ -13,7 +13,7 @@ use Rattle.qu_replica.specs.Growth.{Grows}
 use Rattle.qu_replica.specs.Step.{replica_step}
 use Rattle.qu_replica.proofs.States.Growth.{grows-self, grows-chain, step-grows}
 use Rattle.qu_client.specs.declared.state.ClientState.{ClientState}
-use Rattle.qu_client.specs.declared.state.Stepped.{Stepped}
+use Rattle.qu_client.specs.State.{Stepped}
 use Rattle.qu_client.specs.Steps.{client_invoke, client_step, client_tick}
 use Rattle.qu_trace.specs.declared.event.Event.{Event}
 use Rattle.qu_trace.specs.declared.event.Event.TheVariants.{Invoke, Deliver, Tick, Inject}

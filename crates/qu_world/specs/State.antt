@@ -48,7 +48,7 @@ opening_replicas number (suc count) keys kinds =
 unfoldable pub opening_clients : ℕ → ℕ → Ring → List ClientState
 opening_clients number zero keys = []
 opening_clients number (suc count) keys =
-    client.client_at_start (record { 0 = number }) keys ∷ opening_clients (number + 1) count keys
+    client.client_at_start (record { 0 = number }) keys keys.seed ∷ opening_clients (number + 1) count keys
 
 -- the keys of a run
 abbrev pub ring_of : Setup → Ring

@@ -39,14 +39,20 @@ fn kinds_at(setup: &Setup, me: ReplicaId) -> &[KindName]
     }
 }
 
-/// So many clients of a run, as they begin; the first has number 1.
-pub fn start_clients(alloc: Global, keys: KeyRing, count: u16) -> Result<Vec<Client>, NoMemory>
-    requires { count ≤ LAST_CLIENT }
+/// So many clients of a run with these keys, which are of this seed, as they begin; the first has number 1.
+pub fn start_clients(
+    alloc: Global,
+    keys: KeyRing,
+    seed: u64,
+    count: u16,
+) -> Result<Vec<Client>, NoMemory>
+    requires few { count ≤ LAST_CLIENT }
+    requires seed { seed ≡ keys.seed }
     ensures { IfOk result (λ started. started.items ≡ opening_clients 1 count keys) }
 {
     let mut started = Vec::new(alloc);
     for before in 0..count {
-        started.push(Client::start(alloc, ClientId(before + 1), keys))?;
+        started.push(Client::start(alloc, ClientId(before + 1), keys, seed))?;
     }
     Ok(started)
 }

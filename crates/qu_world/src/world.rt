@@ -66,7 +66,7 @@ impl World {
     {
         let keys = KeyRing::derive(setup.seed, &setup.bounds, setup.clients);
         let replicas = start_replicas(alloc, keys, &setup)?;
-        let clients = start_clients(alloc, keys, setup.clients)?;
+        let clients = start_clients(alloc, keys, setup.seed, setup.clients)?;
         let entries = List::new(alloc);
         Ok(World {
             alloc,

@@ -3,6 +3,7 @@ ghost use Rattle.std.specs.List.{position};
 ghost use Rattle.std.specs.Option.{option_copied};
 ghost use Rattle.qu_client.specs.State.{keep, keep_all, kept_of, same_source};
 
+use super::super::Shared;
 use super::{Kept, Mark};
 use qu_base::{List, NoMemory, ObjectId};
 use qu_history::Sealed;
@@ -21,7 +22,7 @@ pub fn keep_all(
 {
     let mut all = copies(alloc, kept)?.into_vec();
     for sealed in shown {
-        let sealed = sealed.copy(alloc)?;
+        let sealed = Shared::new(alloc, sealed.copy(alloc)?)?;
         keep(
             &mut all,
             Kept {
@@ -35,18 +36,18 @@ pub fn keep_all(
     Ok(List::from(all))
 }
 
-/// The sealed history that is shown of those that are kept of an object and a replica.
+/// The sealed history that is kept of an object and a replica, unless it is left out.
 #[tactic(auto, unfolding(crate::specs::State::kept_of))]
 pub fn kept_of(kept: &[Kept], object: ObjectId, replica: u8) -> Option<&Sealed>
     ensures { option_copied result ≡ kept_of object replica kept.now }
 {
     for held in kept {
-        let history = &held.sealed.history;
-        if history.object().0 == object.0
-            && history.replica().0 == replica
-            && held.mark.is_shown()
+        let sealed = held.sealed.get();
+        if sealed.history.object().0 == object.0
+            && sealed.history.replica().0 == replica
+            && !held.mark.is_left_out()
         {
-            return Some(&held.sealed);
+            return Some(sealed);
         }
     }
     None
@@ -74,12 +75,13 @@ fn place_of(kept: &[Kept], new: &Kept) -> Option<usize>
     kept.iter().position(|held| new.is_of_source(held))
 }
 
-fn copies(alloc: Global, kept: &[Kept]) -> Result<List<Kept>, NoMemory>
+/// The same histories, none of which is copied.
+pub fn copies(alloc: Global, kept: &[Kept]) -> Result<List<Kept>, NoMemory>
     ensures { IfOk result (λ copies. copies ≡ kept.now) }
 {
     let mut copies = List::new(alloc);
     for held in kept {
-        copies.push(held.copy(alloc)?)?;
+        copies.push(held.share()?)?;
     }
     Ok(copies)
 }

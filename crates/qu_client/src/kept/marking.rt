@@ -1,10 +1,11 @@
 ghost use Rattle.std.specs.Prelude.{◌≡◌, ◌==◌, IfOk};
 ghost use Rattle.std.specs.List.{list_any};
 ghost use Rattle.qu_client.specs.State.{unmarked};
-ghost use Rattle.qu_client.specs.Rounds.{mark_in, marked_shown};
+ghost use Rattle.qu_client.specs.Rounds.{are_showing, mark_in, marked_shown};
 
 use super::{Kept, Mark};
-use qu_base::{List, NoMemory, ObjectId};
+use qu_base::{List, NoMemory, ObjectId, ReplicaId};
+use qu_history::{Sealed, Sets};
 use std::alloc::Global;
 
 /// What is kept, with no entry shown or left out.
@@ -14,40 +15,50 @@ pub fn unmarked(alloc: Global, kept: &[Kept]) -> Result<List<Kept>, NoMemory>
 {
     let mut all = List::new(alloc);
     for held in kept {
-        let mut held = held.copy(alloc)?;
+        let mut held = held.share()?;
         held.mark = Mark::Unshown;
         all.push(held)?;
     }
     Ok(all)
 }
 
-/// What is kept, where a round upon these objects begins: their entries are shown, but for those
-/// that are left out.
-pub fn marked_shown(objects: &[ObjectId], kept: List<Kept>) -> List<Kept>
-    ensures { result ≡ marked_shown objects.now kept }
+/// What is kept, where a round upon these sets begins: their entries are shown.
+pub fn marked_shown(sets: &Sets, kept: List<Kept>) -> List<Kept>
+    ensures { result ≡ marked_shown sets.now kept }
 {
     let mut all = kept.into_vec();
     for held in all.iter_mut() {
-        held.mark = mark_in(objects, held);
+        held.mark = mark_in(sets, held);
     }
     List::from(all)
 }
 
-/// The mark of an entry where a round upon these objects begins.
-fn mark_in(objects: &[ObjectId], held: &Kept) -> Mark
-    ensures { result ≡ mark_in objects.now held.now }
+/// The mark of an entry where a round upon these sets begins.
+fn mark_in(sets: &Sets, held: &Kept) -> Mark
+    ensures { result ≡ mark_in sets.now held.now }
 {
+    let history = &held.sealed.get().history;
     if held.mark.is_left_out() {
         Mark::LeftOut
-    } else if is_among(objects, held.sealed.history.object()) {
+    } else if are_showing(sets, history.object(), history.replica()) {
         Mark::Shown
     } else {
         Mark::Unshown
     }
 }
 
-fn is_among(objects: &[ObjectId], own: ObjectId) -> bool
-    ensures { result ≡ list_any (λ object. object.0 == own.0) objects.now }
+/// Whether the sets hold an entry of this object and this replica.
+fn are_showing(sets: &Sets, object: ObjectId, replica: ReplicaId) -> bool
+    ensures { result ≡ are_showing sets.now object replica }
 {
-    objects.iter().any(|object| object.0 == own.0)
+    is_any_of(sets.find(object), replica)
+}
+
+/// Whether one of the entries is of the replica.
+fn is_any_of(entries: &[Sealed], replica: ReplicaId) -> bool
+    ensures { result ≡ list_any (λ entry. ((entry.history).replica).0 == replica.0) entries.now }
+{
+    entries
+        .iter()
+        .any(|entry| entry.history.replica().0 == replica.0)
 }

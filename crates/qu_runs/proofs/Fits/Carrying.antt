@@ -100,11 +100,9 @@ tells_as letter replica client other number second round turn verdict besides sh
 
 -- ---- what fits
 
--- what the client asks for in the round under way fits
+-- what the client asks in the round under way, or asked in the last one where it rests, fits
 abbrev pub AsksFit : ClientState → Type 0
-AsksFit state =
-    (work : Work) → state.work ≡ Some work
-    → frame_form.Fits (rounds.request_of state.me work (rounds.sets_of state.keys.bounds state.kept work.op))
+AsksFit state = (work : Work) → state.work ≡ Some work → frame_form.Fits (rounds.request_of state.me work)
 
 -- what the replica answers to a frame fits
 abbrev pub AnswersFit : ReplicaState → Frame → Type 0

@@ -1,5 +1,5 @@
 -- What a client keeps fits its format, as long as what it is sent fits; so what it asks for does.
-use Rattle.std.proofs.Common.{◌≡◌, ℕ, zero, suc, ◌+◌, ◌<◌, ◌≤◌, ◌^◌, eqb, List, [], ◌∷◌, Option, None, Some, IfSome, Ok, refl, sym, ap, subst, ◌∙◌, arith}
+use Rattle.std.proofs.Common.{◌≡◌, ℕ, zero, suc, ◌+◌, ◌<◌, ◌≤◌, ◌^◌, List, [], ◌∷◌, Option, None, Some, IfSome, Ok, refl, sym, ap, subst, ◌∙◌, arith}
 use Rattle.std.specs.Prelude.{slice_get}
 use Rattle.std.specs.List.{AllByRecursion}
 use Rattle.std.proofs.lemmas.Bool.{cond_both}
@@ -18,30 +18,33 @@ use Rattle.qu_frames.specs.declared.frame.Frame.TheVariants as frame
 use Rattle.qu_frames.specs.declared.verdict.Verdict.{Verdict}
 use Rattle.qu_frames.specs.Formats.{reply_frame, kind_form, frame_form}
 use Rattle.qu_frames.specs.Decoding.{decoded}
+use Rattle.qu_frames.specs.declared.frame.Body.{Body}
+use Rattle.qu_client.specs.declared.whom.Whom.TheVariants.{Others}
+use Rattle.qu_client.specs.declared.whom.Whom.{Whom}
 use Rattle.qu_client.specs.declared.kept.Kept.{Kept}
 use Rattle.qu_client.specs.declared.kept.Mark.TheVariants.{Unshown}
 use Rattle.qu_client.specs.declared.state.ClientState.{ClientState}
-use Rattle.qu_client.specs.declared.state.Stepped.{Stepped}
+use Rattle.qu_client.specs.State.{Stepped}
 use Rattle.qu_client.specs.declared.work.Work.{Work}
-use Rattle.qu_client.specs.State.{client_at_start, is_older, same_source, keep, keep_all}
-use Rattle.qu_client.specs.Steps.{counted_in, client_on_frame, client_on_received, client_step, client_invoke, next_number}
+use Rattle.qu_client.specs.State.{client_at_start, is_older, same_source, keep, keep_all, unmarked}
+use Rattle.qu_client.specs.Steps.{client_step, client_invoke, next_number, client_tick, with_verdict}
 use Rattle.qu_client.specs.Sound.{NumbersWithin, IsSoundWork, IsSound}
-use Rattle.qu_client.specs.Rounds.{request_of, requests_from}
-use Rattle.qu_client.proofs.Cases.{counted_cases, step_cases, invoke_cases}
+use Rattle.qu_client.specs.Rounds.{request_of, requests, whom_asked, marked_shown, first_object, asking_all}
+use Rattle.qu_client.proofs.Sent.{each_letter}
+use Rattle.qu_client.proofs.Cases.{step_cases, invoke_cases, IsRound, OfEach, IsOfHistories, tick_cases}
 use Rattle.qu_history.specs.declared.sets.SetOf.{SetOf}
 use Rattle.qu_fitting.specs.Fits.{LetterFits}
 use Rattle.qu_world.specs.State.{opening_clients, numbered}
-use Rattle.qu_client.proofs.Laws.{client_step-me, client_step-bounds, client_invoke-me, client_invoke-bounds, NumbersWithin-opening, NumbersWithin-step, NumbersWithin-invoke, IsSound-step, IsSound-invoke, work_within, sound_work}
+use Rattle.qu_client.proofs.Laws.{client_step-me, client_step-bounds, client_invoke-me, client_invoke-bounds, NumbersWithin-opening, NumbersWithin-step, NumbersWithin-invoke, IsSound-step, IsSound-invoke, work_within, sound_work, client_tick-me, client_tick-bounds, NumbersWithin-tick, IsSound-tick}
 use Rattle.qu_runs.specs.Plain.{HasOpParts}
 use Rattle.qu_runs.proofs.Fits.Carrying.{AsksFit}
-use Rattle.qu_runs.proofs.Fits.FitRequests.{KeptFits, request_fits}
+use Rattle.qu_runs.proofs.Fits.FitRequests.{KeptFits, request_fits, FitAsked, round_fits}
 use Rattle.qu_world.proofs.RunLaws.{within_more}
-use Rattle.qu_frames.specs.Signing.{brought, signature, with_mac}
+use Rattle.qu_frames.specs.Signing.{signature, with_mac}
 use Rattle.qu_seal.specs.Keys.{Ring}
 use Rattle.qu_frames.proofs.Signed.{brought_is_decoded, signed_is_spelled}
-use Rattle.qu_base.specs.declared.party.Party.{Party}
 use Rattle.qu_base.specs.declared.party.Party.TheVariants as party
-use Rattle.qu_client.proofs.Marks.{each_remarked}
+use Rattle.qu_client.proofs.Marks.{each_remarked, unmarked-remarked, shown_in-remarked}
 
 -- ---- what a reply shows
 
@@ -88,10 +91,11 @@ keep_all_fits number round (sealed ∷ later) kept fits all =
 
 -- ---- a client's state
 
--- the operation under way has a number and parts
+-- the operation under way has a number and parts, and what its round asks fits
 pub record IsBegun (work : Work) : Type 0 where
   pub from_one : 1 ≤ work.number
   pub parts : HasOpParts work.op
+  pub asked : FitAsked work.sets work.body
 
 abbrev pub HasBegun : Option Work → Type 0
 HasBegun work = IfSome work IsBegun
@@ -103,70 +107,91 @@ pub record HoldsFit (state : ClientState) : Type 0 where
 begun : (found : Option Work) (work : Work) → found ≡ Some work → HasBegun found → IsBegun work
 begun found work is has = subst HasBegun is has
 
-counted-fit : (state : ClientState) (replica : ReplicaId) (number round : ℕ) (verdict : Verdict)
-    (culled : List (ObjectId × ReplicaId)) → HoldsFit state
-    → HoldsFit (counted_in state state.work replica number round verdict culled).state
-counted-fit state replica number round verdict culled holds =
-    counted_cases state replica number round verdict culled (λ stepped. HoldsFit stepped.state)
-    holds
-    (λ work is counting. record {
-      kept = holds.kept;
-      work = record {
-        from_one = (begun state.work work is holds.work).from_one;
-        parts = (begun state.work work is holds.work).parts;
-      };
-    })
-    (λ work answer is counting fits enough. record { kept = holds.kept; work = tt })
-    (λ work is counting spent. record { kept = holds.kept; work = tt })
-    (λ kept work acted marked is counting below. record {
-      kept = each_remarked sealed_form.Fits state.kept kept marked holds.kept;
-      work = record {
-        from_one = (begun state.work work is holds.work).from_one;
-        parts = (begun state.work work is holds.work).parts;
-      };
-    })
-    (λ kept work marked is counting below. record {
-      kept = each_remarked sealed_form.Fits state.kept kept marked holds.kept;
-      work = record {
-        from_one = (begun state.work work is holds.work).from_one;
-        parts = (begun state.work work is holds.work).parts;
-      };
-    })
+-- the same work with other replies or in another phase
+same_asked : (old new : Work) → new.op ≡ old.op → new.number ≡ old.number → new.sets ≡ old.sets
+    → new.body ≡ old.body → IsBegun old → IsBegun new
+same_asked old new op_is number_is sets_are body_is is = record {
+  from_one = subst (λ (it : ℕ). 1 ≤ it) (sym number_is) is.from_one;
+  parts = subst HasOpParts (sym op_is) is.parts;
+  asked = subst (λ (it : List SetOf). FitAsked it new.body) (sym sets_are)
+      (subst (λ (it : Body). FitAsked old.sets it) (sym body_is) is.asked);
+}
 
-frame-fit : (state : ClientState) (received : Frame) → frame_form.Fits received → HoldsFit state
-    → HoldsFit (client_on_frame state received).state
-frame-fit state (frame.Reply replica client number round verdict culled shown mac) fits holds =
-    cond_both (eqb client.0 (state.me).0) _ _ (λ (stepped : Stepped). HoldsFit stepped.state)
-    (λ _. counted-fit (record state { kept = keep_all number round shown state.kept }) replica number round verdict
-    culled (record {
-      kept = keep_all_fits number round shown state.kept
-          (reply_shown replica client number round verdict culled shown mac fits) holds.kept;
-      work = holds.work;
-    }))
-    (λ _. holds)
-frame-fit state _ fits holds = holds
+-- a round of an operation with parts, upon what fits
+round_begun : (bounds : ℕ) (kept : List Kept) (what : Op) (number round : ℕ) (work : Work)
+    → IsRound bounds kept what number round work → 1 ≤ number → HasOpParts what → KeptFits kept
+    → replicas bounds ≤ REPLICA_IDS → IsBegun work
+round_begun bounds kept what number round work is low parts fits few =
+    record {
+      from_one = subst (λ (it : ℕ). 1 ≤ it) (sym is.number_is) low;
+      parts = subst HasOpParts (sym is.op_is) parts;
+      asked = round_fits bounds kept what number round work is fits few parts;
+    }
 
-brought-fit : (state : ClientState) (found : Option Frame)
-    → ((sent : Frame) → found ≡ Some sent → frame_form.Fits sent) → HoldsFit state
-    → HoldsFit (client_on_received state found).state
-brought-fit state (Some taken) fits holds = frame-fit state taken (fits taken refl) holds
-brought-fit state None fits holds = holds
+module _ (state : ClientState) (few : replicas state.keys.bounds ≤ REPLICA_IDS) (holds : HoldsFit state) where
+  with_work : (kept : List Kept) (work last : Work) → KeptFits kept → state.work ≡ Some last → work.op ≡ last.op
+      → work.number ≡ last.number → work.sets ≡ last.sets → work.body ≡ last.body
+      → HoldsFit (record state { kept = kept; work = Some work })
+  with_work kept work last fits is op_is number_is sets_are body_is = record {
+    kept = fits;
+    work = same_asked last work op_is number_is sets_are body_is (begun state.work last is holds.work);
+  }
+
+  each_fit : OfEach state KeptFits (λ stepped. HoldsFit stepped.state)
+  each_fit = record {
+    quiet = record {
+      same = holds;
+      keeps = λ kept fits. record { kept = fits; work = holds.work };
+      counts = λ kept work replica number round verdict culled fits is counting.
+          with_work kept (with_verdict work replica verdict culled) work fits is refl refl refl refl;
+      ends = λ kept work end fits is. record { kept = fits; work = tt };
+      rests = λ kept work fits is more. record {
+        kept = fits;
+        work = same_asked work _ refl refl refl refl (begun state.work work is holds.work);
+      };
+      ticks = λ work ticks is. with_work state.kept _ work holds.kept is refl refl refl refl;
+    };
+    begins = λ kept work fits next.
+        let last : IsBegun next.last = begun state.work next.last next.is holds.work in
+        record {
+          kept = each_remarked sealed_form.Fits kept (marked_shown work.sets kept) (shown_in-remarked work.sets kept)
+              fits;
+          work = round_begun state.keys.bounds kept next.last.op next.last.number (next.last.round + 1) work next.round
+              last.from_one last.parts fits few;
+        };
+    asks_others = λ work is preferred. with_work state.kept _ work holds.kept is refl refl refl refl;
+  }
+
+  histories_fit : IsOfHistories KeptFits
+  histories_fit kept marked same fits = each_remarked sealed_form.Fits kept marked same fits
+
+  step-fit : (text : List ℕ) → ((sent : Frame) → decoded text ≡ Ok sent → frame_form.Fits sent)
+      → HoldsFit (client_step state text).state
+  step-fit text fits =
+      step_cases state KeptFits (λ stepped. HoldsFit stepped.state) histories_fit each_fit text
+      (λ replica client number round verdict culled shown mac is.
+      keep_all_fits number round shown state.kept
+      (reply_shown replica client number round verdict culled shown mac
+      (fits _ (brought_is_decoded state.keys (party.Client state.me) text _ is))) holds.kept)
+
+  tick-fit : HoldsFit (client_tick state).state
+  tick-fit = tick_cases state KeptFits (λ stepped. HoldsFit stepped.state) histories_fit each_fit holds.kept
 
 next_from_one : (last : Option (ℕ × ℕ)) → 1 ≤ next_number last
 next_from_one None = omega arith
 next_from_one (Some last) = omega arith
 
-invoke-fit : (state : ClientState) (what : Op) → HasOpParts what → HoldsFit state
-    → HoldsFit (client_invoke state what).state
-invoke-fit state what parts holds =
+invoke-fit : (state : ClientState) (what : Op) → replicas state.keys.bounds ≤ REPLICA_IDS → HasOpParts what
+    → HoldsFit state → HoldsFit (client_invoke state what).state
+invoke-fit state what few parts holds =
+    let kept : List Kept = unmarked state.kept in
+    let fits : KeptFits kept =
+    each_remarked sealed_form.Fits state.kept kept (unmarked-remarked state.kept) holds.kept in
     invoke_cases state what (λ stepped. HoldsFit stepped.state)
-    (λ kept acted marked. record {
-      kept = each_remarked sealed_form.Fits state.kept kept marked holds.kept;
-      work = record { from_one = next_from_one state.last_request; parts = parts };
-    })
-    (λ kept marked. record {
-      kept = each_remarked sealed_form.Fits state.kept kept marked holds.kept;
-      work = record { from_one = next_from_one state.last_request; parts = parts };
+    (λ work first. record {
+      kept = each_remarked sealed_form.Fits kept (marked_shown work.sets kept) (shown_in-remarked work.sets kept) fits;
+      work = round_begun state.keys.bounds kept what (next_number state.last_request) 1 work first
+          (next_from_one state.last_request) parts fits few;
     })
 
 -- the client with this number, in a run of so many events
@@ -180,14 +205,14 @@ pub record FitClient (bounds most number : ℕ) (state : ClientState) : Type 0 w
   pub holds : HoldsFit state
 
 pub opening_fit : (keys : Ring) (number : ℕ) (me : ClientId) → 1 ≤ number → number ≤ LAST_CLIENT
-    → me.0 ≡ number → FitClient keys.bounds 0 number (client_at_start me keys)
+    → me.0 ≡ number → FitClient keys.bounds 0 number (client_at_start me keys keys.seed)
 opening_fit keys number me low high is = record {
   low = low;
   high = high;
   named = is;
   bounds_are = refl;
   sound = tt;
-  within = NumbersWithin-opening me keys;
+  within = NumbersWithin-opening me keys keys.seed;
   holds = record { kept = tt; work = tt };
 }
 
@@ -203,88 +228,118 @@ fit_more bounds most number state fit = record {
   holds = fit.holds;
 }
 
-pub step_fit : (bounds most number : ℕ) (state : ClientState) (text : List ℕ)
+-- so many replicas there are at its keys
+sizes : (bounds most number : ℕ) (state : ClientState) → replicas bounds ≤ REPLICA_IDS
+    → FitClient bounds most number state → replicas state.keys.bounds ≤ REPLICA_IDS
+sizes bounds most number state size fit = subst (λ (it : ℕ). replicas it ≤ REPLICA_IDS) (sym fit.bounds_are) size
+
+pub step_fit : (bounds most number : ℕ) (state : ClientState) (text : List ℕ) → replicas bounds ≤ REPLICA_IDS
     → ((sent : Frame) → decoded text ≡ Ok sent → frame_form.Fits sent) → FitClient bounds most number state
     → FitClient bounds most number (client_step state text).state
-step_fit bounds most number state text fits fit = record {
+step_fit bounds most number state text size fits fit = record {
   low = fit.low;
   high = fit.high;
   named = ap (λ (it : ClientId). it.0) (client_step-me state text) ∙ fit.named;
   bounds_are = client_step-bounds state text ∙ fit.bounds_are;
   sound = IsSound-step state text fit.sound;
   within = NumbersWithin-step most state text fit.within;
-  holds =
-      brought-fit state (brought state.keys (party.Client state.me) text)
-      (λ sent brings. fits sent (brought_is_decoded state.keys (party.Client state.me) text sent brings)) fit.holds;
+  holds = step-fit state (sizes bounds most number state size fit) fit.holds text fits;
 }
 
-pub invoke_fit : (bounds most number : ℕ) (state : ClientState) (what : Op) → HasOpParts what
-    → FitClient bounds most number state → FitClient bounds (most + 1) number (client_invoke state what).state
-invoke_fit bounds most number state what parts fit = record {
+pub tick_fit : (bounds most number : ℕ) (state : ClientState) → replicas bounds ≤ REPLICA_IDS
+    → FitClient bounds most number state → FitClient bounds most number (client_tick state).state
+tick_fit bounds most number state size fit = record {
+  low = fit.low;
+  high = fit.high;
+  named = ap (λ (it : ClientId). it.0) (client_tick-me state) ∙ fit.named;
+  bounds_are = client_tick-bounds state ∙ fit.bounds_are;
+  sound = IsSound-tick state fit.sound;
+  within = NumbersWithin-tick most state fit.within;
+  holds = tick-fit state (sizes bounds most number state size fit) fit.holds;
+}
+
+pub invoke_fit : (bounds most number : ℕ) (state : ClientState) (what : Op) → replicas bounds ≤ REPLICA_IDS
+    → HasOpParts what → FitClient bounds most number state
+    → FitClient bounds (most + 1) number (client_invoke state what).state
+invoke_fit bounds most number state what size parts fit = record {
   low = fit.low;
   high = fit.high;
   named = ap (λ (it : ClientId). it.0) (client_invoke-me state what) ∙ fit.named;
   bounds_are = client_invoke-bounds state what ∙ fit.bounds_are;
   sound = IsSound-invoke state what;
   within = NumbersWithin-invoke most state what fit.within;
-  holds = invoke-fit state what parts fit.holds;
+  holds = invoke-fit state what (sizes bounds most number state size fit) parts fit.holds;
 }
 
 -- ---- what it asks for
 
-pub asks_fit : (bounds most number : ℕ) (state : ClientState) → most < 2 ^ 64 → replicas bounds ≤ REPLICA_IDS
+pub asks_fit : (bounds most number : ℕ) (state : ClientState) → most < 2 ^ 64
     → FitClient bounds most number state → AsksFit state
-asks_fit bounds most number state few size fit work is =
+asks_fit bounds most number state few fit work is =
     let first : 1 ≤ number = fit.low in
     let last : number ≤ LAST_CLIENT = fit.high in
     let named : (state.me).0 ≡ number = fit.named in
     let sound : IsSoundWork state.last_request work = sound_work state work fit.sound is in
     let begins : IsBegun work = begun state.work work is (fit.holds).work in
     let up_to : work.number ≤ most = work_within most state work fit.within is in
-    let sizes : replicas state.keys.bounds ≤ REPLICA_IDS =
-    subst (λ (it : ℕ). replicas it ≤ REPLICA_IDS) (sym fit.bounds_are) size in
-    request_fits state.me work state.keys.bounds state.kept
+    request_fits state.me work
     (record {
       client = (omega arith, omega arith);
       number = (begins.from_one, omega arith);
       round = (sound.first, sound.last);
-      parts = begins.parts;
     })
-    (fit.holds).kept sizes
+    begins.asked
 
 -- ---- its letters
 
-requests_fit : (keys : Ring) (replica count : ℕ) (me : ClientId) (work : Work) (sets : List SetOf)
-    → frame_form.Fits (request_of me work sets) → AllByRecursion LetterFits
-    (requests_from keys replica count me work sets)
-unfolding requests_from
-requests_fit keys replica zero me work sets fits = tt
-requests_fit keys replica (suc count) me work sets fits =
-    let to : Party = party.Replica (record { 0 = replica }) in
-    let asks : Frame = request_of me work sets in
-    let made = signed_is_spelled keys to asks fits in (
-      record { sent = with_mac asks (signature keys to asks); fits = made.0; text = made.1 },
-      requests_fit keys
-          (replica + 1) count me work sets fits,
-    )
+requests_fit : (keys : Ring) (me : ClientId) (work : Work) (whom : Whom) → frame_form.Fits (request_of me work)
+    → AllByRecursion LetterFits (requests keys me work whom)
+requests_fit keys me work whom fits =
+    let asks : Frame = request_of me work in
+    each_letter keys me work whom LetterFits (replicas keys.bounds) 0
+    (λ to below asked.
+    let made = signed_is_spelled keys (party.Replica (record { 0 = to })) asks fits in
+    record {
+      sent = with_mac asks (signature keys (party.Replica (record { 0 = to })) asks);
+      fits = made.0;
+      text = made.1;
+    })
 
-pub step_letters : (state : ClientState) (text : List ℕ) → AsksFit (client_step state text).state
-    → AllByRecursion LetterFits (client_step state text).letters
+-- whatever a client does, its letters fit where what it asks afterwards does
+abbrev LettersFit : Stepped → Type 0
+LettersFit stepped = AsksFit stepped.state → AllByRecursion LetterFits stepped.letters
+
+each_letters : (state : ClientState) → OfEach state (λ kept. Unit {0}) LettersFit
+each_letters state = record {
+  quiet = record {
+    same = λ fits. tt;
+    keeps = λ kept _ fits. tt;
+    counts = λ kept work replica number round verdict culled _ is counting fits. tt;
+    ends = λ kept work end _ is fits. tt;
+    rests = λ kept work _ is more fits. tt;
+    ticks = λ work ticks is fits. tt;
+  };
+  begins = λ kept work _ next fits.
+      requests_fit state.keys state.me work (whom_asked work) (fits work refl);
+  asks_others = λ work is preferred fits.
+      requests_fit state.keys state.me (asking_all work)
+      (Others (first_object work.op)) (fits (asking_all work) refl);
+}
+
+pub step_letters : (state : ClientState) (text : List ℕ) → LettersFit (client_step state text)
 step_letters state text =
-    step_cases state (λ stepped. AsksFit stepped.state → AllByRecursion LetterFits stepped.letters)
-    (λ fits. tt) (λ kept fits. tt) (λ kept work replica number round verdict culled is counting fits. tt) (λ kept end
-    fits. tt)
-    (λ kept work replies acted is asking more fits. requests_fit state.keys 0 (replicas state.keys.bounds) state.me _ _
-    (fits _ refl))
-    (λ kept work replies is asking more fits. tt)
-    text
+    step_cases state (λ kept. Unit {0}) LettersFit (λ kept marked same _. tt) (each_letters state) text
+    (λ replica client number round verdict culled shown mac is. tt)
 
-pub invoke_letters : (state : ClientState) (what : Op) → AsksFit (client_invoke state what).state
-    → AllByRecursion LetterFits (client_invoke state what).letters
+pub tick_letters : (state : ClientState) → LettersFit (client_tick state)
+tick_letters state =
+    tick_cases state (λ kept. Unit {0}) LettersFit (λ kept marked same _. tt) (each_letters state) tt
+
+pub invoke_letters : (state : ClientState) (what : Op) → LettersFit (client_invoke state what)
 invoke_letters state what =
-    invoke_cases state what (λ stepped. AsksFit stepped.state → AllByRecursion LetterFits stepped.letters)
-    (λ kept acted marked fits. requests_fit state.keys 0 (replicas state.keys.bounds) state.me _ _ (fits _ refl))
-    (λ kept marked fits. tt)
+    invoke_cases state what LettersFit
+    (λ work first fits.
+    requests_fit state.keys state.me work (whom_asked work) (fits work refl))
 
 -- ---- all clients at the beginning
 
@@ -294,7 +349,8 @@ opening_from : (keys : Ring) (first count place number : ℕ) (state : ClientSta
 unfolding opening_clients
 opening_from keys first zero place number state at low high found = absurd (none-some state found)
 opening_from keys first (suc count) zero number state at low high found =
-    subst (FitClient keys.bounds 0 number) (same_Some (client_at_start (record { 0 = first }) keys) state found)
+    subst (FitClient keys.bounds 0 number)
+    (same_Some (client_at_start (record { 0 = first }) keys keys.seed) state found)
     (opening_fit keys number (record { 0 = first }) (omega arith) (omega arith) (omega arith))
 opening_from keys first (suc count) (suc place) number state at low high found =
     opening_from keys (first + 1) count place number state (omega arith) (omega arith) (omega arith) found

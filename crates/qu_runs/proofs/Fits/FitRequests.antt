@@ -1,8 +1,8 @@
 -- What a client asks for fits its format, where what it keeps fits and its numbers are in their ranges.
 use Rattle.std.proofs.Common.{◌≡◌, ℕ, zero, suc, ◌+◌, ◌-◌, ◌<◌, ◌≤◌, ◌^◌, Bool, true, false, cond, List, [], ◌∷◌, length, Option, None, Some, refl, sym, ap, subst, ◌∙◌, arith, inl, inr}
-use Rattle.std.specs.Prelude.{◌==◌, ◌&&◌}
+use Rattle.std.specs.Prelude.{◌==◌, ◌&&◌, ◌%◌, not}
 use Rattle.std.specs.List.{AllByRecursion}
-use Rattle.std.proofs.lemmas.Bool.{false≢true, cases_Bool, and_parts, or_left, eq-eqb, eqb-true, le-leb, ltb-true}
+use Rattle.std.proofs.lemmas.Bool.{false≢true, cases_Bool, cond_both, and_parts, or_left, eq-eqb, eqb-true, le-leb, ltb-true}
 use Rattle.std.proofs.lemmas.Option.{none-some, same_Some}
 use Rattle.qu_base.specs.declared.limits.TheConstants.{LAST_CLIENT, OBJECT_IDS, REPLICA_IDS}
 use Rattle.qu_base.specs.declared.party.ClientId.{ClientId}
@@ -12,6 +12,7 @@ use Rattle.qu_base.specs.Bounds.{replicas}
 use Rattle.qu_history.specs.declared.sealed.Sealed.{Sealed}
 use Rattle.qu_history.specs.declared.sets.SetOf.{SetOf}
 use Rattle.qu_history.specs.History.{ObjectHistory}
+use Rattle.qu_history.specs.Trimming.{trimmed}
 use Rattle.qu_history.specs.Formats.{history_form, sealed_form, entry_form, sealed_entry_form, next_entry, entries_form, set_form, sets_form}
 use Rattle.qu_objects.specs.declared.act.Method.{Method}
 use Rattle.qu_objects.specs.declared.query.Ask.{Ask}
@@ -22,15 +23,22 @@ use Rattle.qu_objects.specs.Formats.{is_one_of, ask_form, act_form, query_form}
 use Rattle.qu_objects.specs.Digesting.{MethodFits}
 use Rattle.qu_frames.specs.declared.limits.TheConstants.{LAST_ROUND}
 use Rattle.qu_frames.specs.Body.{body_of}
+use Rattle.qu_frames.specs.declared.frame.Body.{Body}
+use Rattle.qu_frames.specs.declared.frame.Body.TheVariants as body
 use Rattle.qu_frames.specs.Formats.{body_form, request_frame, kind_form, frame_form}
 use Rattle.qu_frames.specs.Formats as forms
 use Rattle.qu_client.specs.declared.kept.Kept.{Kept}
 use Rattle.qu_client.specs.declared.work.Work.{Work}
-use Rattle.qu_client.specs.State.{is_shown, kept_of}
-use Rattle.qu_client.specs.Rounds.{entries_from, set_of, sets_of, request_of}
+use Rattle.qu_client.specs.State.{is_left_out, kept_of}
+use Rattle.qu_client.specs.Question.{operation_objects, entries_from, set_of, sets_of, target_of}
+use Rattle.qu_client.specs.Sound.{IsFor}
+use Rattle.qu_client.proofs.Cases.{IsRound}
+use Rattle.qu_client.specs.Rounds.{request_of}
 use Rattle.qu_runs.specs.Plain.{HasOpParts}
 use Rattle.qu_objects.proofs.Text.{method_fits}
 use Rattle.qu_fitting.proofs.FitRequests.{blank_sized}
+use Rattle.qu_client.proofs.Trimmed.{trimmed-fits}
+use Rattle.qu_client.proofs.Targets.{target_such}
 
 -- ---- the entries of an object, replica by replica
 
@@ -75,15 +83,16 @@ unfolding kept_of
 found_among P object replica [] sealed all found = absurd (none-some sealed found)
 found_among P object replica (first ∷ later) sealed all found =
     let own : ObjectHistory = (first.sealed).history in
-    let test : Bool = (own.object).0 == object.0 && ((own.replica).0 == replica && is_shown first.mark) in
+    let test : Bool = (own.object).0 == object.0 && ((own.replica).0 == replica && not (is_left_out first.mark)) in
     elim (cases_Bool test) [
       | inl here ↦
           let same : first.sealed ≡ sealed =
           same_Some _ _
           (sym (ap (λ (b : Bool). cond b (Some first.sealed) (kept_of object replica later)) here) ∙ found) in
           let tests : (((own.object).0 == object.0) ≡ true)
-          × (((own.replica).0 == replica && is_shown first.mark) ≡ true) = and_parts _ _ here in
-          let second : (((own.replica).0 == replica) ≡ true) × (is_shown first.mark ≡ true) = and_parts _ _ tests.1 in
+          × (((own.replica).0 == replica && not (is_left_out first.mark)) ≡ true) = and_parts _ _ here in
+          let second : (((own.replica).0 == replica) ≡ true) × (not (is_left_out first.mark) ≡ true) =
+          and_parts _ _ tests.1 in
           subst (IsFound P object replica) same
           (record { is = all.0; of_object = tests.0; of_replica = eqb-true _ _ second.0 })
       | inr other ↦ found_among P object replica later sealed all.1
@@ -201,30 +210,112 @@ query_fits object ask below = (
   ),
 )
 
--- the sets of an operation and what it asks for
-record FitAsked (sets : List SetOf) (what : Op) : Type 0 where
-  of_sets : sets_form.Fits sets
-  of_body : (body_form (forms.objects_in_sets sets)).Fits (body_of what)
+-- ---- the sets of a round
 
-asked_fits : (bounds : ℕ) (kept : List Kept) (what : Op) → KeptFits kept → replicas bounds ≤ REPLICA_IDS
-    → HasOpParts what → FitAsked (sets_of bounds kept what) what
+-- the sets of one object
+record FitSets (object : ObjectId) (sets : List SetOf) : Type 0 where
+  of_sets : sets_form.Fits sets
+  objects : forms.objects_in_sets sets ≡ object ∷ []
+
+sets_fit : (bounds round : ℕ) (kept : List Kept) (object : ObjectId) → KeptFits kept → replicas bounds ≤ REPLICA_IDS
+    → object.0 < OBJECT_IDS → FitSets object (sets_of bounds round kept (object ∷ []))
+unfolding trimmed
+sets_fit bounds round kept object fit few below =
+    let whole : sets_form.Fits (set_of bounds kept object ∷ []) = set_fits bounds kept object fit few below in
+    cond_both (round % 2 == 1) _ _ (FitSets object)
+    (λ _. record { of_sets = trimmed-fits bounds (set_of bounds kept object ∷ []) whole; objects = refl })
+    (λ _. record { of_sets = whole; objects = refl })
+
+-- ---- what a round asks
+
+-- of one object it is the one to be mended
+target_is : (bounds : ℕ) (sets : List SetOf) (object : ObjectId) → target_of bounds sets (object ∷ []) ≡ object
+target_is bounds sets object =
+    target_such (λ (it : ObjectId). it ≡ object) bounds sets (object ∷ []) (refl, tt) refl
+
+-- the sets of a round and what it asks
+pub record FitAsked (sets : List SetOf) (asked : Body) : Type 0 where
+  pub of_sets : sets_form.Fits sets
+  pub of_body : (body_form (forms.objects_in_sets sets)).Fits asked
+
+-- what is asked of one object
+record FitsOne (object : ObjectId) (asked : Body) : Type 0 where
+  fits : (body_form (object ∷ [])).Fits asked
+
+operation_fits : (what : Op) (object : ObjectId) → operation_objects what ≡ object ∷ [] → HasOpParts what
+    → FitsOne object (body_of what)
 unfolding body_form
-asked_fits bounds kept (op.Act []) fit few parts = absurd (false≢true parts.0)
-asked_fits bounds kept (op.Act ((object, method) ∷ [])) fit few parts =
-    let below : object.0 < OBJECT_IDS = ltb-true object.0 OBJECT_IDS parts.0 in
+operation_fits (op.Act []) object is parts = absurd (false≢true parts.0)
+operation_fits (op.Act ((own, method) ∷ [])) object is parts =
+    let below : own.0 < OBJECT_IDS = ltb-true own.0 OBJECT_IDS parts.0 in
     record {
-      of_sets = set_fits bounds kept object fit few below;
-      of_body = (((omega arith, omega arith), refl), act_fits object method below (parts.1).0);
+      fits = subst (λ (it : List ObjectId). (body_form it).Fits (body_of (op.Act ((own, method) ∷ [])))) is
+          (((omega arith, omega arith), refl), act_fits own method below (parts.1).0);
     }
-asked_fits bounds kept (op.Act (first ∷ second ∷ later)) fit few parts = absurd (false≢true parts.0)
-asked_fits bounds kept (op.Query []) fit few parts = absurd (false≢true parts)
-asked_fits bounds kept (op.Query ((object, ask) ∷ [])) fit few parts =
-    let below : object.0 < OBJECT_IDS = ltb-true object.0 OBJECT_IDS parts in
+operation_fits (op.Act (first ∷ second ∷ later)) object is parts = absurd (false≢true parts.0)
+operation_fits (op.Query []) object is parts = absurd (false≢true parts)
+operation_fits (op.Query ((own, ask) ∷ [])) object is parts =
+    let below : own.0 < OBJECT_IDS = ltb-true own.0 OBJECT_IDS parts in
     record {
-      of_sets = set_fits bounds kept object fit few below;
-      of_body = (((omega arith, omega arith), refl), query_fits object ask below);
+      fits = subst (λ (it : List ObjectId). (body_form it).Fits (body_of (op.Query ((own, ask) ∷ [])))) is
+          (((omega arith, omega arith), refl), query_fits own ask below);
     }
-asked_fits bounds kept (op.Query (first ∷ second ∷ later)) fit few parts = absurd (false≢true parts)
+operation_fits (op.Query (first ∷ second ∷ later)) object is parts = absurd (false≢true parts)
+
+mend_fits : (object : ObjectId) → object.0 < OBJECT_IDS → FitsOne object (body.Mend object)
+unfolding body_form
+mend_fits object below = record {
+  fits = (
+    ((omega arith, omega arith), refl),
+    ((omega arith, omega arith), or_left (object.0 == object.0) false (eq-eqb object.0 object.0 refl)),
+  );
+}
+
+-- the one object of an operation
+record HasObject (what : Op) : Type 0 where
+  object : ObjectId
+  below : object.0 < OBJECT_IDS
+  is : operation_objects what ≡ object ∷ []
+
+object_of : (what : Op) → HasOpParts what → HasObject what
+object_of (op.Act []) parts = absurd (false≢true parts.0)
+object_of (op.Act ((object, method) ∷ [])) parts =
+    record { object = object; below = ltb-true object.0 OBJECT_IDS parts.0; is = refl }
+object_of (op.Act (first ∷ second ∷ later)) parts = absurd (false≢true parts.0)
+object_of (op.Query []) parts = absurd (false≢true parts)
+object_of (op.Query ((object, ask) ∷ [])) parts =
+    record { object = object; below = ltb-true object.0 OBJECT_IDS parts; is = refl }
+object_of (op.Query (first ∷ second ∷ later)) parts = absurd (false≢true parts)
+
+asked_fits : (object : ObjectId) (sets : List SetOf) (asked : Body) → FitSets object sets → FitsOne object asked
+    → FitAsked sets asked
+asked_fits object sets asked fit one = record {
+  of_sets = fit.of_sets;
+  of_body = subst (λ (it : List ObjectId). (body_form it).Fits asked) (sym fit.objects) one.fits;
+}
+
+-- what may be asked of this object in a round of an operation on it
+one_fits : (what : Op) (object : ObjectId) → object.0 < OBJECT_IDS → FitsOne object (body_of what) → (asked : Body)
+    → IsFor what asked → ((target : ObjectId) → asked ≡ body.Mend target → target ≡ object) → FitsOne object asked
+one_fits what object below one asked (inl same) mends = subst (FitsOne object) (sym same) one
+one_fits what object below one (body.Act parts) (inr mend) mends = absurd mend
+one_fits what object below one (body.Ask parts) (inr mend) mends = absurd mend
+one_fits what object below one (body.Mend target) (inr mend) mends =
+    subst (λ (it : ObjectId). FitsOne object (body.Mend it)) (sym (mends target refl)) (mend_fits object below)
+
+-- what a round asks upon what is kept fits
+pub round_fits : (bounds : ℕ) (kept : List Kept) (what : Op) (number round : ℕ) (work : Work)
+    → IsRound bounds kept what number round work → KeptFits kept → replicas bounds ≤ REPLICA_IDS → HasOpParts what
+    → FitAsked work.sets work.body
+round_fits bounds kept what number round work is fit few parts =
+    let one : HasObject what = object_of what parts in
+    let sets : FitSets one.object work.sets =
+    subst (FitSets one.object) (sym (is.sets_are ∙ ap (sets_of bounds round kept) one.is))
+    (sets_fit bounds round kept one.object fit few one.below) in
+    asked_fits one.object work.sets work.body sets
+    (one_fits what one.object one.below (operation_fits what one.object one.is parts) work.body is.asks
+    (λ target mends.
+    is.mends target mends ∙ ap (target_of bounds work.sets) one.is ∙ target_is bounds work.sets one.object))
 
 -- ---- the request
 
@@ -232,13 +323,11 @@ pub record IsInRange (me : ClientId) (work : Work) : Type 0 where
   pub client : (1 ≤ me.0) × (me.0 ≤ LAST_CLIENT)
   pub number : (1 ≤ work.number) × (work.number < 2 ^ 64)
   pub round : (1 ≤ work.round) × (work.round ≤ LAST_ROUND)
-  pub parts : HasOpParts work.op
 
-pub request_fits : (me : ClientId) (work : Work) (bounds : ℕ) (kept : List Kept) → IsInRange me work
-    → KeptFits kept → replicas bounds ≤ REPLICA_IDS → frame_form.Fits (request_of me work (sets_of bounds kept work.op))
+pub request_fits : (me : ClientId) (work : Work) → IsInRange me work → FitAsked work.sets work.body
+    → frame_form.Fits (request_of me work)
 unfolding frame_form kind_form request_frame
-request_fits me work bounds kept range fit few =
-    let asked : FitAsked (sets_of bounds kept work.op) work.op = asked_fits bounds kept work.op fit few range.parts in
+request_fits me work range asked =
     let number : work.number ≤ 2 ^ 64 - 1 = (let below : work.number < 2 ^ 64 = (range.number).1 in omega arith) in (
       ((omega arith, omega arith), refl),
       (

@@ -13,7 +13,6 @@ use Rattle.qu_base.specs.Bounds.{replicas, is_replica_count}
 use Rattle.qu_base.proofs.ThresholdFacts.{replicas_are_few, replicas_are_count}
 use Rattle.qu_objects.specs.declared.kind.KindName.{KindName}
 use Rattle.qu_frames.specs.declared.frame.Frame.{Frame}
-use Rattle.qu_frames.specs.declared.frame.Frame.TheVariants as frame
 use Rattle.qu_frames.specs.declared.frame.Letter.{Letter}
 use Rattle.qu_frames.proofs.Decoded.{decoded_is_spelled}
 use Rattle.qu_frames.specs.Formats.{frame_form}
@@ -29,7 +28,7 @@ use Rattle.qu_replica.proofs.Fits.FitState.{opening-fits}
 use Rattle.qu_replica.proofs.Fits.FitSteps.{answer-fits, decided-fits, learned-fits, handled-fits, on_received-fits}
 use Rattle.qu_fitting.proofs.FitRequests.{RequestFits, request-fits, decision-fits}
 use Rattle.qu_client.specs.declared.state.ClientState.{ClientState}
-use Rattle.qu_client.specs.declared.state.Stepped.{Stepped}
+use Rattle.qu_client.specs.State.{Stepped}
 use Rattle.qu_client.specs.Steps.{client_invoke, client_step, client_tick}
 use Rattle.qu_trace.specs.declared.event.Event.{Event}
 use Rattle.qu_trace.specs.declared.event.Event.TheVariants.{Invoke, Deliver, Tick, Inject}
@@ -46,7 +45,7 @@ use Rattle.qu_claims.specs.Times.{world_after}
 use Rattle.qu_runs.specs.Plain.{IsPlain, ArePlain, HasEventParts, IsFrom}
 use Rattle.qu_runs.proofs.Fits.Carrying.{carried_is, AsksFit, AnswersFit, IsFitStep}
 use Rattle.qu_world.proofs.Each.{each_append, each_numbered, set_cases, with_cases, each_at}
-use Rattle.qu_runs.proofs.Fits.FitClients.{FitClient, fit_more, step_fit, invoke_fit, asks_fit, step_letters, invoke_letters, opening_clients-fit}
+use Rattle.qu_runs.proofs.Fits.FitClients.{tick_fit, tick_letters, FitClient, fit_more, step_fit, invoke_fit, asks_fit, step_letters, invoke_letters, opening_clients-fit}
 use Rattle.qu_runs.proofs.Small.{some_entry}
 use Rattle.qu_runs.proofs.Worlds.WorldGrowth.{world_after-none, world_after-next}
 use Rattle.qu_trace.proofs.LetterLaws.{letters-push}
@@ -106,7 +105,7 @@ module _ (bounds most : ℕ) (few : most + 1 < 2 ^ 64) (size : replicas bounds �
         ];
         replicas = fit.replicas;
         letters = push_letters world.entries _ fit.letters
-            (sends state (asks_fit bounds (most + 1) me.0 (move state).state few size after));
+            (sends state (asks_fit bounds (most + 1) me.0 (move state).state few after));
       }
 
   at_replica_fit : (event : Event) (me : ReplicaId) (text : List ℕ) (found : Option ReplicaState)
@@ -135,7 +134,7 @@ module _ (bounds most : ℕ) (few : most + 1 < 2 ^ 64) (size : replicas bounds �
   received_fit event (party.Client me) text fits =
       at_client_fit event me (λ (state : ClientState). client_step state text) (numbered world.clients me.0) refl
       (λ state before. fit_more bounds most me.0 (client_step state text).state
-      (step_fit bounds most me.0 state text fits before))
+      (step_fit bounds most me.0 state text size fits before))
       (λ state asks. step_letters state text asks)
 
   delivered_fit : (number : ℕ) (found : Option Letter) → letter_of world number ≡ found
@@ -151,7 +150,7 @@ module _ (bounds most : ℕ) (few : most + 1 < 2 ^ 64) (size : replicas bounds �
       (λ correct.
       at_client_fit (Invoke client what) client (λ (state : ClientState). client_invoke state what)
       (numbered world.clients client.0) refl
-      (λ state before. invoke_fit bounds most client.0 state what plain.1 before)
+      (λ state before. invoke_fit bounds most client.0 state what size plain.1 before)
       (λ state asks. invoke_letters state what asks))
   step_world (Deliver number) plain =
       step_cases (FitWorld bounds (most + 1)) world (Deliver number) (unchanged_fit (Deliver number))
@@ -159,8 +158,9 @@ module _ (bounds most : ℕ) (few : most + 1 < 2 ^ 64) (size : replicas bounds �
   step_world (Tick client) plain =
       step_cases (FitWorld bounds (most + 1)) world (Tick client) (unchanged_fit (Tick client)) (λ correct.
       at_client_fit (Tick client) client client_tick (numbered world.clients client.0) refl
-      (λ state before. fit_more bounds most client.0 state before)
-      (λ state asks. tt))
+      (λ state before. fit_more bounds most client.0 (client_tick state).state
+      (tick_fit bounds most client.0 state size before))
+      (λ state asks. tick_letters state asks))
   step_world (Inject to text) plain =
       injected_cases world to text (λ (event : Event) (new : WorldState). FitWorld bounds (most + 1) new)
       (unchanged_fit (Inject to text))
@@ -263,8 +263,7 @@ fit_step trace is_run plain count below =
     record {
       asks = λ number state found.
           asks_fit trace.setup.bounds (count + 1) number state
-          (below_word trace is_run plain (count + 1) (omega arith))
-          (replicas_are_few trace.setup.bounds (is_run.setup).few_faults) (after.clients number state found);
+          (below_word trace is_run plain (count + 1) (omega arith)) (after.clients number state found);
       answers = λ me state found sent fits. answers_fit state sent (before.replicas me.0 state found) fits;
       carried = λ number letter sent is carries.
           carried_fits letter (each_numbered LetterFits (letters_of (world_after trace count).entries) number

@@ -11,9 +11,9 @@ use Rattle.qu_seal.specs.Keys.{Ring}
 use Rattle.qu_frames.specs.declared.frame.Letter.{Letter}
 use Rattle.qu_rows.specs.State.{ReplicaState}
 use Rattle.qu_client.specs.declared.state.ClientState.{ClientState}
-use Rattle.qu_client.specs.declared.state.Stepped.{Stepped}
+use Rattle.qu_client.specs.State.{Stepped}
 use Rattle.qu_client.specs.Steps.{client_step, client_invoke, client_tick}
-use Rattle.qu_client.proofs.Laws.{client_step-me, client_step-keys, client_invoke-me, client_invoke-keys}
+use Rattle.qu_client.proofs.Laws.{client_step-me, client_step-keys, client_tick-me, client_tick-keys, client_invoke-me, client_invoke-keys}
 use Rattle.qu_trace.specs.declared.event.Event.{Event}
 use Rattle.qu_trace.specs.declared.event.Event.TheVariants.{Invoke, Deliver, Tick, Inject}
 use Rattle.qu_trace.specs.declared.trace.Entry.{Entry}
@@ -29,25 +29,25 @@ use Rattle.qu_client.specs.State.{client_at_start}
 
 pub opening_client : (first count : ℕ) (keys : Ring) (place : ℕ) (state : ClientState)
     → slice_get (opening_clients first count keys) place ≡ Some state
-    → state ≡ client_at_start (record { 0 = first + place }) keys
+    → state ≡ client_at_start (record { 0 = first + place }) keys keys.seed
 unfolding opening_clients
 opening_client first zero keys place state found = absurd (none-some state found)
 opening_client first (suc count) keys zero state found =
-    sym (same_Some _ state found) ∙ ap (λ (it : ℕ). client_at_start (record { 0 = it }) keys)
+    sym (same_Some _ state found) ∙ ap (λ (it : ℕ). client_at_start (record { 0 = it }) keys keys.seed)
     (sym (add-zero first))
 opening_client first (suc count) keys (suc place) state found =
     let sum : (first + 1) + place ≡ first + suc place = omega arith in
     opening_client (first + 1) count keys place state found
-    ∙ ap (λ (it : ℕ). client_at_start (record { 0 = it }) keys) sum
+    ∙ ap (λ (it : ℕ). client_at_start (record { 0 = it }) keys keys.seed) sum
 
 pub opening_clients-at : (count : ℕ) (keys : Ring) (number : ℕ) (state : ClientState)
     → numbered (opening_clients 1 count keys) number ≡ Some state
-    → state ≡ client_at_start (record { 0 = number }) keys
+    → state ≡ client_at_start (record { 0 = number }) keys keys.seed
 opening_clients-at count keys zero state found = absurd (none-some state found)
 opening_clients-at count keys (suc place) state found =
     let sum : 1 + place ≡ suc place = omega arith in
     opening_client 1 count keys place state found
-    ∙ ap (λ (it : ℕ). client_at_start (record { 0 = it }) keys) sum
+    ∙ ap (λ (it : ℕ). client_at_start (record { 0 = it }) keys keys.seed) sum
 
 -- ---- their numbers and their keys
 
@@ -102,7 +102,7 @@ module _ (keys : Ring) (world : WorldState) (keyed : AreKeyed keys world.clients
       (λ state. record { me = client_invoke-me state op; keys = client_invoke-keys state op })
   moved_keyed (Deliver number) = delivered_keyed (Deliver number) (letter_of world number)
   moved_keyed (Tick client) = client_keyed (Tick client) client client_tick (numbered world.clients client.0) refl
-      (λ state. record { me = refl; keys = refl })
+      (λ state. record { me = client_tick-me state; keys = client_tick-keys state })
   moved_keyed (Inject to text) = received_keyed (Inject to text) to text
 
   step_keyed : (event : Event) → AreKeyed keys (world_step world event).clients

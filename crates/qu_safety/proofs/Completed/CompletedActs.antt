@@ -25,6 +25,7 @@ use Rattle.qu_objects.specs.declared.op.Outcome.TheVariants as outcome
 use Rattle.qu_frames.specs.declared.verdict.Verdict.{Verdict}
 use Rattle.qu_frames.specs.declared.verdict.Verdict.TheVariants as verdict
 use Rattle.qu_frames.specs.Verdict.{same_verdict}
+use Rattle.qu_frames.specs.Body.{body_of}
 use Rattle.qu_client.specs.Steps.{fitting}
 use Rattle.qu_machine.specs.declared.record.OpRecord.{OpRecord}
 use Rattle.qu_trace.specs.declared.trace.Trace.{Trace}
@@ -387,7 +388,8 @@ completed_act trace is_run have clients laws joint facts operation among reply a
     let at : reply ≡ 1 + ends.index = ends.is_at in
     let below : ends.index < length trace.entries =
     slice_get_within trace.entries ends.index ends.entry ends.is_entry in
-    elim (fits_act act done.verdict answer (ap (λ (it : Op). fitting it done.verdict) (sym is_act) ∙ done.fits)) [
+    elim (fits_act act done.verdict answer (ap (λ (it : Op). fitting (body_of it) done.verdict) (sym is_act)
+    ∙ done.fits)) [
       | inl given ↦
           subst (λ (told : Verdict). CompletedAct trace operation reply told answer) (sym given.is)
           (by_members trace is_run have clients laws joint facts operation among act is_act answer given.stamps reply

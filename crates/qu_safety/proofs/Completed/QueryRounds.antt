@@ -15,6 +15,7 @@ use Rattle.qu_frames.specs.declared.frame.Body.{Body}
 use Rattle.qu_frames.specs.declared.frame.Body.TheVariants as body
 use Rattle.qu_frames.specs.declared.frame.Letter.{Letter}
 use Rattle.qu_frames.specs.declared.verdict.Verdict.TheVariants as verdict
+use Rattle.qu_frames.specs.Body.{body_of}
 use Rattle.qu_client.specs.Steps.{fitting}
 use Rattle.qu_machine.specs.declared.record.OpRecord.{OpRecord}
 use Rattle.qu_trace.specs.declared.trace.Trace.{Trace}
@@ -24,8 +25,9 @@ use Rattle.qu_claims.specs.Completions.{Replied, IsCompleted}
 use Rattle.qu_runs.specs.Plain.{ArePlain}
 use Rattle.qu_runs.proofs.Small.{some_member, quorum_outnumbers}
 use Rattle.qu_runs.proofs.Worlds.LaterLetters.{letter_later}
-use Rattle.qu_rounds.specs.Invocations.{IsFor, IsRequestOf}
-use Rattle.qu_rounds.proofs.Invocations.{op_for}
+use Rattle.qu_client.specs.Sound.{IsFor}
+use Rattle.qu_rounds.specs.Invocations.{IsRequestOf}
+use Rattle.qu_rounds.proofs.Requesting.{op_for}
 use Rattle.qu_points.proofs.Operations.Recorded.{recorded_op}
 use Rattle.qu_shown.proofs.AskedLetters.{AskedBy}
 use Rattle.qu_values.proofs.Requests.ClientFacts.{IsAskedBy, ClientFacts}
@@ -87,7 +89,8 @@ module _ (trace : Trace) (is_run : IsRun trace) (have : ArePlain trace) (clients
     pub told_round : ToldRound trace operation query done.round (reply - 1) answer done.members
     told_round =
         let told : IsTold done.verdict answer =
-        told_by_fit query done.verdict answer (ap (λ (it : Op). fitting it done.verdict) (sym is_query) ∙ done.fits) in
+        told_by_fit query done.verdict answer (ap (λ (it : Op). fitting (body_of it) done.verdict)
+        (sym is_query) ∙ done.fits) in
         let P : ℕ → Type 0 =
         ToldBefore trace operation.client operation.number done.round (reply - 1) told.stamps answer in
         let all : All P done.members =

@@ -9,7 +9,6 @@ use Rattle.qu_base.specs.declared.party.ObjectId.{ObjectId}
 use Rattle.qu_base.specs.declared.party.ReplicaId.{ReplicaId}
 use Rattle.qu_stamp.specs.declared.stamp.Stamp.{Stamp}
 use Rattle.qu_objects.specs.declared.answer.Answer.{Answer}
-use Rattle.qu_objects.specs.declared.op.Op.TheVariants as op
 use Rattle.qu_objects.specs.declared.query.Ask.{Ask}
 use Rattle.qu_frames.specs.declared.frame.Body.TheVariants as body
 use Rattle.qu_frames.specs.declared.frame.Letter.{Letter}
@@ -129,7 +128,7 @@ pub record IsTold (given : Verdict) (answer : Answer) : Type 0 where
   pub stamps : List (ObjectId × Stamp)
   pub is_told : given ≡ verdict.Told stamps answer
 
-pub told_by_fit : (query : List (ObjectId × Ask)) (given : Verdict) (answer : Answer) → fitting (op.Query query) given
+pub told_by_fit : (query : List (ObjectId × Ask)) (given : Verdict) (answer : Answer) → fitting (body.Ask query) given
     ≡ Some answer → IsTold given answer
 told_by_fit query (verdict.Done stamps other) answer fits = absurd (none-some answer fits)
 told_by_fit query (verdict.Told stamps other) answer fits = record

@@ -24,8 +24,9 @@ use Rattle.qu_safety.proofs.Completed.Along.{objects_in}
 use Rattle.qu_claims.specs.Handled.{IsHandled, IsMadeFor}
 use Rattle.qu_claims.specs.Completions.{RepliedAt, Replied}
 use Rattle.qu_claims.specs.RunSetting.{setting}
-use Rattle.qu_rounds.specs.Invocations.{IsFor, IsRequestOf}
-use Rattle.qu_rounds.proofs.Invocations.{op_for}
+use Rattle.qu_client.specs.Sound.{IsFor}
+use Rattle.qu_rounds.specs.Invocations.{IsRequestOf}
+use Rattle.qu_rounds.proofs.Requesting.{op_for}
 use Rattle.qu_replies.specs.Replies.{Keeps, IsOfUpdate, IsReplyTo}
 use Rattle.qu_claims.specs.Quorums.{ActOfQuorum}
 use Rattle.qu_claims.specs.Updates.{IsOf}

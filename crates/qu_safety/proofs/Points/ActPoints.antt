@@ -27,7 +27,7 @@ use Rattle.qu_claims.specs.Handled.{IsHandled, IsMadeFor}
 use Rattle.qu_claims.specs.RunSetting.{setting}
 use Rattle.qu_runs.specs.Plain.{ArePlain}
 use Rattle.qu_rounds.specs.Invocations.{IsRequestOf}
-use Rattle.qu_rounds.proofs.Invocations.{op_for}
+use Rattle.qu_rounds.proofs.Requesting.{op_for}
 use Rattle.qu_world.specs.Run.{IsRun}
 use Rattle.qu_trace.specs.Faulty.{is_faulty}
 use Rattle.qu_base.specs.declared.party.ClientId.{ClientId}

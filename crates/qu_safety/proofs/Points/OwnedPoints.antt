@@ -19,7 +19,7 @@ use Rattle.qu_world.specs.Run.{IsRun}
 use Rattle.qu_claims.specs.Order.{DecidesAt, are_in_order, IsUpdatePoint, IsQueryPoint, IsPoint, IsPrintedOrder}
 use Rattle.qu_runs.specs.Plain.{ArePlain}
 use Rattle.qu_rounds.specs.Invocations.{IsRequestOf}
-use Rattle.qu_rounds.proofs.Invocations.{op_for}
+use Rattle.qu_rounds.proofs.Requesting.{op_for}
 use Rattle.qu_points.specs.Points.{effect_of}
 use Rattle.qu_values.proofs.Requests.ClientFacts.{ClientFacts}
 use Rattle.qu_values.proofs.Requests.SentRequests.{asked_by_handled}

@@ -1,5 +1,5 @@
 use Rattle.std.proofs.Common.{◌∙◌, arith}
-use Rattle.qu_client.proofs.Asking.{entries_from_some, entries_from_none, entries_from_end}
+use Rattle.qu_client.proofs.Gathered.{entries_from_some, entries_from_none, entries_from_end}
 use Rattle.qu_client.proofs.sets.entries_of.Goals as goal
 use Rattle.qu_client.proofs.sets.entries_of.Goals.{in-Some+in_ok-copy+in_ok-push, in_default}
 

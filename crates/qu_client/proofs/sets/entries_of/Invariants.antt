@@ -1,5 +1,5 @@
 use Rattle.std.proofs.Common.{◌≡◌, ◌-◌, ◌++◌}
-use Rattle.qu_client.specs.Rounds.{entries_from}
+use Rattle.qu_client.specs.Question.{entries_from}
 use Rattle.qu_client.proofs.sets.entries_of.Given as goal
 
 abbrev pub invariant-loop-replica : goal.invariant-loop-replica

@@ -4,6 +4,6 @@ use Rattle.qu_client.proofs.verdicts.best_of.Given as goal
 
 abbrev pub invariant-loop-counted : goal.invariant-loop-counted
 invariant-loop-counted l = record {
-  so_far : max l.best (best_of l.op (drop l.counted-index l.replies) l.replies) ≡ best_of l.op l.replies l.replies;
+  so_far : max l.best (best_of l.body (drop l.counted-index l.replies) l.replies) ≡ best_of l.body l.replies l.replies;
   most : l.best ≤ length l.replies;
 }

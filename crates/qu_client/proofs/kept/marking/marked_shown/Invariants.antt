@@ -3,4 +3,4 @@ use Rattle.qu_client.proofs.Marks.{shown_up_to}
 use Rattle.qu_client.proofs.kept.marking.marked_shown.Given as goal
 
 abbrev pub invariant-loop-held : goal.invariant-loop-held
-invariant-loop-held l = l.held-items ≡ shown_up_to l.objects l.held-index l.fn.kept
+invariant-loop-held l = l.held-items ≡ shown_up_to l.sets l.held-index l.fn.kept

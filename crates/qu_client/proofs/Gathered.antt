@@ -1,29 +1,20 @@
--- The sets of a round are built replica by replica and object by object, and so are its letters.
-use Rattle.std.proofs.Common.{◌≡◌, ℕ, zero, suc, ◌+◌, ◌-◌, ◌<◌, ◌≤◌, eqb, true, ◌&&◌, IsTrue, List, [], ◌∷◌, map, length, Option, None, Some, refl, sym, inl, inr, ap, subst, ◌∙◌, ◌++◌, append_assoc, append-nil, take, arith}
+-- The sets of a round are built replica by replica and object by object.
+use Rattle.std.proofs.Common.{◌≡◌, ℕ, zero, suc, ◌+◌, ◌-◌, ◌<◌, ◌≤◌, eqb, true, ◌&&◌, IsTrue, not, List, [], ◌∷◌, map, length, Option, None, Some, refl, sym, inl, inr, ap, subst, ◌∙◌, ◌++◌, append_assoc, append-nil, take, arith}
 use Rattle.std.proofs.lemmas.List.{take_all}
 use Rattle.std.proofs.lemmas.Bool.{cases_Bool, and_from, and_parts, false≢true, eq-eqb, eqb-true, le-leb, lt-ltb}
 use Rattle.qu_base.specs.declared.limits.TheConstants.{REPLICA_IDS}
-use Rattle.qu_base.specs.declared.party.ClientId.{ClientId}
 use Rattle.qu_base.specs.declared.party.ObjectId.{ObjectId}
-use Rattle.qu_base.specs.declared.party.Digest.{Digest}
-use Rattle.qu_base.specs.declared.party.Party.{Party}
-use Rattle.qu_base.specs.declared.party.Party.TheVariants as party
 use Rattle.qu_base.specs.Bounds.{replicas}
-use Rattle.qu_seal.specs.Keys.{Ring, seal_of}
 use Rattle.qu_history.specs.declared.sets.SetOf.{SetOf}
 use Rattle.qu_history.specs.declared.sealed.Sealed.{Sealed}
 use Rattle.qu_history.specs.Sets.{histories, are_entries, are_sets_from, are_sets}
 use Rattle.qu_objects.specs.Parts.{are_parts}
-use Rattle.qu_frames.specs.declared.frame.Letter.{Letter}
-use Rattle.qu_frames.specs.Formats.{frame_form}
-use Rattle.qu_frames.specs.Signing.{before_mac, text_digest, signed}
 use Rattle.qu_client.specs.declared.kept.Kept.{Kept}
-use Rattle.qu_client.specs.declared.work.Work.{Work}
-use Rattle.qu_client.specs.State.{is_shown, kept_of}
-use Rattle.qu_client.specs.Rounds.{are_objects, entries_from, set_of, request_of, requests_from}
+use Rattle.qu_client.specs.State.{is_left_out, kept_of}
+use Rattle.qu_client.specs.Question.{are_objects, entries_from, set_of}
 
 -- so many are left of a number below another
-left_after : (n at : ℕ) → at < n → n - at ≡ suc (n - (at + 1))
+pub left_after : (n at : ℕ) → at < n → n - at ≡ suc (n - (at + 1))
 left_after n at below = omega arith
 
 entries_from-some : (object : ObjectId) (replica count : ℕ) (kept : List Kept) (sealed : Sealed)
@@ -69,47 +60,6 @@ module _ (object : ObjectId) (replica n : ℕ) (kept : List Kept) (entries total
       let none : n - replica ≡ 0 = omega arith in
       sym (append-nil entries) ∙ ap (λ count. entries ++ entries_from object replica count kept) (sym none) ∙ so_far
 
-abbrev pub request : ℕ → ClientId → List ℕ → Letter
-request replica me text = record { from = party.Client me; to = party.Replica (record { 0 = replica }); text = text }
-
--- a text with the HMAC of its digest is signed
-signed_so : (keys : Ring) (to : Party) (me : ClientId) (work : Work) (sets : List SetOf) (text : List ℕ)
-    (digest : Digest) (mac made : List ℕ) → text ≡ frame_form.spell (request_of me work sets)
-    → digest ≡ text_digest text
-    → mac ≡ seal_of keys (party.Client me) to digest → made ≡ before_mac text ++ mac
-    → made ≡ signed keys to (request_of me work sets)
-unfolding signed
-signed_so keys to me work sets text digest mac made spelled digests seals is =
-    is ∙ (λ i. before_mac (spelled i) ++ (seals ∙ ap (λ (it : Digest). seal_of keys (party.Client me) to it)
-    (digests ∙ ap text_digest spelled)) i)
-
-module _ (keys : Ring) (replica n : ℕ) (me : ClientId) (work : Work) (sets : List SetOf)
-    (letters total : List Letter)
-    (so_far : letters ++ requests_from keys replica (n - replica) me work sets ≡ total) where
-  -- the next replica's request, with the HMAC for it
-  pub requests_from_more : (text : List ℕ) (digest : Digest) (mac made : List ℕ) (grown : List Letter)
-      → replica < n → text ≡ frame_form.spell (request_of me work sets) → digest ≡ text_digest text
-      → mac ≡ seal_of keys (party.Client me) (party.Replica (record { 0 = replica })) digest
-      → made ≡ before_mac text ++ mac → grown ≡ letters ++ request replica me made ∷ []
-      → grown ++ requests_from keys (replica + 1) (n - (replica + 1)) me work sets ≡ total
-  unfolding requests_from
-  requests_from_more text digest mac made grown below spelled digests seals is grows =
-      let to : Party = party.Replica (record { 0 = replica }) in
-      ap (λ front. front ++ requests_from keys (replica + 1) (n - (replica + 1)) me work sets)
-      (grows ∙ ap (λ that. letters ++ request replica me that ∷ [])
-      (signed_so keys to me work sets text digest mac made spelled digests seals is)) ∙
-      append_assoc letters (request replica me (signed keys to (request_of me work sets)) ∷ []) _ ∙
-      ap (λ count. letters ++ requests_from keys replica count me work sets) (sym (left_after n replica below)) ∙
-      so_far
-
-  -- after the last replica
-  pub requests_from_end : n ≤ replica → letters ≡ total
-  unfolding requests_from
-  requests_from_end past =
-      let none : n - replica ≡ 0 = omega arith in
-      sym (append-nil letters) ∙ ap (λ count. letters ++ requests_from keys replica count me work sets) (sym none)
-      ∙ so_far
-
 -- what is kept of an object and a replica is a history of that object at that replica
 IsOf : ObjectId → ℕ → Sealed → Type 0
 IsOf object replica sealed = ((sealed.history.object).0 ≡ object.0) × ((sealed.history.replica).0 ≡ replica)
@@ -123,11 +73,12 @@ unfolding kept_of IsOf
 kept_of-is object replica [] sealed is = cc
 kept_of-is object replica (held ∷ later) sealed is =
     elim (cases_Bool (eqb ((held.sealed.history).object).0 object.0
-    && (eqb ((held.sealed.history).replica).0 replica && is_shown held.mark))) [
+    && (eqb ((held.sealed.history).replica).0 replica && not (is_left_out held.mark)))) [
       | inl here ↦
           let parts : (eqb ((held.sealed.history).object).0 object.0 ≡ true)
-          × ((eqb ((held.sealed.history).replica).0 replica && is_shown held.mark) ≡ true) = and_parts _ _ here in
-          let second : (eqb ((held.sealed.history).replica).0 replica ≡ true) × (is_shown held.mark ≡ true) =
+          × ((eqb ((held.sealed.history).replica).0 replica && not (is_left_out held.mark)) ≡ true) =
+          and_parts _ _ here in
+          let second : (eqb ((held.sealed.history).replica).0 replica ≡ true) × (not (is_left_out held.mark) ≡ true) =
           and_parts _ _ parts.1 in
           let same : held.sealed ≡ sealed = some_same (rw here at is) in
           let P : Sealed → Type 0 = λ found. ((found.history.object).0 ≡ object.0)
@@ -189,10 +140,9 @@ are_objects_of_parts (part ∷ []) ordered = ordered
 are_objects_of_parts (first ∷ second ∷ parts) ordered = ordered
 
 -- so they are never refused
-pub are_sets_made : (bounds : ℕ) (kept : List Kept) (sets : List SetOf) (objects items : List ObjectId)
-    (index : ℕ) → sets ≡ map (λ object. set_of bounds kept object) (take index items) → length items ≤ index
-    → items ≡ objects → IsTrue (are_objects objects) → replicas bounds ≤ REPLICA_IDS → are_sets sets ≡ true
-are_sets_made bounds kept sets objects items index made whole same ordered few =
-    ap are_sets (made ∙ ap (λ those. map (λ object. set_of bounds kept object) those)
-    (take_all index items whole ∙ same)) ∙
+pub are_sets_made : (bounds : ℕ) (kept : List Kept) (sets : List SetOf) (objects : List ObjectId) (index : ℕ)
+    → sets ≡ map (λ object. set_of bounds kept object) (take index objects) → length objects ≤ index
+    → IsTrue (are_objects objects) → replicas bounds ≤ REPLICA_IDS → are_sets sets ≡ true
+are_sets_made bounds kept sets objects index made whole ordered few =
+    ap are_sets (made ∙ ap (λ those. map (λ object. set_of bounds kept object) those) (take_all index objects whole)) ∙
     are_sets_kept bounds kept objects ordered few

@@ -1,0 +1,46 @@
+ghost use Rattle.std.specs.Prelude.{◌≡◌, IfOk};
+
+use qu_base::NoMemory;
+use std::alloc::Global;
+use std::marker::Model;
+use std::sync::Arc;
+
+/// What a client keeps. It can stand in several lists at once, so that a step copies none of it.
+#[derive(Debug, Drop)]
+pub struct Shared<T> {
+    item: Arc<T>,
+}
+
+impl<T> Model for Shared<T> {
+    ghost use Rattle.std.specs.Arc.{arc_value};
+
+    ghost Value = { T };
+
+    ghost view = { λ shared. arc_value shared.item };
+}
+
+impl<T: Drop> Shared<T> {
+    /// The item, to be shared.
+    pub fn new(alloc: Global, item: T) -> Result<Shared<T>, NoMemory>
+        ensures { IfOk result (λ shared. shared ≡ item) }
+    {
+        let item = Arc::new(alloc, item)?;
+        Ok(Shared { item })
+    }
+}
+
+impl<T> Shared<T> {
+    /// The same item.
+    pub fn share(&self) -> Result<Shared<T>, NoMemory>
+        ensures { IfOk result (λ shared. shared ≡ self.now) }
+    {
+        let item = Arc::try_clone(&self.item)?;
+        Ok(Shared { item })
+    }
+
+    pub fn get(&self) -> &T
+        ensures { result.now ≡ self.now }
+    {
+        &self.item
+    }
+}
