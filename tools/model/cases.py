@@ -1,0 +1,166 @@
+"""Stored cases: how a topic is read, and the answers that the model gives to the commands that it knows."""
+import os
+import re
+from typing import NamedTuple
+
+from model.happening import Happening, NotKnown
+from model.judge import verdict_on
+from model.listing import ListedWorld
+from model.player import run_of
+from model.report import letter_lines, premises_line, report_lines
+from model.values import Party
+from model.world import Refused
+
+TOP = os.path.dirname(os.path.dirname(os.path.dirname(os.path.realpath(__file__))))
+FOLDER = os.path.join(TOP, "crates", "qu_cases", "data", "cases")
+# The file with the names that all topics use.
+NAMES = "names"
+CLIENT = re.compile(r"c(\d+)")
+
+
+class Case(NamedTuple):
+    """A stored case: its name, command and words, its input and its answer."""
+
+    name: str
+    command: str
+    words: str
+    text: str
+    stored: str
+
+
+def topics():
+    return sorted(name for name in os.listdir(FOLDER) if name != NAMES)
+
+
+def read_file(name):
+    with open(os.path.join(FOLDER, name), encoding="utf-8") as file:
+        return file.read()
+
+
+# ---- bytes by names
+
+
+def bytes_of(text, names):
+    """The bytes that words spell, in hexadecimal digits and by names. Raises NotKnown where one spells none."""
+    data = b""
+    for line in text.split("\n"):
+        for word in line.split("#")[0].split():
+            spelled, _, times = word.partition("*")
+            try:
+                data += (names[spelled] if spelled in names else bytes.fromhex(spelled)) * int(times or 1)
+            except ValueError:
+                raise NotKnown(f"no bytes: {word}") from None
+    return data
+
+
+def read_names(text, names):
+    """Adds the names that a text gives to bytes."""
+    for line in text.split("\n"):
+        if not line.startswith("#") and " = " in line:
+            name, words = line.split(" = ", 1)
+            names[name] = bytes_of(words, names)
+
+
+def names_for(head=""):
+    """The bytes of the names that all topics use, and of those at the head of one."""
+    names = {}
+    read_names(read_file(NAMES), names)
+    read_names(head, names)
+    return names
+
+
+def read_case(text):
+    asked, _, stored = text.partition("----\n")
+    line, _, below = asked.partition("\n")
+    _, _, lines = below.partition("\n")
+    name, _, rest = line.partition(" ")
+    command, _, words = rest.partition(" ")
+    return Case(name, command, words, lines, stored.rstrip())
+
+
+def read_topic(topic):
+    """The cases of a topic, and its names with their bytes."""
+    head, *cases = read_file(topic).split("== ")
+    return [read_case(case) for case in cases], names_for(head)
+
+
+# ---- answers
+
+
+def told(data, lines_of):
+    """What a program writes for a script, and its status: `lines_of` has the lines for the world of its run."""
+    try:
+        world = run_of(data, ListedWorld)
+    except Refused as refused:
+        return f"{refused}\nstatus 3"
+    return "".join(f"{line}\n" for line in lines_of(world)) + "status 0"
+
+
+def world_of(data):
+    """The world behind the run of a script. Raises NotKnown where it is refused."""
+    try:
+        return run_of(data, ListedWorld)
+    except Refused as refused:
+        raise NotKnown(str(refused)) from None
+
+
+def letters_told(world):
+    return "\n".join([f"{world.events} events", *letter_lines(world)])
+
+
+def injected_told(world):
+    """The letters of a run in which the bytes of a letter are injected where this one delivers it."""
+    other = ListedWorld(world.setup)
+    for event, *needs in world.happened:
+        getattr(other, event)(*needs)
+    return letters_told(other)
+
+
+def points_told(world):
+    points = world.points_in_order()
+    return f"{' '.join(['points', *map(str, points)])}\n{verdict_on(points, world)}"
+
+
+def listed_words_told(data, words):
+    """What qu-letters writes for a script, and its status."""
+    if words not in ("", "digests"):
+        return "usage: qu-letters [digests]\nstatus 2"
+    return told(data, letter_lines if words else ListedWorld.lines)
+
+
+def events_told(command, words, text, names):
+    """The answer of a command that takes a setup and lines of events."""
+    setup, _, lines = text.partition("\n\n")
+    client = CLIENT.fullmatch(words.split(" ")[0])
+    faulty = {Party("c", int(client.group(1)))} if client and command in ("audit", "ordered") else set()
+    try:
+        happening = Happening(setup, frozenset(faulty), lambda spelled: bytes_of(spelled, names))
+    except Refused as refused:
+        raise NotKnown(str(refused)) from None
+    for line in filter(None, lines.split("\n")):
+        happening.take(line)
+    if command == "listed":
+        return "\n".join(happening.world.lines())
+    premises = [] if command == "events" else [premises_line(happening.world)]
+    points = [] if command == "audit" else [points_told(happening.world)]
+    return "\n".join([*happening.told, *premises, *points])
+
+
+def answer(command, words, text, names):
+    """The answer of a case. Raises NotKnown where the model has none: it does not know the command, or what it asks."""
+    data = text.encode()
+    if command == "sim":
+        return told(data, report_lines)
+    if command == "qu-letters":
+        return listed_words_told(data, words)
+    if command in ("letters", "injected", "order"):
+        world = world_of(data)
+        return {"letters": letters_told, "injected": injected_told, "order": points_told}[command](world)
+    if command in ("events", "listed", "audit", "ordered"):
+        return events_told(command, words, text, names)
+    raise NotKnown(f"the model does not know the command {command}")
+
+
+def answer_of(case, names):
+    """The answer of a stored case. Raises NotKnown where the model has none."""
+    return answer(case.command, case.words, case.text, names).rstrip()

@@ -1,0 +1,60 @@
+"""The report of a run, and its letters and points as lines."""
+import hashlib
+
+from model.values import OVER, UNDER, Items
+
+# The words of an act's refusals in an answer, by their numbers.
+REFUSAL_WORDS = {OVER: "over", UNDER: "under", 5: "too long", 6: "exists", 7: "missing", 8: "bad name",
+                 9: "full", 12: "wrong kind"}
+
+
+def operation_words(body):
+    return " + ".join(map(str, body.parts))
+
+
+def answer_words(answer):
+    if isinstance(answer, Items):
+        return " + ".join(map(str, answer.numbers))
+    return f"{REFUSAL_WORDS[answer.number]} at {answer.position}"
+
+
+def premises_line(world):
+    forged = world.audit.forged
+    return "premises hold" if forged is None else f"premises forged {forged}"
+
+
+def timeline(world):
+    """The calls, points and ends of a run by event; at one event, calls stand first and ends last."""
+    told = []
+    for operation in world.operations:
+        name = f"{operation.client}.{operation.number}"
+        told.append((operation.event, 0, len(told), f"call {name} {operation_words(operation.body)}"))
+        end = world.ends.get((operation.client, operation.number))
+        if end is not None:
+            line = f"gaveup {name}" if end.answer is None else f"reply {name} {answer_words(end.answer)}"
+            told.append((end.event, 2, len(told), line))
+    for point in world.points_in_order() if world.audit.forged is None else ():
+        asked = f" faulty {operation_words(point.body)}" if point.faulty else ""
+        told.append((point.event, 1, len(told), f"point {point.name}{asked}"))
+    return [line for *_, line in sorted(told)]
+
+
+def report_lines(world):
+    bounds = world.bounds
+    names = sorted((operation.client, operation.number) for operation in world.operations)
+    still_open = [f"open {client}.{number}" for client, number in names if (client, number) not in world.ends]
+    given_up = sum(end.answer is None for end in world.ends.values())
+    return [
+        f"bounds b {bounds.faults} n {bounds.replicas} q {bounds.quorum} r {bounds.repair}",
+        *timeline(world), *still_open, premises_line(world),
+        f"end calls {len(names)} done {len(world.ends) - given_up} gaveup {given_up} open {len(still_open)}"]
+
+
+def letter_lines(world):
+    """Of each letter its number, event, sender, receiver, length and digest."""
+    return [f"{number} {event} {letter.sender} {letter.receiver} {len(letter.text)} "
+            f"{hashlib.sha256(letter.text).hexdigest()}" for number, (event, letter) in enumerate(world.letters, 1)]
+
+
+def point_lines(world):
+    return [str(point) for point in world.points_in_order()]
