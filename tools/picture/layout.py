@@ -9,6 +9,8 @@ REPLICA_GAP = 52
 # The first replica stands farther off, so that letters that are delivered in turn do not lie on one line.
 FIRST_GAP = 170
 LANE_GAP = 30
+# How far from a line a letter ends that is never delivered; how far down, the first that is so far from other letters.
+ASIDE, DROPS, CLEAR = 16, (17, 8, 4), 6
 # A letter of the two sizes of text is about so wide, in a broad font.
 TEXT_LETTER, LABEL_LETTER = 6.3, 5.8
 LEGEND_LINE = 20
@@ -36,10 +38,11 @@ class Layout:
         return self.bottom + NAMES
 
     def in_the_air(self, left, right):
-        """Where a letter from one line to another one ends that is never delivered: near the middle, and on no line."""
-        at = left + (right - left) * 0.45
-        on_line = any(abs(at - lane) < 10 for lane in self.lanes.values())
-        return at + (14 if left > right else -14) if on_line else at
+        """Where a letter from one line to another one ends that is never delivered: near the middle, and on no line.
+        Where a line is there it ends on its right, since the heads of requests are on its left. One that goes to the
+        left ends sooner, before it meets the letter that the replica beside it sends at the event before."""
+        at = left + (right - left) * (0.45 if left < right else 0.35)
+        return next((lane + ASIDE for lane in self.lanes.values() if abs(at - lane) < 10), at)
 
     def down(self, event):
         """How far down an event stands; one that has no row stands between those before and behind it."""

@@ -8,9 +8,13 @@ from picture.frames import ANSWER, Frame, count_of, frame_of
 PARTY = r"(?:replica|client) \d+"
 COUNTED = (r"not counted, (?:not fetched|another kind|answered before)"
            r"|counted(?:, found(?:, held)?(?:, wakes \d+\.\d+)?)?")
-EVENT = re.compile(rf"event (\d+) (.+?)(?:, ({COUNTED}))?(, waits)?"
-                   rf"(?:, ends (\d+\.\d+) (?:with ({ANSWER})|given up))?")
+EVENT = re.compile(rf"event (?P<number>\d+) (?P<words>.+?)(?:, (?P<counted>{COUNTED}))?(?P<waits>, waits)?"
+                   r"(?:, (?P<over>round \d+ (?:agreed|split|timed out))"
+                   r"(?P<without>(?:, without object \d+ of replica \d+)*))?"
+                   r"(?:, (?P<rests>rests \d+ ticks?))?(?:, asks (?P<asks>all|the preferred|the others))?"
+                   rf"(?:, ends (?P<ends>\d+\.\d+) (?:with (?P<answer>{ANSWER})|given up))?")
 CALL = re.compile(r"call ((\d+)\.\d+) ([a-z]+(?: \d+)+)")
+TICK = re.compile(r"tick client (\d+)")
 DELIVER = re.compile(rf"deliver (\d+) to ({PARTY})(, ignored)?")
 INJECT = re.compile(rf"inject ({count_of('byte')}) to ({PARTY})(?:, ignored| as ({PARTY}): (.+))")
 LETTER = re.compile(rf"  letter (\d+) ({PARTY}) to ({PARTY}): (.+)")
@@ -45,10 +49,12 @@ class Letter:
 
 @dataclass
 class Event:
-    """An event: its kind is call, deliver or inject. `letter` is the number of what is delivered, `again` whether it
-    was before; `claimed` the party that injected bytes name; `frame` what a party takes; `counted` whether a version
-    counts that was fetched, and what it brings about; `waits` whether a request waits; `ends` the operation that is
-    done here, `answer` its answer (None: given up); `sends` the numbers of the letters that it sends."""
+    """An event: its kind is call, tick, deliver or inject. `letter` is the number of what is delivered, `again` whether
+    it was before; `claimed` the party that injected bytes name; `frame` what a party takes; `counted` whether a version
+    counts that was fetched, and what it brings about; `waits` whether a request waits; `over` the client's round that is
+    over and why, `without` the replicas that are left out; `rests` how long it rests, `asks` whom it asks; `ends` the
+    operation that is done here, `answer` its answer (None: given up); `sends` the numbers of the letters that it sends.
+    """
 
     number: int
     kind: str
@@ -64,6 +70,10 @@ class Event:
     ignored: bool = False
     counted: str = ""
     waits: bool = False
+    over: str = ""
+    without: list = field(default_factory=list)
+    rests: str = ""
+    asks: str = ""
     ends: str = ""
     answer: str | None = None
     sends: list = field(default_factory=list)
@@ -130,11 +140,13 @@ def read_event(run, line, number):
     found = EVENT.fullmatch(line)
     if not found:
         raise Malformed(number, "unknown line")
-    if int(found.group(1)) != len(run.events) + 1:
+    if int(found["number"]) != len(run.events) + 1:
         raise Malformed(number, f"event out of order, {len(run.events) + 1} is next")
-    event = event_of(run, found.group(2), line, number)
-    event.counted, event.waits = found.group(3) or "", bool(found.group(4))
-    event.ends, event.answer = found.group(5) or "", found.group(6)
+    event = event_of(run, found["words"], line, number)
+    event.counted, event.waits = found["counted"] or "", bool(found["waits"])
+    event.over, event.rests, event.asks = found["over"] or "", found["rests"] or "", found["asks"] or ""
+    event.without = re.findall(r"replica (\d+)", found["without"] or "")
+    event.ends, event.answer = found["ends"] or "", found["answer"]
     run.events.append(event)
 
 
@@ -145,6 +157,9 @@ def event_of(run, words, line, number):
     if call:
         client = Party("client", int(call.group(2)))
         return Event(at, "call", client, line, operation=call.group(1), asked=call.group(3))
+    tick = TICK.fullmatch(words)
+    if tick:
+        return Event(at, "tick", Party("client", int(tick.group(1))), line)
     inject = INJECT.fullmatch(words)
     if inject:
         claimed = party_of(inject.group(3)) if inject.group(3) else None

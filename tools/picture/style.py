@@ -32,6 +32,7 @@ text{{fill:{ink};stroke:{paper}}}
 SHAPED = """
 text{font:12px Arial,Helvetica,"Liberation Sans",sans-serif;paint-order:stroke;stroke-width:3px;stroke-linejoin:round}
 .label,.legend{font-size:11px}
+.strong.label{stroke-width:6px}
 .title{font-size:14px;font-weight:bold}
 .name,.strong{font-weight:bold}
 .right{text-anchor:end}
@@ -66,7 +67,9 @@ HEAD_SHAPES = {
 SHAPES = {
     "call": '<path class="ink" d="M-5 -5.5L6 0L-5 5.5z"/>',
     "end": '<circle class="hollow" r="6"/><circle class="ink" r="2.6"/>',
+    "tick": '<circle class="hollow" r="3"/>',
     "step": '<circle class="ink" r="2.2"/>',
+    "rests": '<path class="ink" d="M-4.5 -5H-1.5V5H-4.5zM1.5 -5H4.5V5H1.5z"/>',
     "done": '<circle class="ink" r="5"/>',
     "told": '<circle class="hollow" r="5"/>',
     "refused": '<path class="hollow" d="M-5.5 -4.5L5.5 -4.5L0 5.5z"/>',
@@ -74,9 +77,9 @@ SHAPES = {
     "copy": '<path class="hollow" d="M-2 -2H6V6H-2z"/><path class="ink" d="M-6 -6H2V2H-6z"/>',
     "waits": '<path class="hollow" d="M-5 -5.5H5L-5 5.5H5z"/>',
     "sent": '<rect class="hollow" x="-4" y="-4" width="8" height="8"/>',
-    "counted": '<path class="ink" d="M-5 0H5M0 -5V5"/>',
+    "counted": '<circle class="paper" r="6"/><path class="ink" d="M-5 0H5M0 -5V5"/>',
     "silent": '<circle class="hollow" r="5" stroke-dasharray="2 2"/>',
-    "ignored": '<path class="ink" d="M-4 -4L4 4M4 -4L-4 4"/>',
+    "ignored": '<circle class="paper" r="6"/><path class="ink" d="M-4 -4L4 4M4 -4L-4 4"/>',
     "point": '<path class="point" d="M0 -7L7 0L0 7L-7 0z"/>',
 }
 

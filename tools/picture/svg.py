@@ -2,7 +2,7 @@
 from html import escape
 from math import hypot
 
-from picture.layout import LEGEND_LINE, MARGIN, legend_places
+from picture.layout import CLEAR, DROPS, LEGEND_LINE, MARGIN, legend_places
 from picture.parts import ARROW_WORDS, point_words
 from picture.style import heads, style, symbols
 
@@ -14,7 +14,7 @@ def svg_of(picture):
     """The whole text of a picture."""
     layout = picture.layout
     parts = [head(picture), *bands(picture), *guides(picture), *lanes(picture), *operations(picture)]
-    parts += [arrow(layout, *each) for each in picture.arrows]
+    parts += [arrow(picture, *each) for each in picture.arrows]
     parts += injections(picture)
     parts += [row(picture, event) for event in picture.shown.events]
     parts += points(picture)
@@ -72,18 +72,32 @@ def operations(picture):
                 yield f'<path class="open" d="M{layout.lanes[event.party]} {first}V{last}"/>'
 
 
-def arrow(layout, letter, kind, delivered):
+def arrow(picture, letter, kind, delivered):
     """The arrow of a letter, from its sending to one delivery; one that is never delivered ends in the air."""
+    layout = picture.layout
     left, right = layout.lanes[letter.sender], layout.lanes[letter.receiver]
     up, fate, off_end = layout.down(letter.sent_at), f"delivered at event {delivered}", 7
     if delivered is None:
-        right, down, fate, off_end = layout.in_the_air(left, right), up + 17, "never delivered", 0
+        right, fate, off_end = layout.in_the_air(left, right), "never delivered", 0
+        down = up + drop_of(picture, letter, right)
     else:
         down = layout.down(delivered)
         if down == layout.bottom:
             kind, off_end = f"{kind} cut", 0
     path = line_between(left, up, right, down, 0 if up == layout.top else 6, off_end)
     return titled(f"{letter.line}\nsent at event {letter.sent_at}, {fate}", path, kind)
+
+
+def drop_of(picture, letter, at):
+    """How far down a letter ends in the air: less where it would lie on a letter that is sent with it."""
+    layout = picture.layout
+    left, up, heights = layout.lanes[letter.sender], layout.down(letter.sent_at), []
+    for other, _, delivered in picture.arrows:
+        if delivered and other.sent_at == letter.sent_at:
+            part = (at - left) / (layout.lanes[other.receiver] - left)
+            if 0 < part < 1:
+                heights.append(part * (layout.down(delivered) - up))
+    return next((drop for drop in DROPS if all(abs(drop - height) >= CLEAR for height in heights)), DROPS[-1])
 
 
 def titled(title, path, kind):
@@ -109,7 +123,7 @@ def injections(picture):
         at, down = layout.lanes[event.party], layout.down(event.number)
         yield titled(event.line, f"M{at - 36} {down}H{at - 8}", "side")
         if event.claimed:
-            yield label(at - 22, down - 8, f"as {event.claimed.short}", "label side-text middle")
+            yield label(at - 22, down - 11, f"as {event.claimed.short}", "label side-text middle")
 
 
 def row(picture, event):

@@ -5,7 +5,9 @@ import re
 MARKS = {
     "call": "an operation begins",
     "end": "it ends",
+    "tick": "a tick of a client's clock",
     "step": "a client takes a letter",
+    "rests": "a client begins to rest",
     "done": "done: an act is performed, or was",
     "told": "told or already: nothing is added",
     "refused": "a replica refuses",
@@ -27,13 +29,22 @@ def mark_of(event, run):
     if event.ignored:
         return "ignored"
     if event.party.kind == "client":
-        return "end" if event.ends else "step"
+        return mark_of_client(event)
     reply = reply_sent(event, run)
     if not reply:
         return mark_without_reply(event)
     if reply.verdict.startswith("mended "):
         return "barrier" if reply.stamp.startswith("barrier ") else "copy"
     return VERDICT_MARKS.get(reply.verdict.split()[0], "refused")
+
+
+def mark_of_client(event):
+    """The name of the mark of an event at a client."""
+    if event.ends:
+        return "end"
+    if event.over and event.rests:
+        return "rests"
+    return "tick" if event.kind == "tick" else "step"
 
 
 def mark_without_reply(event):
@@ -59,12 +70,20 @@ def words_of(event, run):
         parts[0] += ": " + made
     elif event.party.kind == "replica" and not event.ignored and not event.sends:
         parts[0] += ": no answer"
+    parts += [words for words in (over(event), event.rests) if words]
     if event.ends:
         answer = "given up" if event.answer is None else f"with {event.answer}"
         parts.append(f"ends {event.ends} {answer}")
     if event.sends:
         parts.append(sent(event, run))
     return "; ".join(parts)
+
+
+def over(event):
+    """Which round is over, unless its answer ends the operation, and the replicas whose entries are left out."""
+    if not event.over or event.answer is not None:
+        return ""
+    return event.over + "".join(f", without r{replica}" for replica in event.without)
 
 
 def made_words(event, run):
@@ -77,6 +96,8 @@ def made_words(event, run):
 def came(event, run):
     if event.kind == "call":
         return f"call {event.operation} {event.asked}"
+    if event.kind == "tick":
+        return "tick"
     if event.kind == "inject":
         head = f"{event.size} injected" + (f" as {event.claimed.short}" if event.claimed else "")
     else:
@@ -91,7 +112,12 @@ def frame_words(frame):
         return f"{frame.body.replace(' object', '')} {frame.operation} round {frame.round}"
     if frame.kind == "reply":
         return f"{frame.operation} round {frame.round}: {told(frame)}"
-    return short_parties(frame.text)
+    return short_parties(version_words(frame.text))
+
+
+def version_words(text):
+    """A fetch, or what was fetched: which version, and its value."""
+    return re.sub(r", \d+ clients?, \d+ links?$", "", text.replace(" object ", " "))
 
 
 def told(reply):
@@ -104,9 +130,9 @@ def sent(event, run):
     first, last = event.sends[0], event.sends[-1]
     numbers = f"{first}" if first == last else f"{first} to {last}"
     frame = run.letter(first).frame
-    if event.party.kind == "client" and event.kind != "call":
-        return f"round {frame.round} sends {numbers}"
-    return f"sends {numbers}"
+    if not event.asks:
+        return f"sends {numbers}"
+    return f"round {frame.round} asks {event.asks} by {numbers}"
 
 
 def short_parties(words):

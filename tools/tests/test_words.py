@@ -50,9 +50,9 @@ class Words(unittest.TestCase):
         self.assertEqual("call 1.1 add 0 5; sends 1", words_of(run.event(1), run))
         self.assertEqual("letter 2 of r0, 1.1 round 1: thin 0; ends 1.1 given up", words_of(run.event(3), run))
         second = ASKED.replace("letter 1", "letter 3").replace("round 1", "round 2")
-        run = read_listing(text_of(*SHORT[:4], "event 3 deliver 2 to client 1", second))
+        run = read_listing(text_of(*SHORT[:4], "event 3 deliver 2 to client 1, asks all", second))
         self.assertEqual("step", mark_of(run.event(3), run))
-        self.assertEqual("letter 2 of r0, 1.1 round 1: thin 0; round 2 sends 3", words_of(run.event(3), run))
+        self.assertEqual("letter 2 of r0, 1.1 round 1: thin 0; round 2 asks all by 3", words_of(run.event(3), run))
 
     def test_what_is_ignored_or_gets_no_answer(self):
         run = read_listing(text_of(OPENING, ASKED, DELIVERED, "event 3 deliver 1 to replica 0, ignored",
@@ -64,7 +64,7 @@ class Words(unittest.TestCase):
 
     def test_what_a_replica_makes_of_a_version(self):
         told = "  letter 1 replica 1 to replica 0: fetched object 0 at opening, counter 0, 0 clients, 0 links"
-        came = "letter 1 of r1, fetched object 0 at opening, counter 0, 0 clients, 0 links"
+        came = "letter 1 of r1, fetched 0 at opening, counter 0"
         asked = "event 1 inject 81 bytes to replica 1 as replica 0: fetch object 0 at opening"
         answer = reply("already 5", number=2)
         for counted, line, mark in (
@@ -76,7 +76,44 @@ class Words(unittest.TestCase):
             also = ", already 5; sends 2" if line else ""
             self.assertEqual(["sent", mark], [mark_of(event, run) for event in run.events])
             self.assertEqual(f"{came}: {counted}{also}", words_of(run.event(2), run))
-        self.assertEqual("81 bytes injected as r0, fetch object 0 at opening; sends 1", words_of(run.event(1), run))
+        self.assertEqual("81 bytes injected as r0, fetch 0 at opening; sends 1", words_of(run.event(1), run))
+
+    def test_of_a_version_its_object_and_its_value_are_told(self):
+        for frame, words in (("fetch object 63 at time 2 of client 1", "fetch 63 at time 2 of c1"),
+                             ("fetched object 5 at time 2 of client 1, counter 7, 1 client, 0 links",
+                              "fetched 5 at time 2 of c1, counter 7"),
+                             ("fetched object 0 at opening, counter 0, 0 clients, 1 link",
+                              "fetched 0 at opening, counter 0")):
+            run = read_listing(text_of(f"event 1 inject 90 bytes to replica 1 as replica 0: {frame}"))
+            self.assertEqual(f"90 bytes injected as r0, {words}: no answer", words_of(run.event(1), run))
+
+    def test_rounds_of_a_client(self):
+        second = ASKED.replace("letter 1", "letter 2").replace("round 1", "round 2")
+        run = read_listing(text_of(
+            OPENING + ", asks the preferred", ASKED,
+            "event 2 tick client 1, asks the others", second.replace("round 2", "round 1"),
+            "event 3 tick client 1, round 1 timed out, without object 0 of replica 4, without object 0 of replica 5"
+            ", rests 2 ticks",
+            "event 4 tick client 1, rests 1 tick",
+            "event 5 tick client 1, asks all", second.replace("letter 2", "letter 3"),
+            "event 6 tick client 1, round 2 timed out, ends 1.1 given up"))
+        self.assertEqual(["call", "tick", "rests", "tick", "tick", "end"],
+                         [mark_of(event, run) for event in run.events])
+        self.assertEqual(["call 1.1 add 0 5; round 1 asks the preferred by 1", "tick; round 1 asks the others by 2",
+                          "tick; round 1 timed out, without r4, without r5; rests 2 ticks", "tick; rests 1 tick",
+                          "tick; round 2 asks all by 3", "tick; round 2 timed out; ends 1.1 given up"],
+                         [words_of(event, run) for event in run.events])
+
+    def test_a_round_that_agrees(self):
+        reply = "  letter 2 replica 0 to client 1: reply 1.1 round 1, thin 0, shows object 0 with 1 candidate"
+        third = ASKED.replace("letter 1", "letter 3").replace("round 1", "round 2")
+        run = read_listing(text_of(OPENING + ", asks all", ASKED, DELIVERED, reply,
+                                   "event 3 deliver 2 to client 1, round 1 split, asks the preferred", third,
+                                   "event 4 deliver 2 to client 1, round 2 agreed, ends 1.1 with 5"))
+        self.assertEqual(["step", "end"], [mark_of(event, run) for event in run.events[2:]])
+        self.assertEqual("letter 2 of r0, 1.1 round 1: thin 0; round 1 split; round 2 asks the preferred by 3",
+                         words_of(run.event(3), run))
+        self.assertEqual("letter 2 of r0 again, 1.1 round 1: thin 0; ends 1.1 with 5", words_of(run.event(4), run))
 
     def test_what_waits(self):
         fetch = "  letter 2 replica 0 to replica 1: fetch object 0 at opening"
