@@ -1,0 +1,12 @@
+pub mod Began
+pub mod MadeBefore
+pub mod FreshNumbers
+pub mod DoneRows
+pub mod DoneLetters
+pub mod FirstRound
+pub mod Elsewhere
+pub mod ClientTells
+pub mod Hearing
+pub mod Invoked
+pub mod Turns
+pub mod OneTrip
