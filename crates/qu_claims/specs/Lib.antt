@@ -24,3 +24,4 @@ pub mod Quorums
 pub mod Handled
 pub mod Groups
 pub mod Truth
+pub mod Quick

@@ -3,9 +3,10 @@ ghost use Rattle.qu_world.specs.Run.{IsRun, IsSetup};
 ghost use Rattle.qu_script.specs.Script.{IsAsMeant};
 ghost use Rattle.qu_script.specs.Events.{run_of};
 ghost use Rattle.qu_claims.specs.Premises.{MeetsPremises};
+ghost use Rattle.qu_claims.specs.Quick.{QuickIsOneRound};
 ghost use Rattle.qu_claims.specs.Truth.{VersionsAreTrue};
 
-use qu_safety::versions_are_true;
+use qu_safety::{quick_acts_end, versions_are_true};
 use qu_script::{Script, ScriptFail, play_script};
 use qu_trace::Trace;
 use std::alloc::Global;
@@ -16,8 +17,10 @@ pub fn run_script(alloc: Global, script: &Script) -> Result<Trace, ScriptFail>
     ensures value { IsAsMeant (λ trace. trace) result (run_of script.now) }
     ensures run { IfOk result IsRun }
     ensures versions { IfOk result (λ trace. MeetsPremises trace → VersionsAreTrue trace) }
+    ensures one_round { IfOk result (λ trace. MeetsPremises trace → QuickIsOneRound trace) }
 {
     let trace = play_script(alloc, script)?;
     versions_are_true(&trace);
+    quick_acts_end(&trace);
     Ok(trace)
 }

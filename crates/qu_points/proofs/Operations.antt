@@ -1,4 +1,5 @@
 -- The operations of a trace.
+pub mod Began
 pub mod Correct
 pub mod Distinct
 pub mod Recorded

@@ -98,7 +98,8 @@ module _ (state : ClientState) (work : Work) (parts : List (ObjectId × Method))
       length_after
 
   -- below a quorum the client waits for more
-  pub waits_below : length work.replies + 1 < quorum state.keys.bounds → step ≡ stays (record kept { work = Some after })
+  pub waits_below : length work.replies + 1 < quorum state.keys.bounds → step ≡ stays
+      (record kept { work = Some after })
   waits_below below =
       let few : nat_le (quorum state.keys.bounds) (identical_verdicts told after.replies) ≡ false =
       ap (nat_le (quorum state.keys.bounds)) identical_after ∙ short _ _ below in

@@ -1,5 +1,5 @@
--- The letter of a replica that is ready for an act, in a run: it is the one letter of its event, and the client to whom it
--- is delivered is brought this reply.
+-- The letter of a replica that is ready for an act, in a run: it is the one letter of its event, and the client to
+-- whom it is delivered is brought this reply.
 use Rattle.std.proofs.Common.{◌≡◌, ℕ, ◌+◌, ◌<◌, ◌≤◌, Bool, true, false, List, [], ◌∷◌, length, get_or, map, Option, None, Some, IsTrue, refl, sym, ap, subst, ◌∙◌, cond}
 use Rattle.std.specs.Prelude.{slice_get, is_none}
 use Rattle.std.proofs.lemmas.Bool.{and_from, and_parts}
@@ -73,11 +73,13 @@ key_back ring me text taken client from brings =
     and_from _ _ second.0 (and_from _ _ first.0 refl)
 
 -- a reply that fits is brought to its client
-pub reply_brought : (state : ReplicaState) (client : ClientId) (number round : ℕ) (sets : List SetOf) (verdict : Verdict)
+pub reply_brought : (state : ReplicaState) (client : ClientId) (number round : ℕ) (sets : List SetOf)
+    (verdict : Verdict)
     → frame_form.Fits (answer_frame state client number round sets verdict)
     → have_key state.keys (party.Replica state.me) (party.Client client) ≡ true
     → brought state.keys (party.Client client) (reply state client number round sets verdict).text
-    ≡ Some (frame.Reply state.me client number round verdict (named state sets) (map (sealed_by state.keys) (shown state sets))
+    ≡ Some (frame.Reply state.me client number round verdict (named state sets) (map (sealed_by state.keys)
+    (shown state sets))
     (signature state.keys (party.Client client) (answer_frame state client number round sets verdict)))
 reply_brought state client number round sets verdict fits key =
     let sent : Frame = answer_frame state client number round sets verdict in
@@ -85,7 +87,8 @@ reply_brought state client number round sets verdict fits key =
     let spelled = signed_is_spelled state.keys (party.Client client) sent fits in
     signed_is_brought state.keys (party.Client client) sent fits key
     (subst (λ (text : List ℕ). length text ≤ TEXT_LIMIT) (sym spelled.1)
-    (reply-short state.me client number round verdict (named state sets) (map (sealed_by state.keys) (shown state sets)) mac
+    (reply-short state.me client number round verdict (named state sets) (map (sealed_by state.keys)
+    (shown state sets)) mac
     spelled.0))
 
 -- a replica names none where all entries are right
@@ -193,13 +196,15 @@ module _ (trace : Trace) (is_run : IsRun trace) (have : ArePlain trace) (at : �
 
       ring_brought : brought (ring_of trace.setup) (party.Client client)
           (reply new client number round (set ∷ []) verdict_is).text
-          ≡ Some (frame.Reply (record { 0 = place }) client number round verdict_is [] (map (sealed_by new.keys) (shown new (set ∷ [])))
+          ≡ Some (frame.Reply (record { 0 = place }) client number round verdict_is [] (map (sealed_by new.keys)
+          (shown new (set ∷ [])))
           seal)
       unfolding seal
       ring_brought =
           let ring : new.keys ≡ ring_of trace.setup = grows.keys ∙ keys_are trace at place old is_old in
           let me : new.me ≡ record { 0 = place } = grows.me ∙ me_is trace at place old is_old in
-          ap (λ (it : Ring). brought it (party.Client client) (reply new client number round (set ∷ []) verdict_is).text)
+          ap (λ (it : Ring). brought it (party.Client client) (reply new client number round
+          (set ∷ []) verdict_is).text)
           (sym ring) ∙
           reply_brought new client number round (set ∷ []) verdict_is answer_fits key ∙
           (λ i. Some (frame.Reply (me i) client number round verdict_is (named_none i)
@@ -216,8 +221,10 @@ module _ (trace : Trace) (is_run : IsRun trace) (have : ArePlain trace) (at : �
         shown = map (sealed_by new.keys) (shown new (set ∷ []));
         mac = seal;
         brings = λ count within state is_state.
-            let keyed : HasKeys (ring_of trace.setup) client.0 state = clients_keyed trace count within client.0 state is_state in
-            (λ i. brought (keyed.keys_are i) (party.Client (keyed.me i)) (reply new client number round (set ∷ []) verdict_is).text) ∙
+            let keyed : HasKeys (ring_of trace.setup) client.0 state = clients_keyed trace count within client.0
+            state is_state in
+            (λ i. brought (keyed.keys_are i) (party.Client (keyed.me i)) (reply new client number round
+            (set ∷ []) verdict_is).text) ∙
             ring_brought;
       }
 
@@ -233,5 +240,6 @@ pub reply_heard : (trace : Trace) (at place : ℕ) (client : ClientId) (number r
 reply_heard trace at place client number round told done count within state is_state =
     let me : state.me ≡ client = (clients_keyed trace count within client.0 state is_state).me in
     ap (heard_by state) (done.brings count within state is_state) ∙
-    ap (λ (who : ClientId). client_on_frame state (frame.Reply (record { 0 = place }) who number round told [] done.shown done.mac))
+    ap (λ (who : ClientId). client_on_frame state (frame.Reply
+    (record { 0 = place }) who number round told [] done.shown done.mac))
     (sym me)

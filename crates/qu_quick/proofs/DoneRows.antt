@@ -111,7 +111,8 @@ module _ (state : ReplicaState) (client : ClientId) (number : ℕ) (set : SetOf)
   unknown : row_unknown state asked ≡ None
   unfolding row_unknown
   unknown =
-      pass_one (λ (it : SetOf). refusal.UnknownObject it.object) (λ (it : SetOf). nat_le (length state.histories) (it.object).0) set
+      pass_one (λ (it : SetOf). refusal.UnknownObject it.object) (λ (it : SetOf). nat_le (length state.histories)
+      (it.object).0) set
       (above_not_below (length state.histories) object.0 ready.known)
 
   enough : quorum state.keys.bounds ≤ length set.entries
@@ -119,13 +120,15 @@ module _ (state : ReplicaState) (client : ClientId) (number : ℕ) (set : SetOf)
       let full : quorum state.keys.bounds ≤ order_of base shown = based.of_quorum in
       let most : order_of base shown ≤ length shown = order_of_most base shown in
       let here : length shown ≡ length set.entries =
-      ap (λ (them : List ObjectHistory). length them) (entries_here set) ∙ length-map set.entries (λ sealed. sealed.history) in
+      ap (λ (them : List ObjectHistory). length them) (entries_here set) ∙ length-map set.entries
+      (λ sealed. sealed.history) in
       omega (arith, full, most, here)
 
   thin : row_thin state asked ≡ None
   unfolding row_thin
   thin =
-      pass_one (λ (it : SetOf). refusal.Thin it.object) (λ (it : SetOf). nat_lt (length it.entries) (quorum state.keys.bounds)) set
+      pass_one (λ (it : SetOf). refusal.Thin it.object) (λ (it : SetOf). nat_lt (length it.entries)
+      (quorum state.keys.bounds)) set
       (enough_not_few (quorum state.keys.bounds) (length set.entries) enough)
 
   -- what the act would make is above all that the replica has

@@ -52,7 +52,7 @@ use Rattle.qu_runs.proofs.Events.Recording.{entry_cases}
 use Rattle.qu_runs.proofs.Fits.ClientLetters.{step_sends, tick_sends, invoke_sends}
 use Rattle.qu_runs.proofs.Worlds.Keyed.{clients_keyed}
 use Rattle.qu_runs.proofs.Worlds.WorldGrowth.{world_after-next}
-use Rattle.qu_quick.specs.Quick.{party_of, IsElsewhere}
+use Rattle.qu_claims.specs.Quick.{party_of, IsElsewhere}
 
 -- ---- whose letters a step sends
 
@@ -132,9 +132,9 @@ each_weaker P Q weaker (item ∷ later) each = (weaker item each.0, each_weaker 
 
 -- the client sends none of the letters, and none of its operations ends
 pub record IsNoneOf (client : ClientId) (letters : List Letter) (ended : Option (ClientId × ℕ × Outcome)) : Type 0
-    where
-  pub others : All (λ (letter : Letter). letter.from ≢ party.Client client) letters
-  pub none_ends : (number : ℕ) → outcome_in client number ended ≡ None
+  where
+    pub others : All (λ (letter : Letter). letter.from ≢ party.Client client) letters
+    pub none_ends : (number : ℕ) → outcome_in client number ended ≡ None
 
 not_of_replica : (client : ClientId) (letter : Letter) → IsOfReplica letter → letter.from ≢ party.Client client
 not_of_replica client letter of same = false≢true (sym (ap is_replica same) ∙ of)
@@ -171,7 +171,10 @@ none_of_other me client apart letters work ended own = record {
 }
 
 nothing_of : (client : ClientId) → IsNoneOf client [] None
-nothing_of client = record { others = All-nil (λ (letter : Letter). letter.from ≢ party.Client client); none_ends = λ number. refl }
+nothing_of client = record {
+  others = All-nil (λ (letter : Letter). letter.from ≢ party.Client client);
+  none_ends = λ number. refl;
+}
 
 of_replica : (client : ClientId) (state : ReplicaState) (text : List ℕ)
     → IsNoneOf client (replica_step state text).1 None
@@ -184,7 +187,8 @@ of_replica client state text = record {
 
 -- ---- the party of an event
 
-offered_party : (world : WorldState) (event : Event) (to : Party) (text : List ℕ) → offered world event ≡ Some (to, text)
+offered_party : (world : WorldState) (event : Event) (to : Party) (text : List ℕ)
+    → offered world event ≡ Some (to, text)
     → party_of world.entries event ≡ Some to
 offered_party world (Invoke client what) to text is = absurd (none-some (to, text) is)
 offered_party world (Deliver number) to text is = ap (option_map (λ (offer : Party × List ℕ). offer.0)) is

@@ -41,7 +41,7 @@ use Rattle.qu_client.specs.Rounds.{is_asked, requests_from, work_asking, begins}
 use Rattle.qu_client.specs.State.{Stepped, unmarked}
 use Rattle.qu_client.specs.Steps.{client_invoke, next_number}
 use Rattle.qu_claims.specs.Parts.{Names}
-use Rattle.qu_quick.specs.Quick.{first_sets, asked_first}
+use Rattle.qu_claims.specs.Quick.{first_sets, asked_first}
 use Rattle.qu_quick.proofs.DoneRows.{entries_here}
 
 -- ---- an act on one object
@@ -80,32 +80,32 @@ module _ (state : ClientState) (object : ObjectId) (method : Method) where
       (record { sets = first_set ∷ []; body = body.Act ((object, method) ∷ []); all = false })
 
   module _ (base : Candidate) (current : method_at state.keys.bounds (entries_of object (first_set ∷ [])) ≡ Some base)
-      where
-    enough : quorum state.keys.bounds ≤ length first_set.entries
-    enough =
-        let based : IsBase state.keys.bounds (entries_of object (first_set ∷ [])) base =
-        is_base state.keys.bounds (entries_of object (first_set ∷ [])) base current in
-        let full : quorum state.keys.bounds ≤ order_of base (entries_of object (first_set ∷ [])) = based.of_quorum in
-        let most : order_of base (entries_of object (first_set ∷ []))
-        ≤ length (entries_of object (first_set ∷ [])) = order_of_most base (entries_of object (first_set ∷ [])) in
-        let here : length (entries_of object (first_set ∷ [])) ≡ length first_set.entries =
-        ap (λ (them : List ObjectHistory). length them) (entries_here first_set)
-        ∙ length-map first_set.entries (λ sealed. sealed.history) in
-        omega (arith, full, most, here)
+    where
+      enough : quorum state.keys.bounds ≤ length first_set.entries
+      enough =
+          let based : IsBase state.keys.bounds (entries_of object (first_set ∷ [])) base =
+          is_base state.keys.bounds (entries_of object (first_set ∷ [])) base current in
+          let full : quorum state.keys.bounds ≤ order_of base (entries_of object (first_set ∷ [])) = based.of_quorum in
+          let most : order_of base (entries_of object (first_set ∷ []))
+          ≤ length (entries_of object (first_set ∷ [])) = order_of_most base (entries_of object (first_set ∷ [])) in
+          let here : length (entries_of object (first_set ∷ [])) ≡ length first_set.entries =
+          ap (λ (them : List ObjectHistory). length them) (entries_here first_set)
+          ∙ length-map first_set.entries (λ sealed. sealed.history) in
+          omega (arith, full, most, here)
 
-    full : are_full state.keys.bounds (first_set ∷ []) ≡ true
-    full = rw (enough_not_few (quorum state.keys.bounds) (length first_set.entries) enough) refl
+      full : are_full state.keys.bounds (first_set ∷ []) ≡ true
+      full = rw (enough_not_few (quorum state.keys.bounds) (length first_set.entries) enough) refl
 
-    is_current : are_current state.keys.bounds (first_set ∷ []) (object ∷ []) ≡ true
-    is_current = rw current refl
+      is_current : are_current state.keys.bounds (first_set ∷ []) (object ∷ []) ≡ true
+      is_current = rw current refl
 
-    pub invoke_is : client_invoke state act ≡ begins (record state { kept = unmarked state.kept }) first_work
-    invoke_is =
-        let begun : Question → Stepped =
-        λ question. begins (record state { kept = unmarked state.kept })
-        (work_asking act (next_number state.last_request) 1 question) in
-        ap (λ (sets : List SetOf). begun (asked_upon state.keys.bounds act (object ∷ []) sets)) first_sets-one
-        ∙ ap begun (asked_current state.keys.bounds act (object ∷ []) (first_set ∷ []) full is_current)
+      pub invoke_is : client_invoke state act ≡ begins (record state { kept = unmarked state.kept }) first_work
+      invoke_is =
+          let begun : Question → Stepped =
+          λ question. begins (record state { kept = unmarked state.kept })
+          (work_asking act (next_number state.last_request) 1 question) in
+          ap (λ (sets : List SetOf). begun (asked_upon state.keys.bounds act (object ∷ []) sets)) first_sets-one
+          ∙ ap begun (asked_current state.keys.bounds act (object ∷ []) (first_set ∷ []) full is_current)
 
 -- ---- whom it asks
 

@@ -47,7 +47,7 @@ use Rattle.qu_values.proofs.Updating.UpdateFacts.{UpdateFacts}
 use Rattle.qu_values.proofs.Updating.Updates.{acts, last_is}
 use Rattle.qu_values.proofs.Versions.EverAccepted.{quorum_ever}
 use Rattle.qu_values.proofs.Versions.StoredValues.{version_is}
-use Rattle.qu_quick.proofs.Began.{earlier_is_lower, invoked_within}
+use Rattle.qu_points.proofs.Operations.Began.{earlier_is_lower, invoked_within}
 use Rattle.qu_quick.proofs.MadeBefore.{own_client, IsAskedAt, asked_by_letter, MakesAct, made_before}
 
 -- the operation of an update, which began before this time
@@ -70,6 +70,17 @@ begun_by_request trace past time client other number turn asks request earlier s
       of_number = request.of_number ∙ same_number;
       before = omega arith;
     }
+
+-- what is up to an established candidate is decided
+pub up_to_decided : (trace : Trace) → Laws (setting trace) → Joint (setting trace) → (time : ℕ)
+    → time ≤ (setting trace).last → (object : ObjectId) (base : Candidate) → (setting trace).plain base ≡ true
+    → IsEstablished (setting trace) time object base → (first : Candidate) → IsEverAccepted trace object first
+    → IsAncestorOrSelf trace object first base → IsDecided (setting trace) time object first
+up_to_decided trace laws joint time within object base plain established first accepted (inl same) =
+    subst (IsDecided (setting trace) time object) (sym same) (IsDecided.established base plain established)
+up_to_decided trace laws joint time within object base plain established first accepted (inr under) =
+    decided_down (setting trace) laws joint time within object first base accepted under
+    (IsDecided.established base plain established)
 
 module _ (trace : Trace) (is_run : IsRun trace) (have : ArePlain trace) (clients : ClientFacts trace)
     (one_act : ActsAreOne trace) (laws : Laws (setting trace)) (joint : Joint (setting trace))
@@ -104,17 +115,6 @@ module _ (trace : Trace) (is_run : IsRun trace) (have : ArePlain trace) (clients
       (subst (λ (who : ClientId). is_faulty trace.setup (party.Client who) ≡ false) (sym same.0) correct)) made.1
       same.0 same.1
 
-  -- what is up to an established candidate is decided
-  up_to_decided : (time : ℕ) → time ≤ (setting trace).last → (object : ObjectId) (base : Candidate)
-      → (setting trace).plain base ≡ true → IsEstablished (setting trace) time object base
-      → (first : Candidate) → IsEverAccepted trace object first → IsAncestorOrSelf trace object first base
-      → IsDecided (setting trace) time object first
-  up_to_decided time within object base plain established first accepted (inl same) =
-      subst (IsDecided (setting trace) time object) (sym same) (IsDecided.established base plain established)
-  up_to_decided time within object base plain established first accepted (inr under) =
-      decided_down (setting trace) laws joint time within object first base accepted under
-      (IsDecided.established base plain established)
-
   -- a candidate that has a version has no barrier
   plain_of_version : (object : ObjectId) (candidate : Candidate) (version : ObjState)
       → IsEverAccepted trace object candidate → HasVersion trace object candidate version
@@ -143,7 +143,8 @@ module _ (trace : Trace) (is_run : IsRun trace) (have : ArePlain trace) (clients
       let it : IsWritten trace object base client row = facts.written object base version has ever client row found in
       let accepted : IsAccepted (setting trace) time object it.first =
       accepted_by_decided (setting trace) laws time object it.first
-      (up_to_decided time bound object base (plain_of_version object base version ever has) established it.first
+      (up_to_decided trace laws joint time bound object base
+      (plain_of_version object base version ever has) established it.first
       it.accepted it.up_to) in
       let begun : IsBegunBefore trace time (it.update).client (it.update).number =
       begun_before_accepted time within object it.first accepted it.update it.is_of
@@ -172,7 +173,8 @@ module _ (trace : Trace) (is_run : IsRun trace) (have : ArePlain trace) (clients
 
     module _ (at : ℕ) (letter : Letter) (round number : ℕ) (sets : List SetOf) (asks : Body)
         (asked : IsAskedBy trace operation.invoked at letter operation.client number round sets asks)
-        (fits : sets_form.Fits sets) (keys : Ring) (same : keys.bounds ≡ trace.setup.bounds) (me : ReplicaId) (object : ObjectId) (base : Candidate)
+        (fits : sets_form.Fits sets) (keys : Ring) (same : keys.bounds ≡ trace.setup.bounds) (me : ReplicaId)
+        (object : ObjectId) (base : Candidate)
         (method : method_at trace.setup.bounds (entries_of object (culled keys me sets)) ≡ Some base) where
       base_shown : quorum trace.setup.bounds
           ≤ acceptors (setting trace) operation.invoked object base + (setting trace).faults

@@ -46,7 +46,7 @@ use Rattle.qu_runs.proofs.Events.Handing.{handed_step}
 use Rattle.qu_runs.proofs.Fits.Carrying.{numbered_here}
 use Rattle.qu_runs.proofs.Worlds.Keyed.{clients_keyed}
 use Rattle.qu_runs.proofs.Worlds.WorldGrowth.{world_after-next}
-use Rattle.qu_quick.specs.Quick.{HandsAt, IsElsewhere, RoundTurn, HearsNext, last_heard}
+use Rattle.qu_claims.specs.Quick.{HandsAt, IsElsewhere, RoundTurn, HearsNext, last_heard}
 use Rattle.qu_quick.proofs.ClientTells.{AllTell, waits_below, ends_at}
 use Rattle.qu_quick.proofs.Elsewhere.{IsNoneOf, still_there, none_there}
 
@@ -333,7 +333,8 @@ module _ (trace : Trace) (is_run : IsRun trace) (have : ArePlain trace) (client 
         let few : length work.replies + 1 < quorum trace.setup.bounds = omega arith in
         let more : Work = with_verdict work (record { 0 = turn.replica }) told [] in
         let counted : length more.replies ≡ length work.replies + 1 =
-        length-append work.replies (record { replica = record { 0 = turn.replica }; verdict = told; culled = [] } ∷ []) in
+        length-append work.replies
+        (record { replica = record { 0 = turn.replica }; verdict = told; culled = [] } ∷ []) in
         let rest : length more.replies + length (next ∷ later) ≡ quorum trace.setup.bounds = omega arith in
         ends_later from turn (last_heard next.heard later) hears.0
         (quiet_before from work waiting turn heard.0 hears.0 hears.1 none.0)

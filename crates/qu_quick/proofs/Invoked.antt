@@ -55,8 +55,8 @@ use Rattle.qu_runs.proofs.Fits.Fitting.{fit_step}
 use Rattle.qu_runs.proofs.Worlds.Keyed.{clients_keyed}
 use Rattle.qu_rounds.proofs.Asking.{CarriesOnly, requests_carry, IsSameRequest, asks_only}
 use Rattle.qu_values.proofs.Requests.ClientFacts.{IsAskedBy}
-use Rattle.qu_quick.specs.Quick.{SendsAt, first_sets, asked_first}
-use Rattle.qu_quick.proofs.Began.{IsBegunIn, begun_in}
+use Rattle.qu_claims.specs.Quick.{SendsAt, first_sets, asked_first}
+use Rattle.qu_points.proofs.Operations.Began.{IsBegunIn, begun_in}
 use Rattle.qu_quick.proofs.FirstRound.{act, first_set, first_sets-one, first_work, invoke_is, asked_parties, asked_first-number}
 use Rattle.qu_quick.proofs.Hearing.{IsMoveAt, moved_at}
 use Rattle.qu_quick.proofs.MadeBefore.{own_client}
@@ -80,13 +80,15 @@ letter_sent trace at entry letter adds held =
     (subst (λ (them : List Letter). Contains them letter) (sym all)
     (Contains-append_right (letters_of before) entry.letters letter held))
 
-none_ended : (client : ClientId) (number : ℕ) (work : Option Work) → outcome_in client number (ended_by client work None) ≡ None
+none_ended : (client : ClientId) (number : ℕ) (work : Option Work) → outcome_in client number
+    (ended_by client work None) ≡ None
 none_ended client number None = refl
 none_ended client number (Some work) = refl
 
 module _ (trace : Trace) (is_run : IsRun trace) (have : ArePlain trace) (operation : OpRecord)
     (among : Contains (operations_of trace) operation) (begin : ℕ) (begins : operation.invoked ≡ begin + 1)
-    (state : ClientState) (is_state : numbered (world_after trace begin).clients (operation.client).0 ≡ Some state) where
+    (state : ClientState) (is_state : numbered (world_after trace begin).clients (operation.client).0
+    ≡ Some state) where
   abbrev client : ClientId
   client = operation.client
 

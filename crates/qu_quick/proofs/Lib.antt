@@ -1,4 +1,3 @@
-pub mod Began
 pub mod MadeBefore
 pub mod FreshNumbers
 pub mod DoneRows

@@ -40,8 +40,8 @@ use Rattle.qu_runs.proofs.Small.{quorum_outnumbers}
 use Rattle.qu_values.proofs.Requests.ClientFacts.{ClientFacts}
 use Rattle.qu_values.proofs.Updating.OneAct.{ActsAreOne}
 use Rattle.qu_values.proofs.Updating.UpdateFacts.{UpdateFacts}
-use Rattle.qu_quick.specs.Quick.{SendsAt, first_sets, RoundTurn, IsQuickTurn, HearsNext, last_heard, IsQuick, EndsInOneRound, QuickIsOneRound}
-use Rattle.qu_quick.proofs.Began.{IsBegunIn}
+use Rattle.qu_claims.specs.Quick.{SendsAt, first_sets, RoundTurn, IsQuickTurn, HearsNext, last_heard, IsQuick, EndsInOneRound, QuickIsOneRound}
+use Rattle.qu_points.proofs.Operations.Began.{IsBegunIn}
 use Rattle.qu_quick.proofs.FirstRound.{one_part}
 use Rattle.qu_quick.proofs.Hearing.{IsHeard, IsWaitingAt, EndsAfter, AreApart, hears_all}
 use Rattle.qu_quick.proofs.Invoked.{began, index_is, first_entry, is_first, has_parts, work, asked_parties_are, asks_a_quorum, none_ends_first, after_first, number_is}
@@ -177,7 +177,8 @@ module _ (trace : Trace) (is_run : IsRun trace) (have : ArePlain trace) (clients
       apart_all [] pairs = tt
       apart_all (it ∷ later) pairs = (
         each_of (λ (other : RoundTurn). it.replica ≢ other.replica) (λ (other : RoundTurn). it.replica ≢ other.replica)
-            (λ other apart. apart) later (λ j default below. pairs 0 (suc j) default (omega arith) (omega (arith, below))),
+            (λ other apart. apart) later (λ j default below. pairs 0 (suc j) default (omega arith) (omega
+            (arith, below))),
         apart_all later (λ i j default order below. pairs (suc i) (suc j) default (omega (arith, order))
             (omega (arith, below))),
       )
@@ -228,7 +229,8 @@ module _ (trace : Trace) (is_run : IsRun trace) (have : ArePlain trace) (clients
             → outcome_in client operation.number it.ended ≡ None
         none_before zero below it is =
             ap (λ (entry : Entry). outcome_in client operation.number entry.ended)
-            (same_Some it (first_entry trace is_run have operation quick.of_trace begin quick.begins state quick.is_state)
+            (same_Some it (first_entry trace is_run have operation quick.of_trace begin quick.begins state
+            quick.is_state)
             (sym is ∙ drop_at begin trace.entries zero ∙ ap (slice_get trace.entries) (omega arith)
             ∙ is_first trace is_run have operation quick.of_trace begin quick.begins state quick.is_state))
             ∙ none_ends_first trace is_run have operation quick.of_trace begin quick.begins state quick.is_state object

@@ -61,22 +61,17 @@ use Rattle.qu_runs.proofs.Events.Handing.{handed_correct}
 use Rattle.qu_runs.proofs.Fits.Carrying.{brings_decoded}
 use Rattle.qu_runs.proofs.Fits.Fitting.{handed_fits}
 use Rattle.qu_runs.proofs.Small.{only_one}
+use Rattle.qu_runs.proofs.Worlds.Objects.{held_within}
 use Rattle.qu_runs.proofs.Worlds.OpeningReplicas.{all_replicas, bounds_are, keys_are}
 use Rattle.qu_values.proofs.Requests.ClientFacts.{IsAskedBy, ClientFacts}
 use Rattle.qu_values.proofs.Updating.OneAct.{ActsAreOne}
 use Rattle.qu_values.proofs.Updating.UpdateFacts.{UpdateFacts}
 use Rattle.qu_quick.specs.Done.{act_on, done_verdict, IsReady, IsDoneAt}
-use Rattle.qu_quick.specs.Quick.{first_sets, IsReadyOn, RoundTurn, IsQuickTurn}
+use Rattle.qu_claims.specs.Quick.{first_sets, IsReadyOn, RoundTurn, IsQuickTurn}
 use Rattle.qu_quick.proofs.DoneLetters.{done_at, reply_heard}
 use Rattle.qu_quick.proofs.FreshNumbers.{base_ever, found_version, found_lower}
 use Rattle.qu_quick.proofs.Hearing.{IsHeard}
 use Rattle.qu_quick.proofs.Invoked.{set, sets_are, of_method, asked_then}
-
--- a replica that holds a candidate of an object has this object
-held_within : (candidate : Candidate) (histories : List ObjectHistory) (place : ℕ) (found : Option ObjectHistory)
-    → slice_get histories place ≡ found → holds candidate (candidates_in found) ≡ true → place < length histories
-held_within candidate histories place None is held = absurd (false≢true held)
-held_within candidate histories place (Some history) is held = slice_get_within histories place history is
 
 -- a correct replica has each object of which anything is ever accepted
 object_known : (trace : Trace) → Laws (setting trace) → (object : ObjectId) (candidate : Candidate)

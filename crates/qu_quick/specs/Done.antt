@@ -58,8 +58,8 @@ pub record IsReady (state : ReplicaState) (client : ClientId) (number : ℕ) (se
   pub in_time : base.stamp.time < LAST_TIME
   pub lower : IsLower number (row_of client version.kept)
 
--- the one letter of the event of this entry is the reply of this replica with this verdict, and its client is brought it
--- whenever it is delivered
+-- the one letter of the event of this entry is the reply of this replica with this verdict, and its client is brought
+-- it whenever it is delivered
 pub record IsDoneAt (trace : Trace) (at place : ℕ) (client : ClientId) (number round : ℕ) (verdict : Verdict)
     : Type 0 where
   pub entry : Entry

@@ -9,6 +9,8 @@ mod listing;
 #[cfg(test)]
 mod print;
 #[cfg(test)]
+mod quick;
+#[cfg(test)]
 mod script;
 #[cfg(test)]
 mod trace;

@@ -3,4 +3,3 @@ pub mod ActPoints
 pub mod PointEvents
 pub mod OwnedPoints
 pub mod EventRequests
-pub mod OwnClients

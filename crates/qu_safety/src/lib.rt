@@ -3,7 +3,9 @@
 
 mod order;
 mod parts;
+mod quick;
 mod versions;
 
 pub use order::order_of;
+pub use quick::quick_acts_end;
 pub use versions::versions_are_true;

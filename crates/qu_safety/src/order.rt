@@ -7,6 +7,7 @@ ghost use Rattle.qu_claims.specs.Premises.{MeetsPremises};
 ghost use Rattle.qu_claims.specs.Named.{StampsNameHistories};
 ghost use Rattle.qu_claims.specs.Order.{IsPrintedOrder};
 ghost use Rattle.qu_claims.specs.Quorums.{CompletesByQuorums};
+ghost use Rattle.qu_claims.specs.Quick.{QuickIsOneRound};
 ghost use Rattle.qu_claims.specs.Updates.{DecidesOnce, NumbersRise};
 ghost use Rattle.qu_claims.specs.Truth.{VersionsAreTrue};
 ghost use Rattle.qu_claims.specs.Turns.{DecidesInTurn, DecidesJointly};
@@ -37,6 +38,7 @@ pub fn order_of(alloc: Global, trace: &DecodedTrace<'_>) -> Result<List<Point>, 
     ensures numbers { OnOk result (MeetsPremises trace.now → NumbersRise trace.now) }
     ensures once { OnOk result (MeetsPremises trace.now → DecidesOnce trace.now) }
     ensures versions { OnOk result (MeetsPremises trace.now → VersionsAreTrue trace.now) }
+    ensures one_round { OnOk result (MeetsPremises trace.now → QuickIsOneRound trace.now) }
     ensures by_quorums { OnOk result (MeetsPremises trace.now → CompletesByQuorums trace.now) }
 {
     let run = trace.trace();

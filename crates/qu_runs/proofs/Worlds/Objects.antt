@@ -79,7 +79,8 @@ found_within number (first ∷ later) zero state each found =
     subst (λ (it : ReplicaState). length it.histories ≤ number) (same_Some first state found) each.0
 found_within number (first ∷ later) (suc place) state each found = found_within number later place state each.1 found
 
-held_within : (candidate : Candidate) (histories : List ObjectHistory) (place : ℕ) (found : Option ObjectHistory)
+-- who holds a candidate of an object has this object
+pub held_within : (candidate : Candidate) (histories : List ObjectHistory) (place : ℕ) (found : Option ObjectHistory)
     → slice_get histories place ≡ found → holds candidate (candidates_in found) ≡ true → place < length histories
 held_within candidate histories place None is held = absurd (false≢true held)
 held_within candidate histories place (Some history) is held = slice_get_within histories place history is

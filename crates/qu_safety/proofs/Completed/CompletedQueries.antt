@@ -48,7 +48,7 @@ use Rattle.qu_claims.specs.Order.{AnswersFirst, query_effect}
 use Rattle.qu_safety.proofs.Points.OwnedPoints.{IsOperationPoint}
 use Rattle.qu_points.specs.Points.{effect_of, IsOfCorrect, point_at}
 use Rattle.qu_points.proofs.Operations.Correct.{operations_correct}
-use Rattle.qu_safety.proofs.Points.OwnClients.{own_client}
+use Rattle.qu_quick.proofs.MadeBefore.{own_client}
 use Rattle.qu_claims.specs.Handling.{Handles}
 use Rattle.qu_accepts.proofs.Handling.{mid_bounds, mid_candidates}
 use Rattle.qu_replies.specs.Replies.{culled_in, HasTold}

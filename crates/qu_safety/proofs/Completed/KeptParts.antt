@@ -12,7 +12,7 @@ use Rattle.qu_claims.specs.Setting.{acceptors, IsEstablished}
 use Rattle.qu_chain.specs.Laws.{Laws}
 use Rattle.qu_claims.specs.Decided.{IsDecided}
 use Rattle.qu_chain.specs.Joint.{Joint}
-use Rattle.qu_chain.proofs.Deciding.{decided_down}
+use Rattle.qu_quick.proofs.FreshNumbers.{up_to_decided}
 use Rattle.qu_objects.specs.declared.act.Method.{Method}
 use Rattle.qu_objects.specs.declared.answer.Answer.{Answer}
 use Rattle.qu_objects.specs.declared.state.KeptRow.{KeptRow}
@@ -59,19 +59,6 @@ pub record KeptPart (trace : Trace) (client : ClientId) (number : ℕ) (parts : 
 
 module _ (trace : Trace) (is_run : IsRun trace) (have : ArePlain trace) (laws : Laws (setting trace))
     (joint : Joint (setting trace)) (facts : UpdateFacts trace) where
-  -- ---- a candidate that is established by a time
-
-  module _ (time : ℕ) (within : time ≤ (setting trace).last) (object : ObjectId) (base : Candidate)
-      (plain : (setting trace).plain base ≡ true) (established : IsEstablished (setting trace) time object base) where
-    base_decided : IsDecided (setting trace) time object base
-    base_decided = IsDecided.established base plain established
-
-    up_to_decided : (first : Candidate) → IsEverAccepted trace object first → IsAncestorOrSelf trace object first base
-        → IsDecided (setting trace) time object first
-    up_to_decided first accepted (inl same) = subst (IsDecided (setting trace) time object) (sym same) base_decided
-    up_to_decided first accepted (inr under) =
-        decided_down (setting trace) laws joint time within object first base accepted under base_decided
-
   -- ---- what a reply keeps
 
   module _ (at : ℕ) (below : at < length trace.entries) (replica : ℕ) (client : ClientId) (number round : ℕ)
@@ -154,7 +141,7 @@ module _ (trace : Trace) (is_run : IsRun trace) (have : ArePlain trace) (laws : 
           version = it.its;
           has = it.has;
           keeps = it.keeps;
-          decided = up_to_decided at (omega arith) object kept.base base_plain base_established it.first it.accepted
+          decided = up_to_decided trace laws joint at (omega arith) object kept.base base_plain base_established it.first it.accepted
               it.up_to;
           complete = kept.base;
           upon = it.up_to;

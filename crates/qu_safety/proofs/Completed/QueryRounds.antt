@@ -32,7 +32,7 @@ use Rattle.qu_points.proofs.Operations.Recorded.{recorded_op}
 use Rattle.qu_shown.proofs.AskedLetters.{AskedBy}
 use Rattle.qu_values.proofs.Requests.ClientFacts.{IsAskedBy, ClientFacts}
 use Rattle.qu_replies.proofs.Replying.{reply_letter}
-use Rattle.qu_safety.proofs.Points.OwnClients.{own_client}
+use Rattle.qu_quick.proofs.MadeBefore.{own_client}
 use Rattle.qu_safety.proofs.Completed.ToldAnswers.{IsTold, told_by_fit, ToldBefore, tells_by_reply}
 
 -- what the members of the round told, one of them for all, which was asked the query

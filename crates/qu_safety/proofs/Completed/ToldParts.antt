@@ -37,7 +37,7 @@ use Rattle.qu_rounds.proofs.Members.{is_among}
 use Rattle.qu_points.proofs.Operations.Recorded.{recorded_op}
 use Rattle.qu_replies.proofs.RepliesInRuns.{IsActOn, act_of_update, update_handled}
 use Rattle.qu_shown.proofs.AskedLetters.{AskedBy}
-use Rattle.qu_safety.proofs.Points.OwnClients.{own_client}
+use Rattle.qu_quick.proofs.MadeBefore.{own_client}
 use Rattle.qu_replies.proofs.Replying.{reply_sent, reply_letter}
 use Rattle.qu_runs.proofs.Fits.Carrying.{tells_as}
 

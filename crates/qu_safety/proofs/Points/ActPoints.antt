@@ -1,7 +1,8 @@
 -- The point of an update is at the step that decides it.
-use Rattle.std.proofs.Common.{◌≡◌, ℕ, zero, suc, ◌-◌, ◌<◌, ◌≤◌, true, List, length, refl, sym, subst, ◌∙◌, arith, inl, inr, ap}
-use Rattle.std.specs.Prelude.{Contains}
-use Rattle.std.proofs.lemmas.Bool.{false≢true, cases_Bool}
+use Rattle.std.proofs.Common.{◌≡◌, ℕ, zero, suc, ◌-◌, ◌<◌, ◌≤◌, true, List, [], ◌∷◌, length, refl, sym, subst, ◌∙◌, arith, inl, inr, ap}
+use Rattle.std.specs.Prelude.{◌==◌, Contains}
+use Rattle.std.specs.List.{list_any}
+use Rattle.std.proofs.lemmas.Bool.{false≢true, cases_Bool, or_left, or_right, eq-eqb}
 use Rattle.qu_base.specs.declared.party.ObjectId.{ObjectId}
 use Rattle.qu_stamp.specs.declared.candidate.Candidate.{Candidate}
 use Rattle.qu_stamp.specs.Stamp.{is_below}
@@ -22,7 +23,7 @@ use Rattle.qu_machine.specs.Machine.{act_values}
 use Rattle.qu_machine.specs.Serial.{Stands}
 use Rattle.qu_trace.specs.declared.trace.Trace.{Trace}
 use Rattle.qu_trace.specs.Operation.{operations_of}
-use Rattle.qu_claims.specs.Effects.{TookEffect}
+use Rattle.qu_claims.specs.Effects.{TookEffect, is_on}
 use Rattle.qu_claims.specs.Handled.{IsHandled, IsMadeFor}
 use Rattle.qu_claims.specs.RunSetting.{setting}
 use Rattle.qu_runs.specs.Plain.{ArePlain}
@@ -39,13 +40,22 @@ use Rattle.qu_points.specs.Points.{effect_of, IsOfCorrect, point_at}
 use Rattle.qu_claims.specs.Updates.{Update, IsOf, IsEverAccepted}
 use Rattle.qu_claims.specs.Parts.{Names}
 use Rattle.qu_points.proofs.Orders.Folding.{IsQuestion}
-use Rattle.qu_safety.proofs.Points.OwnClients.{on_named}
 use Rattle.qu_values.proofs.MachineValues.{IsValues, object_known, known_object, stay, change}
 use Rattle.qu_values.proofs.Updating.OneAct.{ActsAreOne, one_made_for}
 use Rattle.qu_values.proofs.Updating.Updates.{last_is, acts, one_of, opening_no_act}
 use Rattle.qu_values.proofs.Updating.UpdateFacts.{MadeFor, UpdateFacts, NoneIsRepeated}
 use Rattle.qu_values.proofs.Requests.ClientFacts.{ClientFacts}
 use Rattle.qu_values.proofs.Requests.SentRequests.{made_for_operation, asked_by_handled}
+
+-- an act is on the objects that its parts name
+on_named : (parts : List (ObjectId × Method)) (object : ObjectId) → Names parts object → is_on object parts ≡ true
+on_named [] object names = absurd names
+on_named (part ∷ parts) object (inl here) =
+    or_left ((part.0).0 == object.0) (list_any (λ (it : ObjectId × Method). (it.0).0 == object.0) parts)
+    (eq-eqb (part.0).0 object.0 (ap (λ (it : ObjectId). it.0) here))
+on_named (part ∷ parts) object (inr there) =
+    or_right ((part.0).0 == object.0) (list_any (λ (it : ObjectId × Method). (it.0).0 == object.0) parts)
+    (on_named parts object there)
 
 -- the operation has a point, which is before the event of its reply
 pub record StandsBefore (trace : Trace) (operation : OpRecord) (reply : ℕ) : Type 0 where

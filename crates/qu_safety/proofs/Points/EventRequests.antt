@@ -27,7 +27,7 @@ use Rattle.qu_shown.proofs.AskedLetters.{AskedBy}
 use Rattle.qu_replies.proofs.Replying.{handled_letter}
 use Rattle.qu_claims.specs.Handling.{Handles}
 use Rattle.qu_accepts.proofs.Handling.{one_handled}
-use Rattle.qu_safety.proofs.Points.OwnClients.{own_client}
+use Rattle.qu_quick.proofs.MadeBefore.{own_client}
 use Rattle.qu_trace.specs.Faulty.{is_faulty}
 use Rattle.qu_points.proofs.Taken.Taking.{effect_once}
 use Rattle.qu_runs.proofs.Fits.Carrying.{tells_as}
@@ -94,58 +94,3 @@ one_point trace first second one two same_client same_number =
     same_client same_number
     (sym one.op ∙ ap (λ (it : OpRecord). it.op) same ∙ two.op)
     (one.mark ∙ sym two.mark)
-
--- ---- what an event hands over
-
--- at the event of the entry with this index a replica handles a request of this client, number and round
-pub record IsAskedAt (trace : Trace) (time : ℕ) (client : ClientId) (number round : ℕ) : Type 0 where
-  pub within : time < length trace.entries
-  pub place : ℕ
-  pub old : ReplicaState
-  pub new : ReplicaState
-  pub handles : Handles trace time place old new
-  pub sets : List SetOf
-  pub asks : Body
-  pub mac : List ℕ
-  pub is_request : handles.carried ≡ frame.Request client number round sets asks mac
-
-same_frame : (first second : ClientId) (asked number turn round : ℕ) (sets shown : List SetOf) (asks told : Body)
-    (mac seal : List ℕ)
-    → frame.Request first asked turn sets asks mac ≡ frame.Request second number round shown told seal
-    → (first ≡ second) × (asked ≡ number) × (asks ≡ told)
-same_frame first second asked number turn round sets shown asks told mac seal same = (cc, cc, cc)
-
--- one event makes a replica handle one request
-pub one_asked : (trace : Trace) (time : ℕ) (client other : ClientId) (number turn round further : ℕ)
-    (one : IsAskedAt trace time client number round) (two : IsAskedAt trace time other turn further)
-    → (client ≡ other) × (number ≡ turn) × (one.asks ≡ two.asks)
-one_asked trace time client other number turn round further one two =
-    let same : (one.place ≡ two.place) × ((one.handles).carried ≡ (two.handles).carried) =
-    one_handled trace time one.place two.place one.old one.new two.old two.new one.handles two.handles in
-    same_frame client other number turn round further one.sets two.sets one.asks two.asks one.mac two.mac
-    (sym one.is_request ∙ same.1 ∙ two.is_request)
-
--- a correct client sent it
-pub asked_by_letter : (trace : Trace) → ArePlain trace → (time : ℕ) (client : ClientId) (number round : ℕ)
-    (asked : IsAskedAt trace time client number round) → is_faulty trace.setup (party.Client client) ≡ false
-    → AskedBy trace time client number round asked.sets asked.asks
-asked_by_letter trace have time client number round asked correct =
-    handled_letter trace have time asked.within asked.place asked.old asked.new asked.handles client number round
-    asked.sets asked.asks asked.mac asked.is_request correct
-
--- what is asked under the number of an operation, be it a repair, is asked after it began
-pub asked_begun : (trace : Trace) → IsRun trace → ArePlain trace → ClientFacts trace → (time : ℕ) (operation : OpRecord)
-    → Contains (operations_of trace) operation → (round : ℕ)
-    → IsAskedAt trace time operation.client operation.number round → operation.invoked ≤ time
-asked_begun trace is_run have clients time operation of_trace round asked =
-    let within : time < length trace.entries = asked.within in
-    let letter : AskedBy trace time operation.client operation.number round asked.sets asked.asks =
-    asked_by_letter trace have time operation.client operation.number round asked
-    (own_client trace is_run operation of_trace) in
-    let request : IsRequestOf trace time operation.client operation.number asked.asks =
-    clients.asks time letter.asked letter.letter operation.client operation.number round asked.sets asked.asks
-    (record { within = omega arith; is_letter = letter.is_letter; is_request = letter.is_request }) in
-    let same : request.operation ≡ operation =
-    recorded_op trace request.operation operation request.of_trace of_trace
-    (ap (λ (it : ClientId). it.0) request.of_client) request.of_number in
-    subst (λ (it : OpRecord). it.invoked ≤ time) same request.begun

@@ -52,7 +52,6 @@ use Rattle.qu_safety.proofs.Completed.QueryRounds.{query_round_asks}
 use Rattle.qu_claims.specs.Completions.{IsCompleted}
 use Rattle.qu_replies.proofs.Replying.{reply_sent}
 use Rattle.qu_shown.proofs.AskedLetters.{AskedBy}
-use Rattle.qu_safety.proofs.Points.OwnClients.{own_client}
 use Rattle.qu_trace.specs.Faulty.{is_faulty}
 use Rattle.qu_runs.proofs.Small.{same_point}
 use Rattle.qu_base.specs.declared.party.Party.TheVariants as party
@@ -61,7 +60,8 @@ use Rattle.qu_laws.proofs.Origins.{origin}
 use Rattle.qu_chain.proofs.Counting.{Found, found_at}
 use Rattle.qu_values.proofs.Updating.UpdatesOfRuns.{of_act, made_so}
 use Rattle.qu_claims.specs.Accepted.{accepts}
-use Rattle.qu_safety.proofs.Points.EventRequests.{IsReplyIn, reply_in, one_point, IsAskedAt, one_asked, asked_by_letter, asked_begun}
+use Rattle.qu_safety.proofs.Points.EventRequests.{IsReplyIn, reply_in, one_point}
+use Rattle.qu_quick.proofs.MadeBefore.{own_client, IsAskedAt, one_asked, asked_by_letter, asked_begun, MakesAct, made_before}
 
 module _ (trace : Trace) (is_run : IsRun trace) (have : ArePlain trace) (clients : ClientFacts trace) where
   -- ---- queries
@@ -148,56 +148,6 @@ module _ (trace : Trace) (is_run : IsRun trace) (have : ArePlain trace) (clients
         no_query = adds_no_query one.asks object delivered.adds;
       }
 
-  -- where an operation's candidate was made, a replica was handed the request of its update
-  record MakesAct (time : ℕ) (candidate : Candidate) : Type 0 where
-    client : ClientId
-    number : ℕ
-    round : ℕ
-    parts : List (ObjectId × Method)
-    asked : IsAskedAt trace time client number round
-    made : IsMadeFor trace candidate client number parts
-
-  makes_asked : (object : ObjectId) (candidate : Candidate) (count : ℕ) → count ≤ length trace.entries
-      → (came : Origin trace count object candidate)
-      → (setting trace).is_act candidate ≡ true → MakesAct came.past candidate
-  makes_asked object candidate count within came is_act =
-      let one : Accepts ((came.delivered).handles).mid came.new ((came.delivered).handles).carried =
-      (came.delivered).accepts in
-      let earlier : came.past < count = came.earlier in
-      record {
-        client = one.client;
-        number = one.number;
-        round = one.round;
-        parts = (of_act trace is_run have count within object candidate came is_act).parts;
-        asked = record {
-          within = omega arith;
-          place = came.place;
-          old = came.old;
-          new = came.new;
-          handles = (came.delivered).handles;
-          sets = one.sent;
-          asks = one.asks;
-          mac = one.mac;
-          is_request = one.is_request;
-        };
-        made = made_so trace is_run have count within object candidate came is_act;
-      }
-
-  -- an operation's candidate that is accepted by this time was made before
-  made_before : (time : ℕ) → time ≤ length trace.entries → (object : ObjectId) (candidate : Candidate)
-      → IsAccepted (setting trace) time object candidate → (setting trace).is_act candidate ≡ true
-      → (past : ℕ) × (past < time) × MakesAct past candidate
-  unfolding setting
-  made_before time within object candidate accepted is_act =
-      let who : Acceptor (setting trace) time object candidate = acceptor (setting trace) time object candidate
-      accepted in
-      let found : Found (accepts object candidate) (world_after trace time).replicas who.replica =
-      found_at (accepts object candidate) (world_after trace time).replicas who.replica who.accepted in
-      elim (origin trace is_run have time within who.replica found.item found.is_at object candidate found.passed) [
-        | inl begins ↦ absurd (opening_no_act trace candidate begins is_act)
-        | inr came ↦ (came.past, came.earlier, makes_asked object candidate time within came is_act)
-      ]
-
   module _ (one_act : ActsAreOne trace) (laws : Laws (setting trace)) (joint : Joint (setting trace))
       (facts : UpdateFacts trace) (once : NoneIsRepeated trace) where
     abbrev update_of : OpRecord → List (ObjectId × Method) → Update
@@ -220,12 +170,12 @@ module _ (trace : Trace) (is_run : IsRun trace) (have : ArePlain trace) (clients
         → IsTurnOf trace laws joint one_act facts once time (update_of operation parts) → operation.invoked ≤ time
     turn_begun time operation among parts it =
         let within : time < (setting trace).last = (it.turn).within in
-        let made = made_before (suc time) (omega (arith, last_is trace, within)) it.object it.candidate
+        let made = made_before trace is_run have (suc time) (omega (arith, last_is trace, within)) it.object it.candidate
         (accepted_by_decided (setting trace) laws (suc time) it.object it.candidate (it.turn).after)
         (acts trace (update_of operation parts) it.object it.candidate it.is_of) in
         let past : ℕ = made.0 in
         let earlier : past < suc time = made.1 in
-        let upon : MakesAct past it.candidate = made.2 in
+        let upon : MakesAct trace is_run have past it.candidate = made.2 in
         let same =
         one_made_for trace one_act it.candidate upon.client operation.client upon.number operation.number
         upon.parts parts upon.made (it.is_of).made in

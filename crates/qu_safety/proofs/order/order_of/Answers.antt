@@ -13,6 +13,7 @@ use Rattle.qu_claims.specs.Truth.{VersionsAreTrue}
 use Rattle.qu_runs.proofs.Digests.Plain.{plain_from}
 use Rattle.qu_claims.specs.Order.{IsPrintedOrder}
 use Rattle.qu_laws.proofs.Chained.{is_chained, decides_in_turn, decides_jointly}
+use Rattle.qu_quick.proofs.OneTrip.{quick_is_one_round}
 use Rattle.qu_safety.proofs.DecidedOnce.{decides_once}
 use Rattle.qu_safety.proofs.Completed.ByQuorums.{completes_by_quorums}
 use Rattle.qu_laws.proofs.Named.{stamps_name}
@@ -88,6 +89,12 @@ pub returns-clause-versions : goal.returns-clause-versions
 returns-clause-versions c =
     always c.printed_order.result
     (subst (λ (run : Trace). MeetsPremises run → VersionsAreTrue run) c.trace-run.ensures c.versions_are_true.ensures)
+
+pub returns-clause-one_round : goal.returns-clause-one_round
+returns-clause-one_round c =
+    always c.printed_order.result (λ premises.
+    let it : Grounded c.args.trace.now = its_grounds c premises in
+    quick_is_one_round c.args.trace.now c.requires it.plain it.clients it.one_act it.laws it.joint it.facts)
 
 pub returns-clause-by_quorums : goal.returns-clause-by_quorums
 returns-clause-by_quorums c =

@@ -37,9 +37,9 @@ record IsLater (entries earlier : List Entry) (at : ℕ) (operation : OpRecord) 
   begun : IsBegunIn entries operation
 
 -- the first began before the second, and has a lower number where both are of one client
-record InOrder (first second : OpRecord) : Type 0 where
-  invoked : first.invoked < second.invoked
-  number : first.client ≡ second.client → first.number < second.number
+pub record InOrder (first second : OpRecord) : Type 0 where
+  pub invoked : first.invoked < second.invoked
+  pub number : first.client ≡ second.client → first.number < second.number
 
 abbrev begins : ClientId → Event → ℕ
 begins client event = cond (invokes client event) 1 0
@@ -98,7 +98,8 @@ module _ (setup : Setup) (entries earlier : List Entry) (entry : Entry) (later :
               ≡ begun_by client earlier + begins client entry.event =
               begun_more client earlier entry in
               let here : begun_by client (earlier ++ entry ∷ []) < second.number =
-              subst (λ (who : ClientId). begun_by who (earlier ++ entry ∷ []) < second.number) (sym same) after.number in
+              subst (λ (who : ClientId). begun_by who (earlier ++ entry ∷ []) < second.number)
+              (sym same) after.number in
               omega arith;
         }
 
@@ -190,6 +191,9 @@ lower_in operations first second pairs one two client before =
 
 abbrev all_of : (trace : Trace) → AreOperations trace.entries [] 1 (operations_of trace)
 all_of trace = are_operations trace.setup trace.entries [] 1 trace.entries refl refl
+
+pub operations_in_order : (trace : Trace) → AllPairs InOrder (operations_of trace)
+operations_in_order trace = (all_of trace).in_order
 
 -- of one client, what began earlier has a lower number
 pub earlier_is_lower : (trace : Trace) (first second : OpRecord) → Contains (operations_of trace) first

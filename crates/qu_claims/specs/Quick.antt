@@ -147,8 +147,8 @@ asked_first bounds object =
     map (λ number. party.Replica (record { 0 = number }))
     (filter (λ number. is_asked bounds (Preferred object) number) (range_with_len 0 (replicas bounds)))
 
--- the client sends one letter to each replica of the preferred quorum of the lowest object, and no other before the last
--- of the replies, at which the operation is done, with the answer of the act on the versions of the candidates
+-- the client sends one letter to each replica that is preferred for the lowest object, a quorum, and no other up to the
+-- last of the replies, at which the operation is done, with the answer of the act on the versions of the candidates
 pub record EndsInOneRound (trace : Trace) (operation : OpRecord) (parts : List (ObjectId × Method))
     (bases : ObjectId → Candidate) (begin last : ℕ) : Type 0 where
   pub entry : Entry
@@ -159,8 +159,10 @@ pub record EndsInOneRound (trace : Trace) (operation : OpRecord) (parts : List (
       → letter.from ≢ party.Client operation.client
   pub versions : ObjectId → ObjState
   pub of_bases : (object : ObjectId) → Names parts object → HasVersion trace object (bases object) (versions object)
-  pub done : operation.reply ≡ Some (last + 1,
-      outcome.Done (performed_answer parts (values_on (λ (object : ObjectId). (versions object).value) parts)))
+  pub done : operation.reply ≡ Some (
+    last + 1,
+    outcome.Done (performed_answer parts (values_on (λ (object : ObjectId). (versions object).value) parts)),
+  )
 
 -- each act that is quick ends in one round
 abbrev pub QuickIsOneRound : Trace → Type 0

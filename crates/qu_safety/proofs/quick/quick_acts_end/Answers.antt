@@ -1,0 +1,16 @@
+-- An act whose client's cached histories are current ends in one round.
+use Rattle.std.proofs.Common.{◌<◌, ◌^◌, List, length, subst}
+use Rattle.qu_trace.specs.declared.trace.Entry.{Entry}
+use Rattle.qu_trace.specs.declared.trace.Trace.{Trace}
+use Rattle.qu_runs.specs.Plain.{HaveParts}
+use Rattle.qu_quick.proofs.OneTrip.{quick_is_one_round}
+use Rattle.qu_safety.proofs.Grounded.{Grounded, grounded}
+use Rattle.qu_safety.proofs.quick.quick_acts_end.Goals as goal
+
+pub returns : goal.returns
+returns c premises =
+    let trace : Trace = c.args.trace.now in
+    let it : Grounded trace =
+    grounded trace c.requires (subst HaveParts c.as_slice.ensures c.have_parts.ensures.parts)
+    (subst (λ (entries : List Entry). length entries < 2 ^ 63) c.as_slice.ensures c.have_parts.ensures.few) premises in
+    quick_is_one_round trace c.requires it.plain it.clients it.one_act it.laws it.joint it.facts
