@@ -1,9 +1,9 @@
 -- An event that does not happen at a client leaves its state, sends no letter of it and ends none of its operations.
-use Rattle.std.proofs.Common.{◌≡◌, ◌≢◌, ℕ, zero, suc, ◌+◌, ◌<◌, ◌≤◌, ◌==◌, ◌&&◌, Bool, true, false, cond, List, [], ◌∷◌, length, map, get_or, Option, None, Some, refl, sym, ap, subst, ◌∙◌, arith, inl, inr}
-use Rattle.std.specs.Prelude.{slice_get, option_map, Contains, slice_set}
+use Rattle.std.proofs.Common.{◌≡◌, ◌≢◌, ℕ, zero, suc, ◌+◌, ◌<◌, ◌==◌, ◌&&◌, true, List, [], ◌∷◌, length, get_or, Option, None, Some, refl, sym, ap, subst, ◌∙◌, arith}
+use Rattle.std.specs.Prelude.{slice_get, option_map}
 use Rattle.std.specs.List.{All, AllByRecursion}
-use Rattle.std.proofs.lemmas.Bool.{cond_both, false≢true, and_parts, eqb-true, cases_Bool}
-use Rattle.std.proofs.lemmas.List.Elements.{All-nil, All-cons, All-contains}
+use Rattle.std.proofs.lemmas.Bool.{cond_both, false≢true, and_parts, eqb-true}
+use Rattle.std.proofs.lemmas.List.Elements.{All-nil, All-cons}
 use Rattle.std.proofs.lemmas.Option.{get_or_from_slice_get, slice_get_within, none-some, same_Some}
 use Rattle.qu_base.specs.Bounds.{replicas}
 use Rattle.qu_base.specs.declared.party.ClientId.{ClientId}
@@ -13,7 +13,6 @@ use Rattle.qu_base.specs.declared.party.Party.TheVariants as party
 use Rattle.qu_base.specs.declared.party.ReplicaId.{ReplicaId}
 use Rattle.qu_seal.specs.Keys.{Ring}
 use Rattle.qu_stamp.specs.declared.stamp.Stamp.{Stamp}
-use Rattle.qu_objects.specs.declared.op.Op.{Op}
 use Rattle.qu_objects.specs.declared.op.Outcome.{Outcome}
 use Rattle.qu_objects.specs.declared.state.ObjState.{ObjState}
 use Rattle.qu_frames.specs.declared.frame.Frame.{Frame}
@@ -29,7 +28,7 @@ use Rattle.qu_replica.specs.Step.{fetches_from, fetches_of, version_letters, car
 use Rattle.qu_client.specs.declared.state.ClientState.{ClientState}
 use Rattle.qu_client.specs.declared.whom.Whom.{Whom}
 use Rattle.qu_client.specs.declared.work.Work.{Work}
-use Rattle.qu_client.specs.Rounds.{is_asked, requests, requests_from}
+use Rattle.qu_client.specs.Rounds.{is_asked, requests_from}
 use Rattle.qu_client.specs.State.{Stepped}
 use Rattle.qu_client.specs.Steps.{client_invoke, client_step, client_tick}
 use Rattle.qu_trace.specs.declared.event.Event.{Event}
@@ -40,13 +39,13 @@ use Rattle.qu_trace.specs.Faulty.{is_replica}
 use Rattle.qu_trace.specs.Operation.{outcome_in}
 use Rattle.qu_machine.proofs.Equalities.{client_is}
 use Rattle.qu_world.specs.State.{WorldState, numbered, with_numbered, letter_of}
-use Rattle.qu_world.specs.Step.{world_step, moved, unchanged, at_client, at_replica, received, delivered, ended_by, ended_as}
+use Rattle.qu_world.specs.Step.{world_step, moved, at_client, at_replica, received, delivered, ended_by}
 use Rattle.qu_world.specs.Run.{IsRun}
 use Rattle.qu_world.proofs.Each.{each_append, set_other}
-use Rattle.qu_world.proofs.Steps.{AtCorrect, step_cases}
+use Rattle.qu_world.proofs.Steps.{step_cases}
 use Rattle.qu_claims.specs.Carried.{handed, offered}
 use Rattle.qu_claims.specs.Times.{world_after}
-use Rattle.qu_runs.specs.Plain.{ArePlain, IsFrom}
+use Rattle.qu_runs.specs.Plain.{ArePlain}
 use Rattle.qu_runs.proofs.Events.Handing.{handed_offers}
 use Rattle.qu_runs.proofs.Events.Recording.{entry_cases}
 use Rattle.qu_runs.proofs.Fits.ClientLetters.{step_sends, tick_sends, invoke_sends}

@@ -1,13 +1,12 @@
 -- What a client does when it begins an act whose cached histories are current: it asks the act of the preferred
 -- replicas, of each once.
-use Rattle.std.proofs.Common.{◌≡◌, ℕ, zero, suc, ◌+◌, ◌<◌, ◌≤◌, Bool, true, false, not, cond, List, [], ◌∷◌, length, map, get_or, Option, None, Some, IsTrue, refl, sym, ap, subst, ◌∙◌, arith, inl, inr}
-use Rattle.std.specs.Prelude.{slice_get, nat_lt, is_some, filter, Contains}
-use Rattle.std.specs.List.{list_all, range_with_len}
+use Rattle.std.proofs.Common.{◌≡◌, ℕ, zero, suc, ◌+◌, ◌≤◌, true, false, not, List, [], ◌∷◌, length, map, Some, IsTrue, refl, ap, ◌∙◌, arith, inl, inr}
+use Rattle.std.specs.Prelude.{nat_lt, filter}
+use Rattle.std.specs.List.{range_with_len}
 use Rattle.std.proofs.lemmas.Bool.{cases_Bool, false≢true}
 use Rattle.std.proofs.lemmas.Bool.Decides.{nat_tests}
 use Rattle.std.proofs.lemmas.List.{length-map}
 use Rattle.std.proofs.lemmas.List.Sums.{length-filter}
-use Rattle.std.proofs.lemmas.Option.{get_or_from_slice_get, slice_get_within}
 use Rattle.qu_base.specs.Bounds.{replicas, quorum}
 use Rattle.qu_base.specs.declared.party.ClientId.{ClientId}
 use Rattle.qu_base.specs.declared.party.ObjectId.{ObjectId}
@@ -20,7 +19,7 @@ use Rattle.qu_pick.specs.AskedFirst.{how_many_preferred}
 use Rattle.qu_pick.proofs.AskedFirst.{preferred_make_a_quorum}
 use Rattle.qu_history.specs.declared.sets.SetOf.{SetOf}
 use Rattle.qu_history.specs.History.{ObjectHistory}
-use Rattle.qu_history.specs.Sets.{histories, entries_of, method_at, order_of}
+use Rattle.qu_history.specs.Sets.{entries_of, method_at, order_of}
 use Rattle.qu_history.specs.Trimming.{trimmed, trimmed_set}
 use Rattle.qu_history.proofs.Method.{order_of_most}
 use Rattle.qu_objects.specs.declared.act.Method.{Method}
@@ -40,7 +39,6 @@ use Rattle.qu_client.specs.Question.{operation_objects, set_of, are_full, are_cu
 use Rattle.qu_client.specs.Rounds.{is_asked, requests_from, work_asking, begins}
 use Rattle.qu_client.specs.State.{Stepped, unmarked}
 use Rattle.qu_client.specs.Steps.{client_invoke, next_number}
-use Rattle.qu_claims.specs.Parts.{Names}
 use Rattle.qu_claims.specs.Quick.{first_sets, asked_first}
 use Rattle.qu_quick.proofs.DoneRows.{entries_here}
 

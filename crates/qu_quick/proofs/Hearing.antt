@@ -1,24 +1,22 @@
 -- A client that is handed one reply after another, all with one verdict Done: it waits, sends nothing, and its
 -- operation ends at the one that makes a quorum.
 use Rattle.std.proofs.Common.{◌≡◌, ◌≢◌, ℕ, zero, suc, ◌+◌, ◌-◌, ◌<◌, ◌≤◌, ◌==◌, ◌||◌, Bool, true, false, List, [], ◌∷◌, ◌++◌, length, get_or, Option, None, Some, refl, sym, ap, subst, ◌∙◌, arith, inl, inr, add-zero}
-use Rattle.std.specs.Prelude.{slice_get, nat_lt, ◌⊎◌}
-use Rattle.std.specs.List.{list_any, All, AllPairs, AllByRecursion}
+use Rattle.std.specs.Prelude.{slice_get, ◌⊎◌}
+use Rattle.std.specs.List.{All, AllByRecursion}
 use Rattle.std.proofs.lemmas.Bool.{cases_order}
 use Rattle.std.proofs.lemmas.Bool.Decides.{nat_tests}
 use Rattle.std.proofs.lemmas.List.{length-append}
-use Rattle.std.proofs.lemmas.List.Elements.{All-nil, All-head, All-tail}
+use Rattle.std.proofs.lemmas.List.Elements.{All-nil}
 use Rattle.std.proofs.lemmas.List.Folds.{list_any-append}
 use Rattle.std.proofs.lemmas.Option.{get_or_from_slice_get, slice_get-get_or, slice_get_within}
 use Rattle.qu_base.specs.Bounds.{quorum}
 use Rattle.qu_base.specs.declared.party.ClientId.{ClientId}
 use Rattle.qu_base.specs.declared.party.ObjectId.{ObjectId}
 use Rattle.qu_base.specs.declared.party.Party.TheVariants as party
-use Rattle.qu_base.specs.declared.party.ReplicaId.{ReplicaId}
 use Rattle.qu_stamp.specs.declared.stamp.Stamp.{Stamp}
 use Rattle.qu_history.specs.declared.sealed.Sealed.{Sealed}
 use Rattle.qu_objects.specs.declared.act.Method.{Method}
 use Rattle.qu_objects.specs.declared.answer.Answer.{Answer}
-use Rattle.qu_objects.specs.declared.op.Outcome.{Outcome}
 use Rattle.qu_objects.specs.declared.op.Outcome.TheVariants as outcome
 use Rattle.qu_frames.specs.declared.frame.Body.TheVariants as body
 use Rattle.qu_frames.specs.declared.frame.Frame.TheVariants as frame
@@ -46,7 +44,7 @@ use Rattle.qu_runs.proofs.Events.Handing.{handed_step}
 use Rattle.qu_runs.proofs.Fits.Carrying.{numbered_here}
 use Rattle.qu_runs.proofs.Worlds.Keyed.{clients_keyed}
 use Rattle.qu_runs.proofs.Worlds.WorldGrowth.{world_after-next}
-use Rattle.qu_claims.specs.Quick.{HandsAt, IsElsewhere, RoundTurn, HearsNext, last_heard}
+use Rattle.qu_claims.specs.Quick.{IsElsewhere, RoundTurn, HearsNext, last_heard}
 use Rattle.qu_quick.proofs.ClientTells.{AllTell, waits_below, ends_at}
 use Rattle.qu_quick.proofs.Elsewhere.{IsNoneOf, still_there, none_there}
 

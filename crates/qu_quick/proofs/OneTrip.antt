@@ -1,5 +1,5 @@
 -- An act whose client's cached histories are current ends in one round.
-use Rattle.std.proofs.Common.{◌≡◌, ◌≢◌, ℕ, zero, suc, ◌+◌, ◌-◌, ◌<◌, ◌≤◌, true, false, List, [], ◌∷◌, length, map, take, drop, Option, None, Some, IsTrue, refl, sym, ap, subst, ◌∙◌, arith, inl, inr}
+use Rattle.std.proofs.Common.{◌≡◌, ◌≢◌, ℕ, zero, suc, ◌+◌, ◌-◌, ◌<◌, ◌≤◌, false, List, [], ◌∷◌, length, take, drop, None, Some, refl, sym, ap, subst, ◌∙◌, arith, inl, inr}
 use Rattle.std.specs.Prelude.{slice_get, Contains, ◌⊎◌}
 use Rattle.std.specs.List.{All, AllPairs, AllByRecursion}
 use Rattle.std.proofs.lemmas.Bool.{cases_order}
@@ -10,12 +10,9 @@ use Rattle.qu_base.specs.declared.party.ClientId.{ClientId}
 use Rattle.qu_base.specs.declared.party.ObjectId.{ObjectId}
 use Rattle.qu_base.specs.declared.party.Party.TheVariants as party
 use Rattle.qu_stamp.specs.declared.candidate.Candidate.{Candidate}
-use Rattle.qu_stamp.specs.declared.limits.TheConstants.{LAST_TIME}
 use Rattle.qu_stamp.specs.declared.stamp.Stamp.{Stamp}
-use Rattle.qu_history.specs.Sets.{entries_of, method_at}
 use Rattle.qu_objects.specs.declared.act.Method.{Method}
 use Rattle.qu_objects.specs.declared.answer.Answer.{Answer}
-use Rattle.qu_objects.specs.declared.op.Op.TheVariants as op
 use Rattle.qu_objects.specs.declared.op.Outcome.{Outcome}
 use Rattle.qu_objects.specs.declared.op.Outcome.TheVariants as outcome
 use Rattle.qu_objects.specs.declared.state.ObjState.{ObjState}
@@ -26,12 +23,10 @@ use Rattle.qu_client.specs.declared.work.Work.{Work}
 use Rattle.qu_client.specs.Steps.{has_replied}
 use Rattle.qu_trace.specs.declared.trace.Entry.{Entry}
 use Rattle.qu_trace.specs.declared.trace.Trace.{Trace}
-use Rattle.qu_trace.specs.Operation.{begun_by, end_from, outcome_in, operations_of, record_of}
-use Rattle.qu_world.specs.State.{numbered}
+use Rattle.qu_trace.specs.Operation.{begun_by, end_from, outcome_in}
 use Rattle.qu_world.specs.Run.{IsRun}
-use Rattle.qu_claims.specs.Parts.{Names, values_on}
+use Rattle.qu_claims.specs.Parts.{Names}
 use Rattle.qu_claims.specs.RunSetting.{setting}
-use Rattle.qu_claims.specs.Times.{world_after}
 use Rattle.qu_claims.specs.Values.{HasVersion}
 use Rattle.qu_chain.specs.Joint.{Joint}
 use Rattle.qu_chain.specs.Laws.{Laws}
@@ -45,7 +40,7 @@ use Rattle.qu_points.proofs.Operations.Began.{IsBegunIn}
 use Rattle.qu_quick.proofs.FirstRound.{one_part}
 use Rattle.qu_quick.proofs.Hearing.{IsHeard, IsWaitingAt, EndsAfter, AreApart, hears_all}
 use Rattle.qu_quick.proofs.Invoked.{began, index_is, first_entry, is_first, has_parts, work, asked_parties_are, asks_a_quorum, none_ends_first, after_first, number_is}
-use Rattle.qu_quick.proofs.Turns.{its_version, its_version-is, brings, told_stamp, told_answer, turn_heard, shown_set}
+use Rattle.qu_quick.proofs.Turns.{its_version, its_version-is, brings, told_stamp, told_answer, turn_heard}
 
 -- ---- the end that a trace shows
 

@@ -1,5 +1,5 @@
 -- What a replica makes of the request of an act that is quick: the act is done, and each of them tells one verdict.
-use Rattle.std.proofs.Common.{◌≡◌, ℕ, ◌+◌, ◌<◌, ◌≤◌, true, false, not, List, [], ◌∷◌, length, get_or, Option, None, Some, IsTrue, refl, sym, ap, subst, ◌∙◌, arith, inl}
+use Rattle.std.proofs.Common.{◌≡◌, ℕ, ◌+◌, ◌<◌, true, not, List, [], ◌∷◌, length, Option, None, Some, refl, sym, ap, subst, ◌∙◌, arith, inl}
 use Rattle.std.specs.Prelude.{slice_get, Contains, IsSome}
 use Rattle.std.proofs.lemmas.Bool.{false≢true}
 use Rattle.std.proofs.lemmas.Option.{get_or_from_slice_get, slice_get_within, same_Some}
@@ -14,7 +14,6 @@ use Rattle.qu_stamp.specs.declared.stamp.Stamp.{Stamp}
 use Rattle.qu_history.specs.declared.sets.SetOf.{SetOf}
 use Rattle.qu_history.specs.Culling.{culled}
 use Rattle.qu_history.specs.Formats.{sets_form}
-use Rattle.qu_history.specs.History.{ObjectHistory, holds}
 use Rattle.qu_history.specs.Sealing.{are_right}
 use Rattle.qu_history.specs.Sets.{entries_of, method_at}
 use Rattle.qu_history.proofs.RightSeals.{culled_whole}
@@ -31,10 +30,10 @@ use Rattle.qu_frames.specs.declared.frame.Frame.TheVariants as frame
 use Rattle.qu_frames.specs.declared.frame.Letter.{Letter}
 use Rattle.qu_frames.specs.declared.verdict.Verdict.{Verdict}
 use Rattle.qu_frames.specs.Formats.{frame_form}
-use Rattle.qu_fitting.proofs.FitRequests.{RequestFits, request-fits}
+use Rattle.qu_fitting.proofs.FitRequests.{request-fits}
 use Rattle.qu_machine.specs.declared.record.OpRecord.{OpRecord}
 use Rattle.qu_rows.specs.Rows.{asked_of, fresh_stamp}
-use Rattle.qu_rows.specs.State.{ReplicaState, candidates_in}
+use Rattle.qu_rows.specs.State.{ReplicaState}
 use Rattle.qu_versions.specs.Versions.{version_at}
 use Rattle.qu_client.specs.declared.state.ClientState.{ClientState}
 use Rattle.qu_client.specs.Steps.{client_step}
@@ -62,7 +61,7 @@ use Rattle.qu_runs.proofs.Fits.Carrying.{brings_decoded}
 use Rattle.qu_runs.proofs.Fits.Fitting.{handed_fits}
 use Rattle.qu_runs.proofs.Small.{only_one}
 use Rattle.qu_runs.proofs.Worlds.Objects.{held_within}
-use Rattle.qu_runs.proofs.Worlds.OpeningReplicas.{all_replicas, bounds_are, keys_are}
+use Rattle.qu_runs.proofs.Worlds.OpeningReplicas.{all_replicas, bounds_are}
 use Rattle.qu_values.proofs.Requests.ClientFacts.{IsAskedBy, ClientFacts}
 use Rattle.qu_values.proofs.Updating.OneAct.{ActsAreOne}
 use Rattle.qu_values.proofs.Updating.UpdateFacts.{UpdateFacts}

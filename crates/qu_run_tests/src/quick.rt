@@ -16,10 +16,13 @@ use std::test::Fail;
 
 const TWO_ADDS: &str = "bounds 1\nseed 7\nclients 1\nobject 0 counter\n\
     call 1 add 0 5\nflow\ncall 1 add 0 2\nflow\n";
+
 const COUNTER: ObjectId = ObjectId(0);
+
 const CLIENT: ClientId = ClientId(1);
 /// The event at which the second update begins, counted from 0, and its first letter.
 const BEGIN: usize = 23;
+
 const FIRST: u64 = 23;
 
 fn trace(alloc: Global) -> Result<Trace, Fail> {
@@ -85,13 +88,19 @@ fn is_quick(
 ) -> Result<bool, Fail> {
     let index = BEGIN + 1 + usize::from(replica);
     let entry = trace.entries.get(index).ok_or("no such event")?;
-    let before = trace.entries.as_slice().get(..index).ok_or("too few events")?;
+    let before = trace
+        .entries
+        .as_slice()
+        .get(..index)
+        .ok_or("too few events")?;
     let world = followed(alloc, before)?;
     let keys = KeyRing::derive(7, &Bounds::new(1)?, 1);
     let ready = is_ready(&world, ReplicaId(replica), base).ok_or("no such replica")?;
-    Ok(ready
-        && delivers(entry, FIRST + u64::from(replica))
-        && sets.are_right(ReplicaId(replica), &keys))
+    Ok(
+        ready
+            && delivers(entry, FIRST + u64::from(replica))
+            && sets.are_right(ReplicaId(replica), &keys),
+    )
 }
 
 #[test]

@@ -1,11 +1,9 @@
 -- What an event hands to a party: one request at most, which belongs to one operation.
-use Rattle.std.proofs.Common.{◌≡◌, ℕ, ◌<◌, ◌≤◌, true, List, length, refl, sym, ap, subst, ◌∙◌, arith, Result, Ok, false}
-use Rattle.std.specs.Prelude.{◌==◌, ◌&&◌, Contains}
+use Rattle.std.proofs.Common.{◌≡◌, ℕ, true, List, refl, sym, ap, subst, ◌∙◌, Result, Ok}
+use Rattle.std.specs.Prelude.{◌==◌, ◌&&◌}
 use Rattle.std.proofs.lemmas.Bool.{false≢true, and_parts, eqb-true}
 use Rattle.qu_base.specs.declared.party.ClientId.{ClientId}
 use Rattle.qu_base.specs.declared.party.ReplicaId.{ReplicaId}
-use Rattle.qu_history.specs.declared.sets.SetOf.{SetOf}
-use Rattle.qu_frames.specs.declared.frame.Body.{Body}
 use Rattle.qu_frames.specs.declared.frame.Frame.{Frame}
 use Rattle.qu_frames.specs.declared.frame.Frame.TheVariants as frame
 use Rattle.qu_frames.specs.declared.frame.Letter.{Letter}
@@ -14,21 +12,10 @@ use Rattle.qu_machine.specs.declared.record.OpRecord.{OpRecord}
 use Rattle.qu_machine.specs.declared.record.Point.{Point}
 use Rattle.qu_machine.proofs.Equalities.{client_is}
 use Rattle.qu_trace.specs.declared.trace.Trace.{Trace}
-use Rattle.qu_trace.specs.Operation.{operations_of}
-use Rattle.qu_world.specs.Run.{IsRun}
-use Rattle.qu_rounds.specs.Invocations.{IsRequestOf}
 use Rattle.qu_safety.proofs.Points.OwnedPoints.{IsOperationPoint}
 use Rattle.qu_points.specs.Points.{effect_of}
 use Rattle.qu_claims.specs.Answers.{is_answer, answers}
-use Rattle.qu_runs.specs.Plain.{ArePlain}
-use Rattle.qu_values.proofs.Requests.ClientFacts.{ClientFacts}
 use Rattle.qu_points.proofs.Operations.Recorded.{recorded_op}
-use Rattle.qu_shown.proofs.AskedLetters.{AskedBy}
-use Rattle.qu_replies.proofs.Replying.{handled_letter}
-use Rattle.qu_claims.specs.Handling.{Handles}
-use Rattle.qu_accepts.proofs.Handling.{one_handled}
-use Rattle.qu_quick.proofs.MadeBefore.{own_client}
-use Rattle.qu_trace.specs.Faulty.{is_faulty}
 use Rattle.qu_points.proofs.Taken.Taking.{effect_once}
 use Rattle.qu_runs.proofs.Fits.Carrying.{tells_as}
 use Rattle.qu_runs.proofs.Small.{same_point}
@@ -36,8 +23,6 @@ use Rattle.qu_claims.specs.Carried.{Tells}
 use Rattle.qu_frames.specs.Decoding.{decoded}
 use Rattle.qu_history.specs.declared.sealed.Sealed.{Sealed}
 use Rattle.qu_base.specs.declared.bad_text.BadText.{BadText}
-use Rattle.qu_rows.specs.State.{ReplicaState}
-use Rattle.qu_base.specs.declared.party.Party.TheVariants as party
 
 -- ---- answers
 

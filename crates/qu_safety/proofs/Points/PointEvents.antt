@@ -10,10 +10,10 @@ use Rattle.qu_objects.specs.declared.op.Op.{Op}
 use Rattle.qu_objects.specs.declared.op.Op.TheVariants as op
 use Rattle.qu_objects.specs.declared.op.Outcome.{Outcome}
 use Rattle.qu_objects.specs.declared.op.Outcome.TheVariants as outcome
-use Rattle.qu_claims.specs.Setting.{IsNew, IsAccepted}
+use Rattle.qu_claims.specs.Setting.{IsNew}
 use Rattle.qu_chain.specs.Laws.{Laws}
 use Rattle.qu_chain.specs.Joint.{Joint}
-use Rattle.qu_chain.proofs.Ancestry.{accepted_by_decided, Acceptor, acceptor}
+use Rattle.qu_chain.proofs.Ancestry.{accepted_by_decided}
 use Rattle.qu_chain.proofs.Tops.{newly}
 use Rattle.qu_chain.proofs.Updates.{one_update}
 use Rattle.qu_frames.specs.declared.frame.Body.{Body}
@@ -31,12 +31,10 @@ use Rattle.qu_objects.specs.declared.query.Ask.{Ask}
 use Rattle.qu_claims.specs.RunSetting.{setting}
 use Rattle.qu_claims.specs.Updates.{Update, IsOf}
 use Rattle.qu_safety.proofs.Points.ActPoints.{IsTurnOf, turn_at}
-use Rattle.qu_values.proofs.Updating.Updates.{last_is, acts, one_of, opening_no_act}
+use Rattle.qu_values.proofs.Updating.Updates.{last_is, acts, one_of}
 use Rattle.qu_values.proofs.Updating.UpdateFacts.{UpdateFacts, NoneIsRepeated}
 use Rattle.qu_values.proofs.Updating.OneAct.{ActsAreOne, one_made_for}
-use Rattle.qu_claims.specs.Handled.{IsMadeFor}
 use Rattle.qu_claims.specs.Grounds.{Accepts, IsDelivered, AddsTo}
-use Rattle.qu_claims.specs.Times.{world_after}
 use Rattle.qu_claims.specs.Order.{AnswersFirst, query_effect}
 use Rattle.qu_safety.proofs.Points.OwnedPoints.{IsOperationPoint, IsFaultyPoint, HasOwner}
 use Rattle.qu_points.specs.Points.{effect_of}
@@ -55,11 +53,6 @@ use Rattle.qu_shown.proofs.AskedLetters.{AskedBy}
 use Rattle.qu_trace.specs.Faulty.{is_faulty}
 use Rattle.qu_runs.proofs.Small.{same_point}
 use Rattle.qu_base.specs.declared.party.Party.TheVariants as party
-use Rattle.qu_claims.specs.Origins.{Origin}
-use Rattle.qu_laws.proofs.Origins.{origin}
-use Rattle.qu_chain.proofs.Counting.{Found, found_at}
-use Rattle.qu_values.proofs.Updating.UpdatesOfRuns.{of_act, made_so}
-use Rattle.qu_claims.specs.Accepted.{accepts}
 use Rattle.qu_safety.proofs.Points.EventRequests.{IsReplyIn, reply_in, one_point}
 use Rattle.qu_quick.proofs.MadeBefore.{own_client, IsAskedAt, one_asked, asked_by_letter, asked_begun, MakesAct, made_before}
 
