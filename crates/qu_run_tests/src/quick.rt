@@ -138,7 +138,7 @@ fn they_are_asked_and_no_others(rt: HostRuntime) -> Result<(), Fail> {
 fn is_told_seven(entry: &Entry) -> bool {
     match &entry.ended {
         Some((client, 2, Outcome::Done(Answer::Ok(items)))) => {
-            *client == CLIENT && items.as_slice() == [Item::Number(7)]
+            *client == CLIENT && items.as_slice() == [Item::Number(7)].as_slice()
         }
         _ => false,
     }
