@@ -117,11 +117,12 @@ fn a_cut_off_replica_gets_nothing(rt: HostRuntime) -> Result<(), Fail> {
     holds(trace.entries.len() == 21, "21 events")
 }
 
-/// The call and two round trips to six replicas, two letters once more, and the answers to these.
+/// The call, a round trip to six replicas and one to the five preferred, two letters once more, and the answers to
+/// these.
 #[test]
 fn a_script_is_run(rt: HostRuntime) -> Result<(), Fail> {
     let trace = trace(rt.alloc(), LINES)?;
-    holds(trace.entries.len() == 29, "29 events")
+    holds(trace.entries.len() == 27, "27 events")
 }
 
 const LIAR: &str = "faulty replica 5\ncall 1 read 0\nflow\nfake 5 1 show 0\ncall 1 add 0 5\nflow";
