@@ -419,11 +419,11 @@ flag-exact may =
     (λ value code fits is. ap (λ (it : ℕ). it == 1) (sym (some_is is)) ∙ from_bool-back value)
 
 -- the pair of a code and a value is that of the value
-coded_pair : {C V : Type 0} (code : V → C) (pair : C × V) → code pair.1 ≡ pair.0
+pub coded_pair : {C V : Type 0} (code : V → C) (pair : C × V) → code pair.1 ≡ pair.0
     → Some (code pair.1, pair.1) ≡ Some pair
 coded_pair code pair is = ap (λ it. Some (it, pair.1)) is
 
-second_of : {C V : Type 0} (code : V → C) (value : V) (pair : C × V) → Some (code value, value) ≡ Some pair
+pub second_of : {C V : Type 0} (code : V → C) (value : V) (pair : C × V) → Some (code value, value) ≡ Some pair
     → pair.1 ≡ value
 second_of {C = C} {V = V} code value pair is = ap (λ (it : C × V). it.1) (sym (some_is is))
 

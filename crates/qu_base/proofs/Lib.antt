@@ -4,3 +4,4 @@ pub mod PrefixCodes
 pub mod Reading
 pub mod Lists
 pub mod Writing
+pub mod TextForms

@@ -1,9 +1,9 @@
 -- What follows of a format that is exact: one value and one spelling, and that it is a prefix code.
-use Rattle.std.proofs.Common.{◌≡◌, ℕ, ◌-◌, List, [], length, sym, ap, subst, ◌∙◌, arith}
+use Rattle.std.proofs.Common.{◌≡◌, ℕ, List, [], length, sym, ap, subst, ◌∙◌, arith}
 use Rattle.std.proofs.lemmas.List.{append-nil}
 use Rattle.qu_base.specs.declared.bad_text.Why.TheVariants.{Short}
 use Rattle.qu_base.specs.Cursor.{Front}
-use Rattle.qu_base.specs.Format.{Format, front_of, bytes, Spells, IsExact, IsPrefixCode}
+use Rattle.qu_base.specs.Format.{Format, front_of, Spells, IsExact, IsPrefixCode}
 use Rattle.qu_base.proofs.Formats.{same_ok}
 
 -- ---- what exactness gives

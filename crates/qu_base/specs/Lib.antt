@@ -2,3 +2,4 @@ pub mod Bounds
 pub mod Cursor
 pub mod Format
 pub mod Reading
+pub mod Texts

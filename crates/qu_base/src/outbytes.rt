@@ -78,6 +78,14 @@ impl Outbytes {
         self.u8((count % 256) as u8)
     }
 
+    /// Appends a length as its two lowest bytes. Without memory the text stays as it is.
+    pub fn length(&mut self, length: usize) -> Result<(), NoMemory>
+        ensures ok { OnOk result (self.new ≡ self.old ++ to_be_bytes w16 length) }
+        ensures err { OnErr result (self.new ≡ self.old) }
+    {
+        self.u16((length % 65536) as u16)
+    }
+
     /// How many bytes were written.
     pub fn len(&self) -> usize
         ensures { result ≡ length self.now }

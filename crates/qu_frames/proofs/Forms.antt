@@ -14,7 +14,8 @@ use Rattle.qu_stamp.proofs.Forms.{stamp_with-exact}
 use Rattle.qu_objects.specs.declared.act.Method.{Method}
 use Rattle.qu_objects.specs.declared.query.Ask.{Ask}
 use Rattle.qu_objects.specs.Formats.{is_one_of, act_form, query_form}
-use Rattle.qu_objects.proofs.Forms.{word-exact, act-exact, query-exact, byte-exact}
+use Rattle.qu_base.proofs.TextForms.{word-exact}
+use Rattle.qu_objects.proofs.Forms.{act-exact, query-exact, byte-exact}
 use Rattle.qu_objects.proofs.StateLaws.{state-exact}
 use Rattle.qu_history.proofs.Forms.{sets-exact, shown-exact}
 use Rattle.qu_frames.specs.declared.frame.Body.{Body}

@@ -12,8 +12,10 @@ use Rattle.qu_stamp.specs.Formats.{stamp_form}
 use Rattle.qu_stamp.proofs.Forms.{stamp_with-exact}
 use Rattle.qu_objects.specs.declared.limits.TheConstants.{PARTS_LIMIT}
 use Rattle.qu_objects.specs.declared.answer.Answer.{Answer}
-use Rattle.qu_objects.specs.Formats.{word_form, answer_form}
-use Rattle.qu_objects.proofs.Forms.{word-exact, answer-exact, byte-exact}
+use Rattle.qu_base.specs.Texts.{word_form}
+use Rattle.qu_objects.specs.Formats.{answer_form}
+use Rattle.qu_base.proofs.TextForms.{word-exact}
+use Rattle.qu_objects.proofs.Forms.{answer-exact, byte-exact}
 use Rattle.qu_history.specs.Formats.{object_from}
 use Rattle.qu_history.proofs.Forms.{object_from-exact}
 use Rattle.qu_frames.specs.declared.refusal_number.TheConstants.{HISTORY_FULL, THIN, NEEDS, STALE, NOT_CURRENT, NOT_METHOD, SPENT, TIME_SPENT, UNKNOWN_OBJECT, SOUND}

@@ -13,7 +13,8 @@ use Rattle.qu_objects.specs.declared.act.Method.{Method}
 use Rattle.qu_objects.specs.declared.query.Ask.{Ask}
 use Rattle.qu_objects.specs.declared.answer.Answer.{Answer}
 use Rattle.qu_objects.specs.declared.state.ObjState.{ObjState}
-use Rattle.qu_objects.specs.Formats.{word_form, is_one_of, act_form, query_form, answer_form}
+use Rattle.qu_base.specs.Texts.{word_form}
+use Rattle.qu_objects.specs.Formats.{is_one_of, act_form, query_form, answer_form}
 use Rattle.qu_objects.specs.States.{state_form}
 use Rattle.qu_history.specs.declared.sealed.Sealed.{Sealed}
 use Rattle.qu_history.specs.declared.sets.SetOf.{SetOf}

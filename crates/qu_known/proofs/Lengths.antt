@@ -22,7 +22,8 @@ use Rattle.qu_history.specs.Formats.{next_stamp, next_candidate, candidates_form
 use Rattle.qu_objects.specs.declared.answer.Answer.TheVariants as answer
 use Rattle.qu_objects.specs.declared.answer.Item.TheVariants.{Number}
 use Rattle.qu_objects.specs.declared.limits.TheConstants.{PARTS_LIMIT}
-use Rattle.qu_objects.specs.Formats.{word_form, is_item_code, item_code, item_number, item_form, items_form, part_refusal_form, is_answer_code, answer_code, answer_body, answer_form}
+use Rattle.qu_base.specs.Texts.{word_form}
+use Rattle.qu_objects.specs.Formats.{is_item_code, item_code, item_number, item_form, items_form, part_refusal_form, is_answer_code, answer_code, answer_body, answer_form}
 use Rattle.qu_objects.specs.Formats as objects
 use Rattle.qu_frames.specs.declared.limits.TheConstants.{TEXT_LIMIT, CULLED_LIMIT}
 use Rattle.qu_frames.specs.declared.frame.Frame.TheVariants.{Reply}

@@ -3,11 +3,12 @@ use Rattle.std.proofs.Common.{◌≡◌, ℕ, zero, suc, ◌^◌, ◌<◌, ◌-�
 use Rattle.std.specs.Prelude.{IsTrue, nat_le}
 use Rattle.std.proofs.lemmas.Bool.{leb-true}
 use Rattle.std.proofs.lemmas.Bool.Decides.{nat_tests}
-use Rattle.std.specs.Int.{w8, w64}
+use Rattle.std.specs.Int.{w8}
 use Rattle.qu_base.specs.declared.bad_text.Why.TheVariants.{Range, Order}
 use Rattle.qu_base.specs.declared.party.ObjectId.{ObjectId}
 use Rattle.qu_base.specs.Format.{object_form, Format, number, below, tested, made, nothing, IsExact}
-use Rattle.qu_base.proofs.Formats.{some_is, object-exact, wide8, wide64, number-exact, both-exact, tested-exact, made-exact, either-exact, nothing-exact, counted-exact, tagged-exact}
+use Rattle.qu_base.proofs.TextForms.{word-exact}
+use Rattle.qu_base.proofs.Formats.{some_is, object-exact, wide8, number-exact, both-exact, tested-exact, made-exact, either-exact, nothing-exact, counted-exact, tagged-exact}
 use Rattle.qu_objects.specs.declared.act.Method.{Method}
 use Rattle.qu_objects.specs.declared.act.Method.TheVariants.{Add, Take}
 use Rattle.qu_objects.specs.declared.query.Ask.TheVariants.{Read}
@@ -17,10 +18,8 @@ use Rattle.qu_objects.specs.declared.answer.Answer.{Answer}
 use Rattle.qu_objects.specs.declared.answer.Answer.TheVariants as answer
 use Rattle.qu_objects.specs.declared.limits.TheConstants.{MOST_PARTS, PARTS_LIMIT, LAST_METHOD}
 use Rattle.qu_objects.specs.RefusalNumber.{is_kind_refusal}
-use Rattle.qu_objects.specs.Formats.{word_form, method_code, added, taken, is_method_code, method_body, method_form, ask_code, is_ask_code, ask_form, item_code, item_number, is_item_code, item_form, is_after, next_object, part_form, spelled_object, parts_form, act_form, query_form, part_refusal_form, items_form, answer_code, answered, refused_part, is_answer_code, answer_body, answer_form}
-
-pub word-exact : IsExact word_form
-word-exact = number-exact w64 (2 ^ 64) 0 (2 ^ 64 - 1) wide64 (omega arith)
+use Rattle.qu_base.specs.Texts.{word_form}
+use Rattle.qu_objects.specs.Formats.{method_code, added, taken, is_method_code, method_body, method_form, ask_code, is_ask_code, ask_form, item_code, item_number, is_item_code, item_form, is_after, next_object, part_form, spelled_object, parts_form, act_form, query_form, part_refusal_form, items_form, answer_code, answered, refused_part, is_answer_code, answer_body, answer_form}
 
 pub byte-exact : (least most : ℕ) → most < 2 ^ 8 → IsExact (number w8 least most)
 byte-exact least most below = number-exact w8 (2 ^ 8) least most wide8 below

@@ -14,9 +14,11 @@ use Rattle.qu_stamp.proofs.Forms.{stamp_with-exact}
 use Rattle.qu_objects.specs.declared.kind.Value.{Value}
 use Rattle.qu_objects.specs.declared.kind.Value.TheVariants.{Counter}
 use Rattle.qu_objects.specs.declared.limits.TheConstants.{KEPT_LIMIT, LINKS_LIMIT}
-use Rattle.qu_objects.specs.Formats.{word_form, is_after}
+use Rattle.qu_base.specs.Texts.{word_form}
+use Rattle.qu_objects.specs.Formats.{is_after}
 use Rattle.qu_objects.specs.States.{kind_code, counted_value, is_kind_code, value_form, is_later_client, row_form, after_row, kept_form, link_form, after_link, links_form, state_form}
-use Rattle.qu_objects.proofs.Forms.{word-exact, byte-exact, answer-exact}
+use Rattle.qu_base.proofs.TextForms.{word-exact}
+use Rattle.qu_objects.proofs.Forms.{byte-exact, answer-exact}
 
 -- ---- values
 

@@ -12,9 +12,11 @@ use Rattle.qu_base.proofs.PrefixCodes.{one_spelling}
 use Rattle.qu_objects.specs.declared.act.Method.{Method}
 use Rattle.qu_objects.specs.declared.act.Method.TheVariants.{Add, Take}
 use Rattle.qu_objects.specs.Parts.{are_parts}
-use Rattle.qu_objects.specs.Formats.{word_form, method_form, act_form}
+use Rattle.qu_base.specs.Texts.{word_form}
+use Rattle.qu_objects.specs.Formats.{method_form, act_form}
 use Rattle.qu_objects.specs.Digesting.{any_object, any_client, act_text_form, act_text, MethodFits, PartsFit}
-use Rattle.qu_objects.proofs.Forms.{word-exact, act-exact}
+use Rattle.qu_base.proofs.TextForms.{word-exact}
+use Rattle.qu_objects.proofs.Forms.{act-exact}
 
 client-exact : IsExact any_client
 client-exact =

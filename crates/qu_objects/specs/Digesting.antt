@@ -10,7 +10,8 @@ use Rattle.qu_seal.specs.declared.constants.TheConstants.{ACT_TAG}
 use Rattle.qu_seal.specs.Digesting.{digest_of}
 use Rattle.qu_objects.specs.declared.act.Method.{Method}
 use Rattle.qu_objects.specs.declared.act.Method.TheVariants.{Add, Take}
-use Rattle.qu_objects.specs.Formats.{word_form, act_form}
+use Rattle.qu_base.specs.Texts.{word_form}
+use Rattle.qu_objects.specs.Formats.{act_form}
 
 abbrev pub any_object : ObjectId → Bool
 any_object object = true

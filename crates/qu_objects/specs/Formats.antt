@@ -1,9 +1,10 @@
 -- The formats of operations and of what they answer.
 use Rattle.std.specs.Prelude.{ℕ, ◌-◌, ◌^◌, ◌==◌, Bool, true, ◌&&◌, nat_lt, nat_le, List, ◌++◌, Option, None, Some}
 use Rattle.std.specs.List.{list_any}
-use Rattle.std.specs.Int.{w8, w64}
+use Rattle.std.specs.Int.{w8}
 use Rattle.qu_base.specs.declared.bad_text.Why.TheVariants.{Range, Order}
 use Rattle.qu_base.specs.declared.party.ObjectId.{ObjectId}
+use Rattle.qu_base.specs.Texts.{word_form}
 use Rattle.qu_base.specs.Format.{Format, number, below, both, tested, made, either, nothing, items, counted, tagged, object_form}
 use Rattle.qu_objects.specs.declared.act.Method.{Method}
 use Rattle.qu_objects.specs.declared.act.Method.TheVariants.{Add, Take}
@@ -15,10 +16,6 @@ use Rattle.qu_objects.specs.declared.answer.Answer.{Answer}
 use Rattle.qu_objects.specs.declared.answer.Answer.TheVariants as answer
 use Rattle.qu_objects.specs.declared.limits.TheConstants.{MOST_PARTS, PARTS_LIMIT, LAST_METHOD, LAST_ASK, LAST_ITEM}
 use Rattle.qu_objects.specs.RefusalNumber.{is_kind_refusal}
-
--- a number of eight bytes
-abbrev pub word_form : Format ℕ
-word_form = number w64 0 (2 ^ 64 - 1)
 
 -- ---- updates, questions and items
 

@@ -12,7 +12,8 @@ use Rattle.qu_objects.specs.declared.limits.TheConstants.{LAST_KIND, KEPT_LIMIT,
 use Rattle.qu_objects.specs.declared.state.KeptRow.{KeptRow}
 use Rattle.qu_objects.specs.declared.state.Link.{Link}
 use Rattle.qu_objects.specs.declared.state.ObjState.{ObjState}
-use Rattle.qu_objects.specs.Formats.{word_form, is_after, answer_form}
+use Rattle.qu_base.specs.Texts.{word_form}
+use Rattle.qu_objects.specs.Formats.{is_after, answer_form}
 
 -- ---- values
 
