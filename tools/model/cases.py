@@ -8,6 +8,7 @@ from model.judge import verdict_on
 from model.listing import ListedWorld
 from model.player import run_of
 from model.report import letter_lines, premises_line, report_lines
+from model.told_bytes import FORMS, change_lines, exact_lines, told_digest, told_text
 from model.values import Party
 from model.world import Refused
 
@@ -146,6 +147,29 @@ def events_told(command, words, text, names):
     return "\n".join([*happening.told, *premises, *points])
 
 
+def changes_told(part, text, names):
+    """What bytes are, and what they are with each of the changes below them."""
+    spelled = [line for line in text.split("\n") if not line.startswith("at ")]
+    data = bytes_of("\n".join(spelled), names)
+    lines = [told_text(part, data)]
+    for line in text.split("\n"):
+        if line.startswith("at "):
+            place, words = line.removeprefix("at ").split(" ", 1)
+            piece = None if words == "each" else bytes_of(words, names)
+            lines += change_lines(part, data, int(place), words, piece)
+    return "\n".join(lines)
+
+
+def bytes_told(command, part, text, names):
+    """The answer of a command that reads a part of a frame, or a frame."""
+    if part and part not in FORMS:
+        raise NotKnown(f"no part of a frame: {part}")
+    if command == "changes":
+        return changes_told(part, text, names)
+    data = bytes_of(text, names)
+    return told_text(part, data) if command == "decode" else "\n".join(exact_lines(part, data))
+
+
 def answer(command, words, text, names):
     """The answer of a case. Raises NotKnown where the model has none: it does not know the command, or what it asks."""
     data = text.encode()
@@ -158,6 +182,10 @@ def answer(command, words, text, names):
         return {"letters": letters_told, "injected": injected_told, "order": points_told}[command](world)
     if command in ("events", "listed", "audit", "ordered"):
         return events_told(command, words, text, names)
+    if command in ("decode", "exact", "changes"):
+        return bytes_told(command, words, text, names)
+    if command == "digest":
+        return told_digest(words, bytes_of(text, names))
     raise NotKnown(f"the model does not know the command {command}")
 
 

@@ -1,7 +1,5 @@
 """What the judge says of the points of a run: that they are a serial order, or the first fault."""
-from model.counter import performed
-
-FRESH_VALUE = 0
+from model.kinds import FRESH, performed
 
 
 def verdict_on(points, world):
@@ -22,7 +20,7 @@ class Judge:
 
     def __init__(self, points, world):
         self.points, self.operations = points, world.operations
-        self.ends = world.ends
+        self.ends, self.kinds = world.ends, world.setup.kinds
 
     def end_of(self, operation):
         """The end of an operation that has an answer, or None."""
@@ -35,9 +33,10 @@ class Judge:
 
     def differing(self):
         """Points of operations that have another answer than the machine gives along the order."""
-        value = FRESH_VALUE
+        values = [FRESH[kind] for kind in self.kinds]
         for at, point in enumerate(self.points):
-            value, answer = performed(value, point.body.parts[0])
+            known = point.body.parts[0].object
+            values[known], answer = performed(self.kinds[known], values[known], point.body)
             ends = map(self.end_of, self.operations_at(point))
             if any(end is not None and end.answer != answer for end in ends):
                 yield at

@@ -1,5 +1,6 @@
 """Frames in words, as qu-letters lists them."""
 from model.report import answer_words
+from model.told_frames import told_value
 from model.values import (
     BARRIER, COPY, HISTORY_FULL, INLINE_BARRIER, INLINE_METHOD, NEEDED, NEEDS, NOT_CURRENT, NOT_METHOD, SOUND, SPENT,
     STALE, THIN, TIME_SPENT, UNKNOWN_OBJECT, Already, Done, Fetch, Mended, Reply, Request, Told)
@@ -69,4 +70,4 @@ def listed_frame(frame):
     if isinstance(frame, Fetch):
         return f"fetch {version}"
     clients = counted(len(frame.state.kept), "client")
-    return f"fetched {version}, counter {frame.state.value}, {clients}, {counted(0, 'link')}"
+    return f"fetched {version}, {told_value(frame.state)}, {clients}, {counted(len(frame.state.links), 'link')}"

@@ -99,6 +99,8 @@ class ListedWorld(World):
         sent = replica.fetching.get(version)
         if sent is None:
             return ", not counted, not fetched"
+        if frame.state.kind != replica.kinds[frame.object]:
+            return ", not counted, another kind"
         if frame.replica in sent:
             return ", not counted, answered before"
         text = write_state(frame.state)

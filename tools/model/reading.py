@@ -1,52 +1,64 @@
-"""Reads the bytes of frames: `decode` gives a frame, or None where the bytes are none.
+"""Reads bytes: `decode` gives a frame, or None where the bytes are none; what begins with `read_` tells by Unread which
+field fails, and how.
 
-Sets of one object, bodies of one part, the counter and states without links are read, and nothing else.
+Sets of one object, bodies of one part and candidates without a group are read, and no others.
 """
+from model.kinds import is_good_name
 from model.values import (
-    DIGEST_SIZE, INLINE_METHOD, LAST_ROUND, LAST_TIME, MOST_CANDIDATES, NEEDS, NO_DIGEST, NOT_CURRENT, NOT_METHOD,
-    OPENING, OVER, REFUSALS, SPENT, UNDER, Already, Body, Candidate, Done, Fetch, Fetched, History, Items, KeptRow,
-    Mended, ObjectSet, Part, Refusal, RefusedPart, Reply, Request, Sealed, Stamp, State, Told)
+    BLOB, COUNTER, DIGEST_SIZE, DIR, INLINE_METHOD, LAST_ROUND, LAST_TIME, MOST_CANDIDATES, MOST_CONTENT, MOST_ENTRIES,
+    NEEDS, NO_DIGEST, NOT_CURRENT, NOT_METHOD, OPENING, REFUSALS, SPENT, WRONG_KIND, Already, Body, Candidate, Done,
+    Fetch, Fetched, History, Items, KeptRow, Mended, ObjectSet, Part, Refusal, RefusedPart, Reply, Request, Sealed,
+    Stamp, State, Told)
 from model.writing import (
-    COUNTER_CODE, FETCH_KIND, FETCHED_KIND, METHOD_CODES, NUMBER_CODE, READ_CODE, REPLY_KIND, REQUEST_KIND, VERSION)
+    ASK_CODES, BYTES_CODE, FETCH_KIND, FETCHED_KIND, KIND_CODES, LISTING_CODE, METHOD_CODES, NUMBER_CODE, REPLY_KIND,
+    REQUEST_KIND, VERSION)
 
 MOST_BYTES = 1 << 25
 LAST_CLIENT, LAST_REPLICA, LAST_OBJECT = 64, 15, 63
 # How many replicas a setup may have.
 REPLICA_COUNTS = (6, 11, 16)
-MOST_ROWS, MOST_ITEMS, MOST_CULLED, MOST_SHOWN = 64, 4, 128, 8
+MOST_ROWS, MOST_LINKS, MOST_ITEMS, MOST_CULLED, MOST_SHOWN = 64, 64, 4, 128, 8
 # The numbers of refusals that an answer may carry.
-ANSWER_REFUSALS = (OVER, UNDER, 5, 6, 7, 8, 9, 12)
+ANSWER_REFUSALS = (*range(3, 10), WRONG_KIND)
 METHODS = {code: method for method, code in METHOD_CODES.items()}
+ASKS = {code: ask for ask, code in ASK_CODES.items()}
+KINDS = {code: kind for kind, code in KIND_CODES.items()}
 # The size of what stands before the candidates of a history: object, replica and count.
 HISTORY_HEAD = 5
 # The histories that were read before, by what stands before their candidates.
 known_histories = {}
 
 
-class NoFrame(Exception):
-    """The bytes are no frame."""
+class Unread(Exception):
+    """A field fails: Short, Kind, Range, Order or Rest, at the place of its first byte."""
+
+    def __init__(self, why, place):
+        super().__init__(f"{why} at {place}")
+        self.why, self.place = why, place
 
 
-def need(condition):
+def need(condition, why, place):
     if not condition:
-        raise NoFrame
+        raise Unread(why, place)
 
 
 class Reader:
-    """The front of a text that is still to be read. Each call raises NoFrame where the text does not fit."""
+    """The front of a text that is still to be read, from the place `at` on. Each call raises Unread where the text does
+    not fit."""
 
     def __init__(self, text):
         self.text, self.at = text, 0
 
     def take(self, size):
         piece = self.text[self.at:self.at + size]
-        need(len(piece) == size)
+        need(len(piece) == size, "Short", self.at)
         self.at += size
         return piece
 
-    def number(self, size, low, high):
+    def number(self, size, low, high, why="Range"):
+        place = self.at
         value = int.from_bytes(self.take(size), "big")
-        need(low <= value <= high)
+        need(low <= value <= high, why, place)
         return value
 
     def u8(self, low=0, high=(1 << 8) - 1):
@@ -58,122 +70,191 @@ class Reader:
     def u64(self, low=0, high=(1 << 64) - 1):
         return self.number(8, low, high)
 
+    def one_of(self, numbers):
+        """A byte that is one of these numbers."""
+        place, value = self.at, self.u8()
+        need(value in numbers, "Range", place)
+        return value
+
     def digest(self):
         return self.take(DIGEST_SIZE)
 
-    def object(self):
-        return self.u16(0, LAST_OBJECT)
+    def object(self, known=range(LAST_OBJECT + 1), above=-1):
+        """An object that is one of these, and above another one."""
+        place, value = self.at, self.u16(0, LAST_OBJECT)
+        need(value in known, "Range", place)
+        need(value > above, "Order", place)
+        return value
 
     def replica(self):
         return self.u8(0, LAST_REPLICA)
 
-    def client(self):
-        return self.u16(1, LAST_CLIENT)
+    def client(self, above=0):
+        """A client that is above another one."""
+        place, value = self.at, self.u16(1, LAST_CLIENT)
+        need(value > above, "Order", place)
+        return value
 
 
-def read_stamp(reader):
-    time = reader.u64(0, LAST_TIME)
-    barrier = reader.u8(0, 1)
-    need(not (barrier and time == 0))
+# ---- stamps and histories
+
+
+def read_stamp(reader, last_barrier=1):
+    time, place = reader.u64(0, LAST_TIME), reader.at
+    barrier = reader.u8(0, last_barrier)
+    need(not (barrier and time == 0), "Range", place)
+    place = reader.at
     client = reader.u16(0, LAST_CLIENT)
-    need((client == 0) == (time == 0))
+    need((client == 0) == (time == 0), "Range", place)
+    place = reader.at
     has_act = reader.u8(0, 1)
-    need(not (has_act and (barrier or time == 0)))
-    act = reader.digest() if has_act else b""
+    need(not (has_act and (barrier or time == 0)), "Range", place)
+    act, place = reader.digest() if has_act else b"", reader.at
     sets = reader.digest()
-    need(time > 0 or sets == NO_DIGEST)
+    need(time > 0 or sets == NO_DIGEST, "Range", place)
     return Stamp(time, barrier, client, act, sets)
 
 
-def read_candidate(reader):
-    stamp, prior = read_stamp(reader), read_stamp(reader)
-    need(prior == OPENING if stamp == OPENING else prior < stamp and not prior.barrier)
+def read_plain_stamp(reader):
+    """A stamp of no barrier."""
+    return read_stamp(reader, 0)
+
+
+def read_candidate(reader, before=None):
+    """A candidate; of a history it is the opening one, or above the stamp of the one `before`."""
+    place, stamp = reader.at, read_stamp(reader)
+    if before is not None:
+        need(before or stamp == OPENING, "Range", place)
+        need(not before or stamp > before[-1].stamp, "Order", place)
+    place, prior = reader.at, read_stamp(reader)
+    need(prior == OPENING if stamp == OPENING else prior < stamp and not prior.barrier, "Range", place)
     reader.u8(0, 0)
     return Candidate(stamp, prior)
 
 
-def read_history(reader):
-    """A history; equal ones that are read again are the same object."""
+def read_history(reader, known=range(LAST_OBJECT + 1), above=(-1, -1), of_replica=None):
+    """A history of a known object; its object and its replica are above others, and the replica is the one that is
+    given. Equal ones that are read again are the same object."""
     begin = reader.at
-    known = known_histories.setdefault(reader.text[begin:begin + HISTORY_HEAD], [])
-    for history in known:
+    object_number, place = reader.object(known, above[0]), reader.at
+    replica = reader.replica()
+    need(of_replica in (None, replica), "Range", place)
+    need(replica > above[1], "Order", place)
+    found = known_histories.setdefault(reader.text[begin:begin + HISTORY_HEAD], [])
+    for history in found:
         if reader.text.startswith(history.spelling, begin):
-            reader.at += len(history.spelling)
+            reader.at = begin + len(history.spelling)
             return history
-    object_number, replica, candidates = reader.object(), reader.replica(), []
+    candidates = []
     for _ in range(reader.u16(1, MOST_CANDIDATES)):
-        candidate = read_candidate(reader)
-        need(candidate.stamp > candidates[-1].stamp if candidates else candidate.stamp == OPENING)
-        candidates.append(candidate)
-    known.append(History(object_number, replica, tuple(candidates), reader.text[begin:reader.at]))
-    return known[-1]
+        candidates.append(read_candidate(reader, candidates))
+    found.append(History(object_number, replica, tuple(candidates), reader.text[begin:reader.at]))
+    return found[-1]
 
 
-def read_sealed(reader):
-    history = read_history(reader)
-    count = reader.u8()
-    need(count in REPLICA_COUNTS)
-    return Sealed(history, tuple(reader.digest() for _ in range(count)))
+def read_sealed(reader, *rules):
+    history = read_history(reader, *rules)
+    return Sealed(history, tuple(reader.digest() for _ in range(reader.one_of(REPLICA_COUNTS))))
 
 
 def read_sets(reader):
-    reader.u8(1, 1)
-    object_number, entries = reader.object(), []
-    for _ in range(reader.u8(0, LAST_REPLICA + 1)):
-        entry = read_sealed(reader)
-        need(entry.history.object == object_number)
-        need(not entries or entry.history.replica > entries[-1].history.replica)
-        entries.append(entry)
-    return (ObjectSet(object_number, tuple(entries)),)
+    sets = []
+    for _ in range(reader.u8(1, 1)):
+        object_number, entries = reader.object(above=sets[-1].object if sets else -1), []
+        for _ in range(reader.u8(0, LAST_REPLICA + 1)):
+            last = entries[-1].history.replica if entries else -1
+            entries.append(read_sealed(reader, (object_number,), (-1, last)))
+        sets.append(ObjectSet(object_number, tuple(entries)))
+    return tuple(sets)
+
+
+# ---- what is asked
+
+
+def read_content(reader):
+    return reader.take(reader.u16(0, MOST_CONTENT))
+
+
+def read_name(reader):
+    return reader.take(reader.u8())
+
+
+def read_entries(reader, is_named_well=lambda name: True):
+    """Pairs of a name and a number, names rising."""
+    entries = []
+    for _ in range(reader.u16(0, MOST_ENTRIES)):
+        place, name = reader.at, read_name(reader)
+        need(is_named_well(name), "Range", place)
+        need(not entries or name > entries[-1][0], "Order", place)
+        entries.append((name, reader.u64()))
+    return tuple(entries)
+
+
+# What each method and each ask has behind its code.
+ARGUMENT_READERS = {
+    "add": (Reader.u64,), "take": (Reader.u64,), "put": (read_content,), "append": (read_content,),
+    "link": (read_name, Reader.u64), "unlink": (read_name,), "read": (), "cat": (), "find": (read_name,), "list": ()}
+
+
+def read_parts(reader, known, methods):
+    """Parts on known objects, objects rising, each with one of these methods by its code."""
+    parts = []
+    for _ in range(reader.u8(1, 1)):
+        object_number = reader.object(known, parts[-1].object if parts else -1)
+        method = methods[reader.one_of(methods)]
+        parts.append(Part(object_number, method, tuple(read(reader) for read in ARGUMENT_READERS[method])))
+    return tuple(parts)
 
 
 def read_body(reader, sets):
-    code = reader.u8(1, 3)
-    if code != 3:
-        reader.u8(1, 1)
-    object_number = reader.object()
-    need(object_number == sets[0].object)
+    code, known = reader.u8(1, 3), [part.object for part in sets]
     if code == 1:
-        method = METHODS[reader.u8(min(METHODS), max(METHODS))]
-        return Body("act", (Part(object_number, method, reader.u64()),))
+        return Body("act", read_parts(reader, known, METHODS))
     if code == 2:
-        reader.u8(READ_CODE, READ_CODE)
-        return Body("query", (Part(object_number, "read"),))
-    return Body("mend", target=object_number)
+        return Body("query", read_parts(reader, known, ASKS))
+    return Body("mend", target=reader.object(known))
+
+
+# ---- answers and states
+
+
+def read_item(reader):
+    code = reader.one_of((NUMBER_CODE, BYTES_CODE, LISTING_CODE))
+    return {NUMBER_CODE: Reader.u64, BYTES_CODE: read_content, LISTING_CODE: read_entries}[code](reader)
 
 
 def read_answer(reader):
     if reader.u8(0, 1) == 0:
-        numbers = []
-        for _ in range(reader.u8(1, MOST_ITEMS)):
-            reader.u8(NUMBER_CODE, NUMBER_CODE)
-            numbers.append(reader.u64())
-        return Items(tuple(numbers))
-    position, number = reader.u8(0, MOST_ITEMS - 1), reader.u8()
-    need(number in ANSWER_REFUSALS)
-    return RefusedPart(position, number)
+        return Items(tuple(read_item(reader) for _ in range(reader.u8(1, MOST_ITEMS))))
+    return RefusedPart(reader.u8(0, MOST_ITEMS - 1), reader.one_of(ANSWER_REFUSALS))
+
+
+def read_directory(reader):
+    """The value of a directory, all of whose names are good."""
+    return read_entries(reader, is_good_name)
 
 
 def read_state(reader):
-    reader.u8(COUNTER_CODE, COUNTER_CODE)
-    value, kept, last = reader.u64(), [], 0
+    kind = KINDS[reader.one_of(KINDS)]
+    value = {COUNTER: Reader.u64, BLOB: read_content, DIR: read_directory}[kind](reader)
+    kept, links = [], []
     for _ in range(reader.u8(0, MOST_ROWS)):
-        client = reader.client()
-        need(client > last)
-        last = client
+        client = reader.client(kept[-1][0] if kept else 0)
         number, act = reader.u64(), reader.digest()
         kept.append((client, KeptRow(number, act, read_answer(reader))))
-    reader.u8(0, 0)
-    return State(value, tuple(kept))
+    for _ in range(reader.u8(0, MOST_LINKS)):
+        links.append((reader.object(above=links[-1][0] if links else -1), read_stamp(reader)))
+    return State(kind, value, tuple(kept), tuple(links))
+
+
+# ---- frames
 
 
 def read_stamps(reader):
     """Pairs of an object and a stamp, objects rising."""
     stamps = []
     for _ in range(reader.u8(1, MOST_ITEMS)):
-        object_number = reader.object()
-        need(not stamps or object_number > stamps[-1][0])
-        stamps.append((object_number, read_stamp(reader)))
+        stamps.append((reader.object(above=stamps[-1][0] if stamps else -1), read_stamp(reader)))
     return tuple(stamps)
 
 
@@ -187,9 +268,7 @@ def read_verdict(reader):
     if code == 4:
         object_number = reader.object()
         return Mended(object_number, read_stamp(reader))
-    number = reader.u8()
-    need(number in REFUSALS)
-    object_number, carried = reader.object(), None
+    number, object_number, carried = reader.one_of(REFUSALS), reader.object(), None
     if number == NOT_CURRENT:
         carried = read_stamp(reader)
     elif number == NOT_METHOD:
@@ -197,6 +276,25 @@ def read_verdict(reader):
     elif number == SPENT:
         carried = reader.u64()
     return Refusal(number, object_number, carried)
+
+
+def read_culled(reader):
+    """Pairs of an object and a replica, rising."""
+    culled = []
+    for _ in range(reader.u8(0, MOST_CULLED)):
+        place, pair = reader.at, (reader.object(), reader.replica())
+        need(not culled or pair > culled[-1], "Order", place)
+        culled.append(pair)
+    return tuple(culled)
+
+
+def read_shown(reader, replica):
+    """Sealed histories of a replica, objects rising."""
+    shown = []
+    for _ in range(reader.u8(0, MOST_SHOWN)):
+        last = shown[-1].history.object if shown else -1
+        shown.append(read_sealed(reader, range(LAST_OBJECT + 1), (last, -1), replica))
+    return tuple(shown)
 
 
 def read_request(reader):
@@ -207,41 +305,29 @@ def read_request(reader):
 
 def read_reply(reader):
     replica, client, number, asked_in = reader.replica(), reader.client(), reader.u64(), reader.u8(1, LAST_ROUND)
-    verdict = read_verdict(reader)
-    culled, shown = [], []
-    for _ in range(reader.u8(0, MOST_CULLED)):
-        pair = (reader.object(), reader.replica())
-        need(not culled or pair > culled[-1])
-        culled.append(pair)
-    for _ in range(reader.u8(0, MOST_SHOWN)):
-        entry = read_sealed(reader)
-        need(entry.history.replica == replica)
-        need(not shown or entry.history.object > shown[-1].history.object)
-        shown.append(entry)
-    return Reply(replica, client, number, asked_in, verdict, tuple(culled), tuple(shown))
+    verdict, culled = read_verdict(reader), read_culled(reader)
+    return Reply(replica, client, number, asked_in, verdict, culled, read_shown(reader, replica))
 
 
-def read_version(reader, kind):
-    """A fetch, or what was fetched."""
-    replica, object_number, stamp = reader.replica(), reader.object(), read_stamp(reader)
-    need(not stamp.barrier)
-    if kind == FETCH_KIND:
-        return Fetch(replica, object_number, stamp)
-    return Fetched(replica, object_number, stamp, read_state(reader))
+def read_fetch(reader):
+    return Fetch(reader.replica(), reader.object(), read_plain_stamp(reader))
+
+
+def read_fetched(reader):
+    return Fetched(*read_fetch(reader), read_state(reader))
+
+
+READERS = {REQUEST_KIND: read_request, REPLY_KIND: read_reply, FETCH_KIND: read_fetch, FETCHED_KIND: read_fetched}
 
 
 def read_frame(text):
-    """A frame and its HMAC. Raises NoFrame where the text is none."""
-    need(len(text) <= MOST_BYTES)
+    """A frame and its HMAC. Raises Unread where the text is none."""
+    need(len(text) <= MOST_BYTES, "Range", 0)
     reader = Reader(text)
-    reader.u8(VERSION, VERSION)
-    kind = reader.u8(REQUEST_KIND, FETCHED_KIND)
-    if kind == REQUEST_KIND:
-        frame = read_request(reader)
-    else:
-        frame = read_reply(reader) if kind == REPLY_KIND else read_version(reader, kind)
+    reader.number(1, VERSION, VERSION, "Kind")
+    frame = READERS[reader.number(1, min(READERS), max(READERS), "Kind")](reader)
     hmac = reader.digest()
-    need(reader.at == len(text))
+    need(reader.at == len(text), "Rest", reader.at)
     return frame, hmac
 
 
@@ -249,7 +335,7 @@ def signed_frame(text):
     """A frame and its HMAC, or None where the text is no frame."""
     try:
         return read_frame(text)
-    except NoFrame:
+    except Unread:
         return None
 
 

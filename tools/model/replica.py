@@ -2,12 +2,12 @@
 from typing import NamedTuple
 
 from model.classes import classify
-from model.counter import performed
 from model.keys import act_digest, sets_digest
+from model.kinds import FRESH, performed
 from model.values import (
     BARRIER, COPY, HISTORY_FULL, INLINE_BARRIER, INLINE_METHOD, LAST_TIME, METHOD, MOST_CANDIDATES, NOT_CURRENT,
-    NOT_METHOD, OBJECTS, OPENING, SOUND, SPENT, THIN, TIME_SPENT, UNKNOWN_OBJECT, Already, Candidate, Done, Fetch,
-    Fetched, History, Items, KeptRow, Letter, Mended, ObjectSet, Party, Refusal, Reply, Request, Stamp, State, Told)
+    NOT_METHOD, OPENING, SOUND, SPENT, THIN, TIME_SPENT, UNKNOWN_OBJECT, Already, Candidate, Done, Fetch, Fetched,
+    History, KeptRow, Letter, Mended, ObjectSet, Party, Refusal, Reply, Request, Stamp, State, Told)
 from model.writing import write_state
 
 
@@ -33,24 +33,24 @@ class Handled(NamedTuple):
 
 def behind_act(state, request, act):
     """The state behind the act of a request, whose digest is `act`, and the answer."""
-    value, answer = performed(state.value, request.body.parts[0])
+    value, answer = performed(state.kind, state.value, request.body)
     kept = dict(state.kept)
     kept[request.client] = KeptRow(request.number, act, answer)
-    return State(value, tuple(sorted(kept.items()))), answer
+    return State(state.kind, value, tuple(sorted(kept.items())), state.links), answer
 
 
 class Replica:
     """A replica's histories by object, its versions by object and stamp, and what it waits for.
 
-    `waiting` has a Waiting for each client at most; `fetching` has, of each version that is fetched, the bytes that
-    each replica sent. `handled` is what the last step handled.
+    `kinds` are the objects' kinds. `waiting` has a Waiting for each client at most; `fetching` has, of each version
+    that is fetched, the bytes that each replica sent. `handled` is what the last step handled.
     """
 
-    def __init__(self, number, keys, bounds):
-        self.number, self.keys, self.bounds = number, keys, bounds
+    def __init__(self, number, keys, bounds, kinds):
+        self.number, self.keys, self.bounds, self.kinds = number, keys, bounds, kinds
         self.party = Party("r", number)
-        self.histories = {known: History(known, number) for known in OBJECTS}
-        self.versions = {(known, OPENING): State(0, ()) for known in OBJECTS}
+        self.histories = {known: History(known, number) for known in range(len(kinds))}
+        self.versions = {(known, OPENING): State(kind, FRESH[kind]) for known, kind in enumerate(kinds)}
         self.waiting, self.fetching, self.handled = {}, {}, []
 
     def step(self, text):
@@ -80,7 +80,7 @@ class Replica:
         """Stores a version once enough replicas sent the same, and handles anew a request that lacks it."""
         version = (fetched.object, fetched.stamp)
         sent = self.fetching.get(version)
-        if sent is None or fetched.replica in sent:
+        if sent is None or fetched.state.kind != self.kinds[fetched.object] or fetched.replica in sent:
             return []
         text = sent[fetched.replica] = write_state(fetched.state)
         if sum(other == text for other in sent.values()) < self.bounds.faults + 1:
@@ -103,7 +103,7 @@ class Replica:
     # ---- requests
 
     def handle(self, request):
-        unknown = [part.object for part in request.sets if part.object not in OBJECTS]
+        unknown = [part.object for part in request.sets if part.object not in self.histories]
         if unknown:
             return self.reply(request, Refusal(UNKNOWN_OBJECT, unknown[0]), ())
         (part,) = request.sets
@@ -116,7 +116,8 @@ class Replica:
         return self.reply(request, verdict, culled)
 
     def reply(self, request, verdict, culled):
-        shown = tuple(self.keys.sealed(self.histories[part.object]) for part in request.sets if part.object in OBJECTS)
+        known = (self.histories[part.object] for part in request.sets if part.object in self.histories)
+        shown = tuple(map(self.keys.sealed, known))
         frame = Reply(self.number, request.client, request.number, request.round, verdict, culled, shown)
         return [self.letter(frame, Party("c", request.client))]
 
@@ -130,14 +131,15 @@ class Replica:
             return self.decide_mend(request.client, target, classified, sets)
         if request.body.kind == "act":
             return self.decide_act(request, target, classified, sets)
-        return self.decide_query(target, classified)
+        return self.decide_query(request, target, classified)
 
-    def decide_query(self, target, classified):
+    def decide_query(self, request, target, classified):
         barred = self.barred(target, classified)
         if barred:
             return barred
         prior = classified.object_candidate.stamp
-        return Told(((target, prior),), Items((self.versions[target, prior].value,)))
+        state = self.versions[target, prior]
+        return Told(((target, prior),), performed(state.kind, state.value, request.body)[1])
 
     def decide_act(self, request, target, classified, sets):
         client, number, prior = request.client, request.number, classified.object_candidate.stamp

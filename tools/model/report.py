@@ -1,20 +1,48 @@
 """The report of a run, and its letters and points as lines."""
 import hashlib
 
-from model.values import OVER, UNDER, Items
+from model.values import (
+    BAD_NAME, EXISTS, FULL, MISSING, OVER, PLAIN_BYTES, TOO_LONG, UNDER, WRONG_KIND, Items)
 
-# The words of an act's refusals in an answer, by their numbers.
-REFUSAL_WORDS = {OVER: "over", UNDER: "under", 5: "too long", 6: "exists", 7: "missing", 8: "bad name",
-                 9: "full", 12: "wrong kind"}
+# The words of the refusals of a part, by their numbers.
+REFUSAL_WORDS = {OVER: "over", UNDER: "under", TOO_LONG: "too long", EXISTS: "exists", MISSING: "missing",
+                 BAD_NAME: "bad name", FULL: "full", WRONG_KIND: "wrong kind"}
+# The methods whose bytes are no name.
+OF_CONTENT = ("put", "append")
+
+
+def content_words(content):
+    return content.hex() or "-"
+
+
+def name_words(name):
+    """A name; bytes that no plain character stands for are told by their digits, and no bytes by `%` alone."""
+    return "".join(chr(byte) if byte in PLAIN_BYTES else f"%{byte:02x}" for byte in name) or "%"
+
+
+def listing_words(entries):
+    return ",".join(f"{name_words(name)}={number}" for name, number in entries) or "-"
+
+
+def item_words(item):
+    if isinstance(item, int):
+        return str(item)
+    return content_words(item) if isinstance(item, bytes) else listing_words(item)
+
+
+def part_words(part):
+    words_of = content_words if part.method in OF_CONTENT else name_words
+    told = (str(argument) if isinstance(argument, int) else words_of(argument) for argument in part.arguments)
+    return " ".join([part.method, str(part.object), *told])
 
 
 def operation_words(body):
-    return " + ".join(map(str, body.parts))
+    return " + ".join(map(part_words, body.parts))
 
 
 def answer_words(answer):
     if isinstance(answer, Items):
-        return " + ".join(map(str, answer.numbers))
+        return " + ".join(map(item_words, answer.items))
     return f"{REFUSAL_WORDS[answer.number]} at {answer.position}"
 
 

@@ -2,13 +2,15 @@
 import string
 from typing import NamedTuple
 
-from model.values import LAST_VALUE, Body, Bounds, Part, Party
+from model.kinds import ASKS
+from model.values import (
+    BLOB, COUNTER, DIR, LAST_VALUE, MOST_CONTENT, MOST_NAME, PLAIN_BYTES, Body, Bounds, Part, Party)
 from model.world import MOST_EVENTS, Refused, Setup
 
 MOST_BYTES = 1 << 24
-MOST_FAULTS, LAST_CLIENT = 3, 64
-# The first word of each setup line, and how many words it has.
-SETUP = (("bounds", 2), ("seed", 2), ("clients", 2), ("object", 3))
+MOST_FAULTS, LAST_CLIENT, MOST_OBJECTS = 3, 64, 64
+# The first word of each setup line that stands once, with the limits of its number.
+SETUP = (("bounds", 1, MOST_FAULTS), ("seed", 0, LAST_VALUE), ("clients", 1, LAST_CLIENT))
 # So many digits tell that a number is too large.
 MANY_DIGITS = 21
 
@@ -43,6 +45,34 @@ def bytes_of(word):
     return bytes.fromhex(digits)
 
 
+def content_of(word):
+    """The bytes that an operation writes."""
+    content = bytes_of(word)
+    need(len(content) <= MOST_CONTENT)
+    return content
+
+
+def name_of(word):
+    """A name: its characters, and bytes by two digits behind `%`."""
+    plain, *coded = word.split("%")
+    need(word and all(len(piece) >= 2 and set(piece[:2]) <= set(string.hexdigits) for piece in coded))
+    pieces = [plain, *(piece[2:] for piece in coded)]
+    need(set("".join(pieces).encode()) <= PLAIN_BYTES)
+    name = plain.encode() + b"".join(bytes.fromhex(piece[:2]) + piece[2:].encode() for piece in coded)
+    need(len(name) <= MOST_NAME)
+    return name
+
+
+def amount_of(word):
+    return number_of(word, 0, LAST_VALUE)
+
+
+# What each method and each question needs behind its object.
+ARGUMENTS = {
+    "add": (amount_of,), "take": (amount_of,), "put": (content_of,), "append": (content_of,),
+    "link": (name_of, amount_of), "unlink": (name_of,), "read": (), "cat": (), "find": (name_of,), "list": ()}
+
+
 def words_of(line):
     """The words of a line, which have exactly one space between them."""
     need(all(0x20 <= byte <= 0x7e for byte in line))
@@ -54,23 +84,28 @@ class LineReader:
     words have no known form."""
 
     def __init__(self):
-        self.numbers, self.bounds, self.faulty = {}, None, []
+        self.numbers, self.bounds, self.kinds, self.faulty = {}, None, [], []
 
     def setup(self):
-        return Setup(self.bounds, self.numbers["seed"], self.numbers["clients"], frozenset(self.faulty))
+        numbers, faulty = self.numbers, frozenset(self.faulty)
+        return Setup(self.bounds, numbers["seed"], numbers["clients"], tuple(self.kinds), faulty)
 
     # ---- setup lines
 
     def read_setup(self, words):
-        """Reads the next of the first four lines."""
-        word, count = SETUP[len(self.numbers)]
-        need(words[0] == word and len(words) == count)
-        low, high = {"bounds": (1, MOST_FAULTS), "seed": (0, LAST_VALUE), "clients": (1, LAST_CLIENT),
-                     "object": (0, 0)}[word]
+        """Reads the next of the first three lines."""
+        word, low, high = SETUP[len(self.numbers)]
+        need(words[0] == word and len(words) == 2)
         self.numbers[word] = number_of(words[1], low, high)
-        need(word != "object" or words[2] == "counter")
         if word == "bounds":
             self.bounds = Bounds.of(self.numbers[word])
+
+    def read_object(self, words):
+        """Reads a line that says of which kind the next object is."""
+        need(words[0] == "object" and len(words) == 3 and len(self.kinds) < MOST_OBJECTS)
+        number_of(words[1], len(self.kinds), len(self.kinds))
+        need(words[2] in (COUNTER, BLOB, DIR))
+        self.kinds.append(words[2])
 
     def read_faulty(self, words):
         """Reads a line that lists a faulty party: replicas stand before clients, and both rise."""
@@ -111,13 +146,12 @@ class LineReader:
 
     def read_call(self, words):
         """A client, and the body of its operation."""
-        need(len(words) in (3, 4))
-        client, method, object_number = self.correct(self.client(words[0])), words[1], number_of(words[2], 0, 0)
-        if method == "read":
-            need(len(words) == 3)
-            return client, Body("query", (Part(object_number, method),))
-        need(method in ("add", "take") and len(words) == 4)
-        return client, Body("act", (Part(object_number, method, number_of(words[3], 0, LAST_VALUE)),))
+        need(len(words) >= 3)
+        client, method, rest = self.correct(self.client(words[0])), words[1], words[3:]
+        need(method in ARGUMENTS and len(rest) == len(ARGUMENTS[method]))
+        known = number_of(words[2], 0, len(self.kinds) - 1)
+        arguments = tuple(read(word) for read, word in zip(ARGUMENTS[method], rest))
+        return client, Body("query" if method in ASKS else "act", (Part(known, method, arguments),))
 
     def read_deliver(self, words):
         """The numbers of letters."""
@@ -193,12 +227,14 @@ def read_script(data):
             words = words_of(line)
             if number <= len(SETUP):
                 reader.read_setup(words)
+            elif not reader.kinds or (words[0] == "object" and not reader.faulty and not events):
+                reader.read_object(words)
             elif words[0] == "faulty" and not events:
                 reader.read_faulty(words[1:])
             else:
                 events.append(Line(number, words[0], reader.read_event(words)))
         except Unknown:
             raise Refused("unknown line", number) from None
-    if len(lines) < len(SETUP):
+    if not reader.kinds:
         raise Refused("unknown line", len(lines) + 1)
     return Script(reader.setup(), tuple(events), reader)

@@ -1,8 +1,9 @@
 """Frames in words, as the command `events` of stored cases tells them."""
-from model.report import operation_words
+from model.report import content_words, listing_words, operation_words
 from model.values import (
-    BARRIER, COPY, HISTORY_FULL, INLINE_BARRIER, INLINE_METHOD, NEEDED, NEEDS, NOT_CURRENT, NOT_METHOD, OPENING, SOUND,
-    SPENT, STALE, THIN, TIME_SPENT, UNKNOWN_OBJECT, Already, Done, Fetch, Items, Mended, Reply, Request, Told)
+    BARRIER, BLOB, COPY, COUNTER, DIR, HISTORY_FULL, INLINE_BARRIER, INLINE_METHOD, NEEDED, NEEDS, NOT_CURRENT,
+    NOT_METHOD, OPENING, SOUND, SPENT, STALE, THIN, TIME_SPENT, UNKNOWN_OBJECT, Already, Done, Fetch, Items, Mended,
+    Reply, Request, Told)
 
 REFUSAL_NAMES = {
     HISTORY_FULL: "HistoryFull", THIN: "Thin", NEEDED: "Needs", STALE: "Stale", NOT_CURRENT: "NotCurrent",
@@ -18,9 +19,15 @@ def told_stamp(stamp):
     return f"{stamp.time}{barrier} c{stamp.client} act {stamp.act.hex() or '-'} sets {stamp.sets.hex()}"
 
 
+def told_item(item):
+    if isinstance(item, int):
+        return str(item)
+    return f"bytes {content_words(item)}" if isinstance(item, bytes) else f"listing {listing_words(item)}"
+
+
 def told_answer(answer):
     if isinstance(answer, Items):
-        return "ok" + "".join(f" {number}" for number in answer.numbers)
+        return "ok" + "".join(f" {told_item(item)}" for item in answer.items)
     return f"refused {answer.number} at {answer.position}"
 
 
@@ -43,9 +50,16 @@ def told_verdict(verdict):
     return f"{name}({target})"
 
 
+def told_value(state):
+    words_of = {COUNTER: str, BLOB: content_words, DIR: listing_words}[state.kind]
+    return f"{state.kind} {words_of(state.value)}"
+
+
 def told_state(state):
-    kept = (f" kept c{client} {row.number} {row.act.hex()} {told_answer(row.answer)}" for client, row in state.kept)
-    return f"counter {state.value}{''.join(kept)}"
+    words = told_value(state)
+    for client, row in state.kept:
+        words += f" kept c{client} {row.number} {row.act.hex()} {told_answer(row.answer)}"
+    return words + "".join(f" link {known} at {told_stamp(stamp)}" for known, stamp in state.links)
 
 
 def told_sizes(sealed):
@@ -53,11 +67,16 @@ def told_sizes(sealed):
     return f"{len(sealed.history.candidates)}/{len(sealed.hmacs)}"
 
 
-def told_request(request):
-    words = f"request c{request.client} {request.number} round {request.round} sets"
-    for part in request.sets:
+def told_sets(sets):
+    words = "sets"
+    for part in sets:
         entries = (f" r{entry.history.replica}/{told_sizes(entry)}" for entry in part.entries)
         words += f" {part.object}:{''.join(entries)}"
+    return words
+
+
+def told_request(request):
+    words = f"request c{request.client} {request.number} round {request.round} {told_sets(request.sets)}"
     if request.body.kind == "mend":
         return f"{words} mend {request.body.target}"
     return f"{words} {operation_words(request.body)}"

@@ -9,15 +9,19 @@ LAST_TIME = 1 << 62
 LAST_VALUE = (1 << 64) - 1
 MOST_CANDIDATES = 1024
 LAST_ROUND = 64
+# The bytes that stand for themselves where names are written.
+PLAIN_BYTES = frozenset(b"ABCDEFGHIJKLMNOPQRSTUVWXYZabcdefghijklmnopqrstuvwxyz0123456789._-")
 DIGEST_SIZE = 32
 NO_DIGEST = bytes(DIGEST_SIZE)
 
-# The objects of each setup.
-OBJECTS = (0,)
+# The kinds of objects, by their words in scripts.
+COUNTER, BLOB, DIR = "counter", "blob", "dir"
+# The bytes of a blob, the entries of a directory and the bytes of a name, at most.
+MOST_CONTENT, MOST_ENTRIES, MOST_NAME = 4096, 256, 255
 # The codes of the classes.
 METHOD, INLINE_METHOD, COPY, INLINE_BARRIER, BARRIER, NEEDS = 1, 2, 3, 4, 5, 6
-# The numbers of an act's refusals by an object.
-OVER, UNDER = 3, 4
+# The numbers of refusals of a part of an operation.
+OVER, UNDER, TOO_LONG, EXISTS, MISSING, BAD_NAME, FULL, WRONG_KIND = 3, 4, 5, 6, 7, 8, 9, 12
 # The numbers of a replica's refusals.
 HISTORY_FULL, THIN, NEEDED, STALE = 11, 13, 15, 16
 NOT_CURRENT, NOT_METHOD, SPENT, TIME_SPENT, UNKNOWN_OBJECT, SOUND = 22, 23, 24, 25, 26, 27
@@ -103,9 +107,9 @@ class ObjectSet(NamedTuple):
 
 
 class Items(NamedTuple):
-    """An answer that tells values."""
+    """An answer that tells items: numbers, bytes, or pairs of a name and a number by rising names."""
 
-    numbers: tuple
+    items: tuple
 
 
 class RefusedPart(NamedTuple):
@@ -124,10 +128,13 @@ class KeptRow(NamedTuple):
 
 
 class State(NamedTuple):
-    """The counter's value, and pairs of a client and its kept row, clients rising."""
+    """An object's kind and value; pairs of a client and its kept row, clients rising; and of an object and a stamp, the
+    links, objects rising."""
 
-    value: int
-    kept: tuple
+    kind: str
+    value: object
+    kept: tuple = ()
+    links: tuple = ()
 
     def row(self, client):
         """The kept row of a client, or None."""
@@ -135,14 +142,11 @@ class State(NamedTuple):
 
 
 class Part(NamedTuple):
-    """A part of an operation: `add` or `take` with a number, or `read` without."""
+    """A part of an operation: the object, what is asked of it, and what this needs: a number, bytes, a name."""
 
     object: int
     method: str
-    number: Optional[int] = None
-
-    def __str__(self):
-        return f"{self.method} {self.object}" + ("" if self.number is None else f" {self.number}")
+    arguments: tuple = ()
 
 
 class Body(NamedTuple):

@@ -23,11 +23,13 @@ class Refused(Exception):
 
 
 class Setup(NamedTuple):
-    """Who takes part in a run: clients are numbered up to `clients`, and `faulty` is a set of parties."""
+    """Who takes part in a run: clients are numbered up to `clients`, `kinds` has the kind of each object, and `faulty`
+    is a set of parties."""
 
     bounds: Bounds
     seed: int
     clients: int
+    kinds: tuple
     faulty: frozenset
 
 
@@ -62,8 +64,8 @@ class World:
     def __init__(self, setup):
         self.setup, self.bounds = setup, setup.bounds
         self.keys = Keys(setup.seed, setup.bounds, setup.clients)
-        self.replicas = {number: Replica(number, self.keys, self.bounds) for number in range(self.bounds.replicas)
-                         if Party("r", number) not in setup.faulty}
+        self.replicas = {number: Replica(number, self.keys, self.bounds, setup.kinds)
+                         for number in range(self.bounds.replicas) if Party("r", number) not in setup.faulty}
         self.clients = {number: Client(number, self.keys, self.bounds, setup.seed)
                         for number in range(1, setup.clients + 1) if Party("c", number) not in setup.faulty}
         self.events = self.bytes = 0

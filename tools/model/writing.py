@@ -1,11 +1,14 @@
 """The bytes of values. Each call takes a value and gives its one spelling."""
-from model.values import NOT_CURRENT, NOT_METHOD, SPENT, Already, Done, Fetch, Items, Mended, Reply, Request, Told
+from model.values import (
+    BLOB, COUNTER, DIR, NOT_CURRENT, NOT_METHOD, SPENT, Already, Done, Fetch, Items, Mended, Reply, Request, Told)
 
 VERSION = 1
 REQUEST_KIND, REPLY_KIND, FETCH_KIND, FETCHED_KIND = 1, 2, 3, 4
 BODY_CODES = {"act": 1, "query": 2, "mend": 3}
-METHOD_CODES = {"add": 1, "take": 2}
-READ_CODE, NUMBER_CODE, COUNTER_CODE = 1, 1, 1
+METHOD_CODES = {"add": 1, "take": 2, "put": 3, "append": 4, "link": 5, "unlink": 6}
+ASK_CODES = {"read": 1, "cat": 2, "find": 3, "list": 4}
+NUMBER_CODE, BYTES_CODE, LISTING_CODE = 1, 2, 3
+KIND_CODES = {COUNTER: 1, BLOB: 2, DIR: 3}
 
 
 def u8(number):
@@ -54,11 +57,32 @@ def write_histories(sets):
     return write_sets(sets, lambda entry: write_history(entry.history))
 
 
+def write_content(content):
+    """Bytes with their number before them."""
+    return u16(len(content)) + content
+
+
+def write_name(name):
+    return u8(len(name)) + name
+
+
+def write_entries(entries):
+    """Pairs of a name and a number."""
+    return u16(len(entries)) + b"".join(write_name(name) + u64(number) for name, number in entries)
+
+
+# What each method and each ask writes behind its code.
+ARGUMENT_WRITERS = {
+    "add": (u64,), "take": (u64,), "put": (write_content,), "append": (write_content,), "link": (write_name, u64),
+    "unlink": (write_name,), "read": (), "cat": (), "find": (write_name,), "list": ()}
+
+
 def write_parts(parts):
     text = u8(len(parts))
     for part in parts:
-        text += u16(part.object)
-        text += u8(READ_CODE) if part.method == "read" else u8(METHOD_CODES[part.method]) + u64(part.number)
+        text += u16(part.object) + u8({**METHOD_CODES, **ASK_CODES}[part.method])
+        for write, argument in zip(ARGUMENT_WRITERS[part.method], part.arguments, strict=True):
+            text += write(argument)
     return text
 
 
@@ -66,17 +90,27 @@ def write_body(body):
     return u8(BODY_CODES[body.kind]) + (u16(body.target) if body.kind == "mend" else write_parts(body.parts))
 
 
+def write_item(item):
+    if isinstance(item, int):
+        return u8(NUMBER_CODE) + u64(item)
+    return u8(BYTES_CODE) + write_content(item) if isinstance(item, bytes) else u8(LISTING_CODE) + write_entries(item)
+
+
 def write_answer(answer):
     if isinstance(answer, Items):
-        return u8(0) + u8(len(answer.numbers)) + b"".join(u8(NUMBER_CODE) + u64(number) for number in answer.numbers)
+        return u8(0) + u8(len(answer.items)) + b"".join(map(write_item, answer.items))
     return u8(1) + u8(answer.position) + u8(answer.number)
 
 
 def write_state(state):
-    text = u8(COUNTER_CODE) + u64(state.value) + u8(len(state.kept))
+    write_value = {COUNTER: u64, BLOB: write_content, DIR: write_entries}[state.kind]
+    text = u8(KIND_CODES[state.kind]) + write_value(state.value) + u8(len(state.kept))
     for client, row in state.kept:
         text += u16(client) + u64(row.number) + row.act + write_answer(row.answer)
-    return text + u8(0)
+    text += u8(len(state.links))
+    for object_number, stamp in state.links:
+        text += u16(object_number) + write_stamp(stamp)
+    return text
 
 
 def write_verdict(verdict):

@@ -3,26 +3,37 @@ import re
 from dataclasses import dataclass
 
 
+# No number that is written has more digits.
+NUM = r"\d{1,20}"
+
+
 def count_of(word):
     """The form of a number of things, by its word for one of them."""
-    return rf"(?:1 {word}|(?!1 )\d+ {word}s)"
+    return rf"(?:1 {word}|(?!1 ){NUM} {word}s)"
 
 
-ITEM = r"(?:\d+|[a-z][a-z ]* at \d+)"
+NAME = r"(?:(?:[A-Za-z0-9._-]|%[0-9a-f]{2})+|%)"
+CONTENT = r"(?:(?:[0-9a-f]{2})+|-)"
+LISTING = rf"(?:{NAME}={NUM}(?:,{NAME}={NUM})*|-)"
+PART = (rf"(?:(?:add|take) {NUM} {NUM}|(?:read|cat|list) {NUM}|(?:put|append) {NUM} {CONTENT}"
+        rf"|link {NUM} {NAME} {NUM}|(?:unlink|find) {NUM} {NAME})")
+OPERATION = rf"{PART}(?: \+ {PART})*"
+ITEM = rf"(?:{NUM}|{CONTENT}|{LISTING}|[a-z][a-z ]* at {NUM})"
 ANSWER = rf"{ITEM}(?: \+ {ITEM})*"
-STAMP = r"(?:time \d+ of client \d+|barrier \d+ of client \d+|opening)"
+STAMP = rf"(?:time {NUM} of client {NUM}|barrier {NUM} of client {NUM}|opening)"
 CLASS = r"(?:inline method|copy|inline barrier|barrier|needs)"
-REFUSAL = (rf"(?:(?:history full|thin|needs|stale|time spent|unknown object|sound) \d+|spent \d+ at \d+"
-           rf"|not current \d+ latest {STAMP}|not of class METHOD \d+ but {CLASS})")
-VERDICT = (rf"(?:(?:done|told) {ANSWER}(?:, object \d+ at {STAMP})*|already {ANSWER}|mended \d+ at {STAMP}"
+REFUSAL = (rf"(?:(?:history full|thin|needs|stale|time spent|unknown object|sound) {NUM}|spent {NUM} at {NUM}"
+           rf"|not current {NUM} latest {STAMP}|not of class METHOD {NUM} but {CLASS})")
+VERDICT = (rf"(?:(?:done|told) {ANSWER}(?:, object {NUM} at {STAMP})*|already {ANSWER}|mended {NUM} at {STAMP}"
            rf"|{REFUSAL})")
-SETS = r"(?:, object \d+ shown by (?:none|\d+(?: \d+)*))*"
-CULLED = r"(?:, culled object \d+ of replica \d+)*"
-SHOWN = rf"(?:, shows object \d+ with {count_of('candidate')})*"
-REQUEST = re.compile(rf"request (\d+\.\d+) round (\d+), (act|query|mend object \d+){SETS}")
-REPLY = re.compile(rf"reply (\d+\.\d+) round (\d+), ({VERDICT})({CULLED}){SHOWN}")
-FETCH = re.compile(rf"fetch object \d+ at {STAMP}")
-FETCHED = re.compile(rf"fetched object \d+ at {STAMP}, counter \d+, {count_of('client')}, {count_of('link')}")
+SETS = rf"(?:, object {NUM} shown by (?:none|{NUM}(?: {NUM})*))*"
+CULLED = rf"(?:, culled object {NUM} of replica {NUM})*"
+SHOWN = rf"(?:, shows object {NUM} with {count_of('candidate')})*"
+REQUEST = re.compile(rf"request ({NUM}\.{NUM}) round ({NUM}), (act|query|mend object {NUM}){SETS}")
+REPLY = re.compile(rf"reply ({NUM}\.{NUM}) round ({NUM}), ({VERDICT})({CULLED}){SHOWN}")
+FETCH = re.compile(rf"fetch object {NUM} at {STAMP}")
+VALUE = rf"(?:counter {NUM}|blob {CONTENT}|dir {LISTING})"
+FETCHED = re.compile(rf"fetched object {NUM} at {STAMP}, {VALUE}, {count_of('client')}, {count_of('link')}")
 
 
 @dataclass(frozen=True)
@@ -40,8 +51,8 @@ class Frame:
     @property
     def stamp(self):
         """The stamp that a verdict tells first, or nothing."""
-        found = re.search(STAMP, self.verdict)
-        return found.group(0) if found else ""
+        found = re.search(rf"(?:at|latest) ({STAMP})", self.verdict)
+        return found.group(1) if found else ""
 
 
 def frame_of(text):

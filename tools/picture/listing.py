@@ -3,23 +3,22 @@ import re
 from dataclasses import dataclass, field
 
 from picture.faults import Malformed
-from picture.frames import ANSWER, Frame, count_of, frame_of
+from picture.frames import ANSWER, NUM, OPERATION, Frame, count_of, frame_of
 
-PARTY = r"(?:replica|client) \d+"
+PARTY = rf"(?:replica|client) {NUM}"
 COUNTED = (r"not counted, (?:not fetched|another kind|answered before)"
-           r"|counted(?:, found(?:, held)?(?:, wakes \d+\.\d+)?)?")
-EVENT = re.compile(rf"event (?P<number>\d+) (?P<words>.+?)(?:, (?P<counted>{COUNTED}))?(?P<waits>, waits)?"
-                   r"(?:, (?P<over>round \d+ (?:agreed|split|timed out))"
-                   r"(?P<without>(?:, without object \d+ of replica \d+)*))?"
-                   r"(?:, (?P<rests>rests \d+ ticks?))?(?:, asks (?P<asks>all|the preferred|the others))?"
-                   rf"(?:, ends (?P<ends>\d+\.\d+) (?:with (?P<answer>{ANSWER})|given up))?")
-CALL = re.compile(r"call ((\d+)\.\d+) ([a-z]+(?: \d+)+)")
-TICK = re.compile(r"tick client (\d+)")
-DELIVER = re.compile(rf"deliver (\d+) to ({PARTY})(, ignored)?")
+           rf"|counted(?:, found(?:, held)?(?:, wakes {NUM}\.{NUM})?)?")
+EVENT = re.compile(rf"event (?P<number>{NUM}) (?P<words>.+?)(?:, (?P<counted>{COUNTED}))?(?P<waits>, waits)?"
+                   rf"(?:, (?P<over>round {NUM} (?:agreed|split|timed out))"
+                   rf"(?P<without>(?:, without object {NUM} of replica {NUM})*))?"
+                   rf"(?:, (?P<rests>rests {NUM} ticks?))?(?:, asks (?P<asks>all|the preferred|the others))?"
+                   rf"(?:, ends (?P<ends>{NUM}\.{NUM}) (?:with (?P<answer>{ANSWER})|given up))?")
+CALL = re.compile(rf"call (({NUM})\.{NUM}) ({OPERATION})")
+TICK = re.compile(rf"tick client ({NUM})")
+DELIVER = re.compile(rf"deliver ({NUM}) to ({PARTY})(, ignored)?")
 INJECT = re.compile(rf"inject ({count_of('byte')}) to ({PARTY})(?:, ignored| as ({PARTY}): (.+))")
-LETTER = re.compile(rf"  letter (\d+) ({PARTY}) to ({PARTY}): (.+)")
-LONG_NUMBER = re.compile(r"\d{21}")
-REFUSED = re.compile(r"line \d+: [a-z ]+")
+LETTER = re.compile(rf"  letter ({NUM}) ({PARTY}) to ({PARTY}): (.+)")
+REFUSED = re.compile(rf"line {NUM}: [a-z ]+")
 
 
 @dataclass(frozen=True, order=True)
@@ -108,7 +107,7 @@ def read_listing(data):
     """The run that these bytes list. Raises Malformed at the first line that has no known form or does not fit the
     lines before it."""
     run = Run()
-    for number, line in written_lines(data):
+    for number, line in lines_of(data):
         if line.startswith("event "):
             read_event(run, line, number)
         elif line.startswith("  letter "):
@@ -126,14 +125,6 @@ def lines_of(data):
     if lines[-1] == b"":
         lines.pop()
     return [(number, line.decode("ascii", "replace")) for number, line in enumerate(lines, 1)]
-
-
-def written_lines(data, file=""):
-    """The lines of what a program wrote. Raises Malformed where a number has more digits than any that it writes."""
-    for number, line in lines_of(data):
-        if LONG_NUMBER.search(line):
-            raise Malformed(number, "unknown line", file)
-        yield number, line
 
 
 def read_event(run, line, number):

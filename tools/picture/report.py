@@ -3,16 +3,18 @@ import re
 from dataclasses import dataclass, field
 
 from picture.faults import Malformed
-from picture.frames import ANSWER
-from picture.listing import Party, lines_of, written_lines
+from picture.frames import ANSWER, NUM, OPERATION
+from picture.listing import Party, lines_of
 
-SETUP = ("bounds 0*[1-3]", r"seed \d+", r"clients \d+", r"object \d+ counter")
+OBJECT = r"object \d+ (?:counter|blob|dir)"
+SETUP = ("bounds 0*[1-3]", r"seed \d+", r"clients \d+", OBJECT)
 FAULTY = re.compile(r"faulty (replica|client) 0*(\d{1,2})")
-BOUNDS = re.compile(r"bounds b (\d+) n \d+ q (\d+) r \d+")
-POINT = re.compile(r"point (\d+\.\d+)( faulty [a-z]+(?: \d+)+)?")
-SAID = re.compile(rf"call \d+\.\d+ [a-z]+(?: \d+)+|reply \d+\.\d+ {ANSWER}|gaveup \d+\.\d+")
-AFTER = re.compile(r"open \d+\.\d+|premises hold|end calls \d+ done \d+ gaveup \d+ open \d+")
-BROKEN = re.compile(r"premises (?:(forged) (\d+)|(collide) (\d+) (\d+))")
+BOUNDS = re.compile(rf"bounds b ({NUM}) n {NUM} q ({NUM}) r {NUM}")
+OF = rf"{NUM}\.{NUM}"
+POINT = re.compile(rf"point ({OF})( faulty {OPERATION})?")
+SAID = re.compile(rf"call {OF} {OPERATION}|reply {OF} {ANSWER}|gaveup {OF}")
+AFTER = re.compile(rf"open {OF}|premises hold|end calls {NUM} done {NUM} gaveup {NUM} open {NUM}")
+BROKEN = re.compile(rf"premises (?:(forged) ({NUM})|(collide) ({NUM}) ({NUM}))")
 
 
 @dataclass(frozen=True)
@@ -44,15 +46,16 @@ def read_faulty(data, file):
     faulty = set()
     for _, line in lines:
         found = FAULTY.fullmatch(line)
-        if not found:
+        if found:
+            faulty.add(Party(found.group(1), int(found.group(2))))
+        elif faulty or not re.fullmatch(OBJECT, line):
             break
-        faulty.add(Party(found.group(1), int(found.group(2))))
     return faulty
 
 
 def read_report(data, file, run):
     """The report of a run. Raises Malformed where a line has no known form, or tells of another run."""
-    lines = list(written_lines(data, file))
+    lines = lines_of(data)
     bounds = BOUNDS.fullmatch(lines[0][1]) if lines else None
     if not bounds:
         raise Malformed(1, "unknown line", file)

@@ -20,6 +20,8 @@ MARKS = {
     "ignored": "ignored: nothing changes",
 }
 VERDICT_MARKS = {"done": "done", "told": "told", "already": "told"}
+# A word of 40 characters or more, of which the first 32 are shown, and the marks behind it.
+LONG_WORD = re.compile(r"([^ ]{32})[^ ]{7,}[^ ;,:]([;,:]*)(?= |$)")
 
 
 def mark_of(event, run):
@@ -76,7 +78,12 @@ def words_of(event, run):
         parts.append(f"ends {event.ends} {answer}")
     if event.sends:
         parts.append(sent(event, run))
-    return "; ".join(parts)
+    return shortened("; ".join(parts))
+
+
+def shortened(words):
+    """Words of which long ones, as the bytes of a blob or the entries of a directory, are cut."""
+    return LONG_WORD.sub(r"\1..\2", words)
 
 
 def over(event):

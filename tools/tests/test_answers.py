@@ -17,7 +17,7 @@ from model.world import Refused
 
 EXAMPLES = os.path.join(os.path.dirname(TOOLS), "examples")
 # Topics that take a second or so each.
-TOPICS = ("whole", "client", "fetching", "repairs")
+TOPICS = ("whole", "client", "fetching", "repairs", "kinds", "bad-scripts", "acts", "states", "verdicts", "frames")
 BUSY = b"bounds 1\nseed 7\nclients 1\nobject 0 counter\ncall 1 read 0\ncall 1 read 0\n"
 READ = BUSY[:-len(b"call 1 read 0\n")]
 
@@ -105,6 +105,16 @@ class Command(unittest.TestCase):
         self.assertEqual((0, ["Busy", "points", "serial"]), (status, written.splitlines()[-3:]))
         self.assertEqual((0, "usage: qu-letters [digests]\nstatus 2\n", ""), run(b"", "qu-letters", "sim"))
 
+    def test_the_answer_to_bytes(self):
+        act = b"01 0005 03 0002 6869"
+        self.assertEqual((0, " put 5 6869\n", ""), run(act, "decode", "act"))
+        self.assertEqual((0, " put 5 6869\nshort at 0 1 3 4 6\nand a byte:  put 5 6869 to 8\n", ""),
+                         run(act, "exact", "act"))
+        changes = b"\nat 3 05\nat 4 each\n"
+        self.assertEqual(
+            (0, " put 5 6869\n3 05: Short at 5\n4 from 00:  put 5 6869\n4 from 01: Short at 6\n4 from 10: Range at 4\n",
+             ""), run(act + changes, "changes", "act"))
+
     def test_the_answer_of_a_stored_case(self):
         status, written, _ = run(b"", "--answer", "orders", "race")
         self.assertEqual((0, "== race order"), (status, written.splitlines()[0]))
@@ -116,7 +126,8 @@ class Command(unittest.TestCase):
     def test_what_the_model_does_not_know(self):
         setup = READ[:READ.index(b"call")]
         for words, data, why in (
-                (["decode", "stamp"], b"00", "the model does not know the command decode"),
+                (["hmac"], b"00", "the model does not know the command hmac"),
+                (["decode", "word"], b"00", "no part of a frame: word"),
                 (["injected"], BUSY, "line 6: busy"),
                 (["events"], setup + b"\nhold 1\n", "no line for events: hold 1"),
                 (["events"], setup + b"\ninject x1 00\n", "no party: x1"),
@@ -134,7 +145,7 @@ class Command(unittest.TestCase):
     def test_an_answer_that_differs_is_told(self):
         program = answers()
         asked = f"name qu-letters\n# A reason.\n{READ.decode()}----\nevent 1\nstatus 0\n"
-        cases = [read_case(asked), read_case(asked.replace("qu-letters", "exact"))]
+        cases = [read_case(asked), read_case(asked.replace("qu-letters", "hmac"))]
         with mock.patch.object(program, "read_topic", lambda topic: (cases, names_for())):
             with contextlib.redirect_stdout(io.StringIO()) as written:
                 self.assertEqual(1, program.run(["--topics", "letters"]))

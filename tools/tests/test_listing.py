@@ -15,6 +15,16 @@ FRAMES = [
     "fetch object 1 at time 7 of client 3",
     "fetched object 0 at opening, counter 0, 0 clients, 0 links",
     "fetched object 63 at barrier 1 of client 1, counter 5, 1 client, 2 links",
+    "fetched object 1 at time 1 of client 1, blob 6869, 1 client, 0 links",
+    "fetched object 1 at time 1 of client 1, blob -, 0 clients, 0 links",
+    "fetched object 2 at time 1 of client 1, dir -, 0 clients, 0 links",
+    "fetched object 2 at time 1 of client 1, dir %20=1,etc=7,%ff=8, 2 clients, 0 links",
+]
+NO_FRAMES = [
+    "fetched object 0 at opening, blob 686, 0 clients, 0 links",
+    "fetched object 0 at opening, dir etc, 0 clients, 0 links",
+    "fetched object 0 at opening, text 1, 0 clients, 0 links",
+    "fetched object 0 at opening, counter 0",
 ]
 VERDICTS = [
     "done 5, object 0 at time 1 of client 1",
@@ -24,6 +34,11 @@ VERDICTS = [
     "told 0, object 0 at opening",
     "already over at 0",
     "already too long at 1",
+    "done missing at 0, object 2 at time 1 of client 1",
+    "told 686921, object 1 at time 2 of client 1",
+    "told -, object 1 at opening",
+    "told etc=7,opening=8, object 2 at time 1 of client 1",
+    "told %=0,%2f=1, object 2 at time 1 of client 1",
     "mended 2 at time 1 of client 2",
     "mended 0 at barrier 2 of client 2",
     "history full 3", "thin 0", "needs 1", "stale 63", "time spent 0", "unknown object 0", "sound 0",
@@ -64,6 +79,9 @@ MALFORMED = [
     ([OPENING, ASKED, DELIVERED, THIN + "s"], 4, "unknown frame"),
     (["event 1 call 1.1 add 0 5 \xff"], 1, "unknown line"),
     (["event 1 call 1.1 add 0 " + "5" * 5000], 1, "unknown line"),
+    (["event 1 call 1.1 put 0 5"], 1, "unknown line"),
+    (["event 1 call 1.1 link 0 a/b 5"], 1, "unknown line"),
+    (["event 1 call 1.1 cat 0 5"], 1, "unknown line"),
     ([OPENING, f"event {'9' * 5000} call 2.1 read 0"], 2, "unknown line"),
     ([OPENING, ASKED, "", DELIVERED], 3, "unknown line"),
     ([OPENING + "\r", ASKED], 1, "unknown line"),
@@ -75,6 +93,16 @@ class Listings(unittest.TestCase):
         for text in FRAMES:
             self.assertIsNotNone(frame_of(text), text)
 
+    def test_what_is_no_frame(self):
+        for text in NO_FRAMES:
+            self.assertIsNone(frame_of(text), text)
+
+    def test_each_operation_is_read(self):
+        for words in ("add 0 5", "take 0 5", "read 63", "put 1 6869", "put 1 -", "append 1 21", "cat 1", "link 2 etc 7",
+                      "link 2 % 7", "link 2 a%2f_-. 7", "unlink 2 etc", "find 2 etc", "list 2", "add 0 1 + take 1 1"):
+            run = read_listing(text_of(f"event 1 call 1.1 {words}, asks all"))
+            self.assertEqual(words, run.event(1).asked)
+
     def test_each_verdict_is_read_with_what_stands_behind_it(self):
         for verdict in VERDICTS:
             for behind in BEHIND:
@@ -85,6 +113,7 @@ class Listings(unittest.TestCase):
 
     def test_the_first_stamp_of_a_verdict(self):
         self.assertEqual("time 1 of client 1", frame_of(f"reply 1.1 round 1, {VERDICTS[1]}").stamp)
+        self.assertEqual("time 1 of client 1", frame_of(f"reply 1.1 round 1, {VERDICTS[10]}").stamp)
         self.assertEqual("", frame_of("reply 1.1 round 1, thin 0").stamp)
 
     def test_a_short_run(self):
@@ -101,7 +130,7 @@ class Listings(unittest.TestCase):
         self.assertEqual([], read_listing(b"").events)
 
     def test_ends_with_an_answer(self):
-        for answer in ("5", "over at 0", "too long at 1", "5 + 0"):
+        for answer in ("5", "over at 0", "too long at 1", "5 + 0", "686921", "-", "etc=7,%ff=8"):
             run = read_listing(text_of(*SHORT[:4], ENDED.replace("given up", f"with {answer}")))
             self.assertEqual(answer, run.event(3).answer)
 

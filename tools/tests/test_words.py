@@ -83,9 +83,26 @@ class Words(unittest.TestCase):
                              ("fetched object 5 at time 2 of client 1, counter 7, 1 client, 0 links",
                               "fetched 5 at time 2 of c1, counter 7"),
                              ("fetched object 0 at opening, counter 0, 0 clients, 1 link",
-                              "fetched 0 at opening, counter 0")):
+                              "fetched 0 at opening, counter 0"),
+                             ("fetched object 1 at opening, blob -, 0 clients, 0 links",
+                              "fetched 1 at opening, blob -"),
+                             ("fetched object 2 at opening, dir a=1,b=2, 0 clients, 0 links",
+                              "fetched 2 at opening, dir a=1,b=2")):
             run = read_listing(text_of(f"event 1 inject 90 bytes to replica 1 as replica 0: {frame}"))
             self.assertEqual(f"90 bytes injected as r0, {words}: no answer", words_of(run.event(1), run))
+
+    def test_long_bytes_are_cut(self):
+        for size, told in ((19, "00" * 19), (20, "00" * 16 + ".."), (4096, "00" * 16 + "..")):
+            run = read_listing(text_of(f"event 1 call 1.1 put 0 {'00' * size}, asks all"))
+            self.assertEqual(f"call 1.1 put 0 {told}", words_of(run.event(1), run))
+        run = read_listing(text_of(*SHORT[:4], ENDED.replace("given up", f"with {'0' * 29}=1,{'1' * 30}=5")))
+        told = f"letter 2 of r0, 1.1 round 1: thin 0; ends 1.1 with {'0' * 29}=1,.."
+        self.assertEqual(told, words_of(run.event(3), run))
+        for entries, told in ((f"a=1,{'b' * 33}=2", f"a=1,{'b' * 33}=2"), (f"a=1,{'b' * 34}=2", f"a=1,{'b' * 28}..")):
+            frame = f"fetched object 2 at opening, dir {entries}, 0 clients, 0 links"
+            run = read_listing(text_of(f"event 1 inject 90 bytes to replica 1 as replica 0: {frame}"))
+            words = f"90 bytes injected as r0, fetched 2 at opening, dir {told}: no answer"
+            self.assertEqual(words, words_of(run.event(1), run))
 
     def test_rounds_of_a_client(self):
         second = ASKED.replace("letter 1", "letter 2").replace("round 1", "round 2")
@@ -207,6 +224,9 @@ class Points(unittest.TestCase):
         called = "inject replica 0 " + "0" * 5000
         named = read_faulty(text_of(*SETUP, "faulty replica 5", "faulty client 002", called), "script")
         self.assertEqual({Party("replica", 5), Party("client", 2)}, named)
+        kinds = [*SETUP, "object 1 blob", "object 02 dir", "faulty replica 4", "call 1 put 1 -"]
+        self.assertEqual({Party("replica", 4)}, read_faulty(text_of(*kinds), "script"))
+        self.assertEqual(set(), read_faulty(text_of(*SETUP, "object 1 text", "faulty replica 4"), "script"))
         for number, lines in ((1, []), (2, ["bounds 1"]), (1, ["bounds 4", *SETUP[1:]]), (4, [*SETUP[:3], "flow"])):
             with self.assertRaises(Malformed) as refused:
                 read_faulty(text_of(*lines), "script")

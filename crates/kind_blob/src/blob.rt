@@ -44,6 +44,13 @@ pub enum BlobQuery {
 }
 
 impl Blob {
+    /// The bytes that it holds.
+    pub fn content(&self) -> &List<u8>
+        ensures { result.now ≡ self.now }
+    {
+        &self.content
+    }
+
     /// An equal blob.
     pub fn copy(&self, alloc: Global) -> Result<Blob, NoMemory>
         ensures { IfOk result (λ blob. blob ≡ self.now) }

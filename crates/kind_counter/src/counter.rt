@@ -28,6 +28,22 @@ impl Model for Counter {
     ghost inverse = { λ number. record { number = number } };
 }
 
+impl Counter {
+    /// A counter that holds this number.
+    pub fn new(number: u64) -> Counter
+        ensures { result ≡ number }
+    {
+        Counter { number }
+    }
+
+    /// The number that it holds.
+    pub fn number(&self) -> u64
+        ensures { result ≡ self.now }
+    {
+        self.number
+    }
+}
+
 /// What changes a counter; it answers the new number.
 #[derive(Clone, Copy, Debug, PartialEq, Eq)]
 pub enum CounterUpdate {

@@ -74,7 +74,7 @@ abbrev pub dir_told : DirQuery → List (List ℕ × ℕ) → Told
 dir_told (Find name) entries = found (linked_number name entries)
 dir_told All entries = tells.Item (Entries entries)
 
--- the number that a name is dir_linked to fits its bytes
+-- the number that a name is linked to fits its bytes
 abbrev pub DirUpdateFits : DirUpdate → Type 0
 DirUpdateFits (Link name number) = number < 2 ^ 64
 DirUpdateFits (Unlink name) = Unit {0}

@@ -53,6 +53,13 @@ pub enum DirQuery {
 }
 
 impl Dir {
+    /// The names that it holds, by rising bytes, each with its number.
+    pub fn entries(&self) -> &List<(List<u8>, u64)>
+        ensures { result.now ≡ self.now }
+    {
+        &self.entries
+    }
+
     /// An equal directory.
     pub fn copy(&self, alloc: Global) -> Result<Dir, NoMemory>
         ensures { IfOk result (λ dir. dir ≡ self.now) }

@@ -25,7 +25,8 @@ use Rattle.qu_kept.specs.declared.repeats.Standing.TheVariants.{Fresh, Already, 
 use Rattle.qu_kept.specs.Performing.{row_by, links_to_others, state_after}
 use Rattle.qu_kept.specs.Rows.{row_of}
 use Rattle.qu_kept.specs.Standing.{IsLower, standing_of}
-use Rattle.qu_kept.proofs.OneObject.{values_one, no_others, performed_to}
+use Rattle.qu_objects.proofs.Single.{values_one}
+use Rattle.qu_kept.proofs.OneObject.{no_others, performed_to}
 use Rattle.qu_kept.proofs.StandingLaws.{fresh_where}
 use Rattle.qu_frames.specs.declared.frame.Body.TheVariants as body
 use Rattle.qu_frames.specs.declared.frame.Frame.TheVariants as frame

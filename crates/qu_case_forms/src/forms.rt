@@ -3,7 +3,8 @@
 use qu_base::{ClientId, Digest, List, ObjectId, Party, ReplicaId};
 use qu_frames::{Body, Frame, Refusal, Verdict};
 use qu_history::{Sealed, SetOf, Sets};
-use qu_objects::{Act, Answer, Item, KeptRow, Method, ObjState, Outcome, Query, Value};
+use qu_objects::{Act, Answer, Item, KeptRow, ObjState, Outcome, Query};
+use qu_print::{Piece, put_value};
 use qu_stamp::{Candidate, Stamp};
 use sha2::{Digest as Hasher, Sha256};
 use std::alloc::AllocError;
@@ -98,16 +99,29 @@ pub fn put_answer(answer: &Answer, out: &mut String) -> Result<(), AllocError> {
 fn put_items(items: &[Item], out: &mut String) -> Result<(), AllocError> {
     out.push_str("ok")?;
     for item in items {
-        let Item::Number(number) = item;
-        write!(out, " {number}")?;
+        out.push_str(item_word(item))?;
+        put_piece(item, out)?;
     }
     Ok(())
 }
 
+/// What stands before an item.
+fn item_word(item: &Item) -> &'static str {
+    match item {
+        Item::Number(_) => " ",
+        Item::Bytes(_) => " bytes ",
+        Item::Entries(_) => " listing ",
+    }
+}
+
+/// What a report tells of a piece of its line.
+fn put_piece<P: Piece>(piece: &P, out: &mut String) -> Result<(), AllocError> {
+    piece.put(out).map_err(|_| AllocError)
+}
+
 /// The value, what is kept of each client, and each link.
 pub fn put_state(state: &ObjState, out: &mut String) -> Result<(), AllocError> {
-    let Value::Counter(number) = &state.value;
-    write!(out, "counter {number}")?;
+    put_value(out, &state.value).map_err(|_| AllocError)?;
     for row in &state.kept {
         put_row(row, out)?;
     }
@@ -176,22 +190,18 @@ fn put_performed(
 }
 
 pub fn put_act(act: &Act, out: &mut String) -> Result<(), AllocError> {
-    for (object, method) in act.parts() {
-        put_method(*object, method, out)?;
-    }
-    Ok(())
-}
-
-fn put_method(object: ObjectId, method: &Method, out: &mut String) -> Result<(), AllocError> {
-    match method {
-        Method::Add(more) => write!(out, " add {} {more}", object.0),
-        Method::Take(less) => write!(out, " take {} {less}", object.0),
-    }
+    put_parts(act.parts().as_slice(), out)
 }
 
 pub fn put_query(query: &Query, out: &mut String) -> Result<(), AllocError> {
-    for (object, _) in query.parts() {
-        write!(out, " read {}", object.0)?;
+    put_parts(query.parts().as_slice(), out)
+}
+
+/// Each part as in a report, with a space before it.
+fn put_parts<P: Piece>(parts: &[P], out: &mut String) -> Result<(), AllocError> {
+    for part in parts {
+        out.push_str(" ")?;
+        put_piece(part, out)?;
     }
     Ok(())
 }

@@ -36,6 +36,7 @@ use Rattle.qu_kept.specs.Standing.{is_of_act, told_again, spent_or, standing_of}
 use Rattle.qu_kept.proofs.KeyedLaws.{all_with}
 use Rattle.qu_kept.proofs.OneObject.{performed_to}
 use Rattle.qu_objects.specs.Formats.{answer_form}
+use Rattle.qu_objects.specs.Digesting.{MethodFits}
 use Rattle.qu_objects.specs.Performing.{performed_answer, told_answer}
 use Rattle.qu_frames.specs.declared.verdict.Refusal.{Refusal}
 use Rattle.qu_frames.specs.declared.verdict.Refusal.TheVariants.{UnknownObject, Thin, NotCurrent, NotMethod, TimeSpent, HistoryFull}
@@ -399,10 +400,10 @@ module _ (state : ReplicaState) (asked : Asked) (fits : StateFits state) (asks :
       (repeated_fits _ (standing_fits method version
       (version_fits object (upon.0).stamp state.versions version fits.versions upon.2) asked.act))
 
-  done : (method : Method) (version : ObjState) → base_version state asked object ≡ Some version
+  done : (method : Method) → MethodFits method → (version : ObjState) → base_version state asked object ≡ Some version
       → (latest_of (shown_of asked object)).time < LAST_TIME
       → Gives (row_done state asked ((object, method) ∷ []) (object ∷ []))
-  done method version is_version spent = λ decision given.
+  done method numbers version is_version spent = λ decision given.
       let upon = version_of (method_base state asked object) version is_version in
       let base : Candidate = upon.0 in
       let fresh : Candidate = record { stamp = fresh_stamp asked object; prior = base.stamp } in
@@ -417,8 +418,9 @@ module _ (state : ReplicaState) (asked : Asked) (fits : StateFits state) (asks :
       version_fits object base.stamp state.versions version fits.versions upon.2 in
       let parts : List (ObjectId × Method) = (object, method) ∷ [] in
       let answer : Answer = performed_answer parts (version.value ∷ []) in
-      let answered : answer_form.Fits answer = performed_fits (object, method) version.value version_fit.value in
-      let after = after_fits (object, method) version.value version_fit.value in
+      let answered : answer_form.Fits answer = performed_fits (object, method) version.value numbers
+      version_fit.value in
+      let after = after_fits (object, method) version.value numbers version_fit.value in
       let row : KeptRow = row_by asked.client asked.number parts (version.value ∷ []) in
       let kept : AllByRecursion RowFits (with_row row version.kept) =
       all_with client_of RowFits row version.kept (record {
@@ -470,10 +472,10 @@ module _ (state : ReplicaState) (asked : Asked) (fits : StateFits state) (asks :
 
   -- ---- all rows
 
-  pub act_decision-fits : (on : Method)
+  pub act_decision-fits : (on : Method) → MethodFits on
       → DecisionFits (decide_act state asked ((object, on) ∷ []) (object ∷ []))
   unfolding decide_act
-  act_decision-fits on =
+  act_decision-fits on numbers =
       past _ _ unknown
       (λ _. past _ _ thin
       (λ _. past _ _ (retry on) (λ _. past _ _ current (λ _. past _ _ method (λ _. past _ _ lacking (λ is_version.
@@ -481,7 +483,7 @@ module _ (state : ReplicaState) (asked : Asked) (fits : StateFits state) (asks :
       past _ _ (repeats on has.0 has.1)
       (λ _. past _ _ time
       (λ in_time. past _ _ full
-      (λ _. past _ _ (done on has.0 has.1 (has_time in_time)) (λ _. no_row))))))))))
+      (λ _. past _ _ (done on numbers has.0 has.1 (has_time in_time)) (λ _. no_row))))))))))
 
   pub ask_decision-fits : (part : ObjectId × Ask) → DecisionFits (decide_ask state asked (part ∷ []) (object ∷ []))
   unfolding decide_ask

@@ -1,5 +1,5 @@
 -- The fields of a request that fits its format fit theirs, and what is decided upon it fits.
-use Rattle.std.proofs.Common.{◌≡◌, ℕ, ◌-◌, ◌^◌, ◌≤◌, List, [], ◌∷◌, length, Some, refl, subst, arith, set, ◌<◌}
+use Rattle.std.proofs.Common.{◌≡◌, ℕ, ◌-◌, ◌^◌, ◌≤◌, List, [], ◌∷◌, length, Some, refl, subst, arith, ◌<◌}
 use Rattle.std.proofs.lemmas.Option.{same_Some}
 use Rattle.qu_frames.specs.declared.limits.TheConstants.{LAST_ROUND}
 use Rattle.qu_base.specs.declared.limits.TheConstants.{REPLICA_IDS, LAST_CLIENT}
@@ -27,6 +27,7 @@ use Rattle.qu_rows.specs.State.{ReplicaState}
 use Rattle.qu_rows.specs.Rows.{Asked, act_asked, asked_at, decision_on}
 use Rattle.qu_fitting.specs.Fits.{StateFits}
 use Rattle.qu_fitting.proofs.FitCulled.{culled-fits}
+use Rattle.qu_fitting.proofs.FitValues.{method_numbers}
 use Rattle.qu_fitting.proofs.FitDecisions.{AskedFits, DecisionFits, act_decision-fits, ask_decision-fits}
 use Rattle.qu_fitting.proofs.FitMends.{mend_decision-fits}
 use Rattle.qu_fitting.proofs.FitVersions.{act_sized}
@@ -99,6 +100,7 @@ decision-fits state client number round sets asks fits request =
     decided (body.Act []) asked asked_fits within = absurd (omega (arith, ((within.1).0).0))
     decided (body.Act (part ∷ [])) asked asked_fits within =
         act_decision-fits state asked fits asked_fits part.0 (((((((within.1).1).1).0).0).0).0).1 part.1
+        (method_numbers part.1 ((((within.1).1).1).0).1)
     decided (body.Act (first ∷ second ∷ later)) asked asked_fits within = absurd (omega (arith, ((within.1).0).1))
     decided (body.Ask []) asked asked_fits within = absurd (omega (arith, ((within.1).0).0))
     decided (body.Ask (part ∷ [])) asked asked_fits within =

@@ -1,24 +1,23 @@
 -- What a replica answers to a request that was decoded fits its format.
-use Rattle.std.proofs.Common.{◌≡◌, ℕ, ◌+◌, ◌-◌, ◌^◌, ◌<◌, ◌≤◌, ltb, Bool, cond, [], ◌∷◌, inl, inr, refl, sym, subst, arith}
-use Rattle.std.proofs.lemmas.Bool.{cases_Bool, ltb-true, le-leb}
+use Rattle.std.proofs.Common.{◌≡◌, ℕ, ◌-◌, ◌^◌, ◌≤◌, [], ◌∷◌, refl, arith}
+use Rattle.std.specs.Prelude.{IsTrue}
+use Rattle.std.proofs.lemmas.Bool.{le-leb}
 use Rattle.qu_base.specs.declared.limits.TheConstants.{OBJECT_IDS}
 use Rattle.qu_base.specs.declared.party.ObjectId.{ObjectId}
 use Rattle.qu_stamp.specs.declared.stamp.Stamp.{Stamp}
 use Rattle.qu_stamp.specs.Formats.{stamp_form}
 use Rattle.qu_objects.specs.declared.act.Method.{Method}
-use Rattle.qu_objects.specs.declared.act.Method.TheVariants.{Add, Take}
 use Rattle.qu_objects.specs.declared.query.Ask.{Ask}
-use Rattle.qu_objects.specs.declared.query.Ask.TheVariants.{Read}
-use Rattle.qu_objects.specs.declared.answer.Item.TheVariants.{Number}
+use Rattle.qu_base.specs.declared.kind.Item.{Item}
 use Rattle.qu_objects.specs.declared.answer.Answer.{Answer}
 use Rattle.qu_objects.specs.declared.answer.Answer.TheVariants as answer
-use Rattle.qu_objects.specs.declared.refusal_number.TheConstants.{OVER, UNDER}
-use Rattle.qu_objects.specs.declared.kind.Applied.{Applied}
-use Rattle.qu_objects.specs.declared.kind.Applied.TheVariants as made
+use Rattle.qu_base.specs.declared.kind.Applied.{Applied}
+use Rattle.qu_base.specs.declared.kind.Applied.TheVariants as made
 use Rattle.qu_objects.specs.declared.kind.Value.{Value}
-use Rattle.qu_objects.specs.declared.kind.Value.TheVariants.{Counter}
-use Rattle.qu_objects.specs.Kind.{applied}
-use Rattle.qu_objects.specs.Performing.{performed_answer, performed_values, told_answer, answer_by, refusal_from, items_of, values_by, changed_values}
+use Rattle.qu_objects.specs.Kind.{applied, value_told}
+use Rattle.qu_objects.specs.RefusalNumber.{is_kind_refusal}
+use Rattle.qu_objects.specs.Digesting.{MethodFits}
+use Rattle.qu_objects.specs.Performing.{performed_answer, performed_values, told_answer, left_by, answer_by, refusal_from, items_of, values_by, changed_values}
 use Rattle.qu_objects.specs.Formats.{item_form, answer_form}
 use Rattle.qu_frames.specs.declared.verdict.ClassCode.{ClassCode}
 use Rattle.qu_frames.specs.declared.verdict.ClassCode.TheVariants.{InlineMethod, Copy, InlineBarrier, Barrier, Needs}
@@ -27,6 +26,7 @@ use Rattle.qu_frames.specs.declared.verdict.Refusal.TheVariants.{HistoryFull, Th
 use Rattle.qu_frames.specs.declared.verdict.Verdict.TheVariants.{Done, Told, Already, Mended, Refused}
 use Rattle.qu_frames.specs.Formats.{class_form, refusal_form, stamps_form, verdict_form}
 use Rattle.qu_fitting.specs.Fits.{ValueFits}
+use Rattle.qu_fitting.proofs.FitValues.{refusal_within, IsFitting, applied_fits, value_told-fits, left_fits}
 
 -- ---- refusals
 
@@ -102,75 +102,43 @@ already_fits answer fits = (((omega arith, omega arith), refl), fits)
 
 -- ---- answers
 
-number_fits : (number : ℕ) → number ≤ 2 ^ 64 - 1 → answer_form.Fits (answer.Ok (Number number ∷ []))
-unfolding answer_form item_form
-number_fits number within = (
-  ((omega arith, omega arith), refl),
-  ((omega arith, omega arith), (refl, ((((omega arith, omega arith), refl), (omega arith, within)), tt))),
-)
-
-over_fits : answer_form.Fits (answer.Refused 0 OVER)
+item_answer_fits : (item : Item) → item_form.Fits item → answer_form.Fits (answer.Ok (item ∷ []))
 unfolding answer_form
-over_fits = (((omega arith, omega arith), refl), ((omega arith, omega arith), ((omega arith, omega arith), refl)))
+item_answer_fits item fits = (((omega arith, omega arith), refl), ((omega arith, omega arith), (refl, (fits, tt))))
 
-under_fits : answer_form.Fits (answer.Refused 0 UNDER)
+refused_answer_fits : (why : ℕ) → IsTrue (is_kind_refusal why) → answer_form.Fits (answer.Refused 0 why)
 unfolding answer_form
-under_fits = (((omega arith, omega arith), refl), ((omega arith, omega arith), ((omega arith, omega arith), refl)))
+refused_answer_fits why is =
+    (((omega arith, omega arith), refl), ((omega arith, omega arith), ((omega arith, refusal_within why is), is)))
 
 -- the answer of a single part fits, and the value after it
-record OutcomeFits (value : Value) (outcome : Applied) : Type 0 where
+record OutcomeFits (value : Value) (outcome : Applied Value) : Type 0 where
   answer : answer_form.Fits (answer_by (refusal_from 0 (outcome ∷ [])) (items_of (outcome ∷ [])))
   after : Value
   is_after : values_by (refusal_from 0 (outcome ∷ [])) (value ∷ []) (changed_values (outcome ∷ [])) ≡ after ∷ []
   fits : ValueFits after
 
-changed_fits : (value : Value) (number : ℕ) → number ≤ 2 ^ 64 - 1
-    → OutcomeFits value (made.Changed (Counter number) (Number number))
-changed_fits value number within =
-    record { answer = number_fits number within; after = Counter number; is_after = refl; fits = within }
+outcome_fits : (value : Value) (outcome : Applied Value) → ValueFits value → IsFitting outcome
+    → OutcomeFits value outcome
+outcome_fits value (made.Changed after item) fits fitting =
+    record { answer = item_answer_fits item fitting.1; after = after; is_after = refl; fits = fitting.0 }
+outcome_fits value (made.Refused why) fits fitting =
+    record { answer = refused_answer_fits why fitting; after = value; is_after = refl; fits = fits }
 
-kept_fits : (value : Value) (why : ℕ) → ValueFits value → answer_form.Fits (answer.Refused 0 why)
-    → OutcomeFits value (made.Refused why)
-kept_fits value why fits refused = record { answer = refused; after = value; is_after = refl; fits = fits }
+module _ (part : ObjectId × Method) (value : Value) (numbers : MethodFits part.1) (fits : ValueFits value) where
+  outcome_of : OutcomeFits value (applied part.1 value)
+  outcome_of = outcome_fits value (applied part.1 value) fits (applied_fits part.1 value numbers fits)
 
-outcome_fits : (method : Method) (value : Value) → ValueFits value → OutcomeFits value (applied method value)
-outcome_fits (Add more) (Counter number) fits =
-    elim (cases_Bool (ltb (number + more) (2 ^ 64))) [
-      | inl is ↦
-          let below : number + more < 2 ^ 64 = ltb-true _ _ is in
-          subst (λ (test : Bool). OutcomeFits (Counter number)
-          (cond test (made.Changed (Counter (number + more)) (Number (number + more))) (made.Refused OVER)))
-          (sym is)
-          (changed_fits (Counter number) (number + more) (omega (arith, below)))
-      | inr not ↦
-          subst (λ (test : Bool). OutcomeFits (Counter number)
-          (cond test (made.Changed (Counter (number + more)) (Number (number + more))) (made.Refused OVER)))
-          (sym not)
-          (kept_fits (Counter number) OVER fits over_fits)
-    ]
-outcome_fits (Take fewer) (Counter number) fits =
-    elim (cases_Bool (ltb number fewer)) [
-      | inl is ↦
-          subst (λ (test : Bool). OutcomeFits (Counter number)
-          (cond test (made.Refused UNDER)
-          (made.Changed (Counter (number - fewer)) (Number (number - fewer))))) (sym is)
-          (kept_fits (Counter number) UNDER fits under_fits)
-      | inr not ↦
-          subst (λ (test : Bool). OutcomeFits (Counter number)
-          (cond test (made.Refused UNDER)
-          (made.Changed (Counter (number - fewer)) (Number (number - fewer))))) (sym not)
-          (changed_fits (Counter number) (number - fewer) (omega (arith, fits)))
-    ]
-
-module _ (part : ObjectId × Method) (value : Value) (fits : ValueFits value) where
   pub performed_fits : answer_form.Fits (performed_answer (part ∷ []) (value ∷ []))
-  performed_fits = (outcome_fits part.1 value fits).answer
+  performed_fits = outcome_of.answer
 
   -- the value after it
   pub after_fits : (after : Value) × (performed_values (part ∷ []) (value ∷ []) ≡ after ∷ []) × ValueFits after
-  after_fits = let outcome = outcome_fits part.1 value fits in (outcome.after, outcome.is_after, outcome.fits)
+  after_fits = (outcome_of.after, outcome_of.is_after, outcome_of.fits)
 
 -- what a query is told
 pub read_fits : (part : ObjectId × Ask) (value : Value) → ValueFits value
     → answer_form.Fits (told_answer (part ∷ []) (value ∷ []))
-read_fits (object, Read) (Counter number) fits = number_fits number fits
+read_fits part value fits =
+    (outcome_fits value (left_by value (value_told part.1 value)) fits
+    (left_fits value (value_told part.1 value) fits (value_told-fits part.1 value fits))).answer

@@ -10,25 +10,19 @@ use Rattle.qu_seal.proofs.Lengths.{length-digest}
 use Rattle.qu_base.specs.declared.party.ObjectId.{ObjectId}
 use Rattle.qu_objects.specs.Digesting.{act_digest}
 use Rattle.qu_objects.specs.declared.act.Method.{Method}
-use Rattle.qu_objects.specs.declared.kind.Value.{Value}
-use Rattle.qu_objects.specs.declared.kind.Value.TheVariants.{Counter}
 use Rattle.qu_objects.specs.declared.state.KeptRow.{KeptRow}
 use Rattle.qu_objects.specs.declared.state.ObjState.{ObjState}
-use Rattle.qu_objects.specs.States.{value_form, row_form, after_row, is_later_client, kept_form, links_form, state_form}
+use Rattle.qu_objects.specs.States.{row_form, after_row, is_later_client, kept_form, links_form, state_form}
 use Rattle.qu_kept.specs.Keyed.{Rising}
 use Rattle.qu_kept.specs.Rows.{client_of, AreRising, IsOfClients}
 use Rattle.qu_kept.proofs.KeyedLaws.{rising_within}
-use Rattle.qu_fitting.specs.Fits.{ValueFits, RowFits, VersionFits}
+use Rattle.qu_fitting.specs.Fits.{RowFits, VersionFits}
 
 -- an act's digest has 32 bytes
 pub act_sized : (client : ClientId) (number : ℕ) (parts : List (ObjectId × Method))
     → length (act_digest client number parts).0 ≡ 32
 unfolding act_digest
 act_sized client number parts = length-digest _ _
-
-value-fits : (value : Value) → ValueFits value → value_form.Fits value
-unfolding value_form
-value-fits (Counter number) fits = (((omega arith, omega arith), refl), (omega arith, fits))
 
 -- ---- rows
 
@@ -95,7 +89,7 @@ none_rising = tt
 pub version-spelled : (version : ObjState) → VersionFits version → state_form.Fits version
 unfolding state_form
 version-spelled version fits = (
-  value-fits version.value fits.value,
+  fits.value,
   (kept-fits version.kept fits.kept fits.rising, fits.links),
 )
 
@@ -144,15 +138,11 @@ rows-rise before [] fits = tt
 rows-rise before (row ∷ later) fits =
     (all_later row.client later fits.1, rows-rise (Some row.client) later fits.1)
 
-value-read : (value : Value) → value_form.Fits value → ValueFits value
-unfolding value_form
-value-read (Counter number) fits = fits.1.1
-
 -- a version of this format is one that a replica may hold
 pub version-read : (version : ObjState) → state_form.Fits version → VersionFits version
 unfolding state_form kept_form
 version-read version fits = record {
-  value = value-read version.value fits.0;
+  value = fits.0;
   kept = rows-read None version.kept fits.1.0.1.1;
   rising = rows-rise None version.kept fits.1.0.1.1;
   links = fits.1.1;

@@ -1,6 +1,7 @@
 pub mod FitStamps
 pub mod FitCulled
 pub mod FitVersions
+pub mod FitValues
 pub mod FitVerdicts
 pub mod FitAccepted
 pub mod FitDecisions

@@ -6,11 +6,10 @@ use Rattle.qu_base.specs.Bounds.{replicas, is_replica_count}
 use Rattle.qu_history.specs.History.{ObjectHistory}
 use Rattle.qu_history.specs.Formats.{candidates_form}
 use Rattle.qu_objects.specs.declared.kind.Value.{Value}
-use Rattle.qu_objects.specs.declared.kind.Value.TheVariants.{Counter}
 use Rattle.qu_objects.specs.declared.state.KeptRow.{KeptRow}
 use Rattle.qu_objects.specs.declared.state.ObjState.{ObjState}
 use Rattle.qu_objects.specs.Formats.{answer_form}
-use Rattle.qu_objects.specs.States.{links_form}
+use Rattle.qu_objects.specs.States.{value_form, links_form}
 use Rattle.qu_kept.specs.Rows.{AreRising}
 use Rattle.qu_frames.specs.declared.frame.Frame.{Frame}
 use Rattle.qu_frames.specs.declared.frame.Letter.{Letter}
@@ -20,9 +19,9 @@ use Rattle.qu_rows.specs.Waiting.{Waiting, request_frame_of}
 use Rattle.qu_rows.specs.State.{ReplicaState}
 use Rattle.qu_rows.specs.State.{AreHistories}
 
--- a counter is below 2^64
+-- a value has bytes
 abbrev pub ValueFits : Value → Type 0
-ValueFits (Counter number) = number ≤ 2 ^ 64 - 1
+ValueFits value = value_form.Fits value
 
 -- what is kept of an update can be told
 pub record RowFits (row : KeptRow) : Type 0 where

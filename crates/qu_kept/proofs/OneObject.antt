@@ -1,4 +1,4 @@
--- An act on one object changes one value, and its object's links stay.
+-- The version that an act on one object makes: its object's links stay.
 use Rattle.std.proofs.Common.{◌≡◌, ℕ, ◌==◌, true, List, [], ◌∷◌, length, get_or, refl, sym, ap, ◌∙◌, arith}
 use Rattle.std.specs.Prelude.{◌≢◌, ◌&&◌, if◌then◌else◌, Option, Some, Result, Ok, Err, IfOk, map, zip, IsTrue}
 use Rattle.std.proofs.lemmas.Bool.Decides.{nat_tests}
@@ -8,8 +8,8 @@ use Rattle.qu_base.specs.declared.party.ObjectId.{ObjectId}
 use Rattle.qu_stamp.specs.declared.stamp.Stamp.{Stamp}
 use Rattle.qu_objects.specs.declared.act.Method.{Method}
 use Rattle.qu_objects.specs.declared.kind.Value.{Value}
-use Rattle.qu_objects.specs.declared.kind.Applied.{Applied}
-use Rattle.qu_objects.specs.declared.kind.Applied.TheVariants.{Changed, Refused}
+use Rattle.qu_base.specs.declared.kind.Applied.{Applied}
+use Rattle.qu_base.specs.declared.kind.Applied.TheVariants.{Changed, Refused}
 use Rattle.qu_stamp.specs.Stamp.{same_digest}
 use Rattle.qu_stamp.proofs.Order.{same_act-self}
 use Rattle.qu_objects.specs.declared.state.KeptRow.{KeptRow}
@@ -17,23 +17,13 @@ use Rattle.qu_objects.specs.declared.state.ObjState.{ObjState}
 use Rattle.qu_objects.specs.Kind.{applied}
 use Rattle.qu_objects.specs.Parts.{are_parts}
 use Rattle.qu_objects.specs.Performing.{refusal_from, changed_values, values_by, performed_values}
+use Rattle.qu_objects.proofs.Single.{values_one}
 use Rattle.qu_kept.specs.declared.repeats.Standing.{Standing}
 use Rattle.qu_kept.specs.declared.repeats.Standing.TheVariants.{Already}
 use Rattle.qu_kept.specs.Rows.{client_of, row_of, with_row}
 use Rattle.qu_kept.specs.Standing.{is_of_act, told_again, first_spent, standing_of}
 use Rattle.qu_kept.specs.Performing.{row_for, links_to_others, with_links, state_after, performed_states, performed_links}
 use Rattle.qu_kept.proofs.KeyedLaws.{own_item, other_item}
-
-values_one_by : (value : Value) (made : Applied)
-    → length (values_by (refusal_from 0 (made ∷ [])) (value ∷ []) (changed_values (made ∷ []))) ≡ 1
-values_one_by value (Changed changed item) = refl
-values_one_by value (Refused why) = refl
-
-pub values_one : (parts : List (ObjectId × Method)) (value : Value) → length parts ≡ 1
-    → length (performed_values parts (value ∷ [])) ≡ 1
-values_one [] value one = absurd (omega arith)
-values_one (part ∷ []) value one = values_one_by value (applied part.1 value)
-values_one (part ∷ other ∷ parts) value one = absurd (omega arith)
 
 pub no_others : (part : ObjectId × Method) (stamp : Stamp) → links_to_others part.0 stamp (part ∷ []) ≡ []
 no_others part stamp =

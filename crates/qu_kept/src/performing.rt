@@ -9,9 +9,10 @@ ghost use Rattle.qu_kept.specs.Performing.{values_of, row_for, state_after, perf
 
 use super::with_row;
 use qu_base::{ClientId, List, NoMemory};
-use qu_objects::{Act, Answer, KeptRow, ObjState, Value, act_digest};
+use qu_objects::{Act, Answer, KeptRow, ObjState, PerformedValues, act_digest, only_value};
 use qu_stamp::Stamp;
 use std::alloc::Global;
+use std::slice;
 
 /// What an act makes of the versions of its objects, and the answer.
 #[derive(Debug, Drop)]
@@ -36,7 +37,7 @@ impl Performed {
 /// act's objects. Those and the stamps of the new versions are given in the order of the act's parts.
 ///
 /// All values change or none. Each version keeps the act and its answer in any case.
-#[tactic(auto, using(crate::proofs::OneObject::values_one))]
+#[tactic(auto, using(qu_objects::proofs::Single::values_one))]
 pub fn perform(
     alloc: Global,
     states: &[ObjState],
@@ -68,7 +69,7 @@ pub fn perform(
 }
 
 /// The same on the version of one object, whose links stay.
-#[tactic(auto, using(crate::proofs::OneObject::values_one))]
+#[tactic(auto, using(qu_objects::proofs::Single::values_one))]
 fn perform_one(
     alloc: Global,
     state: &ObjState,
@@ -83,13 +84,12 @@ fn perform_one(
     ensures answer { IfOk result (λ performed. performed.answer ≡ performed_answer act.now (state.now.value ∷ [])) }
 {
     let digest = act_digest(alloc, by, number, act)?;
-    let (value, answer) = {
-        let made = qu_objects::perform(alloc, &[state.value], act)?;
-        let [value] = made.values.as_slice() else {
-            unreachable!()
-        };
-        (*value, made.answer)
-    };
+    let PerformedValues { values, answer } = qu_objects::perform(
+        alloc,
+        slice::from_ref(&state.value),
+        act,
+    )?;
+    let value = only_value(values);
     let row = KeptRow {
         client: by,
         number,

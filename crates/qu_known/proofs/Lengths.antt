@@ -20,10 +20,11 @@ use Rattle.qu_history.specs.declared.sealed.Sealed.{Sealed}
 use Rattle.qu_history.specs.History.{ObjectHistory}
 use Rattle.qu_history.specs.Formats.{next_stamp, next_candidate, candidates_form, history_with, history_form, macs_form, sealed_with, sealed_form, object_from, sealed_from, object_after, shown_form}
 use Rattle.qu_objects.specs.declared.answer.Answer.TheVariants as answer
-use Rattle.qu_objects.specs.declared.answer.Item.TheVariants.{Number}
+use Rattle.qu_base.specs.declared.kind.Item.TheVariants.{Number, Bytes, Entries}
+use Rattle.qu_base.specs.declared.limits.TheConstants.{CONTENT_LIMIT, NAME_LIMIT, ENTRIES_LIMIT}
 use Rattle.qu_objects.specs.declared.limits.TheConstants.{PARTS_LIMIT}
-use Rattle.qu_base.specs.Texts.{word_form}
-use Rattle.qu_objects.specs.Formats.{is_item_code, item_code, item_number, item_form, items_form, part_refusal_form, is_answer_code, answer_code, answer_body, answer_form}
+use Rattle.qu_base.specs.Texts.{word_form, sized, content_form, name_form, named_form, after_name, spelled_name, listing_form}
+use Rattle.qu_objects.specs.Formats.{is_item_code, item_code, item_number, item_bytes, item_entries, any_name, item_body, item_form, items_form, part_refusal_form, is_answer_code, answer_code, answer_body, answer_form}
 use Rattle.qu_objects.specs.Formats as objects
 use Rattle.qu_frames.specs.declared.limits.TheConstants.{TEXT_LIMIT, CULLED_LIMIT}
 use Rattle.qu_frames.specs.declared.frame.Frame.TheVariants.{Reply}
@@ -228,21 +229,64 @@ shown-short me =
 
 -- ---- verdicts
 
-item-short : IsShort 9 item_form
+-- a length, and what is no longer than it may be
+sized-short : (head most : ℕ) (count : Format ℕ) → IsShort head count → ((many : ℕ) → count.Fits many → many ≤ most)
+    → IsShort (head + most) (sized count)
+sized-short head most count short few = record {
+  within = λ content fits. omega (
+    arith,
+    length-append (count.spell (length content)) content,
+    short.within (length content) fits.0,
+    few (length content) fits.0,
+  );
+}
+
+name-short : IsShort 256 name_form
+unfolding name_form
+name-short = sized-short 1 255 (number w8 0 NAME_LIMIT) (byte-short 0 _) (λ many fits. fits.1)
+
+content-short : IsShort 4098 content_form
+unfolding content_form
+content-short =
+    sized-short 2 4096 (number w16 0 CONTENT_LIMIT) (two-short 0 _) (λ many fits. fits.1)
+
+named-short : (before : Option (List ℕ)) (entry : List ℕ × ℕ) → (named_form any_name before).Fits entry
+    → length (spelled_name entry) ≤ 264
+unfolding named_form
+named-short before entry fits =
+    omega (
+      arith,
+      length-append (name_form.spell entry.0) (word_form.spell entry.1),
+      name-short.within entry.0 ((fits.0).0).0,
+      (eight-short 0 _).within entry.1 fits.1,
+    )
+
+listing-short : IsShort 67586 (listing_form any_name)
+unfolding listing_form
+listing-short =
+    counted-short 2 256 264 (number w16 0 ENTRIES_LIMIT) spelled_name (named_form any_name) after_name None
+    (two-short 0 _) (λ many fits. fits.1) named-short
+
+item-short : IsShort 67587 item_form
 unfolding item_form
 item-short =
-    tagged-short 8 is_item_code item_code _ (λ code. made-short 8 Number item_number word_form (eight-short 0 _))
+    tagged-short 67586 is_item_code item_code item_body (λ code.
+    either-short 67586 (code == 1) _ _
+    (made-short 67586 Number item_number word_form (shorter 8 67586 word_form (omega arith) (eight-short 0 _)))
+    (either-short 67586 (code == 2) _ _
+    (made-short 67586 Bytes item_bytes content_form (shorter 4098 67586 content_form (omega arith) content-short))
+    (made-short 67586 Entries item_entries (listing_form any_name) listing-short)))
 
-answer-short : IsShort 38 answer_form
+answer-short : IsShort 270350 answer_form
 unfolding answer_form
 answer-short =
-    tagged-short 37 is_answer_code answer_code answer_body (λ code.
-    either-short 37 _ _ _
-    (made-short 37 answer.Ok objects.answered items_form
-    (counted-short {K = Unit {0}} 1 4 9 (number w8 1 PARTS_LIMIT) item_form.spell (λ before. item_form) (λ item. tt)
+    tagged-short 270349 is_answer_code answer_code answer_body (λ code.
+    either-short 270349 _ _ _
+    (made-short 270349 answer.Ok objects.answered items_form
+    (counted-short {K = Unit {0}} 1 4 67587 (number w8 1 PARTS_LIMIT) item_form.spell (λ before. item_form) (λ item. tt)
     tt (byte-short 1 _) (λ many fits. fits.1) (λ before item fits. item-short.within item fits)))
-    (made-short 37 _ objects.refused_part part_refusal_form
-    (shorter 2 37 _ (omega arith)
+    (made-short 270349 _ objects.refused_part part_refusal_form
+    (shorter 2 270349 _ (omega arith)
     (both-short 1 1 _ _ (byte-short 0 _) (λ at. tested-short 1 _ Range _ (byte-short 0 255))))))
 
 told-short : IsShort 78 (both object_form (λ object. stamp_form))
@@ -271,17 +315,21 @@ stamps-short =
     (λ least told fits. (both-short 2 76 (object_from least) _ (tested-short 2 _ Order object_form object-short)
     (λ object. stamp-short true)).within told fits)
 
-verdict-short : IsShort 352 verdict_form
+verdict-short : IsShort 270664 verdict_form
 unfolding verdict_form
 verdict-short =
-    let answered : IsShort 351 answered_form = both-short 313 38 stamps_form _ stamps-short (λ stamps. answer-short) in
-    tagged-short 351 _ _ verdict_body (λ code.
-    either-short 351 (code == 1) _ _ (made-short 351 _ frames.done answered_form answered)
-    (either-short 351 (code == 2) _ _ (made-short 351 _ frames.told answered_form answered)
-    (either-short 351 (code == 3) _ _
-    (made-short 351 Already frames.already answer_form (shorter 38 351 answer_form (omega arith) answer-short))
-    (either-short 351 (code == 4) _ _ (made-short 351 _ frames.mended _ (shorter 78 351 _ (omega arith) told-short))
-    (made-short 351 Refused frames.refusal refusal_form (shorter 79 351 refusal_form (omega arith) refusal-short))))))
+    let answered : IsShort 270663 answered_form =
+    both-short 313 270350 stamps_form _ stamps-short (λ stamps. answer-short) in
+    tagged-short 270663 _ _ verdict_body (λ code.
+    either-short 270663 (code == 1) _ _ (made-short 270663 _ frames.done answered_form answered)
+    (either-short 270663 (code == 2) _ _ (made-short 270663 _ frames.told answered_form answered)
+    (either-short 270663 (code == 3) _ _
+    (made-short 270663 Already frames.already answer_form
+    (shorter 270350 270663 answer_form (omega arith) answer-short))
+    (either-short 270663 (code == 4) _ _
+    (made-short 270663 _ frames.mended _ (shorter 78 270663 _ (omega arith) told-short))
+    (made-short 270663 Refused frames.refusal refusal_form
+    (shorter 79 270663 refusal_form (omega arith) refusal-short))))))
 
 -- ---- replies
 
@@ -292,13 +340,13 @@ culled-short =
     (λ many fits. fits.1)
     (λ before pair fits. (both-short 2 1 object_form _ object-short (λ object. replica-short)).within pair fits.0)
 
-reply_form-short : IsShort 1319486 reply_form
+reply_form-short : IsShort 1589798 reply_form
 reply_form-short =
-    both-short 1 1319485 replica_form _ replica-short (λ replica.
-    both-short 2 1319483 client_form _ client-short (λ client.
-    both-short 8 1319475 word_form _ (eight-short 0 _) (λ number.
-    both-short 1 1319474 round_form _ (byte-short 1 _) (λ round.
-    both-short 352 1319122 verdict_form _ verdict-short (λ verdict.
+    both-short 1 1589797 replica_form _ replica-short (λ replica.
+    both-short 2 1589795 client_form _ client-short (λ client.
+    both-short 8 1589787 word_form _ (eight-short 0 _) (λ number.
+    both-short 1 1589786 round_form _ (byte-short 1 _) (λ round.
+    both-short 270664 1319122 verdict_form _ verdict-short (λ verdict.
     both-short 385 1318737 culled_form _ culled-short (λ culled.
     both-short 1318705 32 (shown_form replica) _ (shown-short replica) (λ shown. bytes-short 32)))))))
 

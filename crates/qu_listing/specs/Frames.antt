@@ -8,8 +8,6 @@ use Rattle.qu_base.specs.declared.party.ObjectId.{ObjectId}
 use Rattle.qu_base.specs.declared.party.ReplicaId.{ReplicaId}
 use Rattle.qu_base.specs.declared.party.Party.TheVariants.{Replica}
 use Rattle.qu_stamp.specs.declared.stamp.Stamp.{Stamp}
-use Rattle.qu_objects.specs.declared.kind.Value.{Value}
-use Rattle.qu_objects.specs.declared.kind.Value.TheVariants.{Counter}
 use Rattle.qu_objects.specs.declared.state.ObjState.{ObjState}
 use Rattle.qu_history.specs.declared.sealed.Sealed.{Sealed}
 use Rattle.qu_history.specs.declared.sets.SetOf.{SetOf}
@@ -17,7 +15,7 @@ use Rattle.qu_frames.specs.declared.frame.Body.{Body}
 use Rattle.qu_frames.specs.declared.frame.Body.TheVariants.{Act, Ask, Mend}
 use Rattle.qu_frames.specs.declared.frame.Frame.{Frame}
 use Rattle.qu_frames.specs.declared.frame.Frame.TheVariants.{Request, Reply, Fetch, Fetched}
-use Rattle.qu_print.specs.Words.{name_text}
+use Rattle.qu_print.specs.Words.{name_text, value_text}
 use Rattle.qu_listing.specs.Names.{party_text, object_text, count_text}
 use Rattle.qu_listing.specs.Verdicts.{stamp_text, verdict_text}
 
@@ -53,9 +51,6 @@ shown_text sealed =
 
 abbrev pub version_text : ObjectId → Stamp → List ℕ
 version_text object stamp = object_text object ++ codes " at " ++ stamp_text stamp
-
-abbrev pub value_text : Value → List ℕ
-value_text (Counter value) = codes "counter " ++ decimal value
 
 -- the value, of how many clients something is kept, and how many links there are
 abbrev pub state_text : ObjState → List ℕ

@@ -7,7 +7,8 @@ use super::verdicts::{put_stamp, put_verdict};
 use qu_base::{ClientId, NoMemory, ObjectId, Party, ReplicaId};
 use qu_frames::{Body, Frame};
 use qu_history::{Sealed, SetOf};
-use qu_objects::{ObjState, Value};
+use qu_objects::ObjState;
+use qu_print::put_value;
 use qu_stamp::Stamp;
 
 impl LinePart for SetOf {
@@ -115,8 +116,9 @@ fn put_version(
 fn put_state(text: &mut String, state: &ObjState) -> Result<(), NoMemory>
     ensures { OnOk result (string_bytes text.new ≡ string_bytes text.old ++ state_text state.now) }
 {
-    let Value::Counter(value) = state.value;
-    write!(text, ", counter {value}, ")?;
+    text.push_str(", ")?;
+    put_value(text, &state.value)?;
+    text.push_str(", ")?;
     put_count(text, state.kept.len(), "client")?;
     text.push_str(", ")?;
     put_count(text, state.links.len(), "link")

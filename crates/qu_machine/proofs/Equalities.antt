@@ -4,7 +4,7 @@ use Rattle.std.specs.Prelude.{Contains}
 use Rattle.std.specs.Bool.{Decides, beq}
 use Rattle.std.specs.List.{list_any}
 use Rattle.std.specs.Cmp.{booleans_Decides}
-use Rattle.std.specs.Cmp.Lexicographic.{pointwise}
+use Rattle.std.specs.Cmp.Lexicographic.{pointwise, bytes_decides}
 use Rattle.std.proofs.lemmas.Bool.{false≢true, not-true, and_parts, and_from, not_from_false}
 use Rattle.std.proofs.lemmas.Bool.Decides.{Decides-eqb}
 use Rattle.std.proofs.lemmas.Slice.Eq.{slice_eq-Decides}
@@ -12,11 +12,11 @@ use Rattle.std.proofs.lemmas.List.Folds.{Any-from_list_any, list_any-from_Any}
 use Rattle.qu_base.specs.declared.party.ClientId.{ClientId}
 use Rattle.qu_base.specs.declared.party.ObjectId.{ObjectId}
 use Rattle.qu_objects.specs.declared.act.Method.{Method}
-use Rattle.qu_objects.specs.declared.act.Method.TheVariants.{Add, Take}
+use Rattle.qu_objects.specs.declared.act.Method.TheVariants.{Add, Take, Put, Append, Link, Unlink}
 use Rattle.qu_objects.specs.declared.query.Ask.{Ask}
-use Rattle.qu_objects.specs.declared.query.Ask.TheVariants.{Read}
-use Rattle.qu_objects.specs.declared.answer.Item.{Item}
-use Rattle.qu_objects.specs.declared.answer.Item.TheVariants.{Number}
+use Rattle.qu_objects.specs.declared.query.Ask.TheVariants.{Read, Cat, Find, All}
+use Rattle.qu_base.specs.declared.kind.Item.{Item}
+use Rattle.qu_base.specs.declared.kind.Item.TheVariants.{Number, Bytes, Entries}
 use Rattle.qu_objects.specs.declared.answer.Answer.{Answer}
 use Rattle.qu_objects.specs.declared.answer.Answer.TheVariants as answer
 use Rattle.qu_objects.specs.declared.op.Op.{Op}
@@ -25,24 +25,106 @@ use Rattle.qu_machine.specs.declared.record.OpRecord.{OpRecord}
 use Rattle.qu_machine.specs.declared.record.Point.{Point}
 use Rattle.qu_machine.specs.Serial.{Stands, Agree, IsOfOperations}
 use Rattle.qu_machine.specs.PointTests.{same_method, same_ask, same_part, same_op, stands, agree, is_of_operations}
-use Rattle.qu_objects.specs.Alike.{same_item, same_answer}
+use Rattle.qu_objects.specs.Alike.{are_same_bytes, same_named, same_item, same_answer}
 
 -- ---- equal operations and answers
 
+decides_bytes : (a b : List ℕ) → Decides (are_same_bytes a b) (a ≡ b)
+decides_bytes a b = bytes_decides a b
+
 decides_method : (a b : Method) → Decides (same_method a b) (a ≡ b)
 decides_method (Add a) (Add b) =
-    (λ same. ap (λ (n : ℕ). Add n) ((Decides-eqb a b).0 same), λ same. (Decides-eqb a b).1 (cc))
+    (λ same. ap (λ (it : ℕ). Add it) ((Decides-eqb a b).0 same), λ same. (Decides-eqb a b).1 (cc))
 decides_method (Add a) (Take b) = (λ same. absurd (false≢true same), λ same. absurd (cc))
+decides_method (Add a) (Put b) = (λ same. absurd (false≢true same), λ same. absurd (cc))
+decides_method (Add a) (Append b) = (λ same. absurd (false≢true same), λ same. absurd (cc))
+decides_method (Add a) (Link b bn) = (λ same. absurd (false≢true same), λ same. absurd (cc))
+decides_method (Add a) (Unlink b) = (λ same. absurd (false≢true same), λ same. absurd (cc))
 decides_method (Take a) (Add b) = (λ same. absurd (false≢true same), λ same. absurd (cc))
 decides_method (Take a) (Take b) =
-    (λ same. ap (λ (n : ℕ). Take n) ((Decides-eqb a b).0 same), λ same. (Decides-eqb a b).1 (cc))
+    (λ same. ap (λ (it : ℕ). Take it) ((Decides-eqb a b).0 same), λ same. (Decides-eqb a b).1 (cc))
+decides_method (Take a) (Put b) = (λ same. absurd (false≢true same), λ same. absurd (cc))
+decides_method (Take a) (Append b) = (λ same. absurd (false≢true same), λ same. absurd (cc))
+decides_method (Take a) (Link b bn) = (λ same. absurd (false≢true same), λ same. absurd (cc))
+decides_method (Take a) (Unlink b) = (λ same. absurd (false≢true same), λ same. absurd (cc))
+decides_method (Put a) (Add b) = (λ same. absurd (false≢true same), λ same. absurd (cc))
+decides_method (Put a) (Take b) = (λ same. absurd (false≢true same), λ same. absurd (cc))
+decides_method (Put a) (Put b) =
+    (λ same. ap (λ (it : List ℕ). Put it) ((decides_bytes a b).0 same), λ same. (decides_bytes a b).1 (cc))
+decides_method (Put a) (Append b) = (λ same. absurd (false≢true same), λ same. absurd (cc))
+decides_method (Put a) (Link b bn) = (λ same. absurd (false≢true same), λ same. absurd (cc))
+decides_method (Put a) (Unlink b) = (λ same. absurd (false≢true same), λ same. absurd (cc))
+decides_method (Append a) (Add b) = (λ same. absurd (false≢true same), λ same. absurd (cc))
+decides_method (Append a) (Take b) = (λ same. absurd (false≢true same), λ same. absurd (cc))
+decides_method (Append a) (Put b) = (λ same. absurd (false≢true same), λ same. absurd (cc))
+decides_method (Append a) (Append b) =
+    (λ same. ap (λ (it : List ℕ). Append it) ((decides_bytes a b).0 same), λ same. (decides_bytes a b).1 (cc))
+decides_method (Append a) (Link b bn) = (λ same. absurd (false≢true same), λ same. absurd (cc))
+decides_method (Append a) (Unlink b) = (λ same. absurd (false≢true same), λ same. absurd (cc))
+decides_method (Link a an) (Add b) = (λ same. absurd (false≢true same), λ same. absurd (cc))
+decides_method (Link a an) (Take b) = (λ same. absurd (false≢true same), λ same. absurd (cc))
+decides_method (Link a an) (Put b) = (λ same. absurd (false≢true same), λ same. absurd (cc))
+decides_method (Link a an) (Append b) = (λ same. absurd (false≢true same), λ same. absurd (cc))
+decides_method (Link a number) (Link b other) = (
+  λ same.
+      let parts = and_parts (are_same_bytes a b) (number == other) same in
+      let name : a ≡ b = (decides_bytes a b).0 parts.0 in
+      let linked : number ≡ other = (Decides-eqb number other).0 parts.1 in
+      λ i. Link (name i) (linked i),
+  λ same. and_from _ _ ((decides_bytes a b).1 (cc)) ((Decides-eqb number other).1 (cc)),
+)
+decides_method (Link a an) (Unlink b) = (λ same. absurd (false≢true same), λ same. absurd (cc))
+decides_method (Unlink a) (Add b) = (λ same. absurd (false≢true same), λ same. absurd (cc))
+decides_method (Unlink a) (Take b) = (λ same. absurd (false≢true same), λ same. absurd (cc))
+decides_method (Unlink a) (Put b) = (λ same. absurd (false≢true same), λ same. absurd (cc))
+decides_method (Unlink a) (Append b) = (λ same. absurd (false≢true same), λ same. absurd (cc))
+decides_method (Unlink a) (Link b bn) = (λ same. absurd (false≢true same), λ same. absurd (cc))
+decides_method (Unlink a) (Unlink b) =
+    (λ same. ap (λ (it : List ℕ). Unlink it) ((decides_bytes a b).0 same), λ same. (decides_bytes a b).1 (cc))
 
 decides_ask : (a b : Ask) → Decides (same_ask a b) (a ≡ b)
 decides_ask Read Read = (λ same. refl, λ same. refl)
+decides_ask Read Cat = (λ same. absurd (false≢true same), λ same. absurd (cc))
+decides_ask Read (Find b) = (λ same. absurd (false≢true same), λ same. absurd (cc))
+decides_ask Read All = (λ same. absurd (false≢true same), λ same. absurd (cc))
+decides_ask Cat Read = (λ same. absurd (false≢true same), λ same. absurd (cc))
+decides_ask Cat Cat = (λ same. refl, λ same. refl)
+decides_ask Cat (Find b) = (λ same. absurd (false≢true same), λ same. absurd (cc))
+decides_ask Cat All = (λ same. absurd (false≢true same), λ same. absurd (cc))
+decides_ask (Find a) Read = (λ same. absurd (false≢true same), λ same. absurd (cc))
+decides_ask (Find a) Cat = (λ same. absurd (false≢true same), λ same. absurd (cc))
+decides_ask (Find a) (Find b) =
+    (λ same. ap (λ (it : List ℕ). Find it) ((decides_bytes a b).0 same), λ same. (decides_bytes a b).1 (cc))
+decides_ask (Find a) All = (λ same. absurd (false≢true same), λ same. absurd (cc))
+decides_ask All Read = (λ same. absurd (false≢true same), λ same. absurd (cc))
+decides_ask All Cat = (λ same. absurd (false≢true same), λ same. absurd (cc))
+decides_ask All (Find b) = (λ same. absurd (false≢true same), λ same. absurd (cc))
+decides_ask All All = (λ same. refl, λ same. refl)
+
+decides_named : (a b : List ℕ × ℕ) → Decides (same_named a b) (a ≡ b)
+decides_named a b = (
+  λ same.
+      let parts = and_parts (are_same_bytes a.0 b.0) (a.1 == b.1) same in
+      let name : a.0 ≡ b.0 = (decides_bytes a.0 b.0).0 parts.0 in
+      let number : a.1 ≡ b.1 = (Decides-eqb a.1 b.1).0 parts.1 in
+      λ i. (name i, number i),
+  λ same. and_from _ _ ((decides_bytes a.0 b.0).1 (λ i. (same i).0)) ((Decides-eqb a.1 b.1).1 (λ i. (same i).1)),
+)
 
 decides_item : (a b : Item) → Decides (same_item a b) (a ≡ b)
 decides_item (Number a) (Number b) =
-    (λ same. ap (λ (n : ℕ). Number n) ((Decides-eqb a b).0 same), λ same. (Decides-eqb a b).1 (cc))
+    (λ same. ap (λ (it : ℕ). Number it) ((Decides-eqb a b).0 same), λ same. (Decides-eqb a b).1 (cc))
+decides_item (Number a) (Bytes b) = (λ same. absurd (false≢true same), λ same. absurd (cc))
+decides_item (Number a) (Entries b) = (λ same. absurd (false≢true same), λ same. absurd (cc))
+decides_item (Bytes a) (Number b) = (λ same. absurd (false≢true same), λ same. absurd (cc))
+decides_item (Bytes a) (Bytes b) =
+    (λ same. ap (λ (it : List ℕ). Bytes it) ((decides_bytes a b).0 same), λ same. (decides_bytes a b).1 (cc))
+decides_item (Bytes a) (Entries b) = (λ same. absurd (false≢true same), λ same. absurd (cc))
+decides_item (Entries a) (Number b) = (λ same. absurd (false≢true same), λ same. absurd (cc))
+decides_item (Entries a) (Bytes b) = (λ same. absurd (false≢true same), λ same. absurd (cc))
+decides_item (Entries a) (Entries b) =
+    let entries : Decides (pointwise same_named a b) (a ≡ b) = slice_eq-Decides decides_named a b _ refl in
+    (λ same. ap (λ (it : List (List ℕ × ℕ)). Entries it) (entries.0 same), λ same. entries.1 (cc))
 
 pub object_is : (a b : ObjectId) → a.0 ≡ b.0 → a ≡ b
 object_is a b same = ap (λ (it : ℕ). (let object : ObjectId = record { 0 = it } in object)) same

@@ -1,3 +1,4 @@
+mod OneObject
 pub mod Equalities
 pub mod Firsts
 pub mod Running

@@ -25,6 +25,6 @@ act_answer values parts = performed_answer parts (values_at values parts)
 abbrev pub act_values : List Value → List (ObjectId × Method) → List Value
 act_values values parts = with_values values parts (performed_values parts (values_at values parts))
 
--- a query answers an item for each part
+-- a query answers an item for each part, or its first refused part
 abbrev pub query_answer : List Value → List (ObjectId × Ask) → Answer
 query_answer values parts = told_answer parts (values_at values parts)

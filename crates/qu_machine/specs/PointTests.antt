@@ -5,15 +5,15 @@ use Rattle.std.specs.List.{list_any}
 use Rattle.std.specs.Cmp.Lexicographic.{pointwise}
 use Rattle.qu_base.specs.declared.party.ObjectId.{ObjectId}
 use Rattle.qu_objects.specs.declared.act.Method.{Method}
-use Rattle.qu_objects.specs.declared.act.Method.TheVariants.{Add, Take}
+use Rattle.qu_objects.specs.declared.act.Method.TheVariants.{Add, Take, Put, Append, Link, Unlink}
 use Rattle.qu_objects.specs.declared.query.Ask.{Ask}
-use Rattle.qu_objects.specs.declared.query.Ask.TheVariants.{Read}
+use Rattle.qu_objects.specs.declared.query.Ask.TheVariants.{Read, Cat, Find, All}
 use Rattle.qu_objects.specs.declared.answer.Answer.{Answer}
 use Rattle.qu_objects.specs.declared.op.Op.{Op}
 use Rattle.qu_objects.specs.declared.op.Op.TheVariants as op
 use Rattle.qu_objects.specs.declared.op.Outcome.{Outcome}
 use Rattle.qu_objects.specs.declared.op.Outcome.TheVariants as outcome
-use Rattle.qu_objects.specs.Alike.{same_answer}
+use Rattle.qu_objects.specs.Alike.{are_same_bytes, same_answer}
 use Rattle.qu_machine.specs.declared.record.OpRecord.{OpRecord}
 use Rattle.qu_machine.specs.declared.record.Point.{Point}
 
@@ -21,12 +21,19 @@ use Rattle.qu_machine.specs.declared.record.Point.{Point}
 
 abbrev pub same_method : Method → Method → Bool
 same_method (Add first) (Add second) = first == second
-same_method (Add first) (Take second) = false
-same_method (Take first) (Add second) = false
 same_method (Take first) (Take second) = first == second
+same_method (Put first) (Put second) = are_same_bytes first second
+same_method (Append first) (Append second) = are_same_bytes first second
+same_method (Link first number) (Link second other) = are_same_bytes first second && number == other
+same_method (Unlink first) (Unlink second) = are_same_bytes first second
+same_method first second = false
 
 abbrev pub same_ask : Ask → Ask → Bool
 same_ask Read Read = true
+same_ask Cat Cat = true
+same_ask (Find first) (Find second) = are_same_bytes first second
+same_ask All All = true
+same_ask first second = false
 
 abbrev pub same_part : {X : Type 0} → (X → X → Bool) → ObjectId × X → ObjectId × X → Bool
 same_part same first second = (first.0).0 == (second.0).0 && same first.1 second.1

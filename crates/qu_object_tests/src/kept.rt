@@ -1,3 +1,4 @@
+use kind_counter::Counter;
 use qu_base::{ClientId, List, ObjectId};
 use qu_kept::{Performed, Standing, perform, standing_of};
 use qu_objects::{Act, Answer, Item, Method, ObjState, UNDER, Value, act_digest};
@@ -14,7 +15,7 @@ fn act_of(alloc: Global, method: Method) -> Result<Act, Fail> {
 
 fn fresh(alloc: Global) -> Result<List<ObjState>, Fail> {
     let state = ObjState {
-        value: Value::Counter(0),
+        value: Value::Counter(Counter::new(0)),
         kept: List::new(alloc),
         links: List::new(alloc),
     };

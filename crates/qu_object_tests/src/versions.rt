@@ -1,3 +1,4 @@
+use kind_counter::Counter;
 use qu_base::{ClientId, Digest, List, ObjectId};
 use qu_objects::{KindName, ObjState, Value};
 use qu_stamp::Stamp;
@@ -10,7 +11,7 @@ const OBJECT: ObjectId = ObjectId(0);
 
 fn state_of(alloc: Global, number: u64) -> ObjState {
     ObjState {
-        value: Value::Counter(number),
+        value: Value::Counter(Counter::new(number)),
         kept: List::new(alloc),
         links: List::new(alloc),
     }
@@ -35,9 +36,17 @@ fn put(alloc: Global, store: &mut VersionStore, number: u64) -> Result<(), Fail>
     Ok(store.put(OBJECT, later(), state_of(alloc, number))?)
 }
 
+/// The number of the counter that a version is.
+fn number_of(state: &ObjState) -> Option<u64> {
+    match &state.value {
+        Value::Counter(counter) => Some(counter.number()),
+        _ => None,
+    }
+}
+
 fn is_five(store: &VersionStore) -> bool {
     match store.get(OBJECT, &later()) {
-        Some(state) => state.value == Value::Counter(5),
+        Some(state) => number_of(state) == Some(5),
         None => false,
     }
 }
@@ -51,8 +60,8 @@ fn the_first_version_under_a_stamp_stays(rt: HostRuntime) -> Result<(), Fail> {
     holds(is_five(&store), "the first stays")
 }
 
-/// Puts a version of the object with this number, and tells which one is found.
-fn found_of(alloc: Global, store: &mut VersionStore, number: u16) -> Result<Option<Value>, Fail> {
+/// Puts a version of the object with this number, and tells the number of the one that is found.
+fn found_of(alloc: Global, store: &mut VersionStore, number: u16) -> Result<Option<u64>, Fail> {
     let object = ObjectId(number);
     let stamp = Stamp::opening();
     let state = state_of(alloc, 5);
@@ -65,14 +74,17 @@ fn found_of(alloc: Global, store: &mut VersionStore, number: u16) -> Result<Opti
     if store.has_place(&prepared, &Prepared::none(alloc)) {
         store.put_prepared(prepared);
     }
-    Ok(store.get(object, &stamp).map(|held| held.value))
+    Ok(match store.get(object, &stamp) {
+        Some(held) => number_of(held),
+        None => None,
+    })
 }
 
 #[test]
 fn what_is_prepared_stands_behind_what_is_held(rt: HostRuntime) -> Result<(), Fail> {
     let mut store = VersionStore::fresh(rt.alloc(), &[KindName::Counter])?;
     let held = found_of(rt.alloc(), &mut store, 0)?;
-    holds(held == Some(Value::Counter(0)), "the held one stays")?;
+    holds(held == Some(0), "the held one stays")?;
     let prepared = found_of(rt.alloc(), &mut store, 1)?;
-    holds(prepared == Some(Value::Counter(5)), "the prepared one")
+    holds(prepared == Some(5), "the prepared one")
 }

@@ -1,3 +1,4 @@
+pub mod Single
 pub mod Forms
 pub mod Text
 pub mod ReadingLaws

@@ -1,43 +1,80 @@
 -- The format of states is exact.
-use Rattle.std.proofs.Common.{◌≡◌, ℕ, true, Option, None, Some, refl, arith}
+use Rattle.std.proofs.Common.{◌≡◌, ◌==◌, ◌<◌, ℕ, zero, suc, List, true, Option, None, Some, refl, arith}
 use Rattle.std.specs.Prelude.{IsTrue}
 use Rattle.std.proofs.lemmas.Bool.Decides.{nat_tests}
 use Rattle.std.specs.Int.{w8}
 use Rattle.qu_base.specs.declared.bad_text.Why.TheVariants.{Order}
 use Rattle.qu_base.specs.declared.party.ClientId.{ClientId}
 use Rattle.qu_base.specs.declared.party.ObjectId.{ObjectId}
-use Rattle.qu_base.specs.Format.{IsPrefixCode, IsExact, number, made, object_form, client_form}
-use Rattle.qu_base.proofs.Formats.{both-exact, tested-exact, made-exact, fields-exact, counted-exact, tagged-exact, digest-exact, object-exact, client-exact}
+use Rattle.qu_base.specs.Format.{IsPrefixCode, IsExact, number, made, either, object_form, client_form}
+use Rattle.qu_base.proofs.Formats.{both-exact, tested-exact, made-exact, either-exact, fields-exact, counted-exact, tagged-exact, digest-exact, object-exact, client-exact}
 use Rattle.qu_base.proofs.PrefixCodes.{prefix_code}
 use Rattle.qu_base.proofs.Reading.{given_exactly}
 use Rattle.qu_stamp.proofs.Forms.{stamp_with-exact}
 use Rattle.qu_objects.specs.declared.kind.Value.{Value}
-use Rattle.qu_objects.specs.declared.kind.Value.TheVariants.{Counter}
+use Rattle.qu_objects.specs.declared.kind.Value.TheVariants.{Counter, Blob, Dir}
 use Rattle.qu_objects.specs.declared.limits.TheConstants.{KEPT_LIMIT, LINKS_LIMIT}
-use Rattle.qu_base.specs.Texts.{word_form}
-use Rattle.qu_objects.specs.Formats.{is_after}
-use Rattle.qu_objects.specs.States.{kind_code, counted_value, is_kind_code, value_form, is_later_client, row_form, after_row, kept_form, link_form, after_link, links_form, state_form}
+use Rattle.qu_base.specs.Texts.{content_form}
 use Rattle.qu_base.proofs.TextForms.{word-exact}
+use Rattle.kind_counter.specs.Counter.{counter_form}
+use Rattle.kind_counter.specs.Laws.{counter-code}
+use Rattle.kind_blob.specs.Laws.{blob-code}
+use Rattle.kind_dir.specs.Dir.{dir_form}
+use Rattle.kind_dir.specs.Laws.{dir-code}
+use Rattle.qu_objects.specs.Formats.{is_after}
+use Rattle.qu_objects.specs.States.{kind_code, counter_value, blob_value, dir_value, is_kind_code, value_body, value_form, is_later_client, row_form, after_row, kept_form, link_form, after_link, links_form, state_form}
 use Rattle.qu_objects.proofs.Forms.{byte-exact, answer-exact}
 
 -- ---- values
 
-value_back : (value : Value) (found : ℕ) → counted_value value ≡ Some found → Counter found ≡ value
-value_back (Counter other) found is = cc
+counter_back : (value : Value) (number : ℕ) → counter_value value ≡ Some number → Counter number ≡ value
+counter_back (Counter other) number is = cc
+counter_back (Blob other) number is = absurd cc
+counter_back (Dir other) number is = absurd cc
 
-only_kind : (code : ℕ) → IsTrue (is_kind_code code) → 1 ≡ code
-only_kind code known = grind (arith, nat_tests)
+blob_back : (value : Value) (content : List ℕ) → blob_value value ≡ Some content → Blob content ≡ value
+blob_back (Counter other) content is = absurd cc
+blob_back (Blob other) content is = cc
+blob_back (Dir other) content is = absurd cc
 
-kind_coded : (code : ℕ) (value : Value) → IsTrue (is_kind_code code) → kind_code value ≡ code
-kind_coded code (Counter value) known = only_kind code known
+dir_back : (value : Value) (entries : List (List ℕ × ℕ)) → dir_value value ≡ Some entries → Dir entries ≡ value
+dir_back (Counter other) entries is = absurd cc
+dir_back (Blob other) entries is = absurd cc
+dir_back (Dir other) entries is = cc
 
-value-exact : IsExact value_form
+value_body-exact : (code : ℕ) → IsExact (value_body code)
+value_body-exact code =
+    either-exact (code == 1) (made Counter counter_value counter_form)
+    (either (code == 2) (made Blob blob_value content_form) (made Dir dir_value dir_form))
+    (made-exact Counter counter_value counter_form counter-code.exact (λ number fits. refl)
+    (λ value number fits is. counter_back value number is))
+    (either-exact (code == 2) (made Blob blob_value content_form) (made Dir dir_value dir_form)
+    (made-exact Blob blob_value content_form blob-code.exact (λ content fits. refl)
+    (λ value content fits is. blob_back value content is))
+    (made-exact Dir dir_value dir_form dir-code.exact (λ entries fits. refl)
+    (λ value entries fits is. dir_back value entries is)))
+
+beyond : (code : ℕ) → IsTrue (is_kind_code code) → 3 < code → ⊥
+beyond code known above = grind (arith, nat_tests)
+
+kind_coded : (code : ℕ) (value : Value) → IsTrue (is_kind_code code) → (value_body code).Fits value
+    → kind_code value ≡ code
+kind_coded zero value known fits = absurd (grind (arith, nat_tests))
+kind_coded (suc zero) (Counter other) known fits = refl
+kind_coded (suc zero) (Blob other) known fits = absurd fits
+kind_coded (suc zero) (Dir other) known fits = absurd fits
+kind_coded (suc (suc zero)) (Counter other) known fits = absurd fits
+kind_coded (suc (suc zero)) (Blob other) known fits = refl
+kind_coded (suc (suc zero)) (Dir other) known fits = absurd fits
+kind_coded (suc (suc (suc zero))) (Counter other) known fits = absurd fits
+kind_coded (suc (suc (suc zero))) (Blob other) known fits = absurd fits
+kind_coded (suc (suc (suc zero))) (Dir other) known fits = refl
+kind_coded (suc (suc (suc (suc code)))) value known fits =
+    absurd (beyond (suc (suc (suc (suc code)))) known (omega arith))
+
+pub value-exact : IsExact value_form
 unfolding value_form
-value-exact =
-    tagged-exact is_kind_code kind_code (λ code. made Counter counted_value word_form)
-    (λ code known. made-exact Counter counted_value word_form word-exact (λ value fits. refl)
-    (λ value found fits is. value_back value found is))
-    (λ code value known fits. kind_coded code value known)
+value-exact = tagged-exact is_kind_code kind_code value_body (λ code known. value_body-exact code) kind_coded
 
 -- ---- what is kept of clients
 

@@ -1,21 +1,23 @@
 -- Two acts with one text are one act of one client and number.
-use Rattle.std.proofs.Common.{◌≡◌, ℕ, ◌-◌, ◌^◌, ◌<◌, List, [], ◌∷◌, Some, refl, sym, ap, arith}
+use Rattle.std.proofs.Common.{◌≡◌, ℕ, ◌-◌, ◌^◌, ◌<◌, ◌≤◌, List, [], ◌∷◌, length, Some, refl, sym, ap, arith}
 use Rattle.std.specs.Prelude.{IsTrue}
 use Rattle.std.proofs.lemmas.Bool.{ltb-true}
 use Rattle.std.specs.Int.{w16}
-use Rattle.qu_base.specs.declared.limits.TheConstants.{OBJECT_IDS}
+use Rattle.qu_base.specs.declared.limits.TheConstants.{OBJECT_IDS, CONTENT_LIMIT, NAME_LIMIT}
 use Rattle.qu_base.specs.declared.party.ClientId.{ClientId}
 use Rattle.qu_base.specs.declared.party.ObjectId.{ObjectId}
 use Rattle.qu_base.specs.Format.{object_form, number, both, IsExact}
 use Rattle.qu_base.proofs.Formats.{some_is, wide16, number-exact, both-exact, made-exact}
 use Rattle.qu_base.proofs.PrefixCodes.{one_spelling}
 use Rattle.qu_objects.specs.declared.act.Method.{Method}
-use Rattle.qu_objects.specs.declared.act.Method.TheVariants.{Add, Take}
+use Rattle.qu_objects.specs.declared.act.Method.TheVariants.{Add, Take, Put, Append, Link, Unlink}
+use Rattle.qu_objects.specs.declared.query.Ask.{Ask}
+use Rattle.qu_objects.specs.declared.query.Ask.TheVariants.{Read, Cat, Find, All}
 use Rattle.qu_objects.specs.Parts.{are_parts}
-use Rattle.qu_base.specs.Texts.{word_form}
-use Rattle.qu_objects.specs.Formats.{method_form, act_form}
-use Rattle.qu_objects.specs.Digesting.{any_object, any_client, act_text_form, act_text, MethodFits, PartsFit}
+use Rattle.qu_base.specs.Texts.{word_form, content_form, name_form}
 use Rattle.qu_base.proofs.TextForms.{word-exact}
+use Rattle.qu_objects.specs.Formats.{method_form, ask_form, act_form}
+use Rattle.qu_objects.specs.Digesting.{any_object, any_client, act_text_form, act_text, MethodFits, PartsFit, AskFits}
 use Rattle.qu_objects.proofs.Forms.{act-exact}
 
 client-exact : IsExact any_client
@@ -33,10 +35,30 @@ act_text-exact =
 
 -- ---- what has a spelling
 
+content_fits : (content : List ℕ) → length content ≤ CONTENT_LIMIT → content_form.Fits content
+unfolding content_form
+content_fits content fits = ((omega arith, omega (arith, fits)), refl)
+
+name_fits : (name : List ℕ) → length name ≤ NAME_LIMIT → name_form.Fits name
+unfolding name_form
+name_fits name fits = ((omega arith, omega (arith, fits)), refl)
+
 pub method_fits : (method : Method) → MethodFits method → method_form.Fits method
 unfolding method_form
 method_fits (Add more) fits = (((omega arith, omega arith), refl), (omega arith, omega arith))
 method_fits (Take fewer) fits = (((omega arith, omega arith), refl), (omega arith, omega arith))
+method_fits (Put content) fits = (((omega arith, omega arith), refl), content_fits content fits)
+method_fits (Append more) fits = (((omega arith, omega arith), refl), content_fits more fits)
+method_fits (Link name number) fits =
+    (((omega arith, omega arith), refl), (name_fits name fits.0, (omega arith, omega (arith, fits.1))))
+method_fits (Unlink name) fits = (((omega arith, omega arith), refl), name_fits name fits)
+
+pub ask_fits : (ask : Ask) → AskFits ask → ask_form.Fits ask
+unfolding ask_form
+ask_fits Read fits = (((omega arith, omega arith), refl), refl)
+ask_fits Cat fits = (((omega arith, omega arith), refl), refl)
+ask_fits (Find name) fits = (((omega arith, omega arith), refl), name_fits name fits)
+ask_fits All fits = (((omega arith, omega arith), refl), refl)
 
 object_fits : (object : ObjectId) → object.0 < OBJECT_IDS → object_form.Fits object
 object_fits object below = (omega arith, omega arith)

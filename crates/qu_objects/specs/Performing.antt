@@ -4,32 +4,34 @@ use Rattle.std.specs.Prelude.{ℕ, ◌+◌, List, [], ◌∷◌, Option, None, S
 use Rattle.qu_base.specs.declared.party.ObjectId.{ObjectId}
 use Rattle.qu_objects.specs.declared.act.Method.{Method}
 use Rattle.qu_objects.specs.declared.query.Ask.{Ask}
-use Rattle.qu_objects.specs.declared.answer.Item.{Item}
+use Rattle.qu_base.specs.declared.kind.Item.{Item}
 use Rattle.qu_objects.specs.declared.answer.Answer.{Answer}
 use Rattle.qu_objects.specs.declared.answer.Answer.TheVariants as answer
 use Rattle.qu_objects.specs.declared.kind.Value.{Value}
-use Rattle.qu_objects.specs.declared.kind.Applied.{Applied}
-use Rattle.qu_objects.specs.declared.kind.Applied.TheVariants.{Changed, Refused}
-use Rattle.qu_objects.specs.Kind.{applied, told_item}
+use Rattle.qu_base.specs.declared.kind.Applied.{Applied}
+use Rattle.qu_base.specs.declared.kind.Applied.TheVariants.{Changed, Refused}
+use Rattle.qu_base.specs.declared.kind.Told.{Told}
+use Rattle.qu_base.specs.declared.kind.Told.TheVariants as tells
+use Rattle.qu_objects.specs.Kind.{applied, value_told}
 
 -- what each part makes of its value
-abbrev pub outcomes : List (ObjectId × Method) → List Value → List Applied
+abbrev pub outcomes : List (ObjectId × Method) → List Value → List (Applied Value)
 outcomes [] values = []
 outcomes (part ∷ parts) [] = []
 outcomes (part ∷ parts) (value ∷ values) = applied part.1 value ∷ outcomes parts values
 
 -- the first refused part and why, where the first part has this position
-abbrev pub refusal_from : ℕ → List Applied → Option (ℕ × ℕ)
+abbrev pub refusal_from : ℕ → List (Applied Value) → Option (ℕ × ℕ)
 refusal_from at [] = None
 refusal_from at (Changed value item ∷ later) = refusal_from (at + 1) later
 refusal_from at (Refused why ∷ later) = Some (at, why)
 
-abbrev pub items_of : List Applied → List Item
+abbrev pub items_of : List (Applied Value) → List Item
 items_of [] = []
 items_of (Changed value item ∷ later) = item ∷ items_of later
 items_of (Refused why ∷ later) = items_of later
 
-abbrev pub changed_values : List Applied → List Value
+abbrev pub changed_values : List (Applied Value) → List Value
 changed_values [] = []
 changed_values (Changed value item ∷ later) = value ∷ changed_values later
 changed_values (Refused why ∷ later) = changed_values later
@@ -43,19 +45,27 @@ values_by None before after = after
 values_by (Some refusal) before after = before
 
 -- an item for each part, or the first refused part
+abbrev pub answer_from : List (Applied Value) → Answer
+answer_from made = answer_by (refusal_from 0 made) (items_of made)
+
 abbrev pub performed_answer : List (ObjectId × Method) → List Value → Answer
-performed_answer parts values = let made = outcomes parts values in answer_by (refusal_from 0 made) (items_of made)
+performed_answer parts values = answer_from (outcomes parts values)
 
 -- the values after the act
 abbrev pub performed_values : List (ObjectId × Method) → List Value → List Value
 performed_values parts values =
     let made = outcomes parts values in values_by (refusal_from 0 made) values (changed_values made)
 
-abbrev pub told_items : List (ObjectId × Ask) → List Value → List Item
-told_items [] values = []
-told_items (part ∷ parts) [] = []
-told_items (part ∷ parts) (value ∷ values) = told_item part.1 value ∷ told_items parts values
+-- an ask leaves the value
+abbrev pub left_by : Value → Told → Applied Value
+left_by value (tells.Item item) = Changed value item
+left_by value (tells.Refused why) = Refused why
 
--- a query answers an item for each part
+abbrev pub told_outcomes : List (ObjectId × Ask) → List Value → List (Applied Value)
+told_outcomes [] values = []
+told_outcomes (part ∷ parts) [] = []
+told_outcomes (part ∷ parts) (value ∷ values) = left_by value (value_told part.1 value) ∷ told_outcomes parts values
+
+-- a query answers an item for each part, or its first refused part
 abbrev pub told_answer : List (ObjectId × Ask) → List Value → Answer
-told_answer parts values = answer.Ok (told_items parts values)
+told_answer parts values = answer_from (told_outcomes parts values)

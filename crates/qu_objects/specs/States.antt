@@ -1,34 +1,52 @@
 -- The format of an object's state: its value, what is kept of clients, and its links to other objects.
-use Rattle.std.specs.Prelude.{ℕ, Bool, true, ◌&&◌, nat_lt, nat_le, List, Option, None, Some}
+use Rattle.std.specs.Prelude.{ℕ, ◌==◌, Bool, true, ◌&&◌, nat_lt, nat_le, List, Option, None, Some}
 use Rattle.std.specs.Int.{w8}
 use Rattle.qu_base.specs.declared.bad_text.Why.TheVariants.{Order}
 use Rattle.qu_base.specs.declared.party.ClientId.{ClientId}
 use Rattle.qu_base.specs.declared.party.ObjectId.{ObjectId}
-use Rattle.qu_base.specs.Format.{Format, number, both, tested, made, items, counted, tagged, digest_form, object_form, client_form}
+use Rattle.qu_base.specs.Format.{Format, number, both, tested, made, either, items, counted, tagged, digest_form, object_form, client_form}
+use Rattle.qu_base.specs.Texts.{word_form, content_form}
+use Rattle.kind_counter.specs.Counter.{counter_form}
+use Rattle.kind_dir.specs.Dir.{dir_form}
 use Rattle.qu_stamp.specs.Formats.{stamp_form}
 use Rattle.qu_objects.specs.declared.kind.Value.{Value}
-use Rattle.qu_objects.specs.declared.kind.Value.TheVariants.{Counter}
+use Rattle.qu_objects.specs.declared.kind.Value.TheVariants.{Counter, Blob, Dir}
 use Rattle.qu_objects.specs.declared.limits.TheConstants.{LAST_KIND, KEPT_LIMIT, LINKS_LIMIT}
 use Rattle.qu_objects.specs.declared.state.KeptRow.{KeptRow}
 use Rattle.qu_objects.specs.declared.state.Link.{Link}
 use Rattle.qu_objects.specs.declared.state.ObjState.{ObjState}
-use Rattle.qu_base.specs.Texts.{word_form}
 use Rattle.qu_objects.specs.Formats.{is_after, answer_form}
 
 -- ---- values
 
 abbrev pub kind_code : Value → ℕ
-kind_code (Counter value) = 1
+kind_code (Counter number) = 1
+kind_code (Blob content) = 2
+kind_code (Dir entries) = 3
 
-abbrev pub counted_value : Value → Option ℕ
-counted_value (Counter value) = Some value
+abbrev pub counter_value : Value → Option ℕ
+counter_value (Counter number) = Some number
+counter_value value = None
+
+abbrev pub blob_value : Value → Option (List ℕ)
+blob_value (Blob content) = Some content
+blob_value value = None
+
+abbrev pub dir_value : Value → Option (List (List ℕ × ℕ))
+dir_value (Dir entries) = Some entries
+dir_value value = None
 
 abbrev pub is_kind_code : ℕ → Bool
 is_kind_code code = nat_le 1 code && nat_le code LAST_KIND
 
--- 1: a counter, by its value
+abbrev pub value_body : ℕ → Format Value
+value_body code =
+    either (code == 1) (made Counter counter_value counter_form)
+    (either (code == 2) (made Blob blob_value content_form) (made Dir dir_value dir_form))
+
+-- 1: a counter; 2: a blob; 3: a directory, by the bytes of its kind
 unfoldable pub value_form : Format Value
-value_form = tagged is_kind_code kind_code (λ code. made Counter counted_value word_form)
+value_form = tagged is_kind_code kind_code value_body
 
 -- ---- what is kept of clients
 

@@ -1,20 +1,43 @@
 ghost use Rattle.std.specs.Prelude.{◌≡◌, ◌<◌, ◌↔◌, IsOk, IfOk, IsTrue};
-ghost use Rattle.qu_objects.specs.Parts.{are_parts};
+ghost use Rattle.qu_objects.specs.Parts.{are_parts, is_sized_method, are_sized};
 
-use qu_base::{List, NoMemory, OBJECT_IDS, ObjectId};
+use qu_base::{CONTENT_LIMIT, List, NAME_LIMIT, NoMemory, OBJECT_IDS, ObjectId};
 use std::alloc::Global;
 use std::marker::Model;
 
 /// An update of one object.
-#[derive(Clone, Copy, Debug, PartialEq, Eq)]
+#[derive(Clone, Debug, Drop, PartialEq, Eq)]
 pub enum Method {
     /// Adds to a counter.
     Add(u64),
     /// Takes from a counter.
     Take(u64),
+    /// Puts bytes, at most `CONTENT_LIMIT`, in the place of those of a blob.
+    Put(List<u8>),
+    /// Adds bytes, at most `CONTENT_LIMIT`, at the end of a blob.
+    Append(List<u8>),
+    /// Links a name, of at most `NAME_LIMIT` bytes, to a number in a directory.
+    Link(List<u8>, u64),
+    /// Takes a name, of at most `NAME_LIMIT` bytes, out of a directory.
+    Unlink(List<u8>),
 }
 
-/// The parts of an operation are not in the right number or order.
+impl Method {
+    /// Whether what it carries is no longer than it may be.
+    pub fn is_sized(&self) -> bool
+        ensures { result ≡ is_sized_method self.now }
+    {
+        match self {
+            Method::Add(_) | Method::Take(_) => true,
+            Method::Put(content) | Method::Append(content) => {
+                content.len() <= usize::from(CONTENT_LIMIT)
+            }
+            Method::Link(name, _) | Method::Unlink(name) => name.len() <= usize::from(NAME_LIMIT),
+        }
+    }
+}
+
+/// The parts of an operation are not in the right number or order, or one carries more than it may.
 #[derive(Clone, Copy, Debug, PartialEq, Eq)]
 pub struct BadParts;
 
@@ -28,23 +51,24 @@ impl Model for Act {
     ghost use Rattle.std.specs.Prelude.{List, IsTrue};
     ghost use Rattle.qu_base.specs.declared.party.ObjectId.{ObjectId};
     ghost use Rattle.qu_objects.specs.declared.act.Method.{Method};
-    ghost use Rattle.qu_objects.specs.Parts.{are_parts};
+    ghost use Rattle.qu_objects.specs.Parts.{are_parts, is_sized_method, are_sized};
 
     ghost Value = { List (ObjectId × Method) };
 
     ghost view = { λ act. act.parts };
 
-    ghost invariant = { λ act. IsTrue (are_parts act.parts) };
+    ghost invariant = { λ act. IsTrue (are_parts act.parts) × IsTrue (are_sized is_sized_method act.parts) };
 }
 
 impl Act {
-    /// Refuses exactly where there is not one part, with an object below `OBJECT_IDS`.
+    /// Refuses exactly where there is not one part, where its object is not below `OBJECT_IDS`, or where it carries
+    /// more than it may.
     pub fn new(parts: List<(ObjectId, Method)>) -> Result<Act, BadParts>
-        ensures accepted { IsOk result ↔ IsTrue (are_parts parts) }
+        ensures accepted { IsOk result ↔ (IsTrue (are_parts parts) × IsTrue (are_sized is_sized_method parts)) }
         ensures value { IfOk result (λ act. act ≡ parts) }
     {
         match parts.as_slice() {
-            [(object, _)] if object.0 < OBJECT_IDS => Ok(Act { parts }),
+            [(object, method)] if object.0 < OBJECT_IDS && method.is_sized() => Ok(Act { parts }),
             _ => Err(BadParts),
         }
     }
@@ -53,6 +77,7 @@ impl Act {
     pub fn parts(&self) -> &List<(ObjectId, Method)>
         ensures parts { result.now ≡ self.now }
         ensures in_order { IsTrue (are_parts result.now) }
+        ensures sized { IsTrue (are_sized is_sized_method result.now) }
     {
         &self.parts
     }

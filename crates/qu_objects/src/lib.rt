@@ -22,16 +22,17 @@ mod writing_parts;
 mod writing_state;
 
 pub use act::{Act, BadParts, Method};
-pub use answer::{Answer, Item};
+pub use answer::Answer;
 pub use digesting::{act_digest, act_text};
 pub use formats::formats_are_codes;
-pub use kind::{Applied, KindName, Value};
+pub use kind::{KindName, Value};
 pub use limits::{
     KEPT_LIMIT, LAST_ASK, LAST_ITEM, LAST_KIND, LAST_METHOD, LINKS_LIMIT, MOST_PARTS, PARTS_LIMIT,
     limits_are_these,
 };
 pub use op::{Op, Outcome};
-pub use performing::{PerformedValues, perform, tell_all};
+pub use performing::{PerformedValues, only_value, perform, tell_all};
+pub use qu_base::{Applied, Item, Kind, Told};
 pub use query::{Ask, Query};
 pub use reading_answer::read_answer;
 pub use reading_parts::{read_act, read_query};
@@ -40,7 +41,6 @@ pub use refusal_number::{
     BAD_NAME, EXISTS, FULL, MISSING, OVER, TOO_LONG, UNDER, WRONG_KIND, refusal_numbers_are_these,
 };
 pub use state::{KeptRow, Link, ObjState};
-pub use writing::{write_ask, write_method};
 pub use writing_answer::write_answer;
 pub use writing_parts::{write_act, write_query};
 pub use writing_state::write_state;

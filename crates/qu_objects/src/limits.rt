@@ -7,16 +7,16 @@ pub const MOST_PARTS: u8 = 1;
 pub const PARTS_LIMIT: u8 = 4;
 
 /// The last code of a method.
-pub const LAST_METHOD: u8 = 2;
+pub const LAST_METHOD: u8 = 6;
 
-/// The last code of a question.
-pub const LAST_ASK: u8 = 1;
+/// The last code of an ask.
+pub const LAST_ASK: u8 = 4;
 
 /// The last code of an item.
-pub const LAST_ITEM: u8 = 1;
+pub const LAST_ITEM: u8 = 3;
 
 /// The last code of a kind of objects.
-pub const LAST_KIND: u8 = 1;
+pub const LAST_KIND: u8 = 3;
 
 /// The most clients of which a state keeps something.
 pub const KEPT_LIMIT: u8 = 64;
@@ -28,10 +28,10 @@ pub const LINKS_LIMIT: u8 = 64;
 pub fn limits_are_these()
     ensures most_parts { MOST_PARTS ≡ 1 }
     ensures parts_limit { PARTS_LIMIT ≡ 4 }
-    ensures last_method { LAST_METHOD ≡ 2 }
-    ensures last_ask { LAST_ASK ≡ 1 }
-    ensures last_item { LAST_ITEM ≡ 1 }
-    ensures last_kind { LAST_KIND ≡ 1 }
+    ensures last_method { LAST_METHOD ≡ 6 }
+    ensures last_ask { LAST_ASK ≡ 4 }
+    ensures last_item { LAST_ITEM ≡ 3 }
+    ensures last_kind { LAST_KIND ≡ 3 }
     ensures kept_limit { KEPT_LIMIT ≡ 64 }
     ensures links_limit { LINKS_LIMIT ≡ 64 }
 {}

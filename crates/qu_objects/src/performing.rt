@@ -1,8 +1,8 @@
 ghost use Rattle.std.specs.Prelude.{◌≡◌, ◌∷◌, [], length, IfOk};
 ghost use Rattle.qu_objects.specs.Performing.{performed_answer, performed_values, told_answer};
 
-use super::{Act, Answer, Applied, Item, Query, Value};
-use qu_base::{List, NoMemory};
+use super::{Act, Answer, Query, Value};
+use qu_base::{Applied, List, NoMemory, Told};
 use std::alloc::Global;
 
 /// What an act makes of the values of its objects: each of them changed or none, and the answer.
@@ -18,10 +18,22 @@ impl PerformedValues {
         ensures { IfOk result (λ performed. performed ≡ self.now) }
     {
         Ok(PerformedValues {
-            values: self.values.copy(alloc)?,
+            values: Value::copy_all(alloc, self.values.as_slice())?,
             answer: self.answer.copy(alloc)?,
         })
     }
+}
+
+/// The only value of a list of one.
+#[tactic(auto, using(crate::proofs::Single::only_last))]
+pub fn only_value(values: List<Value>) -> Value
+    requires { length values ≡ 1 }
+    ensures { values ≡ result ∷ [] }
+{
+    let Some(value) = values.into_vec().pop() else {
+        unreachable!();
+    };
+    value
 }
 
 /// Performs an act on the values of its objects, given in the order of its parts.
@@ -31,13 +43,13 @@ pub fn perform(alloc: Global, values: &[Value], act: &Act) -> Result<PerformedVa
     ensures answer { IfOk result (λ performed. performed.answer ≡ performed_answer act.now values.now) }
 {
     match (values, act.parts().as_slice()) {
-        ([value], [(_, method)]) => match value.apply(method) {
+        ([value], [(_, method)]) => match value.apply(alloc, method)? {
             Applied::Changed(value, item) => Ok(PerformedValues {
                 values: List::one(alloc, value)?,
                 answer: Answer::Ok(List::one(alloc, item)?),
             }),
             Applied::Refused(why) => Ok(PerformedValues {
-                values: List::one(alloc, *value)?,
+                values: List::one(alloc, value.copy(alloc)?)?,
                 answer: Answer::Refused { at: 0, why },
             }),
         },
@@ -51,7 +63,10 @@ pub fn tell_all(alloc: Global, values: &[Value], query: &Query) -> Result<Answer
     ensures { IfOk result (λ answer. answer ≡ told_answer query.now values.now) }
 {
     match (values, query.parts().as_slice()) {
-        ([value], [(_, ask)]) => Ok(Answer::Ok(List::one(alloc, value.tell(ask))?)),
+        ([value], [(_, ask)]) => Ok(match value.tell(alloc, ask)? {
+            Told::Item(item) => Answer::Ok(List::one(alloc, item)?),
+            Told::Refused(why) => Answer::Refused { at: 0, why },
+        }),
         _ => unreachable!(),
     }
 }

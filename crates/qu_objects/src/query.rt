@@ -1,16 +1,34 @@
 ghost use Rattle.std.specs.Prelude.{◌≡◌, ◌<◌, ◌↔◌, IsOk, IfOk, IsTrue};
-ghost use Rattle.qu_objects.specs.Parts.{are_parts};
+ghost use Rattle.qu_objects.specs.Parts.{are_parts, is_sized_ask, are_sized};
 
 use super::BadParts;
-use qu_base::{List, NoMemory, OBJECT_IDS, ObjectId};
+use qu_base::{List, NAME_LIMIT, NoMemory, OBJECT_IDS, ObjectId};
 use std::alloc::Global;
 use std::marker::Model;
 
-/// A question to one object.
-#[derive(Clone, Copy, Debug, PartialEq, Eq)]
+/// What a query asks of one object.
+#[derive(Clone, Debug, Drop, PartialEq, Eq)]
 pub enum Ask {
     /// A counter's value.
     Read,
+    /// A blob's bytes.
+    Cat,
+    /// The number of a name, of at most `NAME_LIMIT` bytes, in a directory.
+    Find(List<u8>),
+    /// All entries of a directory.
+    All,
+}
+
+impl Ask {
+    /// Whether what it carries is no longer than it may be.
+    pub fn is_sized(&self) -> bool
+        ensures { result ≡ is_sized_ask self.now }
+    {
+        match self {
+            Ask::Read | Ask::Cat | Ask::All => true,
+            Ask::Find(name) => name.len() <= usize::from(NAME_LIMIT),
+        }
+    }
 }
 
 /// A query of objects: for each of them, in rising order, what is asked of it.
@@ -23,23 +41,24 @@ impl Model for Query {
     ghost use Rattle.std.specs.Prelude.{List, IsTrue};
     ghost use Rattle.qu_base.specs.declared.party.ObjectId.{ObjectId};
     ghost use Rattle.qu_objects.specs.declared.query.Ask.{Ask};
-    ghost use Rattle.qu_objects.specs.Parts.{are_parts};
+    ghost use Rattle.qu_objects.specs.Parts.{are_parts, is_sized_ask, are_sized};
 
     ghost Value = { List (ObjectId × Ask) };
 
     ghost view = { λ query. query.parts };
 
-    ghost invariant = { λ query. IsTrue (are_parts query.parts) };
+    ghost invariant = { λ query. IsTrue (are_parts query.parts) × IsTrue (are_sized is_sized_ask query.parts) };
 }
 
 impl Query {
-    /// Refuses exactly where there is not one part, with an object below `OBJECT_IDS`.
+    /// Refuses exactly where there is not one part, where its object is not below `OBJECT_IDS`, or where it carries
+    /// more than it may.
     pub fn new(parts: List<(ObjectId, Ask)>) -> Result<Query, BadParts>
-        ensures accepted { IsOk result ↔ IsTrue (are_parts parts) }
+        ensures accepted { IsOk result ↔ (IsTrue (are_parts parts) × IsTrue (are_sized is_sized_ask parts)) }
         ensures value { IfOk result (λ query. query ≡ parts) }
     {
         match parts.as_slice() {
-            [(object, _)] if object.0 < OBJECT_IDS => Ok(Query { parts }),
+            [(object, ask)] if object.0 < OBJECT_IDS && ask.is_sized() => Ok(Query { parts }),
             _ => Err(BadParts),
         }
     }
@@ -48,6 +67,7 @@ impl Query {
     pub fn parts(&self) -> &List<(ObjectId, Ask)>
         ensures parts { result.now ≡ self.now }
         ensures in_order { IsTrue (are_parts result.now) }
+        ensures sized { IsTrue (are_sized is_sized_ask result.now) }
     {
         &self.parts
     }

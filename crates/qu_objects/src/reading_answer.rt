@@ -5,8 +5,8 @@ ghost use Rattle.qu_objects.specs.Formats.{some_items, items_form, part_refusal_
 
 use super::reading::read_item;
 use super::refusal_number::is_kind_refusal;
-use super::{Answer, Item, PARTS_LIMIT};
-use qu_base::{BadText, Cursor, List, ReadFail, Why};
+use super::{Answer, PARTS_LIMIT};
+use qu_base::{BadText, Cursor, Item, List, ReadFail, Why};
 use std::alloc::Global;
 
 /// The next answer.
@@ -56,7 +56,7 @@ fn read_items(alloc: Global, count: u8, text: &mut Cursor<'_>) -> Result<List<It
 {
     let mut items = List::new(alloc);
     for at in 0..count {
-        let item = read_item(text)?;
+        let item = read_item(alloc, text)?;
         items.push(item)?;
     }
     Ok(items)

@@ -1,11 +1,11 @@
 //! The parts of acts and of queries from bytes.
 ghost use Rattle.std.specs.Prelude.{◌≡◌, OnErr};
-ghost use Rattle.qu_base.specs.Reading.{Reads, Gives, IsGiven};
+ghost use Rattle.qu_base.specs.Reading.{Gives, IsGiven};
 ghost use Rattle.qu_objects.specs.Formats.{method_form, ask_form, is_one_of, part_form, some_parts, act_form, query_form};
 
 use super::reading::{read_ask, read_method, read_object};
 use super::{Act, Ask, MOST_PARTS, Method, Query};
-use qu_base::{BadText, Cursor, List, ObjectId, ReadFail};
+use qu_base::{Cursor, List, ObjectId, ReadFail};
 use std::alloc::Global;
 
 /// The next parts of an act, from their count on; each object is one of the known ones.
@@ -52,7 +52,7 @@ fn read_method_parts(
     let mut parts = List::new(alloc);
     let mut before = None;
     for at in 0..count {
-        let (object, method) = read_method_part(known, before, text)?;
+        let (object, method) = read_method_part(alloc, known, before, text)?;
         parts.push((object, method))?;
         before = Some(object);
     }
@@ -61,14 +61,15 @@ fn read_method_parts(
 
 /// The next object, and what is done to it.
 fn read_method_part(
+    alloc: Global,
     known: &[ObjectId],
     before: Option<ObjectId>,
     text: &mut Cursor<'_>,
-) -> Result<(ObjectId, Method), BadText>
-    ensures { Reads (part_form method_form (is_one_of known.now) before) result text.old text.new }
+) -> Result<(ObjectId, Method), ReadFail>
+    ensures { Gives (part_form method_form (is_one_of known.now) before) result text.old text.new }
 {
     let object = read_object(known, before, text)?;
-    Ok((object, read_method(text)?))
+    Ok((object, read_method(alloc, text)?))
 }
 
 /// The next parts of a query, from their count on; each object is one of the known ones.
@@ -119,7 +120,7 @@ fn read_ask_parts(
     let mut parts = List::new(alloc);
     let mut before = None;
     for at in 0..count {
-        let (object, ask) = read_ask_part(known, before, text)?;
+        let (object, ask) = read_ask_part(alloc, known, before, text)?;
         parts.push((object, ask))?;
         before = Some(object);
     }
@@ -128,12 +129,13 @@ fn read_ask_parts(
 
 /// The next object, and what is asked of it.
 fn read_ask_part(
+    alloc: Global,
     known: &[ObjectId],
     before: Option<ObjectId>,
     text: &mut Cursor<'_>,
-) -> Result<(ObjectId, Ask), BadText>
-    ensures { Reads (part_form ask_form (is_one_of known.now) before) result text.old text.new }
+) -> Result<(ObjectId, Ask), ReadFail>
+    ensures { Gives (part_form ask_form (is_one_of known.now) before) result text.old text.new }
 {
     let object = read_object(known, before, text)?;
-    Ok((object, read_ask(text)?))
+    Ok((object, read_ask(alloc, text)?))
 }

@@ -4,8 +4,11 @@ ghost use Rattle.qu_base.specs.Reading.{Reads, Gives, IsGiven};
 ghost use Rattle.qu_objects.specs.States.{value_form, is_later_client, row_form, some_rows, kept_form, link_form, some_links, links_form, state_form};
 
 use super::reading::is_after;
-use super::{KEPT_LIMIT, KeptRow, LAST_KIND, LINKS_LIMIT, Link, ObjState, Value, read_answer};
-use qu_base::{BadText, ClientId, Cursor, List, ObjectId, ReadFail, Why};
+use super::{KEPT_LIMIT, KeptRow, LINKS_LIMIT, Link, ObjState, Value, read_answer};
+use kind_blob::Blob;
+use kind_counter::Counter;
+use kind_dir::Dir;
+use qu_base::{BadText, ClientId, Cursor, Kind, List, ObjectId, ReadFail, Why};
 use qu_stamp::read_stamp;
 use std::alloc::Global;
 
@@ -29,7 +32,7 @@ pub fn read_state(alloc: Global, text: &mut Cursor<'_>) -> Result<ObjState, Read
 fn state_at(alloc: Global, text: &mut Cursor<'_>) -> Result<ObjState, ReadFail>
     ensures { Gives state_form result text.old text.new }
 {
-    let value = value_at(text)?;
+    let value = value_at(alloc, text)?;
     let kept = kept_at(alloc, text)?;
     let links = links_at(alloc, text)?;
     Ok(ObjState { value, kept, links })
@@ -37,14 +40,16 @@ fn state_at(alloc: Global, text: &mut Cursor<'_>) -> Result<ObjState, ReadFail>
 
 /// The code of a kind, and a value of it.
 #[tactic(auto, unfolding(crate::specs::States::value_form))]
-fn value_at(text: &mut Cursor<'_>) -> Result<Value, BadText>
-    ensures { Reads value_form result text.old text.new }
+fn value_at(alloc: Global, text: &mut Cursor<'_>) -> Result<Value, ReadFail>
+    ensures { Gives value_form result text.old text.new }
 {
     let start = text.ahead();
     let code = text.u8_within(0, 255)?;
     match code {
-        1 => Ok(Value::Counter(text.u64_within(0, u64::MAX)?)),
-        _ => Err(start.refusal(Why::Range)),
+        1 => Ok(Value::Counter(Counter::read(alloc, text)?)),
+        2 => Ok(Value::Blob(Blob::read(alloc, text)?)),
+        3 => Ok(Value::Dir(Dir::read(alloc, text)?)),
+        _ => Err(ReadFail::Bad(start.refusal(Why::Range))),
     }
 }
 

@@ -63,7 +63,7 @@ impl ObjState {
         ensures { IfOk result (λ state. state ≡ self.now) }
     {
         Ok(ObjState {
-            value: self.value,
+            value: self.value.copy(alloc)?,
             kept: KeptRow::copy_all(alloc, self.kept.as_slice())?,
             links: self.links.copy(alloc)?,
         })

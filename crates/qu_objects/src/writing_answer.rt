@@ -3,9 +3,9 @@ ghost use Rattle.std.specs.Prelude.{◌≡◌, ◌++◌, length, take, OnOk, OnE
 ghost use Rattle.std.specs.List.{flat_map};
 ghost use Rattle.qu_objects.specs.Formats.{item_form, answer_form};
 
+use super::Answer;
 use super::writing::put_item;
-use super::{Answer, Item};
-use qu_base::{NoMemory, Outbytes};
+use qu_base::{Item, NoMemory, Outbytes};
 
 /// Appends an answer. Without memory the text stays as it is.
 ///

@@ -4,7 +4,7 @@ ghost use Rattle.std.specs.List.{flat_map};
 ghost use Rattle.qu_base.specs.declared.party.ObjectId.{ObjectId as Object};
 ghost use Rattle.qu_objects.specs.Formats.{method_form, ask_form, spelled_object, act_form, query_form};
 
-use super::writing::{put_method, write_ask};
+use super::writing::{put_ask, put_method};
 use super::{Act, Ask, Method, Query};
 use qu_base::{NoMemory, ObjectId, Outbytes};
 
@@ -77,7 +77,7 @@ fn put_ask_parts(parts: &[(ObjectId, Ask)], out: &mut Outbytes) -> Result<(), No
 {
     for part in parts {
         out.u16(part.0.0)?;
-        write_ask(&part.1, out)?;
+        put_ask(&part.1, out)?;
     }
     Ok(())
 }

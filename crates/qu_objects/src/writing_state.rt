@@ -4,7 +4,7 @@ ghost use Rattle.std.specs.List.{flat_map};
 ghost use Rattle.qu_objects.specs.States.{value_form, row_form, kept_form, link_form, links_form, state_form};
 
 use super::{KeptRow, Link, ObjState, Value, write_answer};
-use qu_base::{NoMemory, Outbytes};
+use qu_base::{Kind, NoMemory, Outbytes};
 use qu_stamp::write_stamp;
 
 /// Appends a state. Without memory the text stays as it is.
@@ -40,9 +40,20 @@ fn put_value(value: &Value, out: &mut Outbytes) -> Result<(), NoMemory>
     ensures ok { OnOk result (out.new ≡ out.old ++ value_form.spell value.now) }
     ensures err { OnErr result (take (length out.old) out.new ≡ out.old) }
 {
-    let Value::Counter(number) = value;
-    out.u8(1)?;
-    out.u64(*number)
+    match value {
+        Value::Counter(counter) => {
+            out.u8(1)?;
+            counter.write(out)
+        }
+        Value::Blob(blob) => {
+            out.u8(2)?;
+            blob.write(out)
+        }
+        Value::Dir(dir) => {
+            out.u8(3)?;
+            dir.write(out)
+        }
+    }
 }
 
 /// Appends the count of the rows, and each of them; on failure a part of this.

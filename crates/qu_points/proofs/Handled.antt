@@ -1,4 +1,5 @@
 -- The acts that replicas handled.
+pub mod SizedParts
 pub mod AddedActs
 pub mod HandledActs
 pub mod SignedActs

@@ -1,5 +1,5 @@
 -- The points of some operations of a trace, in their order.
-use Rattle.std.specs.Prelude.{◌≡◌, ℕ, Bool, true, false, ◌==◌, ◌&&◌, ◌+◌, if◌then◌else◌, List, [], ◌∷◌, position, Option, None, Some, option_map, Ok, IsTrue, Contains, ◌⊎◌}
+use Rattle.std.specs.Prelude.{◌<◌, ◌^◌, ◌≡◌, ℕ, Bool, true, false, ◌==◌, ◌&&◌, ◌+◌, if◌then◌else◌, List, [], ◌∷◌, position, Option, None, Some, option_map, Ok, IsTrue, Contains, ◌⊎◌}
 use Rattle.std.specs.List.{AllPairs, list_any, filter_map}
 use Rattle.std.specs.Option.{option_eq}
 use Rattle.qu_base.specs.declared.party.ClientId.{ClientId}
@@ -8,6 +8,7 @@ use Rattle.qu_base.specs.declared.party.ObjectId.{ObjectId}
 use Rattle.qu_base.specs.declared.party.Party.TheVariants as party
 use Rattle.qu_stamp.specs.Stamp.{same_digest}
 use Rattle.qu_objects.specs.declared.act.Method.{Method}
+use Rattle.qu_objects.specs.declared.act.Method.TheVariants.{Add, Take, Link}
 use Rattle.qu_objects.specs.declared.op.Op.{Op}
 use Rattle.qu_objects.specs.declared.op.Op.TheVariants as op
 use Rattle.qu_objects.specs.Digesting.{act_digest, PartsFit}
@@ -154,7 +155,14 @@ pub record AddsActs (acts : List NamedAct) (old new : List OpRecord) : Type 0 wh
 abbrev pub new_act : List NamedAct → NamedAct → List OpRecord
 new_act earlier act = if list_any (is_named_act act.0 act.1 act.2) earlier then [] else as_operation act ∷ []
 
--- the numbers of an act fit their bytes
+-- the numbers of a method fit their bytes
+abbrev pub NumbersFit : Method → Type 0
+NumbersFit (Add more) = more < 2 ^ 64
+NumbersFit (Take fewer) = fewer < 2 ^ 64
+NumbersFit (Link name number) = number < 2 ^ 64
+NumbersFit method = Unit {0}
+
+-- the numbers of an act fit their bytes, and no part carries more than it may
 abbrev pub ActFits : NamedAct → Type 0
 ActFits act = IsTrue (are_parts act.2) × PartsFit act.2
 

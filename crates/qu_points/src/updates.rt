@@ -1,8 +1,9 @@
 //! The updates that replicas handled, which have points besides the queries of correct clients.
-ghost use Rattle.std.specs.Prelude.{◌≡◌, IsTrue, ◌++◌, All, OnOk};
+ghost use Rattle.std.specs.Prelude.{◌≡◌, ◌<◌, ◌^◌, IsTrue, ◌++◌, All, OnOk};
 ghost use Rattle.std.specs.List.{AllPairs};
-ghost use Rattle.qu_objects.specs.Digesting.{MethodFits, PartsFit};
-ghost use Rattle.qu_points.specs.Points.{ActFits, AreDistinct, AddsActs, is_query, new_act};
+ghost use Rattle.qu_objects.specs.Digesting.{PartsFit};
+ghost use Rattle.qu_objects.specs.Parts.{is_sized_method, are_sized};
+ghost use Rattle.qu_points.specs.Points.{NumbersFit, ActFits, AreDistinct, AddsActs, is_query, new_act};
 
 use super::acts::is_handled;
 use qu_base::{ClientId, List, NoMemory, ObjectId};
@@ -50,7 +51,8 @@ fn add_new_act(
     })
 }
 
-/// The numbers of acts fit their bytes. Types keep this; here it is told of a whole list, and nothing is computed.
+/// The numbers of acts fit their bytes, and no part carries more than it may. Types keep this; here it is told of a
+/// whole list, and nothing is computed.
 fn acts_fit(acts: &[(ClientId, u64, Act)])
     ensures { All ActFits acts.now }
 {
@@ -59,19 +61,29 @@ fn acts_fit(acts: &[(ClientId, u64, Act)])
     }
 }
 
-/// The numbers of the parts of an act fit their bytes. Types keep this, and nothing is computed.
+/// The parts of an act fit: their numbers fit their bytes, as types keep it, and none carries more than it may. Nothing
+/// is computed.
 pub fn parts_fit(parts: &[(ObjectId, Method)])
+    requires { IsTrue (are_sized is_sized_method parts.now) }
     ensures { PartsFit parts.now }
 {
     for (_, method) in parts {
-        method_fits(*method);
+        numbers_fit(method);
     }
 }
 
-fn method_fits(method: Method)
-    ensures { MethodFits method }
+/// The numbers of a method fit their bytes.
+fn numbers_fit(method: &Method)
+    ensures { NumbersFit method.now }
 {
     match method {
-        Method::Add(_) | Method::Take(_) => {}
+        Method::Add(number) | Method::Take(number) | Method::Link(_, number) => number_fits(
+            *number,
+        ),
+        Method::Put(_) | Method::Append(_) | Method::Unlink(_) => {}
     }
 }
+
+fn number_fits(number: u64)
+    ensures { number < 2 ^ 64 }
+{}

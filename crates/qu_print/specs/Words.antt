@@ -5,16 +5,23 @@ use Rattle.std.specs.Fmt.{decimal}
 use Rattle.qu_base.specs.declared.party.ClientId.{ClientId}
 use Rattle.qu_base.specs.declared.party.ObjectId.{ObjectId}
 use Rattle.qu_objects.specs.declared.act.Method.{Method}
-use Rattle.qu_objects.specs.declared.act.Method.TheVariants.{Add, Take}
+use Rattle.qu_objects.specs.declared.act.Method.TheVariants.{Add, Take, Put, Append, Link, Unlink}
 use Rattle.qu_objects.specs.declared.query.Ask.{Ask}
-use Rattle.qu_objects.specs.declared.query.Ask.TheVariants.{Read}
-use Rattle.qu_objects.specs.declared.refusal_number.TheConstants.{OVER, UNDER, TOO_LONG, EXISTS, MISSING, BAD_NAME, FULL, WRONG_KIND}
-use Rattle.qu_objects.specs.declared.answer.Item.{Item}
-use Rattle.qu_objects.specs.declared.answer.Item.TheVariants.{Number}
+use Rattle.qu_objects.specs.declared.query.Ask.TheVariants.{Read, Cat, Find, All}
+use Rattle.qu_objects.specs.declared.refusal_number.TheConstants.{WRONG_KIND}
+use Rattle.qu_base.specs.declared.kind.Item.{Item}
+use Rattle.qu_base.specs.declared.kind.Item.TheVariants.{Number, Bytes, Entries}
+use Rattle.qu_objects.specs.declared.kind.Value.{Value}
+use Rattle.qu_objects.specs.declared.kind.Value.TheVariants as value
 use Rattle.qu_objects.specs.declared.answer.Answer.{Answer}
 use Rattle.qu_objects.specs.declared.answer.Answer.TheVariants as answer
 use Rattle.qu_objects.specs.declared.op.Op.{Op}
 use Rattle.qu_objects.specs.declared.op.Op.TheVariants.{Act, Query}
+use Rattle.kind_counter.specs.declared.counter.TheConstants.{OVER, UNDER}
+use Rattle.kind_blob.specs.declared.blob.TheConstants.{TOO_LONG}
+use Rattle.kind_dir.specs.declared.refusals.TheConstants.{EXISTS, MISSING, BAD_NAME, FULL}
+use Rattle.qu_notation.specs.Bytes.{bytes_text}
+use Rattle.qu_notation.specs.Names.{written_name, entries_text}
 
 -- an operation is named by its client and its number
 abbrev pub name_text : ClientId → ℕ → List ℕ
@@ -25,9 +32,17 @@ name_text client number = decimal client.0 ++ codes "." ++ decimal number
 abbrev pub method_text : ℕ → Method → List ℕ
 method_text object (Add n) = codes "add " ++ decimal object ++ codes " " ++ decimal n
 method_text object (Take n) = codes "take " ++ decimal object ++ codes " " ++ decimal n
+method_text object (Put content) = codes "put " ++ decimal object ++ codes " " ++ bytes_text content
+method_text object (Append more) = codes "append " ++ decimal object ++ codes " " ++ bytes_text more
+method_text object (Link name n) =
+    codes "link " ++ decimal object ++ codes " " ++ written_name name ++ codes " " ++ decimal n
+method_text object (Unlink name) = codes "unlink " ++ decimal object ++ codes " " ++ written_name name
 
 abbrev pub ask_text : ℕ → Ask → List ℕ
 ask_text object Read = codes "read " ++ decimal object
+ask_text object Cat = codes "cat " ++ decimal object
+ask_text object (Find name) = codes "find " ++ decimal object ++ codes " " ++ written_name name
+ask_text object All = codes "list " ++ decimal object
 
 abbrev pub act_part_text : ObjectId × Method → List ℕ
 act_part_text part = method_text (part.0).0 part.1
@@ -44,9 +59,16 @@ op_text (Query query) = join_by query_part_text (codes " + ") query
 
 abbrev pub item_text : Item → List ℕ
 item_text (Number n) = decimal n
+item_text (Bytes bytes) = bytes_text bytes
+item_text (Entries entries) = entries_text entries
 
--- why a part is refused: the words of the number. A machine refuses by OVER or UNDER only; bytes that no replica made
--- may tell the others too, and an answer is read with no number but these
+-- a value of an object by its kind
+abbrev pub value_text : Value → List ℕ
+value_text (value.Counter n) = codes "counter " ++ decimal n
+value_text (value.Blob bytes) = codes "blob " ++ bytes_text bytes
+value_text (value.Dir entries) = codes "dir " ++ entries_text entries
+
+-- why a part is refused: the words of the number. An answer is read with no number but these
 abbrev pub why_text : ℕ → List ℕ
 why_text why =
     if why == OVER then codes "over"

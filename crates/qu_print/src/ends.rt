@@ -84,56 +84,43 @@ fn put_end_line(text: &mut String, operations: &[OpRecord]) -> Result<(), NoMemo
     ensures { OnOk result (string_bytes text.new
         ≡ string_bytes text.old ++ lines_text (end_line operations.now ∷ [])) }
 {
-    let (calls, done) = (operations.len(), count_done(operations));
+    let calls = operations.len();
+    let Ends {
+        done,
+        gave_up,
+        unended,
+    } = ends_of(operations);
     write!(text, "end calls {calls} done {done}")?;
-    let (gave_up, open) = (count_given_up(operations), count_open(operations));
-    writeln!(text, " gaveup {gave_up} open {open}")?;
+    writeln!(text, " gaveup {gave_up} open {unended}")?;
     Ok(())
 }
 
-fn count_done(operations: &[OpRecord]) -> usize
-    ensures { result ≡ count_by ended_done operations.now }
-{
-    operations
-        .iter()
-        .filter(|operation| is_done(operation))
-        .count()
+/// How many operations ended in each way, and how many have not.
+struct Ends {
+    done: usize,
+    gave_up: usize,
+    unended: usize,
 }
 
-fn count_given_up(operations: &[OpRecord]) -> usize
-    ensures { result ≡ count_by ended_given_up operations.now }
+#[tactic(auto, using(std::proofs::lemmas::List::Sums::count_by_more_yes, std::proofs::lemmas::List::Sums::count_by_more_no))]
+fn ends_of(operations: &[OpRecord]) -> Ends
+    ensures done { result.done ≡ count_by ended_done operations.now }
+    ensures gave_up { result.gave_up ≡ count_by ended_given_up operations.now }
+    ensures unended { result.unended ≡ count_by never_ended operations.now }
 {
-    operations
-        .iter()
-        .filter(|operation| is_given_up(operation))
-        .count()
-}
-
-fn count_open(operations: &[OpRecord]) -> usize
-    ensures { result ≡ count_by never_ended operations.now }
-{
-    operations
-        .iter()
-        .filter(|operation| is_open(operation))
-        .count()
-}
-
-fn is_done(operation: &OpRecord) -> bool
-    ensures { result ≡ ended_done operation.now }
-{
-    match &operation.reply {
-        Some((_, Outcome::Done(_))) => true,
-        Some((_, Outcome::GaveUp)) | None => false,
+    let mut ends = Ends {
+        done: 0,
+        gave_up: 0,
+        unended: 0,
+    };
+    for operation in operations {
+        match &operation.reply {
+            Some((_, Outcome::Done(_))) => ends.done += 1,
+            Some((_, Outcome::GaveUp)) => ends.gave_up += 1,
+            None => ends.unended += 1,
+        }
     }
-}
-
-fn is_given_up(operation: &OpRecord) -> bool
-    ensures { result ≡ ended_given_up operation.now }
-{
-    match &operation.reply {
-        Some((_, Outcome::GaveUp)) => true,
-        Some((_, Outcome::Done(_))) | None => false,
-    }
+    ends
 }
 
 fn is_open(operation: &OpRecord) -> bool

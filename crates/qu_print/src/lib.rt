@@ -8,5 +8,6 @@ mod report;
 mod timeline;
 mod words;
 
+pub use piece::Piece;
 pub use report::report_text;
-pub use words::{put_answer, put_op};
+pub use words::{put_answer, put_op, put_value};

@@ -1,9 +1,12 @@
 ghost use Rattle.std.specs.Prelude.{◌≡◌, ◌++◌, OnOk, string_bytes};
-ghost use Rattle.qu_print.specs.Words.{op_text, why_text, answer_text};
+ghost use Rattle.qu_print.specs.Words.{op_text, value_text, why_text, answer_text};
 
-use super::piece::put_joined;
+use super::piece::{Piece, put_joined};
 use qu_base::NoMemory;
-use qu_objects::{Answer, BAD_NAME, EXISTS, FULL, MISSING, OVER, Op, TOO_LONG, UNDER, WRONG_KIND};
+use qu_notation::{put_bytes_text, put_entries_text};
+use qu_objects::{
+    Answer, BAD_NAME, EXISTS, FULL, MISSING, OVER, Op, TOO_LONG, UNDER, Value, WRONG_KIND,
+};
 
 /// Writes what a client asks for.
 #[tactic(auto, unfolding(crate::specs::Words::op_text))]
@@ -31,7 +34,28 @@ pub fn put_answer(text: &mut String, answer: &Answer) -> Result<(), NoMemory>
     Ok(())
 }
 
-/// Writes why an operation is refused: the words of the number, and of a number that no answer in bytes has the number.
+/// Writes the value of an object: its kind, and its number, bytes or entries.
+pub fn put_value(text: &mut String, value: &Value) -> Result<(), NoMemory>
+    ensures { OnOk result (string_bytes text.new ≡ string_bytes text.old ++ value_text value.now) }
+{
+    match value {
+        Value::Counter(counter) => {
+            let number = counter.number();
+            write!(text, "counter {number}")?;
+            Ok(())
+        }
+        Value::Blob(blob) => {
+            text.push_str("blob ")?;
+            put_bytes_text(text, blob.content().as_slice())
+        }
+        Value::Dir(dir) => {
+            text.push_str("dir ")?;
+            put_entries_text(text, dir.entries().as_slice())
+        }
+    }
+}
+
+/// Writes why a part is refused: the words of its number, or the number where no answer in bytes has it.
 fn put_why(text: &mut String, why: u8) -> Result<(), NoMemory>
     ensures { OnOk result (string_bytes text.new ≡ string_bytes text.old ++ why_text why) }
 {

@@ -29,7 +29,8 @@ use Rattle.qu_kept.specs.declared.repeats.Standing.TheVariants.{Fresh}
 use Rattle.qu_kept.specs.Performing.{row_by, state_after}
 use Rattle.qu_kept.specs.Standing.{standing_of}
 use Rattle.qu_kept.proofs.StandingLaws.{fresh_where}
-use Rattle.qu_kept.proofs.OneObject.{values_one, performed_to}
+use Rattle.qu_objects.proofs.Single.{values_one}
+use Rattle.qu_kept.proofs.OneObject.{performed_to}
 use Rattle.qu_frames.specs.declared.verdict.Refusal.{Refusal}
 use Rattle.qu_frames.specs.declared.verdict.Refusal.TheVariants as refusal
 use Rattle.qu_rows.specs.declared.decision.Accepted.{Accepted}

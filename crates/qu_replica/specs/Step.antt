@@ -16,7 +16,7 @@ use Rattle.qu_objects.specs.declared.state.ObjState.{ObjState}
 use Rattle.qu_objects.specs.declared.kind.KindName.{KindName}
 use Rattle.qu_objects.specs.declared.kind.KindName.TheVariants as kind
 use Rattle.qu_objects.specs.declared.kind.Value.{Value}
-use Rattle.qu_objects.specs.declared.kind.Value.TheVariants.{Counter}
+use Rattle.qu_objects.specs.declared.kind.Value.TheVariants.{Counter, Blob, Dir}
 use Rattle.qu_objects.specs.States.{state_form}
 use Rattle.qu_sync.specs.Fetching.{completes}
 use Rattle.qu_versions.specs.Versions.{version_at, with_version}
@@ -124,6 +124,9 @@ other_letters state _ = []
 
 abbrev pub is_value_of : KindName → Value → Bool
 is_value_of kind.Counter (Counter number) = true
+is_value_of kind.Blob (Blob content) = true
+is_value_of kind.Dir (Dir entries) = true
+is_value_of kind value = false
 
 -- a value of the kind that the object has
 abbrev pub has_kind : Option KindName → Value → Bool

@@ -2,6 +2,7 @@
 
 ghost use Rattle.std.specs.Prelude.{◌≤◌};
 
+use kind_counter::Counter;
 use qu_base::{Bounds, ClientId, Digest, List, ObjectId, Party, ReplicaId};
 use qu_frames::{Body, ClassCode, Frame, Letter, Refusal, Verdict, blank_mac, decode};
 use qu_history::{History, SetOf, Sets};
@@ -101,19 +102,6 @@ fn act(alloc: Global, number: u64, sets: Sets) -> Result<Frame, Fail> {
     })
 }
 
-/// The verdict on a request of client 2 to mend the counter upon these sets.
-fn mended(alloc: Global, replica: &mut Replica, sets: Sets) -> Result<Verdict, Fail> {
-    let request = Frame::Request {
-        client: ClientId(2),
-        number: 1,
-        round: 1,
-        sets,
-        body: Body::Mend(COUNTER),
-        mac: blank_mac(),
-    };
-    Ok(answer_to(alloc, replica, &request)?.0)
-}
-
 /// The verdict of the reply that a frame brings about, and the entries that the reply names.
 fn answer_to(
     alloc: Global,
@@ -123,7 +111,7 @@ fn answer_to(
     answer_with(alloc, &keys()?, replica, frame)
 }
 
-/// The same under these keys.
+/// The verdict of the reply that a frame brings about under these keys, and the entries that the reply names.
 fn answer_with(
     alloc: Global,
     keys: &KeyRing,
@@ -169,7 +157,7 @@ fn stamp_at(time: u64) -> Stamp {
 /// What another replica tells where it is asked for the version under this stamp: what the counter is.
 fn told(alloc: Global, from: u8, stamp: Stamp, count: u64) -> Frame {
     let state = ObjState {
-        value: Value::Counter(count),
+        value: Value::Counter(Counter::new(count)),
         kept: List::new(alloc),
         links: List::new(alloc),
     };
@@ -196,9 +184,9 @@ fn time_can_be_spent(rt: HostRuntime) -> Result<(), Fail> {
     Ok(())
 }
 
-/// What the counter is taken for where b replicas tell that it is 9, and then others that it is 5, of which each but
-/// the last is answered by nothing.
-fn found_behind_lies(alloc: Global, b: u8) -> Result<Value, Fail>
+/// Whether the counter is taken for 5 where b replicas tell that it is 9, and then others that it is 5, of which each
+/// but the last is answered by nothing.
+fn finds_behind_lies(alloc: Global, b: u8) -> Result<bool, Fail>
     requires { b ≤ 3 }
 {
     let (keys, stamp) = (keys_for(b)?, stamp_at(1));
@@ -213,13 +201,14 @@ fn found_behind_lies(alloc: Global, b: u8) -> Result<Value, Fail>
     let last = told(alloc, 2 * b + 1, stamp, 5);
     let verdict = answer_with(alloc, &keys, &mut replica, &last)?.0;
     holds(matches!(&verdict, Verdict::Done { .. }), "the act is done")?;
-    Ok(replica.version(COUNTER, &stamp).ok_or("no version")?.value)
+    let version = replica.version(COUNTER, &stamp).ok_or("no version")?;
+    Ok(matches!(&version.value, Value::Counter(counter) if counter.number() == 5))
 }
 
 #[test]
 fn lies_of_as_many_replicas_as_may_lie_are_not_taken(rt: HostRuntime) -> Result<(), Fail> {
     for b in 1..4 {
-        assert_eq!(rt; found_behind_lies(rt.alloc(), b)?, Value::Counter(5));
+        assert!(rt; finds_behind_lies(rt.alloc(), b)?);
     }
     Ok(())
 }
@@ -248,46 +237,6 @@ fn a_repeated_act_is_told_its_answer(rt: HostRuntime) -> Result<(), Fail> {
     assert_eq!(rt; again, Verdict::Already(Answer::Ok(items)));
     let lower = verdict(rt.alloc(), &mut replica, 1, latest)?;
     assert_eq!(rt; lower, Verdict::Refused(Refusal::Spent(COUNTER, 2)));
-    Ok(())
-}
-
-#[test]
-fn entries_under_other_keys_are_named_and_do_not_count(rt: HostRuntime) -> Result<(), Fail> {
-    let mut replica = started(rt.alloc())?;
-    let others = KeyRing::derive(8, &Bounds::new(1)?, 1);
-    let sets = sets(rt.alloc(), &others, Stamp::opening())?;
-    let (verdict, named) = answer(rt.alloc(), &mut replica, 1, sets)?;
-    assert_eq!(rt; verdict, Verdict::Refused(Refusal::Thin(COUNTER)));
-    let all = [0, 1, 2, 3, 4].map(|replica| (COUNTER, ReplicaId(replica)));
-    assert_eq!(rt; named.as_slice(), &all[..]);
-    Ok(())
-}
-
-#[test]
-fn a_torn_object_gets_one_barrier(rt: HostRuntime) -> Result<(), Fail> {
-    let alloc = rt.alloc();
-    let mut replica = started(alloc)?;
-    verdict(alloc, &mut replica, 1, Stamp::opening())?;
-    let first = replica.history(COUNTER).ok_or("no history")?.latest();
-    let mut second = first;
-    second.client = ClientId(2);
-    let sets = torn(alloc, &keys()?, first, second)?;
-    let stamp = Stamp {
-        time: 2,
-        barrier: true,
-        client: ClientId(2),
-        act: None,
-        set: sets.digest_of(alloc)?,
-    };
-    for _ in 0..2 {
-        let found = mended(alloc, &mut replica, sets.copy(alloc)?)?;
-        assert_eq!(rt; found, Verdict::Mended(COUNTER, stamp));
-        let history = replica.history(COUNTER).ok_or("no history")?;
-        let prior = first;
-        assert_eq!(rt; history.last(), Candidate { stamp, prior });
-        assert_eq!(rt; history.len(), 3);
-        assert!(rt; replica.version(COUNTER, &stamp).is_none());
-    }
     Ok(())
 }
 

@@ -25,7 +25,8 @@ use Rattle.qu_kept.specs.Performing.{row_by, state_after}
 use Rattle.qu_kept.specs.Rows.{client_of}
 use Rattle.qu_kept.specs.Standing.{standing_of}
 use Rattle.qu_kept.proofs.KeyedLaws.{own_item}
-use Rattle.qu_kept.proofs.OneObject.{values_one, performed_to}
+use Rattle.qu_objects.proofs.Single.{values_one}
+use Rattle.qu_kept.proofs.OneObject.{performed_to}
 use Rattle.qu_frames.specs.declared.frame.Body.TheVariants as body
 use Rattle.qu_frames.specs.declared.verdict.Verdict.{Verdict}
 use Rattle.qu_frames.specs.declared.verdict.Verdict.TheVariants as verdict

@@ -1,4 +1,5 @@
 use super::*;
+use kind_counter::Counter;
 use qu_base::{Bounds, ClientId, Digest, List, ObjectId, ReplicaId};
 use qu_frames::Refusal;
 use qu_history::{HISTORY_LIMIT, History, Sealed, SetOf, Sets};
@@ -9,10 +10,10 @@ use std::test::Fail;
 
 const OBJECT: ObjectId = ObjectId(5);
 
-/// What was decided, with the value of the version that is stored.
+/// What was decided, with the number that the version holds that is stored.
 #[derive(Clone, Copy, Debug, PartialEq, Eq)]
 enum Seen {
-    Adds(Candidate, Option<Value>),
+    Adds(Candidate, Option<u64>),
     Holds(Stamp),
     Refuses(Refusal),
     Waits,
@@ -81,23 +82,30 @@ fn own(alloc: Global, count: usize) -> Result<History, Fail> {
 /// What a replica with this history makes of the request, which has the wanted version or not.
 fn outcome(alloc: Global, mend: &Mend, own: &History, found: bool) -> Result<Seen, Fail> {
     let version = ObjState {
-        value: Value::Counter(7),
+        value: Value::Counter(Counter::new(7)),
         kept: List::new(alloc),
         links: List::new(alloc),
     };
     let version = if found { Some(&version) } else { None };
     Ok(match mend.decide(alloc, own, version)? {
-        Mending::Mends { candidate, version } => Seen::Adds(candidate, value_of(version)),
+        Mending::Mends { candidate, version } => Seen::Adds(candidate, number_of(&version)),
         Mending::Holds { stamp } => Seen::Holds(stamp),
         Mending::Refuses(why) => Seen::Refuses(why),
         Mending::Waits => Seen::Waits,
     })
 }
 
-fn value_of(version: Option<ObjState>) -> Option<Value> {
+fn number_of(version: &Option<ObjState>) -> Option<u64> {
     match version {
-        Some(version) => Some(version.value),
+        Some(version) => number_in(&version.value),
         None => None,
+    }
+}
+
+fn number_in(value: &Value) -> Option<u64> {
+    match value {
+        Value::Counter(counter) => Some(counter.number()),
+        _ => None,
     }
 }
 
@@ -142,7 +150,7 @@ fn a_row_comes_alone(rt: HostRuntime) -> Result<(), Fail> {
 fn fresh_candidates_stand_above_all_that_is_shown(rt: HostRuntime) -> Result<(), Fail> {
     let alloc = rt.alloc();
     let prior = at(1).stamp;
-    let value = Some(Value::Counter(7));
+    let value = Some(7);
     let spent = Seen::Refuses(Refusal::TimeSpent(OBJECT));
     wants(
         alloc,
@@ -265,7 +273,7 @@ fn mends(
     }
     let after = torn(alloc, replica, Some(barrier))?;
     let row = if replica < 3 {
-        Seen::Adds(copy, Some(Value::Counter(7)))
+        Seen::Adds(copy, Some(7))
     } else {
         Seen::Waits
     };

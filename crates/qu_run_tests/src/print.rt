@@ -63,7 +63,7 @@ fn a_refusal_is_told(rt: HostRuntime) -> Result<(), Fail> {
 }
 
 #[test]
-fn a_refusal_that_no_counter_gives_is_told(rt: HostRuntime) -> Result<(), Fail> {
+fn wrong_kind_is_told(rt: HostRuntime) -> Result<(), Fail> {
     let refused = Answer::Refused {
         at: 0,
         why: WRONG_KIND,

@@ -7,7 +7,7 @@ use Rattle.std.specs.List.{AllByRecursion}
 use Rattle.qu_objects.specs.declared.op.Op.{Op}
 use Rattle.qu_objects.specs.declared.op.Op.TheVariants as op
 use Rattle.qu_objects.specs.Parts.{are_parts}
-use Rattle.qu_objects.specs.Digesting.{PartsFit}
+use Rattle.qu_objects.specs.Digesting.{PartsFit, AsksFit}
 use Rattle.qu_frames.specs.declared.frame.Frame.{Frame}
 use Rattle.qu_frames.specs.declared.frame.Letter.{Letter}
 use Rattle.qu_frames.specs.Signing.{sender, brought}
@@ -22,10 +22,10 @@ use Rattle.qu_claims.specs.Handled.{request_to}
 use Rattle.qu_claims.specs.Premises.{IsUnforged}
 use Rattle.qu_claims.specs.Times.{world_after}
 
--- the parts of an operation are those of an act or a query, and the numbers of an act fit their bytes
+-- the parts are those of an act or a query, the numbers of an act fit their bytes, and no part carries more than it may
 abbrev pub HasOpParts : Op → Type 0
 HasOpParts (op.Act parts) = IsTrue (are_parts parts) × PartsFit parts
-HasOpParts (op.Query parts) = IsTrue (are_parts parts)
+HasOpParts (op.Query parts) = IsTrue (are_parts parts) × AsksFit parts
 
 abbrev pub HasEventParts : Event → Type 0
 HasEventParts (Invoke client op) = (client.0 < 2 ^ 16) × HasOpParts op

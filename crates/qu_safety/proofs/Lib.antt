@@ -1,3 +1,4 @@
+pub mod SizedAsks
 pub mod KnownRuns
 pub mod Grounded
 pub mod DecidedOnce

@@ -1,15 +1,17 @@
-ghost use Rattle.std.specs.Prelude.{◌<◌, ◌^◌, length};
+ghost use Rattle.std.specs.Prelude.{◌<◌, ◌^◌, length, IsTrue};
+ghost use Rattle.qu_objects.specs.Digesting.{AsksFit};
+ghost use Rattle.qu_objects.specs.Parts.{is_sized_ask, are_sized};
 ghost use Rattle.qu_base.specs.Format.{AreBytes};
 ghost use Rattle.qu_runs.specs.Plain.{HaveParts, HasEventParts};
 
-use qu_base::ClientId;
-use qu_objects::Op;
+use qu_base::{ClientId, ObjectId};
+use qu_objects::{Ask, Op};
 use qu_points::parts_fit;
 use qu_trace::{Entry, Event};
 
-/// Each operation that begins has parts, and its numbers fit their bytes; what is injected are bytes; and a run that is
-/// in memory has fewer than 2^63 events. Types and memory keep this; here it is told of a whole run, and nothing is
-/// computed.
+/// Each operation that begins has parts, whose numbers fit their bytes and which carry no more than they may; what is
+/// injected are bytes; and a run that is in memory has fewer than 2^63 events. Types and memory keep this; here it is
+/// told of a whole run, and nothing is computed.
 pub fn have_parts(entries: &[Entry])
     ensures parts { HaveParts entries.now }
     ensures few { length entries.now < 2 ^ 63 }
@@ -30,12 +32,19 @@ fn has_parts(event: &Event)
         }
         Event::Invoke(client, Op::Query(query)) => {
             client_fits(*client);
-            query.parts();
+            asks_fit(query.parts().as_slice());
         }
         Event::Inject(_, text) => are_bytes(text.as_slice()),
         Event::Deliver(_) | Event::Tick(_) => {}
     }
 }
+
+/// No part of a query carries too much. Types keep this, and nothing is computed.
+#[tactic(auto, using(crate::proofs::SizedAsks::asks_fit))]
+fn asks_fit(parts: &[(ObjectId, Ask)])
+    requires { IsTrue (are_sized is_sized_ask parts.now) }
+    ensures { AsksFit parts.now }
+{}
 
 fn client_fits(client: ClientId)
     ensures { client.0 < 2 ^ 16 }

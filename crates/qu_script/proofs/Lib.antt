@@ -1,7 +1,6 @@
-pub mod TextFacts
-pub mod NumberFacts
 pub mod ReplicaFacts
 pub mod RangeFacts
+pub mod ListedFacts
 pub mod LiarFacts
 pub mod ScriptFacts
 pub mod LetterFacts

@@ -6,9 +6,9 @@ use Rattle.std.specs.Str.{bytes_eq}
 use Rattle.std.proofs.lemmas.Bool.{leb-true}
 use Rattle.qu_base.specs.declared.limits.TheConstants.{LAST_CLIENT, MOST_FAULTS}
 use Rattle.qu_script.specs.declared.setup.SetupLine.{SetupLine}
-use Rattle.qu_script.specs.declared.setup.SetupLine.TheVariants.{Bounds, Seed, Clients, Object}
-use Rattle.qu_script.specs.Text.{number_of}
-use Rattle.qu_script.specs.Grammar.{only_number, number_line, setup_number, IsInRange}
+use Rattle.qu_script.specs.declared.setup.SetupLine.TheVariants.{Bounds, Seed, Clients}
+use Rattle.qu_notation.specs.Numbers.{number_of, only_number}
+use Rattle.qu_script.specs.Setup.{number_line, setup_number, IsInRange}
 
 tested : (least greatest number found : ℕ) (above below : Bool) → nat_le least number ≡ above
     → nat_le number greatest ≡ below
@@ -52,4 +52,3 @@ pub setup_in_range : (line : SetupLine) (words : List (List ℕ)) (found : ℕ) 
 setup_in_range Bounds words found is = in_line _ 1 MOST_FAULTS found words is
 setup_in_range Seed words found is = tt
 setup_in_range Clients words found is = in_line _ 1 LAST_CLIENT found words is
-setup_in_range Object words found is = tt

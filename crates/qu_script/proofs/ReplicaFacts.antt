@@ -5,7 +5,7 @@ use Rattle.std.specs.Option.{option_map, option_and_then}
 use Rattle.std.proofs.lemmas.List.{at_drop_more, at_drop_all, get_or-map, length-map}
 use Rattle.qu_base.specs.declared.party.ReplicaId.{ReplicaId}
 use Rattle.qu_script.specs.Parties.{replica_in, replicas_of}
-use Rattle.qu_script.proofs.NumberFacts.{texts}
+use Rattle.qu_notation.proofs.NumberFacts.{texts}
 
 replicas_of-cons : (bounds : ℕ) (word : List ℕ) (words : List (List ℕ))
     → replicas_of bounds (word ∷ words) ≡ option_and_then

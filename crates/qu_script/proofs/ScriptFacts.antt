@@ -5,10 +5,11 @@ use Rattle.qu_script.specs.declared.line.Line.{Line}
 use Rattle.qu_script.specs.declared.bad.Bad.{Bad}
 use Rattle.qu_script.specs.declared.bad.BadKind.TheVariants.{UnknownLine}
 use Rattle.qu_script.specs.declared.setup.SetupLine.{SetupLine}
-use Rattle.qu_script.specs.Text.{lines_of, words_of}
-use Rattle.qu_script.specs.Grammar.{setup_number, line_of_words}
+use Rattle.qu_notation.specs.Text.{lines_of, words_of}
+use Rattle.qu_script.specs.Grammar.{line_of_words}
+use Rattle.qu_script.specs.Setup.{setup_number}
 use Rattle.qu_script.specs.Script.{then_good, or_unknown, expect, lines_from}
-use Rattle.qu_script.proofs.TextFacts.{lines_of-nil}
+use Rattle.qu_notation.proofs.TextFacts.{lines_of-nil}
 
 -- ---- setup lines
 

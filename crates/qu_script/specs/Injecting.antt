@@ -10,7 +10,8 @@ use Rattle.qu_script.specs.declared.line.How.{How}
 use Rattle.qu_script.specs.declared.line.How.TheVariants as how
 use Rattle.qu_script.specs.declared.line.Line.{Line}
 use Rattle.qu_script.specs.declared.line.Line.TheVariants.{Inject, Fake}
-use Rattle.qu_script.specs.Parties.{replica_in, client_in, correct_replica_in, party_in, replicas_of, hex_bytes}
+use Rattle.qu_script.specs.Parties.{replica_in, client_in, correct_replica_in, party_in, replicas_of}
+use Rattle.qu_notation.specs.Bytes.{hex_bytes}
 
 -- ---- given bytes
 

@@ -1,12 +1,12 @@
 -- The lines of a setup that list its faulty parties: replicas, as many as may lie at most, and then clients.
-use Rattle.std.specs.Prelude.{ℕ, ◌++◌, ◌&&◌, Bool, true, false, nat_lt, List, [], ◌∷◌, length, Option, None, Some, if◌then◌else◌, codes}
+use Rattle.std.specs.Prelude.{ℕ, ◌&&◌, Bool, true, false, nat_lt, List, [], ◌∷◌, length, Option, None, Some, if◌then◌else◌, codes}
 use Rattle.std.specs.List.{list_all}
 use Rattle.std.specs.Option.{option_and_then}
 use Rattle.std.specs.Str.{bytes_eq}
 use Rattle.qu_base.specs.declared.party.Party.{Party}
 use Rattle.qu_base.specs.declared.party.Party.TheVariants as party
+use Rattle.qu_script.specs.Listed.{listed_from}
 use Rattle.qu_script.specs.Parties.{party_in}
-use Rattle.qu_script.specs.Text.{words_of}
 
 -- replicas stand before clients, and both by rising numbers
 abbrev pub is_party_before : Party → Party → Bool
@@ -38,14 +38,6 @@ liar_of bounds clients liars (faulty ∷ kind ∷ word ∷ []) =
     then option_and_then (if_may_follow bounds liars) (party_in bounds clients kind word) else None
 liar_of bounds clients liars (faulty ∷ kind ∷ word ∷ more ∷ later) = None
 
-abbrev pub or_these : List Party × List (List ℕ) → Option Party → (Party → List Party × List (List ℕ))
-    → List Party × List (List ℕ)
-or_these these None next = these
-or_these these (Some who) next = next who
-
 -- these faulty parties and those that the first texts list, and the texts behind them
-unfoldable pub liars_from : ℕ → ℕ → List Party → List (List ℕ) → List Party × List (List ℕ)
-liars_from bounds clients liars [] = (liars, [])
-liars_from bounds clients liars (text ∷ texts) =
-    or_these (liars, text ∷ texts) (liar_of bounds clients liars (words_of text))
-    (λ who. liars_from bounds clients (liars ++ who ∷ []) texts)
+abbrev pub liars_from : ℕ → ℕ → List Party → List (List ℕ) → List Party × List (List ℕ)
+liars_from bounds clients liars texts = listed_from (liar_of bounds clients) liars texts

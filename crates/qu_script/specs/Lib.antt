@@ -1,9 +1,11 @@
-pub mod Text
-pub mod Read
 pub mod Parties
+pub mod Setup
+pub mod Operations
 pub mod Grammar
 pub mod Injecting
 pub mod Holding
+pub mod Listed
+pub mod Objects
 pub mod Liars
 pub mod Script
 pub mod Letters

@@ -1,9 +1,7 @@
--- The parties that words of a script name, and the bytes that a word spells.
-use Rattle.std.specs.Prelude.{ℕ, ◌-◌, List, [], ◌∷◌, Option, None, Some, if◌then◌else◌, codes, Result, Ok, Err}
+-- The parties that words of a script name.
+use Rattle.std.specs.Prelude.{ℕ, ◌-◌, List, [], ◌∷◌, Option, None, Some, if◌then◌else◌, codes}
 use Rattle.std.specs.Option.{option_map, option_and_then}
 use Rattle.std.specs.Str.{bytes_eq}
-use Rattle.hex.specs.Hex.{decode_of}
-use Rattle.hex.specs.declared.error.FromHexError.{FromHexError}
 use Rattle.qu_base.specs.declared.party.ClientId.{ClientId}
 use Rattle.qu_base.specs.declared.party.Party.{Party}
 use Rattle.qu_base.specs.declared.party.Party.TheVariants as party
@@ -11,9 +9,7 @@ use Rattle.qu_base.specs.declared.party.ReplicaId.{ReplicaId}
 use Rattle.qu_base.specs.Bounds.{replicas}
 use Rattle.qu_trace.specs.declared.trace.Setup.{Setup}
 use Rattle.qu_trace.specs.Faulty.{is_faulty}
-use Rattle.qu_script.specs.Text.{number_in}
-
--- ---- parties
+use Rattle.qu_notation.specs.Numbers.{number_in}
 
 -- a replica, where so many may lie
 abbrev pub replica_in : ℕ → List ℕ → Option ReplicaId
@@ -47,15 +43,3 @@ unfoldable pub replicas_of : ℕ → List (List ℕ) → Option (List ReplicaId)
 replicas_of bounds [] = Some []
 replicas_of bounds (word ∷ words) =
     option_and_then (λ me. option_map (λ more. me ∷ more) (replicas_of bounds words)) (replica_in bounds word)
-
--- ---- bytes
-
-abbrev pub if_decoded : Result (List ℕ) FromHexError → Option (List ℕ)
-if_decoded (Ok bytes) = Some bytes
-if_decoded (Err why) = None
-
--- two hexadecimal digits for each byte, or `-` for none
-unfoldable pub hex_bytes : List ℕ → Option (List ℕ)
-hex_bytes [] = None
-hex_bytes (digit ∷ digits) =
-    if bytes_eq (digit ∷ digits) (codes "-") then Some [] else if_decoded (decode_of (digit ∷ digits))

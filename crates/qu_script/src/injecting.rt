@@ -1,11 +1,10 @@
 ghost use Rattle.std.specs.Prelude.{◌≡◌, map, IfOk, MatchOption};
 ghost use Rattle.qu_script.specs.Injecting.{inject_of, source_of, how_of, some_replicas, good_of, fake_line};
 
-use super::cut::next_word;
-use super::hexadecimal::read_bytes;
 use super::parties::{read_client, read_correct_replica, read_party, read_replica, read_replicas};
 use super::{How, Line};
 use qu_base::{Bounds, List, NoMemory, ReplicaId};
+use qu_notation::{next_word, read_bytes};
 use qu_trace::Setup;
 use std::alloc::Global;
 

@@ -1,12 +1,12 @@
 ghost use Rattle.std.specs.Prelude.{◌≡◌, ◌+◌, ◌≤◌, [], length, map, count_by, IfOk, IfSome, IsTrue};
 ghost use Rattle.std.specs.List.{list_all};
 ghost use Rattle.qu_trace.specs.Faulty.{is_replica};
-ghost use Rattle.qu_script.specs.Text.{lines_of};
+ghost use Rattle.qu_notation.specs.Text.{lines_of};
 ghost use Rattle.qu_script.specs.Liars.{is_party_before, has_room, may_follow, liar_of, liars_from};
 
-use super::cut::{cut_line, cut_words};
 use super::parties::read_party;
 use qu_base::{Bounds, List, NoMemory, Party};
+use qu_notation::{cut_line, cut_words};
 use std::alloc::Global;
 
 /// Reads the lines that list the faulty parties, and gives the rest of the text: replicas, at most as many as may lie,

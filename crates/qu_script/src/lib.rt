@@ -3,17 +3,16 @@
 
 mod bad;
 mod call;
-mod cut;
+mod content;
 mod fake;
-mod hexadecimal;
 mod holding;
 mod injecting;
 mod letters;
 mod liars;
 mod limits;
 mod line;
-mod number;
-mod numbers;
+mod objects;
+mod operation;
 mod parties;
 mod player;
 mod read;

@@ -1,8 +1,8 @@
 ghost use Rattle.std.specs.Prelude.{◌≡◌, map, IfOk};
 ghost use Rattle.qu_script.specs.Parties.{replica_in, client_in, correct_replica_in, correct_client_in, party_in, replicas_of};
 
-use super::numbers::read_number_in;
 use qu_base::{Bounds, ClientId, List, NoMemory, Party, ReplicaId};
+use qu_notation::read_number_in;
 use qu_trace::Setup;
 use std::alloc::Global;
 

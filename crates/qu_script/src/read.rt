@@ -1,17 +1,18 @@
 ghost use Rattle.std.specs.Prelude.{◌≡◌, ◌<◌, ◌≤◌, ◌+◌, ◌^◌, length, count_by, IfOk};
-ghost use Rattle.qu_base.specs.declared.limits.TheConstants.{LAST_CLIENT, MOST_FAULTS};
+ghost use Rattle.qu_base.specs.declared.limits.TheConstants.{LAST_CLIENT, MOST_FAULTS, OBJECT_IDS};
 ghost use Rattle.qu_trace.specs.Faulty.{is_replica};
-ghost use Rattle.qu_script.specs.Grammar.{IsInRange};
-ghost use Rattle.qu_script.specs.Text.{lines_of};
-ghost use Rattle.qu_script.specs.Script.{IsAsMeant, expect, lines_from, script_from, script_of, setup_of};
+ghost use Rattle.qu_script.specs.Setup.{IsInRange};
+ghost use Rattle.qu_notation.specs.Text.{lines_of};
+ghost use Rattle.qu_script.specs.Script.{IsAsMeant, expect, expect_objects, lines_from, script_from, script_of, setup_of};
 ghost use Rattle.qu_world.specs.Run.{IsSetup};
 
 use super::call::read_event;
-use super::cut::{cut_line, cut_words};
 use super::liars::read_liars;
+use super::objects::read_objects;
 use super::setup::read_setup;
 use super::{Bad, BadKind, Line, SCRIPT_LIMIT, Script, ScriptFail, SetupLine};
 use qu_base::{Bounds, List, NoMemory, Party};
+use qu_notation::{cut_line, cut_words};
 use qu_objects::KindName;
 use qu_trace::Setup;
 use std::alloc::Global;
@@ -50,6 +51,20 @@ fn expect_setup(
     }
 }
 
+/// Reads the lines of the objects, of which there is one at least, and gives the rest of the text.
+#[tactic(auto, unfolding(crate::specs::Script::expect_objects))]
+fn expect_objects(alloc: Global, text: &[u8]) -> Result<(List<KindName>, &[u8]), ScriptFail>
+    ensures found { IsAsMeant (λ found. (found.0, lines_of found.1.now)) result (expect_objects (lines_of text.now)) }
+    ensures few { IfOk result (λ found. length found.0 ≤ OBJECT_IDS) }
+    ensures shorter { IfOk result (λ found. length found.0 + length found.1.now ≤ length text.now) }
+{
+    let (kinds, rest) = read_objects(alloc, text)?;
+    if kinds.is_empty() {
+        return Err(unknown_line(4));
+    }
+    Ok((kinds, rest))
+}
+
 /// Reads event lines, of which the first has this number.
 fn read_lines(
     alloc: Global,
@@ -57,7 +72,8 @@ fn read_lines(
     first: u64,
     text: &[u8],
 ) -> Result<List<(u64, Line)>, ScriptFail>
-    requires { first + length text.now < 2 ^ 62 }
+    requires few { first + length text.now < 2 ^ 62 }
+    requires kinds { length setup.now.kinds ≤ OBJECT_IDS }
     ensures { IsAsMeant (λ lines. lines) result (lines_from setup.now first (lines_of text.now)) }
 {
     let mut lines = List::new(alloc);
@@ -76,7 +92,7 @@ fn read_lines(
     Ok(lines)
 }
 
-/// Reads a script: four setup lines, the faulty parties, and event lines behind them.
+/// Reads a script: three setup lines, the objects, the faulty parties, and event lines behind them.
 ///
 /// A text of more than 16 MiB is refused at line 1; else the first line of no known form is, and a
 /// setup line that is missing at the end counts as one.
@@ -94,12 +110,12 @@ pub fn read_script(alloc: Global, text: &[u8]) -> Result<Script, ScriptFail>
     let (faults, rest) = expect_setup(alloc, SetupLine::Bounds, 1, text)?;
     let (seed, rest) = expect_setup(alloc, SetupLine::Seed, 2, rest)?;
     let (clients, rest) = expect_setup(alloc, SetupLine::Clients, 3, rest)?;
-    let (_object, rest) = expect_setup(alloc, SetupLine::Object, 4, rest)?;
+    let (kinds, rest) = expect_objects(alloc, rest)?;
     let bounds = bounds_of(faults as u8);
     let clients = clients as u16;
     let (liars, rest) = read_liars(alloc, &bounds, clients, rest)?;
-    let first = 5 + liars.len() as u64;
-    let setup = make_setup(alloc, bounds, seed, clients, liars)?;
+    let first = 4 + kinds.len() as u64 + liars.len() as u64;
+    let setup = make_setup(bounds, seed, clients, kinds, liars);
     let lines = read_lines(alloc, &setup, first, rest)?;
     Ok(Script { setup, lines })
 }
@@ -114,26 +130,25 @@ fn bounds_of(faults: u8) -> Bounds
     }
 }
 
-/// The setup of one counter.
 fn make_setup(
-    alloc: Global,
     bounds: Bounds,
     seed: u64,
     clients: u16,
+    kinds: List<KindName>,
     liars: List<Party>,
-) -> Result<Setup, NoMemory>
+) -> Setup
     requires faults { (1 ≤ bounds) × (bounds ≤ MOST_FAULTS) }
     requires clients { clients ≤ LAST_CLIENT }
+    requires kinds { length kinds ≤ OBJECT_IDS }
     requires few { count_by is_replica liars ≤ bounds }
-    ensures value { IfOk result (λ setup. setup ≡ setup_of bounds seed clients liars) }
-    ensures limits { IfOk result IsSetup }
+    ensures value { result ≡ setup_of bounds seed clients kinds liars }
+    ensures limits { IsSetup result }
 {
-    let kinds = List::one(alloc, KindName::Counter)?;
-    Ok(Setup {
+    Setup {
         bounds,
         seed,
         clients,
         kinds,
         liars,
-    })
+    }
 }

@@ -1,12 +1,11 @@
 ghost use Rattle.std.specs.Prelude.{◌≡◌, map, IfOk};
 ghost use Rattle.qu_script.specs.Grammar.{ticks_of, tick_of, wake_of, quiet_line};
 
-use super::cut::next_word;
 use super::holding::read_outage;
-use super::numbers::read_only_number;
 use super::parties::read_correct_client;
 use super::{Line, MOST_TICKS};
 use qu_base::NoMemory;
+use qu_notation::{next_word, read_only_number};
 use qu_trace::Setup;
 use std::alloc::Global;
 

@@ -134,7 +134,7 @@ fn opening(alloc: Global, kinds: &[KindName]) -> Result<LinkedList<Stored>, NoMe
     let mut versions = LinkedList::new(alloc);
     for (number, kind) in kinds.iter().enumerate() {
         let state = ObjState {
-            value: Value::fresh(*kind),
+            value: Value::fresh(alloc, *kind)?,
             kept: List::new(alloc),
             links: List::new(alloc),
         };

@@ -3,7 +3,7 @@
 pub enum Counting {
     /// No fetch of the version runs.
     NotFetched,
-    /// The object has another kind, or the replica does not have the object.
+    /// The version is of another kind than the object.
     OtherKind,
     /// The replica answered before.
     Twice,

@@ -19,16 +19,15 @@ use Rattle.qu_history.specs.History.{ObjectHistory, is_history, latest, last_fro
 use Rattle.qu_history.specs.Formats.{next_candidate, candidates_form}
 use Rattle.qu_history.proofs.Rising.{latest_is_last}
 use Rattle.qu_objects.specs.declared.kind.KindName.{KindName}
-use Rattle.qu_objects.specs.declared.kind.KindName.TheVariants as kind
 use Rattle.qu_objects.specs.declared.state.ObjState.{ObjState}
-use Rattle.qu_objects.specs.Kind.{fresh_value}
 use Rattle.qu_rows.specs.declared.decision.Accepted.{Accepted}
 use Rattle.qu_versions.specs.declared.stored.Stored.{Stored}
 use Rattle.qu_rows.specs.State.{ReplicaState, candidates_in}
 use Rattle.qu_replica.specs.State.{with_candidate, stored_if, accept, accept_all, opening_histories, replica_at_start}
 use Rattle.qu_rows.specs.Allowed.{MayAccept, MayAcceptAll}
 use Rattle.qu_versions.specs.Versions.{opening_store}
-use Rattle.qu_fitting.specs.Fits.{ValueFits, VersionFits, VersionsFit, SlotFits, StateFits}
+use Rattle.qu_fitting.proofs.FitValues.{fresh_fits}
+use Rattle.qu_fitting.specs.Fits.{VersionFits, VersionsFit, SlotFits, StateFits}
 use Rattle.qu_replica.proofs.States.Growth.{length-with_candidate}
 use Rattle.qu_rows.proofs.Own.{own_history}
 use Rattle.qu_replica.proofs.States.Own.{accept-histories, opening-histories}
@@ -167,9 +166,6 @@ opening_histories_fit me first (kind ∷ kinds) zero history found =
     subst (λ (it : ObjectHistory). candidates_form.Fits it.candidates) (same_Some _ history found) opening_candidates
 opening_histories_fit me first (kind ∷ kinds) (suc place) history found =
     opening_histories_fit me (first + 1) kinds place history found
-
-fresh_fits : (kind : KindName) → ValueFits (fresh_value kind)
-fresh_fits kind.Counter = omega arith
 
 opening_store_fits : (first : ℕ) (kinds : List KindName) → VersionsFit (opening_store first kinds)
 unfolding opening_store

@@ -350,6 +350,9 @@ fn is_value_of(kind: KindName, value: &Value) -> bool
     ensures { result ≡ is_value_of kind value.now }
 {
     match (kind, value) {
-        (KindName::Counter, Value::Counter(_)) => true,
+        (KindName::Counter, Value::Counter(_))
+        | (KindName::Blob, Value::Blob(_))
+        | (KindName::Dir, Value::Dir(_)) => true,
+        _ => false,
     }
 }

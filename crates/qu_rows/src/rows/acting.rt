@@ -222,7 +222,7 @@ impl<'a> Rows<'a> {
         let version = self.base_version(asked, seen).unwrap();
         let verdict = Verdict::Told {
             stamps: List::one(self.alloc, (seen.object, base.stamp))?,
-            answer: tell_all(self.alloc, &[version.value], query)?,
+            answer: tell_all(self.alloc, from_ref(&version.value), query)?,
         };
         Ok(Decision::Answers {
             verdict,

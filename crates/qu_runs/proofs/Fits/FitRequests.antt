@@ -16,11 +16,10 @@ use Rattle.qu_history.specs.Trimming.{trimmed}
 use Rattle.qu_history.specs.Formats.{history_form, sealed_form, entry_form, sealed_entry_form, next_entry, entries_form, set_form, sets_form}
 use Rattle.qu_objects.specs.declared.act.Method.{Method}
 use Rattle.qu_objects.specs.declared.query.Ask.{Ask}
-use Rattle.qu_objects.specs.declared.query.Ask.TheVariants.{Read}
 use Rattle.qu_objects.specs.declared.op.Op.{Op}
 use Rattle.qu_objects.specs.declared.op.Op.TheVariants as op
-use Rattle.qu_objects.specs.Formats.{is_one_of, ask_form, act_form, query_form}
-use Rattle.qu_objects.specs.Digesting.{MethodFits}
+use Rattle.qu_objects.specs.Formats.{is_one_of, act_form, query_form}
+use Rattle.qu_objects.specs.Digesting.{MethodFits, AskFits}
 use Rattle.qu_frames.specs.declared.limits.TheConstants.{LAST_ROUND}
 use Rattle.qu_frames.specs.Body.{body_of}
 use Rattle.qu_frames.specs.declared.frame.Body.{Body}
@@ -35,7 +34,7 @@ use Rattle.qu_client.specs.Sound.{IsFor}
 use Rattle.qu_client.proofs.Cases.{IsRound}
 use Rattle.qu_client.specs.Rounds.{request_of}
 use Rattle.qu_runs.specs.Plain.{HasOpParts}
-use Rattle.qu_objects.proofs.Text.{method_fits}
+use Rattle.qu_objects.proofs.Text.{method_fits, ask_fits}
 use Rattle.qu_fitting.proofs.FitRequests.{blank_sized}
 use Rattle.qu_client.proofs.Trimmed.{trimmed-fits}
 use Rattle.qu_client.proofs.Targets.{target_such}
@@ -158,10 +157,6 @@ set_fits bounds kept object fit few below =
 
 -- ---- what is asked for
 
-ask_fits : (ask : Ask) → ask_form.Fits ask
-unfolding ask_form
-ask_fits Read = (((omega arith, omega arith), refl), refl)
-
 act_fits : (object : ObjectId) (method : Method) → object.0 < OBJECT_IDS → MethodFits method
     → (act_form (is_one_of (object ∷ []))).Fits ((object, method) ∷ [])
 unfolding act_form
@@ -186,10 +181,10 @@ act_fits object method below fit = (
   ),
 )
 
-query_fits : (object : ObjectId) (ask : Ask) → object.0 < OBJECT_IDS → (query_form (is_one_of (object ∷ []))).Fits
-    ((object, ask) ∷ [])
+query_fits : (object : ObjectId) (ask : Ask) → object.0 < OBJECT_IDS → AskFits ask
+    → (query_form (is_one_of (object ∷ []))).Fits ((object, ask) ∷ [])
 unfolding query_form
-query_fits object ask below = (
+query_fits object ask below fit = (
   (omega arith, omega arith),
   (
     refl,
@@ -203,7 +198,7 @@ query_fits object ask below = (
           ),
           refl,
         ),
-        ask_fits ask,
+        ask_fits ask fit,
       ),
       tt,
     ),
@@ -253,14 +248,14 @@ operation_fits (op.Act ((own, method) ∷ [])) object is parts =
           (((omega arith, omega arith), refl), act_fits own method below (parts.1).0);
     }
 operation_fits (op.Act (first ∷ second ∷ later)) object is parts = absurd (false≢true parts.0)
-operation_fits (op.Query []) object is parts = absurd (false≢true parts)
+operation_fits (op.Query []) object is parts = absurd (false≢true parts.0)
 operation_fits (op.Query ((own, ask) ∷ [])) object is parts =
-    let below : own.0 < OBJECT_IDS = ltb-true own.0 OBJECT_IDS parts in
+    let below : own.0 < OBJECT_IDS = ltb-true own.0 OBJECT_IDS parts.0 in
     record {
       fits = subst (λ (it : List ObjectId). (body_form it).Fits (body_of (op.Query ((own, ask) ∷ [])))) is
-          (((omega arith, omega arith), refl), query_fits own ask below);
+          (((omega arith, omega arith), refl), query_fits own ask below (parts.1).0);
     }
-operation_fits (op.Query (first ∷ second ∷ later)) object is parts = absurd (false≢true parts)
+operation_fits (op.Query (first ∷ second ∷ later)) object is parts = absurd (false≢true parts.0)
 
 mend_fits : (object : ObjectId) → object.0 < OBJECT_IDS → FitsOne object (body.Mend object)
 unfolding body_form
@@ -282,10 +277,10 @@ object_of (op.Act []) parts = absurd (false≢true parts.0)
 object_of (op.Act ((object, method) ∷ [])) parts =
     record { object = object; below = ltb-true object.0 OBJECT_IDS parts.0; is = refl }
 object_of (op.Act (first ∷ second ∷ later)) parts = absurd (false≢true parts.0)
-object_of (op.Query []) parts = absurd (false≢true parts)
+object_of (op.Query []) parts = absurd (false≢true parts.0)
 object_of (op.Query ((object, ask) ∷ [])) parts =
-    record { object = object; below = ltb-true object.0 OBJECT_IDS parts; is = refl }
-object_of (op.Query (first ∷ second ∷ later)) parts = absurd (false≢true parts)
+    record { object = object; below = ltb-true object.0 OBJECT_IDS parts.0; is = refl }
+object_of (op.Query (first ∷ second ∷ later)) parts = absurd (false≢true parts.0)
 
 asked_fits : (object : ObjectId) (sets : List SetOf) (asked : Body) → FitSets object sets → FitsOne object asked
     → FitAsked sets asked

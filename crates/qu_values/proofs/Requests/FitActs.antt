@@ -7,7 +7,6 @@ use Rattle.qu_base.specs.declared.party.ClientId.{ClientId}
 use Rattle.qu_base.specs.declared.party.ObjectId.{ObjectId}
 use Rattle.qu_history.specs.declared.sets.SetOf.{SetOf}
 use Rattle.qu_objects.specs.declared.act.Method.{Method}
-use Rattle.qu_objects.specs.declared.act.Method.TheVariants.{Add, Take}
 use Rattle.qu_objects.specs.declared.op.Op.TheVariants as op
 use Rattle.qu_objects.specs.Digesting.{MethodFits, PartsFit}
 use Rattle.qu_objects.specs.Formats.{method_form, parts_form, act_form}
@@ -28,6 +27,7 @@ use Rattle.qu_world.specs.State.{numbered, ring_of}
 use Rattle.qu_world.specs.Run.{IsRun}
 use Rattle.qu_world.proofs.Each.{each_at}
 use Rattle.qu_claims.specs.Handled.{Request, handled_by, IsHandled}
+use Rattle.qu_fitting.proofs.FitValues.{method_numbers}
 use Rattle.qu_runs.specs.Plain.{HasOpParts, HasEventParts, ArePlain}
 use Rattle.qu_claims.specs.Times.{world_after}
 use Rattle.qu_runs.proofs.Fits.FitParts.{fits_parts}
@@ -36,11 +36,6 @@ use Rattle.qu_runs.proofs.Events.Recording.{entries_after}
 use Rattle.qu_values.proofs.Requests.SentRequests.{IsSent, carried_to, carried_so, sent_by}
 
 -- ---- what fits a format
-
-method_numbers : (method : Method) → method_form.Fits method → MethodFits method
-unfolding method_form
-method_numbers (Add more) fits = let high : more ≤ 2 ^ 64 - 1 = (fits.1).1 in omega (arith, high)
-method_numbers (Take fewer) fits = let high : fewer ≤ 2 ^ 64 - 1 = (fits.1).1 in omega (arith, high)
 
 part_numbers : (known : ObjectId → Bool) (parts : List (ObjectId × Method))
     → (parts_form method_form known).Fits parts → PartsFit parts

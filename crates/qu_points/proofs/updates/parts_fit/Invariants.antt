@@ -1,7 +1,8 @@
 use Rattle.std.proofs.Common.{take}
-use Rattle.qu_objects.specs.Digesting.{PartsFit}
+use Rattle.std.specs.List.{AllByRecursion}
+use Rattle.qu_points.specs.Points.{NumbersFit}
 use Rattle.qu_points.proofs.updates.parts_fit.Given as goal
 
--- the parts so far fit
+-- the numbers of the parts so far fit
 abbrev pub invariant-loop-method : goal.invariant-loop-method
-invariant-loop-method l = PartsFit (take l.method-index l.parts)
+invariant-loop-method l = AllByRecursion (λ part. NumbersFit part.1) (take l.method-index l.parts)

@@ -2,7 +2,7 @@
 use Rattle.std.proofs.Common.{◌≡◌, ◌+◌, ◌≤◌, [], length}
 use Rattle.std.specs.Prelude.{count_by}
 use Rattle.qu_trace.specs.Faulty.{is_replica}
-use Rattle.qu_script.specs.Text.{lines_of}
+use Rattle.qu_notation.specs.Text.{lines_of}
 use Rattle.qu_script.specs.Liars.{liars_from}
 use Rattle.qu_script.proofs.liars.read_liars.Given as goal
 

@@ -1,7 +1,7 @@
 -- The replicas so far, and those that the other words name.
 use Rattle.std.proofs.Common.{◌≡◌, drop}
 use Rattle.qu_script.specs.Parties.{replicas_of}
-use Rattle.qu_script.proofs.NumberFacts.{texts}
+use Rattle.qu_notation.proofs.NumberFacts.{texts}
 use Rattle.qu_script.proofs.ReplicaFacts.{replicas_with}
 use Rattle.qu_script.proofs.parties.read_replicas.Given as goal
 

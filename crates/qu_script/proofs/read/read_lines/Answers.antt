@@ -1,9 +1,9 @@
 -- The lines so far and those that are left are those of the text.
 use Rattle.std.proofs.Common.{◌∙◌, map, sym, ap, arith}
 use Rattle.std.proofs.lemmas.Bool.{eqb-true}
-use Rattle.qu_script.specs.Text.{lines_of}
+use Rattle.qu_notation.specs.Text.{lines_of}
 use Rattle.qu_script.specs.Grammar.{line_of_words}
-use Rattle.qu_script.proofs.TextFacts.{lines_of-nil}
+use Rattle.qu_notation.proofs.TextFacts.{lines_of-nil}
 use Rattle.qu_script.proofs.ScriptFacts.{lines_more, lines_stop, lines_end}
 use Rattle.qu_script.proofs.read.read_lines.Goals as goal
 

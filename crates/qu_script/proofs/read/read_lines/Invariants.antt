@@ -1,6 +1,6 @@
 -- The lines so far, and those that are left.
 use Rattle.std.proofs.Common.{◌≡◌, ◌+◌, ◌≤◌, length}
-use Rattle.qu_script.specs.Text.{lines_of}
+use Rattle.qu_notation.specs.Text.{lines_of}
 use Rattle.qu_script.specs.Script.{lines_from}
 use Rattle.qu_script.proofs.ScriptFacts.{lines_with}
 use Rattle.qu_script.proofs.read.read_lines.Given as goal

@@ -1,5 +1,5 @@
 -- A version that comes is handled as the frame that carries it.
-use Rattle.std.proofs.Common.{rules, ◌≡◌, true, false, List, Some, sym, ap, ◌∙◌}
+use Rattle.std.proofs.Common.{rules, ◌≡◌, List, Some, sym, ap, ◌∙◌}
 use Rattle.std.proofs.lemmas.Bool.{true≢false}
 use Rattle.std.proofs.lemmas.Result.{IfOk-weaker}
 use Rattle.qu_base.specs.declared.party.Party.TheVariants as party

@@ -1,5 +1,5 @@
 -- The letter is that of the last entry whose letters begin at its place or before it.
-use Rattle.std.proofs.Common.{ℕ, ◌-◌, List, length, get_or, ap, sym, subst, ◌∙◌, arith}
+use Rattle.std.proofs.Common.{ℕ, List, length, get_or, ap, sym, subst, ◌∙◌, arith}
 use Rattle.std.specs.Option.{option_copied}
 use Rattle.std.specs.List.Sorted.{IsNonDecreasingBy}
 use Rattle.qu_trace.specs.declared.trace.Entry.{Entry}

@@ -1,0 +1,5 @@
+pub mod Text
+pub mod Digits
+pub mod Numbers
+pub mod Bytes
+pub mod Names
