@@ -1,7 +1,7 @@
 """Reads bytes: `decode` gives a frame, or None where the bytes are none; what begins with `read_` tells by Unread which
 field fails, and how.
 
-Sets of one object, bodies of one part and candidates without a group are read, and no others.
+Bodies of one part are read, and no others.
 """
 from model.kinds import is_good_name
 from model.values import (
@@ -17,7 +17,9 @@ MOST_BYTES = 1 << 25
 LAST_CLIENT, LAST_REPLICA, LAST_OBJECT = 64, 15, 63
 # How many replicas a setup may have.
 REPLICA_COUNTS = (6, 11, 16)
-MOST_ROWS, MOST_LINKS, MOST_ITEMS, MOST_CULLED, MOST_SHOWN = 64, 64, 4, 128, 8
+# How many pairs a group may have.
+GROUP_SIZES = (0, 2, 3, 4)
+MOST_ROWS, MOST_LINKS, MOST_ITEMS, MOST_CULLED, MOST_SETS = 64, 64, 4, 128, 8
 # The numbers of refusals that an answer may carry.
 ANSWER_REFUSALS = (*range(3, 10), WRONG_KIND)
 METHODS = {code: method for method, code in METHOD_CODES.items()}
@@ -120,16 +122,27 @@ def read_plain_stamp(reader):
     return read_stamp(reader, 0)
 
 
-def read_candidate(reader, before=None):
-    """A candidate; of a history it is the opening one, or above the stamp of the one `before`."""
+def read_group(reader, object_number, stamp):
+    """The group of a candidate of this object with this stamp: pairs of an object and a time, objects rising."""
+    place, group = reader.at, []
+    size = reader.one_of(GROUP_SIZES)
+    need(size == 0 or not stamp.barrier and stamp != OPENING, "Range", place)
+    for _ in range(size):
+        member = reader.object(above=group[-1][0] if group else -1)
+        group.append((member, reader.u64(1, LAST_TIME)))
+    need(not group or (object_number, stamp.time) in group, "Range", place)
+    return tuple(group)
+
+
+def read_candidate(reader, object_number, before=None):
+    """A candidate of this object; of a history it is the opening one, or above the stamp of the one `before`."""
     place, stamp = reader.at, read_stamp(reader)
     if before is not None:
         need(before or stamp == OPENING, "Range", place)
         need(not before or stamp > before[-1].stamp, "Order", place)
     place, prior = reader.at, read_stamp(reader)
     need(prior == OPENING if stamp == OPENING else prior < stamp and not prior.barrier, "Range", place)
-    reader.u8(0, 0)
-    return Candidate(stamp, prior)
+    return Candidate(stamp, prior, read_group(reader, object_number, stamp))
 
 
 def read_history(reader, known=range(LAST_OBJECT + 1), above=(-1, -1), of_replica=None):
@@ -147,7 +160,7 @@ def read_history(reader, known=range(LAST_OBJECT + 1), above=(-1, -1), of_replic
             return history
     candidates = []
     for _ in range(reader.u16(1, MOST_CANDIDATES)):
-        candidates.append(read_candidate(reader, candidates))
+        candidates.append(read_candidate(reader, object_number, candidates))
     found.append(History(object_number, replica, tuple(candidates), reader.text[begin:reader.at]))
     return found[-1]
 
@@ -159,7 +172,7 @@ def read_sealed(reader, *rules):
 
 def read_sets(reader):
     sets = []
-    for _ in range(reader.u8(1, 1)):
+    for _ in range(reader.u8(1, MOST_SETS)):
         object_number, entries = reader.object(above=sets[-1].object if sets else -1), []
         for _ in range(reader.u8(0, LAST_REPLICA + 1)):
             last = entries[-1].history.replica if entries else -1
@@ -291,7 +304,7 @@ def read_culled(reader):
 def read_shown(reader, replica):
     """Sealed histories of a replica, objects rising."""
     shown = []
-    for _ in range(reader.u8(0, MOST_SHOWN)):
+    for _ in range(reader.u8(0, MOST_SETS)):
         last = shown[-1].history.object if shown else -1
         shown.append(read_sealed(reader, range(LAST_OBJECT + 1), (last, -1), replica))
     return tuple(shown)

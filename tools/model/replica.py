@@ -106,14 +106,21 @@ class Replica:
         unknown = [part.object for part in request.sets if part.object not in self.histories]
         if unknown:
             return self.reply(request, Refusal(UNKNOWN_OBJECT, unknown[0]), ())
-        (part,) = request.sets
-        kept = tuple(entry for entry in part.entries if self.keys.stays(entry, self.number))
-        culled = tuple((part.object, entry.history.replica) for entry in part.entries if entry not in kept)
-        self.handled.append(Handled(request, kept))
-        verdict = self.decide(request, part.object, kept)
+        sets, culled = self.cull(request.sets)
+        self.handled.append(Handled(request, tuple(entry for part in sets for entry in part.entries)))
+        verdict = self.decide(request, sets)
         if isinstance(verdict, Missing):
             return self.wait(request, verdict.versions)
         return self.reply(request, verdict, culled)
+
+    def cull(self, sets):
+        """The sets without the entries whose HMAC is wrong, and the objects and replicas of these."""
+        kept, culled = [], []
+        for part in sets:
+            entries = tuple(entry for entry in part.entries if self.keys.stays(entry, self.number))
+            kept.append(ObjectSet(part.object, entries))
+            culled += [(part.object, entry.history.replica) for entry in part.entries if entry not in entries]
+        return tuple(kept), tuple(culled)
 
     def reply(self, request, verdict, culled):
         known = (self.histories[part.object] for part in request.sets if part.object in self.histories)
@@ -121,12 +128,14 @@ class Replica:
         frame = Reply(self.number, request.client, request.number, request.round, verdict, culled, shown)
         return [self.letter(frame, Party("c", request.client))]
 
-    def decide(self, request, target, kept):
-        """The verdict on a request, from its culled entries, or what is Missing."""
-        if len(kept) < self.bounds.quorum:
-            return Refusal(THIN, target)
-        classified = classify(kept, self.bounds)
-        sets = sets_digest((ObjectSet(target, kept),))
+    def decide(self, request, kept):
+        """The verdict on a request, from its culled sets, or what is Missing."""
+        thin = [part.object for part in kept if len(part.entries) < self.bounds.quorum]
+        if thin:
+            return Refusal(THIN, thin[0])
+        target = request.body.target if request.body.kind == "mend" else request.body.parts[0].object
+        (entries,) = (part.entries for part in kept if part.object == target)
+        classified, sets = classify(entries, self.bounds), sets_digest(kept)
         if request.body.kind == "mend":
             return self.decide_mend(request.client, target, classified, sets)
         if request.body.kind == "act":

@@ -11,7 +11,7 @@ from model.values import DIGEST_SIZE
 from model.writing import (
     u16, u64, write_answer, write_candidate, write_history, write_parts, write_sets, write_stamp, write_state)
 
-# The objects that acts and queries know here.
+# The objects that acts and queries know here; candidates are of the first.
 KNOWN = (5, 63)
 
 
@@ -23,8 +23,12 @@ class Form(NamedTuple):
     write: object
 
 
+def told_group(group):
+    return " group" + "".join(f" {object_number}:{time}" for object_number, time in group) if group else ""
+
+
 def told_candidate(candidate):
-    return f"{told_stamp(candidate.stamp)} on {told_stamp(candidate.prior)}"
+    return f"{told_stamp(candidate.stamp)} on {told_stamp(candidate.prior)}{told_group(candidate.group)}"
 
 
 def told_history(history):
@@ -38,7 +42,7 @@ def told_parts(parts):
 
 FORMS = {
     "stamp": Form(read_stamp, told_stamp, write_stamp),
-    "candidate": Form(read_candidate, told_candidate, write_candidate),
+    "candidate": Form(lambda reader: read_candidate(reader, KNOWN[0]), told_candidate, write_candidate),
     "history": Form(read_history, told_history, write_history),
     "sets": Form(read_sets, told_sets, write_sets),
     "act": Form(lambda reader: read_parts(reader, KNOWN, METHODS), told_parts, write_parts),

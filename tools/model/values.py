@@ -62,10 +62,11 @@ class Stamp(NamedTuple):
 
 
 class Candidate(NamedTuple):
-    """A stamp and the stamp on which it rests."""
+    """A stamp, the stamp on which it rests, and its group: pairs of an object and a time."""
 
     stamp: Stamp
     prior: Stamp
+    group: tuple = ()
 
 
 OPENING = Stamp(0, 0, 0, b"", NO_DIGEST)

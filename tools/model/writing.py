@@ -28,8 +28,12 @@ def write_stamp(stamp):
     return u64(stamp.time) + u8(stamp.barrier) + u16(stamp.client) + act + stamp.sets
 
 
+def write_group(group):
+    return u8(len(group)) + b"".join(u16(object_number) + u64(time) for object_number, time in group)
+
+
 def write_candidate(candidate):
-    return write_stamp(candidate.stamp) + write_stamp(candidate.prior) + u8(0)
+    return write_stamp(candidate.stamp) + write_stamp(candidate.prior) + write_group(candidate.group)
 
 
 def write_history(history):

@@ -92,6 +92,7 @@ module _ (state : ReplicaState) (asked : Asked) (target : ObjectId) where
         record {
           stamp = stamp ∙ ap (made_stamp asked target) (sym (ap (λ (it : Stamp). it.barrier) stamp));
           prior = ap (λ (it : Candidate). it.prior) is;
+          group = ap (λ (it : Candidate). it.group) is;
         }
 
     is_fresh_kind : (barrier : Bool) (prior : Stamp) (candidate : Candidate)

@@ -217,13 +217,14 @@ makes_one : (state : ReplicaState) (asked : Asked) (part : ObjectId × Method) (
     (accepted_in (first_given (Waits []) (row_done state asked (part ∷ []) (part.0 ∷ []) ∷ [])))
 unfolding first_given
 makes_one state asked part base before value is_base is_before lower is_value is_current =
-    let make : Candidate → Candidate = λ it. record { stamp = fresh_stamp asked part.0; prior = it.stamp } in
+    let make : Candidate → Candidate =
+    λ it. record { stamp = fresh_stamp asked part.0; prior = it.stamp; group = [] } in
     let stored : Candidate → Option ObjState = λ it. version_at part.0 it.stamp state.versions in
     let is_fresh : fresh_act state asked part.0 ≡ Some (make base) = ap (option_map make) is_base in
     record {
       candidate = make base;
       base = base;
-      grounds = record { method = is_base; prior = refl; stamp = refl; current = is_current };
+      grounds = record { method = is_base; prior = refl; group = refl; stamp = refl; current = is_current };
       before = before;
       of_base = sym (ap (option_and_then stored) is_base) ∙ is_before;
       lower = lower;

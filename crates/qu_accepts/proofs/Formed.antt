@@ -24,7 +24,7 @@ unfolding sealed_entry_form entry_form
 entries_rise object least [] fits = All-nil IsRising
 entries_rise object least (sealed ∷ later) fits =
     All-cons IsRising sealed.history (histories later)
-    (fits_history (sealed.history).candidates ((((fits.0).0).1).1))
+    (fits_history (sealed.history).object (sealed.history).candidates ((((fits.0).0).1).1))
     (entries_rise object (next_entry sealed) later fits.1)
 
 sets_rise_from : (least : ℕ) (sets : List SetOf)

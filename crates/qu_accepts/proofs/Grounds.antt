@@ -147,6 +147,7 @@ module _ (old new : ReplicaState) (asked : Asked) (candidates : ObjectId → Can
         prior = grounds.prior
             ∙ ap (λ (it : Candidate). it.stamp)
             (sym (base_of_method old.keys.bounds (entries_of object asked.sets) (reasons.bases object) grounds.method));
+        group = grounds.group;
       })
   made_or_found (body.Ask parts) reasons object never = absurd never
   made_or_found (body.Mend target) reasons object is =

@@ -89,6 +89,7 @@ pub trait Kind: Sized + Drop {
     /// What has bytes at first has bytes ever after.
     ghost first_fits: { form.Fits first };
 
+    /// What an update that has bytes changes a value into has bytes.
     ghost changed_fits: { (update : Self.Update) (value changed : Self) (item : Item) → update_fits update
         → form.Fits value → applied update value ≡ made.Changed changed item → form.Fits changed };
 }

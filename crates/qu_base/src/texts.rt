@@ -2,7 +2,7 @@
 ghost use Rattle.std.specs.Prelude.{◌≡◌, ◌++◌, ℕ, Bool, List as Sequence, length, take, OnOk, OnErr};
 ghost use Rattle.std.specs.List.{flat_map};
 ghost use Rattle.qu_base.specs.Format.{bytes};
-ghost use Rattle.qu_base.specs.Reading.{Reads, Gives};
+ghost use Rattle.qu_base.specs.Reading.{Gives};
 ghost use Rattle.qu_base.specs.Texts.{content_form, name_form, is_name_before, spelled_name, listing_form};
 
 use super::{CONTENT_LIMIT, Cursor, List, NAME_LIMIT, NoMemory, Outbytes, ReadFail, Why};

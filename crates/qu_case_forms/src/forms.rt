@@ -5,7 +5,7 @@ use qu_frames::{Body, Frame, Refusal, Verdict};
 use qu_history::{Sealed, SetOf, Sets};
 use qu_objects::{Act, Answer, Item, KeptRow, ObjState, Outcome, Query};
 use qu_print::{Piece, put_value};
-use qu_stamp::{Candidate, Stamp};
+use qu_stamp::{Candidate, Group, Stamp};
 use sha2::{Digest as Hasher, Sha256};
 use std::alloc::AllocError;
 
@@ -54,11 +54,24 @@ fn put_act_digest(act: Option<Digest>, out: &mut String) -> Result<(), AllocErro
     }
 }
 
-/// The stamp, and the prior.
+/// The stamp, the prior, and the group where there is one.
 pub fn put_candidate(candidate: &Candidate, out: &mut String) -> Result<(), AllocError> {
     put_stamp(&candidate.stamp, out)?;
     out.push_str(" on ")?;
-    put_stamp(&candidate.prior, out)
+    put_stamp(&candidate.prior, out)?;
+    put_group(&candidate.group, out)
+}
+
+/// Each object with its time.
+fn put_group(group: &Group, out: &mut String) -> Result<(), AllocError> {
+    if group.pairs().is_empty() {
+        return Ok(());
+    }
+    out.push_str(" group")?;
+    for (object, time) in group.pairs() {
+        write!(out, " {}:{time}", object.0)?;
+    }
+    Ok(())
 }
 
 /// Each object with its entries.

@@ -99,7 +99,7 @@ fn tell_stamp(text: &[u8], form: &mut String, spelled: &mut Outbytes) -> Result<
 }
 
 fn tell_candidate(text: &[u8], form: &mut String, spelled: &mut Outbytes) -> Result<(), ReadFail> {
-    let candidate = one_candidate(text)?;
+    let candidate = one_candidate(KNOWN[0], text)?;
     put_candidate(&candidate, form)?;
     Ok(write_candidate(&candidate, spelled)?)
 }

@@ -27,8 +27,9 @@ pub fn one_stamp(text: &[u8]) -> Result<Stamp, BadText> {
     read_stamp(&mut Cursor::new(text))
 }
 
-pub fn one_candidate(text: &[u8]) -> Result<Candidate, BadText> {
-    read_candidate(&mut Cursor::new(text))
+/// A candidate on this object.
+pub fn one_candidate(object: ObjectId, text: &[u8]) -> Result<Candidate, BadText> {
+    read_candidate(&mut Cursor::new(text), object)
 }
 
 pub fn one_history(alloc: Global, text: &[u8]) -> Result<History, ReadFail> {

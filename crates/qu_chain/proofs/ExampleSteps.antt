@@ -1,5 +1,5 @@
 -- A run by hand: what its replicas accept step by step.
-use Rattle.std.proofs.Common.{◌≡◌, ℕ, zero, suc, ◌+◌, ◌<◌, ◌≤◌, Bool, true, false, not, ◌&&◌, ◌||◌, cond, refl, sym, ap, ◌∙◌, arith, inl, inr, None, Some}
+use Rattle.std.proofs.Common.{[], ◌≡◌, ℕ, zero, suc, ◌+◌, ◌<◌, ◌≤◌, Bool, true, false, not, ◌&&◌, ◌||◌, cond, refl, sym, ap, ◌∙◌, arith, inl, inr, None, Some}
 use Rattle.std.specs.Prelude.{nat_le, nat_lt, nat_eq}
 use Rattle.std.proofs.lemmas.Bool.{false≢true, and_parts, and_from, cases_eq, cases_lt, leb-true, le-leb, ltb-true, lt-ltb, eqb-true, eq-eqb}
 use Rattle.std.proofs.lemmas.Bool.Decides.{nat_tests}
@@ -26,7 +26,7 @@ abbrev pub stamp_at : ℕ → Stamp
 stamp_at number = record opening_stamp { time = number; barrier = is_barrier number }
 
 abbrev pub candidate_at : ℕ → Candidate
-candidate_at number = record { stamp = stamp_at number; prior = stamp_at (prior_of number) }
+candidate_at number = record { stamp = stamp_at number; prior = stamp_at (prior_of number); group = [] }
 
 -- the first three are of both objects, the later ones of the first alone
 abbrev width : ℕ → ℕ

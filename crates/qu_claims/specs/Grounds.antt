@@ -41,10 +41,11 @@ made_stamp asked object barrier =
     }
 
 -- the replica makes the candidate: above all that is shown, upon the object candidate, with the digests of the act, if
--- one is asked for, and of the sets
+-- one is asked for, and of the sets; it stands alone, since what is asked is of one object
 pub record IsMade (bounds : ℕ) (asked : Asked) (object : ObjectId) (candidate : Candidate) : Type 0 where
   pub stamp : candidate.stamp ≡ made_stamp asked object candidate.stamp.barrier
   pub prior : candidate.prior ≡ (object_base bounds (entries_of object asked.sets)).stamp
+  pub group : candidate.group ≡ []
 
 -- it is shown the candidate, by so many that it may be repaired, and nothing later
 pub record IsFound (bounds : ℕ) (asked : Asked) (object : ObjectId) (candidate : Candidate) : Type 0 where
@@ -59,6 +60,7 @@ pub record IsGround (state : ReplicaState) (asked : Asked) (object : ObjectId) (
     : Type 0 where
   pub method : method_at state.keys.bounds (entries_of object asked.sets) ≡ Some base
   pub prior : candidate.prior ≡ base.stamp
+  pub group : candidate.group ≡ []
   pub stamp : candidate.stamp ≡ fresh_stamp asked object
   pub current : is_below (latest_of (entries_of object asked.sets)) (own_latest state object) ≡ false
 

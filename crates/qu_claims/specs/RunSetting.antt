@@ -1,9 +1,10 @@
 -- What the replicas of a run accept over time, as the theory of what is decided speaks of it.
--- Only correct replicas count: a faulty one accepts nothing. An operation names one object, so that no candidate has
--- a group.
+-- Only correct replicas count: a faulty one accepts nothing. An operation names one object, so that no candidate that
+-- is accepted has a group (`no_group_yet`, `qu_laws`).
 -- Definitions whose comment names no source are this project's own; Query/Update is the paper of SOSP 2005.
-use Rattle.std.specs.Prelude.{not, nat_lt, length, is_some, None}
+use Rattle.std.specs.Prelude.{not, nat_lt, length, is_some}
 use Rattle.qu_base.specs.Bounds.{replicas, quorum, repair}
+use Rattle.qu_stamp.specs.Candidate.{member}
 use Rattle.qu_claims.specs.Count.{count, test_at}
 use Rattle.qu_claims.specs.Setting.{Setting}
 use Rattle.qu_trace.specs.declared.trace.Trace.{Trace}
@@ -24,7 +25,7 @@ setting trace = record {
   known = λ object. nat_lt object.0 (length trace.setup.kinds);
   plain = λ candidate. not candidate.stamp.barrier;
   is_act = λ candidate. is_some candidate.stamp.act;
-  member = λ candidate object. None;
+  member = member;
   accepted = λ time object replica candidate.
       test_at (accepts object candidate) (world_after trace time).replicas replica;
 }

@@ -2,12 +2,11 @@ ghost use Rattle.std.specs.Prelude.{◌≡◌, ◌≤◌, All, IsTrue, filter, l
 ghost use Rattle.qu_base.specs.Bounds.{quorum};
 ghost use Rattle.qu_history.specs.History.{is_history};
 ghost use Rattle.qu_history.specs.Sets.{entries_of, greatest};
-ghost use Rattle.qu_history.specs.Trimming.{greater_found};
 ghost use Rattle.qu_class.specs.Repairable.{is_shown_of_kind, greatest_of_kind, object_base};
 ghost use Rattle.qu_class.specs.Rows.{AreWellFormed, IsGreatestOfKind};
 
 use qu_base::{Bounds, ObjectId};
-use qu_history::{History, Sets};
+use qu_history::{History, Sets, greater_found};
 use qu_stamp::Candidate;
 
 /// The object candidate: the greatest candidate without barrier of an order that may be repaired. Each history holds
@@ -41,17 +40,6 @@ pub(super) fn greatest_of_kind(
     greatest
 }
 
-/// The greater of the best so far and what was found.
-fn greater_found(best: Option<Candidate>, found: Option<Candidate>) -> Option<Candidate>
-    ensures { result ≡ greater_found best found }
-{
-    match (best, found) {
-        (Some(best), Some(found)) if best.is_before(&found) => Some(found),
-        (None, found) => found,
-        (best, _) => best,
-    }
-}
-
 /// The greatest such candidate of one history: the last one, since stamps rise.
 #[tactic(auto, using(qu_history::proofs::Shown::last_laws))]
 fn last_of_kind(
@@ -67,8 +55,9 @@ fn last_of_kind(
 {
     let candidates = history.candidates().as_slice();
     for place in (0..candidates.len()).rev() {
-        if is_shown_of_kind(sets, object, barrier, least, &candidates[place]) {
-            return Some(candidates[place]);
+        let candidate = candidates[place];
+        if is_shown_of_kind(sets, object, barrier, least, &candidate) {
+            return Some(candidate);
         }
     }
     None

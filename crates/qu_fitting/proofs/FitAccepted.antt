@@ -5,7 +5,7 @@ use Rattle.std.proofs.lemmas.Bool.{cases_Bool}
 use Rattle.std.proofs.lemmas.Option.{none-some, same_Some}
 use Rattle.qu_base.specs.declared.party.ObjectId.{ObjectId}
 use Rattle.qu_stamp.specs.declared.stamp.Stamp.{Stamp}
-use Rattle.qu_stamp.specs.Formats.{stamp_form, prior_form}
+use Rattle.qu_stamp.specs.Formats.{stamp_form, prior_form, group_form}
 use Rattle.qu_objects.specs.declared.state.ObjState.{ObjState}
 use Rattle.qu_versions.specs.declared.stored.Stored.{Stored}
 use Rattle.qu_versions.specs.Versions.{is_stored, version_at}
@@ -15,6 +15,7 @@ use Rattle.qu_fitting.specs.Fits.{VersionFits, VersionsFit}
 pub record AcceptFits (accepted : Accepted) : Type 0 where
   pub stamp : stamp_form.Fits accepted.candidate.stamp
   pub prior : (prior_form accepted.candidate.stamp).Fits accepted.candidate.prior
+  pub group : (group_form accepted.object accepted.candidate.stamp).Fits accepted.candidate.group
   pub version : IfSome accepted.state VersionFits
 
 abbrev pub AcceptAllFit : List Accepted → Type 0

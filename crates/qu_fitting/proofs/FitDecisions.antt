@@ -15,6 +15,7 @@ use Rattle.qu_stamp.specs.declared.limits.TheConstants.{LAST_TIME}
 use Rattle.qu_stamp.specs.declared.candidate.Candidate.{Candidate}
 use Rattle.qu_stamp.specs.Stamp.{opening_stamp, is_below, same_stamp}
 use Rattle.qu_stamp.specs.Formats.{stamp_form, plain_stamp_form}
+use Rattle.qu_stamp.proofs.Forms.{alone_fits}
 use Rattle.qu_stamp.proofs.Order.{is_below_by_time}
 use Rattle.qu_history.specs.declared.sets.SetOf.{SetOf}
 use Rattle.qu_history.specs.History.{ObjectHistory, is_history, greatest_stamp, latest, last, holds}
@@ -150,7 +151,7 @@ module _ (state : ReplicaState) (asked : Asked) (fits : StateFits state) (asks :
 
   fresh_upon : (base : Candidate) → method_base state asked object ≡ Some base
       → (latest_of (shown_of asked object)).time + 1 ≤ LAST_TIME
-      → CandidateFits (record { stamp = fresh_stamp asked object; prior = base.stamp })
+      → CandidateFits object (record { stamp = fresh_stamp asked object; prior = base.stamp; group = [] })
   fresh_upon base is_base in_time =
       let fresh : Stamp = fresh_stamp asked object in
       let above : (fresh.time == 0) ≡ false = later_time (latest_of (shown_of asked object)).time in
@@ -167,6 +168,7 @@ module _ (state : ReplicaState) (asked : Asked) (fits : StateFits state) (asks :
             asks.set;
         prior = prior_fits fresh base.stamp (not_opening fresh above) base_fits below
             (method_at_plain state.keys.bounds (shown_of asked object) base is_base);
+        group = alone_fits object fresh;
       }
 
   -- the base of a fresh candidate
@@ -174,17 +176,18 @@ module _ (state : ReplicaState) (asked : Asked) (fits : StateFits state) (asks :
       → option_map (λ (it : Candidate). let made : Candidate = record {
         stamp = fresh_stamp asked object;
         prior = it.stamp;
+        group = [];
       } in made) found ≡ Some fresh
       → (base : Candidate) × (found ≡ Some base)
-      × (record { stamp = fresh_stamp asked object; prior = base.stamp } ≡ fresh)
+      × (record { stamp = fresh_stamp asked object; prior = base.stamp; group = [] } ≡ fresh)
   fresh_base None fresh made = absurd (none-some fresh made)
   fresh_base (Some base) fresh made = (base, refl, same_Some _ fresh made)
 
   fresh_on-fits : (fresh : Candidate) → fresh_act state asked object ≡ Some fresh
-      → (latest_of (shown_of asked object)).time + 1 ≤ LAST_TIME → CandidateFits fresh
+      → (latest_of (shown_of asked object)).time + 1 ≤ LAST_TIME → CandidateFits object fresh
   fresh_on-fits fresh made in_time =
       let base = fresh_base (method_base state asked object) fresh made in
-      subst CandidateFits base.2 (fresh_upon base.0 base.1 in_time)
+      subst (CandidateFits object) base.2 (fresh_upon base.0 base.1 in_time)
 
   -- what the replica accepted last
   latest_in : (found : Option ObjectHistory) → slice_get state.histories object.0 ≡ found
@@ -193,7 +196,7 @@ module _ (state : ReplicaState) (asked : Asked) (fits : StateFits state) (asks :
   latest_in (Some history) is =
       let rises : IsTrue (is_history history.candidates) = (own_history state object.0 history fits.own is).rises in
       subst (λ (it : Stamp). stamp_form.Fits it) (sym (latest_is_last history.candidates rises))
-      (candidates_fit history.candidates (fits.histories object.0 history is) (last history.candidates)
+      (candidates_fit history.object history.candidates (fits.histories object.0 history is) (last history.candidates)
       (holds_last history.candidates rises)).stamp
 
   pub own_fits : stamp_form.Fits (own_latest state object)
@@ -406,14 +409,15 @@ module _ (state : ReplicaState) (asked : Asked) (fits : StateFits state) (asks :
   done method numbers version is_version spent = λ decision given.
       let upon = version_of (method_base state asked object) version is_version in
       let base : Candidate = upon.0 in
-      let fresh : Candidate = record { stamp = fresh_stamp asked object; prior = base.stamp } in
+      let fresh : Candidate = record { stamp = fresh_stamp asked object; prior = base.stamp; group = [] } in
       let made : fresh_act state asked object ≡ Some fresh =
       ap (λ (found : Option Candidate). option_map
       (λ (it : Candidate). let candidate : Candidate = record {
         stamp = fresh_stamp asked object;
         prior = it.stamp;
+        group = [];
       } in candidate) found) upon.1 in
-      let fresh_fit : CandidateFits fresh = fresh_upon base upon.1 (omega (arith, spent)) in
+      let fresh_fit : CandidateFits object fresh = fresh_upon base upon.1 (omega (arith, spent)) in
       let version_fit : VersionFits version =
       version_fits object base.stamp state.versions version fits.versions upon.2 in
       let parts : List (ObjectId × Method) = (object, method) ∷ [] in
@@ -441,6 +445,7 @@ module _ (state : ReplicaState) (asked : Asked) (fits : StateFits state) (asks :
           record {
             stamp = fresh_fit.stamp;
             prior = fresh_fit.prior;
+            group = fresh_fit.group;
             version = record {
               value = after.2;
               kept = kept;

@@ -48,10 +48,11 @@ module _ (state : ReplicaState) (asked : Asked) (fits : StateFits state) (asks :
   abbrev mend : Mend
   mend = mend_asked state asked object
 
-  added_fits : (candidate : Candidate) → MakesCandidate mend mend.remedy candidate → CandidateFits candidate
+  added_fits : (candidate : Candidate) → MakesCandidate mend mend.remedy candidate
+      → CandidateFits object candidate
   added_fits candidate made =
-      made_fits mend asks.low asks.high asks.set mend.remedy candidate
-      (remedy_fits state.keys.bounds (shown_of asked object) (shown_fit asked.sets asks.sets object)) made
+      made_fits mend object asks.low asks.high asks.set mend.remedy candidate
+      (remedy_fits state.keys.bounds object (shown_of asked object) (shown_fit asked.sets asks.sets object)) made
 
   found_fits : (wanted : Option Stamp)
       → IfSome (option_and_then (λ (stamp : Stamp). version_at object stamp state.versions) wanted) VersionFits
@@ -87,7 +88,7 @@ module _ (state : ReplicaState) (asked : Asked) (fits : StateFits state) (asks :
   unless false stamp is fits = (record { object = within; stamp = plain_fits stamp is fits }, tt)
 
   -- the version that the remedy wants, where it wants one, can be fetched
-  wanted_keys : (remedy : Remedy) → RemedyFits mend.latest remedy
+  wanted_keys : (remedy : Remedy) → RemedyFits object mend.latest remedy
       → AllByRecursion KeyFits (keys_at object (wanted_by remedy))
   unfolding wanted_by
   wanted_keys Nothing fits = tt
@@ -100,12 +101,13 @@ module _ (state : ReplicaState) (asked : Asked) (fits : StateFits state) (asks :
       → HasCause mend (own_candidates state object) (wanted_version state object mend.remedy) made
       → DecisionFits (decision_by object mend.remedy made)
   caused_fits (Mends candidate stored) cause =
-      let added : CandidateFits candidate = added_fits candidate cause.0 in (
+      let added : CandidateFits object candidate = added_fits candidate cause.0 in (
         mended_fits object within candidate.stamp added.stamp,
         (
           record {
             stamp = added.stamp;
             prior = added.prior;
+            group = added.group;
             version = stored_version_fits mend.remedy (wanted_version state object mend.remedy) stored
                 (found_fits (wanted_by mend.remedy)) cause.2;
           },
@@ -120,7 +122,7 @@ module _ (state : ReplicaState) (asked : Asked) (fits : StateFits state) (asks :
   caused_fits (Refuses why) cause = (why_fits why cause, tt)
   caused_fits mending.Waits cause =
       wanted_keys mend.remedy
-      (remedy_fits state.keys.bounds (shown_of asked object) (shown_fit asked.sets asks.sets object))
+      (remedy_fits state.keys.bounds object (shown_of asked object) (shown_fit asked.sets asks.sets object))
 
   mended : Gives (Some (decision_by object mend.remedy (mending_on state asked object)))
   mended decision given =

@@ -3,7 +3,7 @@ use Rattle.std.proofs.Common.{◌≡◌, ℕ, ◌+◌, ◌≤◌, Bool, true, fa
 use Rattle.std.specs.Prelude.{nat_le, ◌==◌}
 use Rattle.std.specs.List.{filter, flat_map}
 use Rattle.std.proofs.lemmas.Bool.Decides.{nat_tests}
-use Rattle.std.proofs.lemmas.Bool.{false≢true, not-true, and_from, and_parts, cases_Bool}
+use Rattle.std.proofs.lemmas.Bool.{false≢true, not-true, and_from, and_parts, cases_Bool, eqb-true}
 use Rattle.std.proofs.lemmas.Option.{none-some, same_Some, cond_some}
 use Rattle.std.proofs.lemmas.List.Folds.{list_any-append}
 use Rattle.qu_base.specs.declared.limits.TheConstants.{LAST_CLIENT}
@@ -17,7 +17,8 @@ use Rattle.qu_stamp.specs.declared.limits.TheConstants.{LAST_TIME}
 use Rattle.qu_stamp.specs.declared.candidate.Candidate.{Candidate}
 use Rattle.qu_stamp.specs.Stamp.{opening_stamp, is_below, same_stamp}
 use Rattle.qu_stamp.specs.Candidate.{opening, same}
-use Rattle.qu_stamp.specs.Formats.{stamp_with, stamp_form, prior_form, plain_stamp_form}
+use Rattle.qu_stamp.specs.Formats.{stamp_with, stamp_form, prior_form, group_form, basis_form, plain_stamp_form}
+use Rattle.qu_stamp.proofs.Forms.{alone_fits}
 use Rattle.qu_stamp.proofs.Order.{equal_by_same, equal_by_same_stamp}
 use Rattle.qu_history.specs.declared.sealed.Sealed.{Sealed}
 use Rattle.qu_history.specs.declared.sets.SetOf.{SetOf}
@@ -84,14 +85,10 @@ not_opening stamp above = rw above refl
 
 pub prior_fits : (stamp prior : Stamp) → same_stamp stamp opening_stamp ≡ false → stamp_form.Fits prior
     → is_below prior stamp ≡ true → prior.barrier ≡ false → (prior_form stamp).Fits prior
-unfolding prior_form
 prior_fits stamp prior other fits below plain = (
-  (
-    fits,
-    and_from _ _ (ap (λ (test : Bool). cond test (same_stamp prior opening_stamp) (is_below prior stamp))
-        other ∙ below) (ap not plain),
-  ),
-  (omega arith, omega arith),
+  fits,
+  and_from _ _ (ap (λ (test : Bool). cond test (same_stamp prior opening_stamp) (is_below prior stamp))
+      other ∙ below) (ap not plain),
 )
 
 pub opening_fits : stamp_form.Fits opening_stamp
@@ -103,85 +100,98 @@ opening_fits = (
 
 -- the prior of the opening candidate
 pub prior_of_opening_fits : (prior_form opening_stamp).Fits opening_stamp
-unfolding prior_form same_stamp
-prior_of_opening_fits = ((opening_fits, refl), (omega arith, omega arith))
+unfolding same_stamp
+prior_of_opening_fits = (opening_fits, refl)
 
 -- ---- what entries hold
 
-pub record CandidateFits (candidate : Candidate) : Type 0 where
+-- a candidate on this object
+pub record CandidateFits (object : ObjectId) (candidate : Candidate) : Type 0 where
   pub stamp : stamp_form.Fits candidate.stamp
   pub prior : (prior_form candidate.stamp).Fits candidate.prior
+  pub group : (group_form object candidate.stamp).Fits candidate.group
 
-pub opening_candidate_fits : CandidateFits opening
-opening_candidate_fits = record { stamp = opening_fits; prior = prior_of_opening_fits }
+pub opening_candidate_fits : (object : ObjectId) → CandidateFits object opening
+opening_candidate_fits object =
+    record { stamp = opening_fits; prior = prior_of_opening_fits; group = alone_fits object opening_stamp }
 
 -- all of these fit
-abbrev pub CandidatesFit : List Candidate → Type 0
-CandidatesFit candidates = (held : Candidate) → holds held candidates ≡ true → CandidateFits held
+abbrev pub CandidatesFit : ObjectId → List Candidate → Type 0
+CandidatesFit object candidates = (held : Candidate) → holds held candidates ≡ true → CandidateFits object held
 
 -- one of two
 pub of_either : {P : Type 0} (left right : Bool) → (left ≡ true → P) → (right ≡ true → P) → (left || right) ≡ true → P
 of_either true right one two is = one refl
 of_either false right one two is = two is
 
-pub candidates_fit_from : (before : Option Stamp) (candidates : List Candidate)
-    → FitsFrom next_candidate (λ (candidate : Candidate). Some candidate.stamp) before candidates
-    → CandidatesFit candidates
-unfolding next_candidate
-candidates_fit_from before [] fits held holding = absurd (false≢true holding)
-candidates_fit_from None (first ∷ later) fits held holding =
+pub candidates_fit_from : (object : ObjectId) (before : Option Stamp) (candidates : List Candidate)
+    → FitsFrom (next_candidate object) (λ (candidate : Candidate). Some candidate.stamp) before candidates
+    → CandidatesFit object candidates
+unfolding next_candidate basis_form
+candidates_fit_from object before [] fits held holding = absurd (false≢true holding)
+candidates_fit_from object None (first ∷ later) fits held holding =
     of_either (same first held) (holds held later)
-    (λ is. subst CandidateFits (equal_by_same first held is)
-    (record { stamp = (((fits.0).0).0); prior = (fits.0).1 }))
-    (λ there. candidates_fit_from (Some first.stamp) later fits.1 held there) holding
-candidates_fit_from (Some stamp) (first ∷ later) fits held holding =
+    (λ is. subst (CandidateFits object) (equal_by_same first held is)
+    (record { stamp = (((fits.0).0).0); prior = ((fits.0).1).0; group = ((fits.0).1).1 }))
+    (λ there. candidates_fit_from object (Some first.stamp) later fits.1 held there) holding
+candidates_fit_from object (Some stamp) (first ∷ later) fits held holding =
     of_either (same first held) (holds held later)
-    (λ is. subst CandidateFits (equal_by_same first held is)
-    (record { stamp = (((fits.0).0).0); prior = (fits.0).1 }))
-    (λ there. candidates_fit_from (Some first.stamp) later fits.1 held there) holding
+    (λ is. subst (CandidateFits object) (equal_by_same first held is)
+    (record { stamp = (((fits.0).0).0); prior = ((fits.0).1).0; group = ((fits.0).1).1 }))
+    (λ there. candidates_fit_from object (Some first.stamp) later fits.1 held there) holding
 
-pub candidates_fit : (candidates : List Candidate) → candidates_form.Fits candidates → CandidatesFit candidates
+pub candidates_fit : (object : ObjectId) (candidates : List Candidate) → (candidates_form object).Fits candidates
+    → CandidatesFit object candidates
 unfolding candidates_form
-candidates_fit candidates fits = candidates_fit_from None candidates (fits.1).1
+candidates_fit object candidates fits = candidates_fit_from object None candidates (fits.1).1
 
-joined_fit : (one two : List Candidate) → CandidatesFit one → CandidatesFit two → CandidatesFit (one ++ two)
-joined_fit one two fits later held holding =
+joined_fit : (object : ObjectId) (one two : List Candidate) → CandidatesFit object one → CandidatesFit object two
+    → CandidatesFit object (one ++ two)
+joined_fit object one two fits later held holding =
     of_either (holds held one) (holds held two) (fits held) (later held)
     (sym (list_any-append (λ (it : Candidate). same it held) one two) ∙ holding)
 
+-- two objects with one number are one
+object_is : (one other : ObjectId) → (one.0 == other.0) ≡ true → one ≡ other
+object_is one other is = λ i. record { 0 = eqb-true one.0 other.0 is i }
+
 entries_fit : (object : ObjectId) (least : ℕ) (entries : List Sealed)
-    → FitsFrom (sealed_entry_form object) next_entry least entries → CandidatesFit (candidates_of (histories entries))
+    → FitsFrom (sealed_entry_form object) next_entry least entries
+    → CandidatesFit object (candidates_of (histories entries))
 unfolding sealed_entry_form entry_form candidates_of
 entries_fit object least [] fits = λ held holding. absurd (false≢true holding)
 entries_fit object least (sealed ∷ later) fits =
     let each : ObjectHistory → List Candidate = λ (entry : ObjectHistory). entry.candidates in
-    joined_fit (sealed.history).candidates (flat_map each (histories later))
-    (candidates_fit (sealed.history).candidates ((((fits.0).0).1).1))
+    joined_fit object (sealed.history).candidates (flat_map each (histories later))
+    (subst (λ (it : ObjectId). CandidatesFit it (sealed.history).candidates)
+    (object_is (sealed.history).object object ((((fits.0).0).0).1))
+    (candidates_fit (sealed.history).object (sealed.history).candidates ((((fits.0).0).1).1)))
     (entries_fit object (next_entry sealed) later fits.1)
 
-none_fit : CandidatesFit (candidates_of [])
+none_fit : (object : ObjectId) → CandidatesFit object (candidates_of [])
 unfolding candidates_of
-none_fit held holding = absurd (false≢true holding)
+none_fit object held holding = absurd (false≢true holding)
 
 sets_fit_from : (least : ℕ) (sets : List SetOf) → FitsFrom set_form (λ (set : SetOf). (set.object).0 + 1) least
-    sets → (object : ObjectId) → CandidatesFit (candidates_of (entries_of object sets))
+    sets → (object : ObjectId) → CandidatesFit object (candidates_of (entries_of object sets))
 unfolding set_form entries_form entries_of
-sets_fit_from least [] fits object = none_fit
+sets_fit_from least [] fits object = none_fit object
 sets_fit_from least (set ∷ later) fits object =
     elim (cases_Bool ((set.object).0 == object.0)) [
       | inl is ↦
-          subst (λ (test : Bool). CandidatesFit
+          subst (λ (test : Bool). CandidatesFit object
           (candidates_of (cond test (histories set.entries) (entries_of object later)))) (sym is)
-          (entries_fit set.object 0 set.entries (((fits.0).1).1).1)
+          (subst (λ (it : ObjectId). CandidatesFit it (candidates_of (histories set.entries)))
+          (object_is set.object object is) (entries_fit set.object 0 set.entries (((fits.0).1).1).1))
       | inr other ↦
-          subst (λ (test : Bool). CandidatesFit
+          subst (λ (test : Bool). CandidatesFit object
           (candidates_of (cond test (histories set.entries) (entries_of object later)))) (sym other)
           (sets_fit_from ((set.object).0 + 1) later fits.1 object)
     ]
 
 -- all that fitting sets show of an object
 pub shown_fit : (sets : List SetOf) → sets_form.Fits sets → (object : ObjectId)
-    → CandidatesFit (candidates_of (entries_of object sets))
+    → CandidatesFit object (candidates_of (entries_of object sets))
 unfolding sets_form
 shown_fit sets fits object = sets_fit_from 0 sets (fits.1).1 object
 

@@ -52,7 +52,7 @@ pub record StateFits (state : ReplicaState) : Type 0 where
   pub few : length state.histories ≤ OBJECT_IDS
   pub own : AreHistories state
   pub histories : (place : ℕ) (history : ObjectHistory) → slice_get state.histories place ≡ Some history
-      → candidates_form.Fits history.candidates
+      → (candidates_form history.object).Fits history.candidates
   pub versions : VersionsFit state.versions
   pub waiting : AllByRecursion SlotFits state.waiting
 

@@ -8,16 +8,14 @@ use Rattle.qu_base.specs.declared.party.ObjectId.{ObjectId}
 use Rattle.qu_base.specs.Format.{Format, number, both, FitsPart, made, either, object_form, IsExact}
 use Rattle.qu_base.proofs.Formats.{some_is, both-exact, made-exact, fields-exact, counted-exact, tagged-exact, object-exact}
 use Rattle.qu_stamp.specs.declared.stamp.Stamp.{Stamp}
-use Rattle.qu_stamp.specs.Formats.{stamp_form}
-use Rattle.qu_stamp.proofs.Forms.{stamp_with-exact}
+use Rattle.qu_stamp.specs.Formats.{stamp_form, object_from}
+use Rattle.qu_stamp.proofs.Forms.{stamp_with-exact, object_from-exact}
 use Rattle.qu_objects.specs.declared.limits.TheConstants.{PARTS_LIMIT}
 use Rattle.qu_objects.specs.declared.answer.Answer.{Answer}
 use Rattle.qu_base.specs.Texts.{word_form}
 use Rattle.qu_objects.specs.Formats.{answer_form}
 use Rattle.qu_base.proofs.TextForms.{word-exact}
 use Rattle.qu_objects.proofs.Forms.{answer-exact, byte-exact}
-use Rattle.qu_history.specs.Formats.{object_from}
-use Rattle.qu_history.proofs.Forms.{object_from-exact}
 use Rattle.qu_frames.specs.declared.refusal_number.TheConstants.{HISTORY_FULL, THIN, NEEDS, STALE, NOT_CURRENT, NOT_METHOD, SPENT, TIME_SPENT, UNKNOWN_OBJECT, SOUND}
 use Rattle.qu_frames.specs.RefusalNumber.{refusal_number, is_refusal_number}
 use Rattle.qu_frames.specs.declared.verdict.ClassCode.{ClassCode}

@@ -7,7 +7,7 @@ use Rattle.qu_base.specs.declared.party.ObjectId.{ObjectId}
 use Rattle.qu_base.specs.declared.party.ReplicaId.{ReplicaId}
 use Rattle.qu_base.specs.Format.{Format, number, bytes, both, tested, made, either, items, counted, tagged, object_form, replica_form, client_form}
 use Rattle.qu_stamp.specs.declared.stamp.Stamp.{Stamp}
-use Rattle.qu_stamp.specs.Formats.{stamp_form, plain_stamp_form}
+use Rattle.qu_stamp.specs.Formats.{stamp_form, plain_stamp_form, object_from}
 use Rattle.qu_objects.specs.declared.limits.TheConstants.{PARTS_LIMIT}
 use Rattle.qu_objects.specs.declared.act.Method.{Method}
 use Rattle.qu_objects.specs.declared.query.Ask.{Ask}
@@ -18,7 +18,7 @@ use Rattle.qu_objects.specs.Formats.{is_one_of, act_form, query_form, answer_for
 use Rattle.qu_objects.specs.States.{state_form}
 use Rattle.qu_history.specs.declared.sealed.Sealed.{Sealed}
 use Rattle.qu_history.specs.declared.sets.SetOf.{SetOf}
-use Rattle.qu_history.specs.Formats.{object_from, sets_form, shown_form}
+use Rattle.qu_history.specs.Formats.{sets_form, shown_form}
 use Rattle.qu_frames.specs.declared.frame.Body.{Body}
 use Rattle.qu_frames.specs.declared.frame.Body.TheVariants as body
 use Rattle.qu_frames.specs.declared.frame.Frame.{Frame}

@@ -34,7 +34,7 @@ pub fn decode(alloc: Global, text: &[u8]) -> Result<Frame, ReadFail>
     Ok(frame)
 }
 
-/// The same by the definition alone.
+/// The frame, or the first field that fails, by the definition alone.
 #[tactic(auto, unfolding(crate::specs::Decoding::decoded))]
 fn decode_at(alloc: Global, text: &[u8]) -> Result<Frame, ReadFail>
     ensures { IsDecoded result text.now }

@@ -10,9 +10,8 @@ use super::refusal_number::{
 };
 use super::{ClassCode, Refusal, Verdict};
 use qu_base::{BadText, Cursor, List, OBJECT_IDS, ObjectId, ReadFail, Why};
-use qu_history::object_from;
 use qu_objects::{PARTS_LIMIT, read_answer};
-use qu_stamp::{Stamp, read_stamp};
+use qu_stamp::{Stamp, object_from, read_stamp};
 use std::alloc::Global;
 
 /// The next verdict: its code, and what it tells.

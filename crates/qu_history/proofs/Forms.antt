@@ -1,10 +1,10 @@
 -- The formats of histories and sets are exact, and what fits them is a history, and are sets.
-use Rattle.std.proofs.Common.{◌≡◌, ℕ, ◌+◌, ◌^◌, ◌<◌, true, List, [], ◌∷◌, Option, None, Some, Result, Ok, IsTrue, ◌≤◌, length, refl, arith}
+use Rattle.std.proofs.Common.{◌≡◌, ℕ, ◌+◌, ◌^◌, ◌<◌, true, List, [], ◌∷◌, Option, None, Some, Result, Ok, IsTrue, ◌≤◌, length, refl, ap, arith}
 use Rattle.std.specs.Int.{w8, w16}
 use Rattle.std.proofs.lemmas.Bool.{and_from, lt-ltb, le-leb}
 use Rattle.qu_base.specs.declared.bad_text.ReadFail.{ReadFail}
 use Rattle.qu_base.specs.declared.bad_text.Why.TheVariants.{Range, Order}
-use Rattle.qu_base.specs.declared.limits.TheConstants.{OBJECT_IDS, REPLICA_IDS}
+use Rattle.qu_base.specs.declared.limits.TheConstants.{REPLICA_IDS}
 use Rattle.qu_base.specs.declared.party.ObjectId.{ObjectId}
 use Rattle.qu_base.specs.declared.party.ReplicaId.{ReplicaId}
 use Rattle.qu_base.specs.Cursor.{Front}
@@ -16,15 +16,16 @@ use Rattle.qu_base.proofs.Reading.{given_exactly}
 use Rattle.qu_base.specs.Bounds.{is_replica_count}
 use Rattle.qu_stamp.specs.declared.stamp.Stamp.{Stamp}
 use Rattle.qu_stamp.specs.declared.candidate.Candidate.{Candidate}
-use Rattle.qu_stamp.specs.Formats.{stamp_form, candidate_form}
+use Rattle.qu_stamp.specs.Formats.{stamp_form, group_form, basis_form, members_form, spelled_candidate}
+use Rattle.qu_stamp.specs.Group.{same_group}
 use Rattle.qu_stamp.specs.Stamp.{opening_stamp, same_stamp}
-use Rattle.qu_stamp.proofs.Forms.{prior_of_opening, stamp_with-exact, candidate_with-exact}
-use Rattle.qu_history.specs.declared.limits.TheConstants.{HISTORY_LIMIT, OBJECTS_LIMIT, SETS_YET}
+use Rattle.qu_stamp.proofs.Forms.{prior_of_opening, group_of_opening, stamp_with-exact, object_from-exact, candidate_with-exact}
+use Rattle.qu_history.specs.declared.limits.TheConstants.{HISTORY_LIMIT, OBJECTS_LIMIT}
 use Rattle.qu_history.specs.declared.sealed.Sealed.{Sealed}
 use Rattle.qu_history.specs.declared.sets.SetOf.{SetOf}
 use Rattle.qu_history.specs.History.{ObjectHistory, is_history, rises_from}
 use Rattle.qu_history.specs.Sets.{histories, is_entry, are_entries, is_set, are_sets_from, are_sets}
-use Rattle.qu_history.specs.Formats.{next_stamp, next_candidate, candidates_form, history_with, history_form, macs_form, sealed_with, sealed_form, object_from, entry_form, next_replica, sealed_entry_form, next_entry, entries_form, set_form, sets_form, histories_form, object_text_form, sets_text_form, sealed_from, object_after, shown_form}
+use Rattle.qu_history.specs.Formats.{next_stamp, next_candidate, candidates_form, history_with, history_form, macs_form, sealed_with, sealed_form, entry_form, next_replica, sealed_entry_form, next_entry, entries_form, set_form, sets_form, histories_form, object_text_form, sets_text_form, sealed_from, object_after, shown_form}
 
 -- ---- histories
 
@@ -32,21 +33,21 @@ next_stamp-exact : (before : Option Stamp) → IsExact (next_stamp before)
 next_stamp-exact None = tested-exact _ Range stamp_form (stamp_with-exact true)
 next_stamp-exact (Some before) = tested-exact _ Order stamp_form (stamp_with-exact true)
 
-next_candidate-exact : (before : Option Stamp) → IsExact (next_candidate before)
+next_candidate-exact : (object : ObjectId) (before : Option Stamp) → IsExact (next_candidate object before)
 unfolding next_candidate
-next_candidate-exact before = candidate_with-exact (next_stamp before) (next_stamp-exact before)
+next_candidate-exact object before = candidate_with-exact object (next_stamp before) (next_stamp-exact before)
 
-next_candidate-spelled : (before : Option Stamp) (candidate : Candidate)
-    → (next_candidate before).spell candidate ≡ candidate_form.spell candidate
-unfolding next_candidate candidate_form
-next_candidate-spelled None candidate = refl
-next_candidate-spelled (Some before) candidate = refl
+next_candidate-spelled : (object : ObjectId) (before : Option Stamp) (candidate : Candidate)
+    → (next_candidate object before).spell candidate ≡ spelled_candidate candidate
+unfolding next_candidate basis_form group_form members_form
+next_candidate-spelled object None candidate = refl
+next_candidate-spelled object (Some before) candidate = refl
 
-pub candidates-exact : IsExact candidates_form
+pub candidates-exact : (object : ObjectId) → IsExact (candidates_form object)
 unfolding candidates_form
-candidates-exact =
-    counted-exact candidate_form.spell next_candidate (λ candidate. Some candidate.stamp) next_candidate-exact
-    next_candidate-spelled
+candidates-exact object =
+    counted-exact spelled_candidate (next_candidate object) (λ candidate. Some candidate.stamp)
+    (next_candidate-exact object) (next_candidate-spelled object)
     (number w16 1 HISTORY_LIMIT) None (number-exact w16 (2 ^ 16) 1 HISTORY_LIMIT wide16 (omega arith))
 
 history_with-exact : (object_field : Format ObjectId) (replica_field : Format ReplicaId) → IsExact object_field
@@ -54,7 +55,7 @@ history_with-exact : (object_field : Format ObjectId) (replica_field : Format Re
 history_with-exact object_field replica_field objects replicas =
     fields-exact _ _ _
     (both-exact object_field _ objects
-    (λ object fits. both-exact replica_field _ replicas (λ replica fits. candidates-exact)))
+    (λ object fits. both-exact replica_field _ replicas (λ replica fits. candidates-exact object)))
     (λ found fits. refl) (λ history. refl)
 
 pub history-exact : IsExact history_form
@@ -79,9 +80,6 @@ unfolding sealed_form
 sealed-exact = sealed_with-exact history_form history-exact
 
 -- ---- sets
-
-pub object_from-exact : (least : ℕ) → IsExact (object_from least)
-object_from-exact least = tested-exact _ Order object_form object-exact
 
 entry-exact : (object : ObjectId) (least : ℕ) → IsExact (entry_form object least)
 unfolding entry_form
@@ -123,7 +121,7 @@ pub sets-exact : IsExact sets_form
 unfolding sets_form
 sets-exact =
     counted-exact (set_form 0).spell set_form (λ (set : SetOf). (set.object).0 + 1) set-exact set-spelled
-    (number w8 1 SETS_YET) 0 (number-exact w8 (2 ^ 8) 1 SETS_YET wide8 (omega arith))
+    (number w8 1 OBJECTS_LIMIT) 0 (number-exact w8 (2 ^ 8) 1 OBJECTS_LIMIT wide8 (omega arith))
 
 -- ---- what is digested of sets
 
@@ -147,7 +145,7 @@ unfolding sets_text_form
 sets_text-exact =
     counted-exact (object_text_form 0).spell object_text_form (λ set. (set.0).0 + 1) object_text-exact
     object_text-spelled
-    (number w8 1 SETS_YET) 0 (number-exact w8 (2 ^ 8) 1 SETS_YET wide8 (omega arith))
+    (number w8 1 OBJECTS_LIMIT) 0 (number-exact w8 (2 ^ 8) 1 OBJECTS_LIMIT wide8 (omega arith))
 
 -- ---- what a replica shows
 
@@ -172,49 +170,50 @@ shown-exact replica =
 -- ---- what fits
 
 -- candidates that rise from this stamp on
-rises : (stamp : Stamp) (candidates : List Candidate)
-    → FitsFrom next_candidate (λ candidate. Some candidate.stamp) (Some stamp) candidates
+rises : (object : ObjectId) (stamp : Stamp) (candidates : List Candidate)
+    → FitsFrom (next_candidate object) (λ candidate. Some candidate.stamp) (Some stamp) candidates
     → rises_from stamp candidates ≡ true
 unfolding next_candidate rises_from
-rises stamp [] fits = refl
-rises stamp (candidate ∷ later) fits = and_from _ _ ((fits.0).0).1 (rises candidate.stamp later fits.1)
+rises object stamp [] fits = refl
+rises object stamp (candidate ∷ later) fits =
+    and_from _ _ ((fits.0).0).1 (rises object candidate.stamp later fits.1)
 
 -- what fits is a history
-history_fits : (candidates : List Candidate) → FitsFrom next_candidate (λ candidate. Some candidate.stamp) None
-    candidates → 1 ≤ length candidates → IsTrue (is_history candidates)
-unfolding next_candidate is_history
-history_fits [] fits some = absurd (omega (arith, some))
-history_fits (first ∷ later) fits some =
+history_fits : (object : ObjectId) (candidates : List Candidate)
+    → FitsFrom (next_candidate object) (λ candidate. Some candidate.stamp) None candidates
+    → 1 ≤ length candidates → IsTrue (is_history candidates)
+unfolding next_candidate basis_form is_history
+history_fits object [] fits some = absurd (omega (arith, some))
+history_fits object (first ∷ later) fits some =
     let opening_first : same_stamp first.stamp opening_stamp ≡ true = ((fits.0).0).1 in
-    and_from _ _ (and_from _ _ opening_first (prior_of_opening first.stamp first.prior (fits.0).1 opening_first))
-    (rises first.stamp later fits.1)
+    let basis = (fits.0).1 in
+    let alone = group_of_opening object first.stamp first.group basis.1 opening_first in
+    and_from _ _
+    (and_from _ _ opening_first (and_from _ _ (prior_of_opening first.stamp first.prior basis.0 opening_first)
+    (ap (λ group. same_group group []) alone)))
+    (rises object first.stamp later fits.1)
 
-pub fits_history : (candidates : List Candidate) → candidates_form.Fits candidates → IsTrue (is_history candidates)
+pub fits_history : (object : ObjectId) (candidates : List Candidate) → (candidates_form object).Fits candidates
+    → IsTrue (is_history candidates)
 unfolding candidates_form
-fits_history candidates fits = history_fits candidates (fits.1).1 (fits.0).0
+fits_history object candidates fits = history_fits object candidates (fits.1).1 (fits.0).0
 
-pub candidates_are_history : (old new : Front) (candidates : List Candidate) → AreBytes old.rest
-    → candidates_form.read old ≡ Ok (candidates, new) → IsTrue (is_history candidates)
-unfolding candidates_form
-candidates_are_history old new candidates fit given =
-    let spelled = candidates-exact.found old new candidates fit given in
-    history_fits candidates ((spelled.fits).1).1 ((spelled.fits).0).0
+pub candidates_are_history : (object : ObjectId) (old new : Front) (candidates : List Candidate) → AreBytes old.rest
+    → (candidates_form object).read old ≡ Ok (candidates, new) → IsTrue (is_history candidates)
+candidates_are_history object old new candidates fit given =
+    fits_history object candidates ((candidates-exact object).found old new candidates fit given).fits
 
-pub candidates_are_few : (old new : Front) (candidates : List Candidate) → AreBytes old.rest
-    → candidates_form.read old ≡ Ok (candidates, new) → length candidates ≤ HISTORY_LIMIT
+pub candidates_are_few : (object : ObjectId) (old new : Front) (candidates : List Candidate) → AreBytes old.rest
+    → (candidates_form object).read old ≡ Ok (candidates, new) → length candidates ≤ HISTORY_LIMIT
 unfolding candidates_form
-candidates_are_few old new candidates fit given = ((candidates-exact.found old new candidates fit given).fits.0).1
+candidates_are_few object old new candidates fit given =
+    (((candidates-exact object).found old new candidates fit given).fits.0).1
 
 pub history_read : (result : Result ObjectHistory ReadFail) (old new : Front) → AreBytes old.rest
     → Gives history_form result old new → IsGiven history_form result old new
 history_read = given_exactly history_form history-exact
 
--- an object, a replica that was read is below the limit
-pub object_below : (old new : Front) (object : ObjectId) → AreBytes old.rest → object_form.read old ≡ Ok
-    (object, new) → object.0 < OBJECT_IDS
-object_below old new object fit given = let within = ((object-exact.found old new object fit given).fits).1 in
-    omega (arith, within)
-
+-- a replica that was read is below the limit
 pub replica_below : (old new : Front) (replica : ReplicaId) → AreBytes old.rest → replica_form.read old ≡ Ok
     (replica, new) → replica.0 < REPLICA_IDS
 replica_below old new replica fit given = let within = ((replica-exact.found old new replica fit given).fits).1 in

@@ -10,8 +10,8 @@ use Rattle.qu_base.specs.Bounds.{is_replica_count}
 use Rattle.qu_stamp.specs.declared.stamp.Stamp.{Stamp}
 use Rattle.qu_stamp.specs.declared.candidate.Candidate.{Candidate}
 use Rattle.qu_stamp.specs.Stamp.{opening_stamp, is_below, same_stamp}
-use Rattle.qu_stamp.specs.Formats.{stamp_form, candidate_with, candidate_form}
-use Rattle.qu_history.specs.declared.limits.TheConstants.{HISTORY_LIMIT, OBJECTS_LIMIT, SETS_YET}
+use Rattle.qu_stamp.specs.Formats.{stamp_form, object_from, candidate_with, spelled_candidate}
+use Rattle.qu_history.specs.declared.limits.TheConstants.{HISTORY_LIMIT, OBJECTS_LIMIT}
 use Rattle.qu_history.specs.declared.sealed.Sealed.{Sealed}
 use Rattle.qu_history.specs.declared.sets.SetOf.{SetOf}
 use Rattle.qu_history.specs.History.{ObjectHistory}
@@ -23,13 +23,13 @@ abbrev pub next_stamp : Option Stamp → Format Stamp
 next_stamp None = tested (λ stamp. same_stamp stamp opening_stamp) Range stamp_form
 next_stamp (Some before) = tested (λ stamp. is_below before stamp) Order stamp_form
 
--- a candidate after one with this stamp
-unfoldable pub next_candidate : Option Stamp → Format Candidate
-next_candidate before = candidate_with (next_stamp before)
+-- a candidate on this object after one with this stamp
+unfoldable pub next_candidate : ObjectId → Option Stamp → Format Candidate
+next_candidate object before = candidate_with object (next_stamp before)
 
--- a count, and so many candidates by rising stamps
-unfoldable pub candidates_form : Format (List Candidate)
-candidates_form = counted (number w16 1 HISTORY_LIMIT) candidate_form.spell next_candidate
+-- a count, and so many candidates on this object by rising stamps
+unfoldable pub candidates_form : ObjectId → Format (List Candidate)
+candidates_form object = counted (number w16 1 HISTORY_LIMIT) spelled_candidate (next_candidate object)
     (λ candidate. Some candidate.stamp) None
 
 -- a history whose object and replica have these formats
@@ -37,7 +37,7 @@ abbrev pub history_with : Format ObjectId → Format ReplicaId → Format Object
 history_with object_field replica_field =
     made (λ fields. record { object = fields.0; replica = (fields.1).0; candidates = (fields.1).1 })
     (λ (history : ObjectHistory). Some (history.object, (history.replica, history.candidates)))
-    (both object_field (λ object. both replica_field (λ replica. candidates_form)))
+    (both object_field (λ object. both replica_field (λ replica. candidates_form object)))
 
 unfoldable pub history_form : Format ObjectHistory
 history_form = history_with object_form replica_form
@@ -63,10 +63,6 @@ unfoldable pub sealed_form : Format Sealed
 sealed_form = sealed_with history_form
 
 -- ---- the sets of a request
-
--- an object that is not below this number
-abbrev pub object_from : ℕ → Format ObjectId
-object_from least = tested (λ (object : ObjectId). nat_le least object.0) Order object_form
 
 -- the history of an entry of this object, by a replica that is not below this number
 unfoldable pub entry_form : ObjectId → ℕ → Format ObjectHistory
@@ -102,7 +98,7 @@ some_sets least count = items (set_form 0).spell set_form (λ (set : SetOf). (se
 
 -- by rising objects
 unfoldable pub sets_form : Format (List SetOf)
-sets_form = counted (number w8 1 SETS_YET) (set_form 0).spell set_form (λ (set : SetOf). (set.object).0 + 1) 0
+sets_form = counted (number w8 1 OBJECTS_LIMIT) (set_form 0).spell set_form (λ (set : SetOf). (set.object).0 + 1) 0
 
 -- ---- what is digested of them: the histories without their HMACs
 
@@ -113,7 +109,8 @@ unfoldable pub object_text_form : ℕ → Format (ObjectId × List ObjectHistory
 object_text_form least = both (object_from least) histories_form
 
 unfoldable pub sets_text_form : Format (List (ObjectId × List ObjectHistory))
-sets_text_form = counted (number w8 1 SETS_YET) (object_text_form 0).spell object_text_form (λ set. (set.0).0 + 1) 0
+sets_text_form =
+    counted (number w8 1 OBJECTS_LIMIT) (object_text_form 0).spell object_text_form (λ set. (set.0).0 + 1) 0
 
 -- ---- what a replica shows of its histories
 

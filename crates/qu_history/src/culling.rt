@@ -59,7 +59,7 @@ impl Sealed {
         Ok(self.is_right_by(&text, me, keys))
     }
 
-    /// The same, where this is the digest of its history.
+    /// Whether its HMAC is right for this reader, where this is the digest of its history.
     #[tactic(auto, unfolding(crate::specs::Culling::is_right))]
     pub(crate) fn is_right_by(&self, text: &Digest, me: ReplicaId, keys: &KeyRing) -> bool
         requires { text.now ≡ history_digest self.now.history }
@@ -108,7 +108,7 @@ impl Sets {
         self.cull_by(alloc, digests.as_slice(), me, keys)
     }
 
-    /// The same, where these are the digests of the histories.
+    /// What `cull` gives, where these are the digests of the histories.
     pub(crate) fn cull_by(
         &self,
         alloc: Global,
@@ -157,7 +157,7 @@ fn cull_all(
     Ok(objects)
 }
 
-/// The same of one object.
+/// The object with its right entries. Those that are left out are added to the list.
 fn cull_set(
     alloc: Global,
     set: &SetOf,

@@ -99,7 +99,7 @@ pub(crate) fn history_digests(alloc: Global, sets: &[SetOf]) -> Result<List<List
     Ok(digests)
 }
 
-/// The same of one object.
+/// The digest of the history of each entry.
 fn entry_digests(alloc: Global, entries: &[Sealed]) -> Result<List<Digest>, NoMemory>
     ensures { IfOk result (λ digests. digests ≡ entry_digests entries.now) }
 {
@@ -124,7 +124,7 @@ fn are_right(sets: &[SetOf], digests: &[List<Digest>], me: ReplicaId, keys: &Key
     true
 }
 
-/// The same of one object.
+/// Whether the HMAC of each entry is right for this reader, where these are the digests of their histories.
 fn entries_right(entries: &[Sealed], digests: &[Digest], me: ReplicaId, keys: &KeyRing) -> bool
     requires { digests.now ≡ entry_digests entries.now }
     ensures { result ≡ list_all (is_right keys.now me) entries.now }

@@ -189,7 +189,7 @@ impl History {
     {
         let object = text.object()?;
         let replica = text.replica()?;
-        let candidates = candidates_at(alloc, text)?;
+        let candidates = candidates_at(alloc, object, text)?;
         Ok(History::of(object, replica, candidates))
     }
 

@@ -6,12 +6,8 @@ pub const HISTORY_LIMIT: usize = 1024;
 /// The most objects in one set of histories.
 pub const OBJECTS_LIMIT: usize = 8;
 
-/// The most objects that the sets of a request have in a text: as many as an operation has parts.
-pub const SETS_YET: u8 = 1;
-
 /// The limits of this crate, by their numbers.
 pub fn limits_are_these()
     ensures history_limit { HISTORY_LIMIT ≡ 1024 }
     ensures objects_limit { OBJECTS_LIMIT ≡ 8 }
-    ensures sets_yet { SETS_YET ≡ 1 }
 {}

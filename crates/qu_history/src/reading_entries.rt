@@ -1,31 +1,14 @@
-ghost use Rattle.std.specs.Prelude.{◌≡◌, ◌<◌, ◌≤◌, IfOk, OnErr};
-ghost use Rattle.qu_base.specs.Reading.{Reads, Gives};
-ghost use Rattle.qu_history.specs.Formats.{some_macs, macs_form, object_from, entry_form, sealed_entry_form, some_entries, entries_form, sealed_from, some_shown, shown_form};
+ghost use Rattle.std.specs.Prelude.{◌<◌, IfOk};
+ghost use Rattle.qu_base.specs.Reading.{Gives};
+ghost use Rattle.qu_history.specs.Formats.{some_macs, macs_form, entry_form, sealed_entry_form, some_entries, entries_form, sealed_from, some_shown, shown_form};
 
 use super::reading::candidates_at;
 use super::{History, OBJECTS_LIMIT, Sealed};
 use qu_base::{
-    BadText, Cursor, List, OBJECT_IDS, ObjectId, REPLICA_IDS, ReadFail, ReplicaId, Why,
-    is_replica_count,
+    Cursor, List, OBJECT_IDS, ObjectId, REPLICA_IDS, ReadFail, ReplicaId, Why, is_replica_count,
 };
+use qu_stamp::object_from;
 use std::alloc::Global;
-
-/// The next object, which is not below this number. After a refusal the text is as before.
-#[tactic(auto, using(crate::proofs::Forms::object_below))]
-pub fn object_from(least: u16, text: &mut Cursor) -> Result<ObjectId, BadText>
-    ensures given { Reads (object_from least) result text.old text.new }
-    ensures below { IfOk result (λ object. object.0 < OBJECT_IDS) }
-    ensures kept { OnErr result (text.new ≡ text.old) }
-{
-    text.are_bytes();
-    let mut ahead = text.ahead();
-    let object = ahead.object()?;
-    if object.0 < least {
-        return Err(text.refusal(Why::Order));
-    }
-    *text = ahead;
-    Ok(object)
-}
 
 /// A count, and so many entries of this object, by rising replicas.
 #[tactic(auto, unfolding(crate::specs::Formats::entries_form))]
@@ -98,7 +81,7 @@ fn entry_history(
     if replica.0 < least {
         return Err(ReadFail::Bad(start.refusal(Why::Order)));
     }
-    let candidates = candidates_at(alloc, text)?;
+    let candidates = candidates_at(alloc, own, text)?;
     Ok(History::of(own, replica, candidates))
 }
 
@@ -152,7 +135,7 @@ fn sealed_from(
     if own != replica {
         return Err(ReadFail::Bad(start.refusal(Why::Range)));
     }
-    let candidates = candidates_at(alloc, text)?;
+    let candidates = candidates_at(alloc, object, text)?;
     let history = History::of(object, own, candidates);
     let macs = macs_at(alloc, text)?;
     Ok(Sealed { history, macs })

@@ -3,8 +3,9 @@ ghost use Rattle.qu_base.specs.Reading.{Gives, IsGiven};
 ghost use Rattle.qu_history.specs.Formats.{set_form, some_sets, sets_form, shown_form};
 
 use super::reading_entries::{entries_at, shown_at};
-use super::{SETS_YET, Sealed, SetOf, Sets, object_from};
+use super::{OBJECTS_LIMIT, Sealed, SetOf, Sets};
 use qu_base::{Cursor, List, OBJECT_IDS, ReadFail, ReplicaId};
+use qu_stamp::object_from;
 use std::alloc::Global;
 
 /// The sets at the front of a text. After a refusal, and without memory, the text is as before.
@@ -28,7 +29,7 @@ pub fn read_sets(alloc: Global, text: &mut Cursor) -> Result<Sets, ReadFail>
 fn sets_at(alloc: Global, text: &mut Cursor) -> Result<List<SetOf>, ReadFail>
     ensures { Gives sets_form result text.old text.new }
 {
-    let count = text.u8_within(1, SETS_YET)?;
+    let count = text.u8_within(1, OBJECTS_LIMIT as u8)?;
     next_sets(alloc, count, text)
 }
 

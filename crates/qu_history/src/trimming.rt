@@ -24,7 +24,7 @@ impl Sets {
     }
 }
 
-/// The same of each object.
+/// The objects, each with its entries trimmed.
 #[tactic(auto, unfolding(crate::specs::Trimming::trimmed))]
 fn trim_all(alloc: Global, sets: &[SetOf], bounds: &Bounds) -> Result<List<SetOf>, NoMemory>
     ensures { IfOk result (λ objects. objects ≡ trimmed bounds.now sets.now) }
@@ -36,7 +36,7 @@ fn trim_all(alloc: Global, sets: &[SetOf], bounds: &Bounds) -> Result<List<SetOf
     Ok(objects)
 }
 
-/// The same of one object.
+/// The object without the entries that show something above all that may be repaired, where a quorum is left.
 fn trim_set(alloc: Global, set: &SetOf, bounds: &Bounds) -> Result<SetOf, NoMemory>
     ensures { IfOk result (λ found. found ≡ trimmed_set bounds.now set.now) }
 {
@@ -94,7 +94,7 @@ fn greatest_shown(entries: &[Sealed], least: usize) -> Option<Candidate>
 }
 
 /// The greater of the best so far and what was found.
-fn greater_found(best: Option<Candidate>, found: Option<Candidate>) -> Option<Candidate>
+pub fn greater_found(best: Option<Candidate>, found: Option<Candidate>) -> Option<Candidate>
     ensures { result ≡ greater_found best found }
 {
     match found {
@@ -120,8 +120,9 @@ fn last_shown(entries: &[Sealed], least: usize, history: &History) -> Option<Can
 {
     let candidates = history.candidates().as_slice();
     for place in (0..candidates.len()).rev() {
-        if order_of(entries, &candidates[place]) >= least {
-            return Some(candidates[place]);
+        let candidate = candidates[place];
+        if order_of(entries, &candidate) >= least {
+            return Some(candidate);
         }
     }
     None

@@ -1,7 +1,7 @@
 ghost use Rattle.std.specs.Prelude.{◌≡◌, ◌++◌, OnOk};
 ghost use Rattle.std.specs.List.{flat_map};
 ghost use Rattle.qu_base.specs.Cursor.{Extends};
-ghost use Rattle.qu_stamp.specs.Formats.{candidate_form};
+ghost use Rattle.qu_stamp.specs.Formats.{spelled_candidate};
 ghost use Rattle.qu_history.specs.Formats.{candidates_form, history_form};
 
 use super::History;
@@ -24,7 +24,7 @@ impl History {
 
 /// Appends the candidates one behind the other.
 fn append_candidates(candidates: &[Candidate], out: &mut Outbytes) -> Result<(), NoMemory>
-    ensures ok { OnOk result (out.new ≡ out.old ++ flat_map candidate_form.spell candidates.now) }
+    ensures ok { OnOk result (out.new ≡ out.old ++ flat_map spelled_candidate candidates.now) }
     ensures more { Extends out.old out.new }
 {
     for candidate in candidates {

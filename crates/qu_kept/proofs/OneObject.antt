@@ -8,15 +8,12 @@ use Rattle.qu_base.specs.declared.party.ObjectId.{ObjectId}
 use Rattle.qu_stamp.specs.declared.stamp.Stamp.{Stamp}
 use Rattle.qu_objects.specs.declared.act.Method.{Method}
 use Rattle.qu_objects.specs.declared.kind.Value.{Value}
-use Rattle.qu_base.specs.declared.kind.Applied.{Applied}
-use Rattle.qu_base.specs.declared.kind.Applied.TheVariants.{Changed, Refused}
 use Rattle.qu_stamp.specs.Stamp.{same_digest}
 use Rattle.qu_stamp.proofs.Order.{same_act-self}
 use Rattle.qu_objects.specs.declared.state.KeptRow.{KeptRow}
 use Rattle.qu_objects.specs.declared.state.ObjState.{ObjState}
-use Rattle.qu_objects.specs.Kind.{applied}
 use Rattle.qu_objects.specs.Parts.{are_parts}
-use Rattle.qu_objects.specs.Performing.{refusal_from, changed_values, values_by, performed_values}
+use Rattle.qu_objects.specs.Performing.{performed_values}
 use Rattle.qu_objects.proofs.Single.{values_one}
 use Rattle.qu_kept.specs.declared.repeats.Standing.{Standing}
 use Rattle.qu_kept.specs.declared.repeats.Standing.TheVariants.{Already}

@@ -68,7 +68,7 @@ pub fn perform(
     }
 }
 
-/// The same on the version of one object, whose links stay.
+/// The act on the version of its one object, whose links stay.
 #[tactic(auto, using(qu_objects::proofs::Single::values_one))]
 fn perform_one(
     alloc: Global,

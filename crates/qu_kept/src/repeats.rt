@@ -41,7 +41,7 @@ pub fn standing_of(
     stands(alloc, states, act, by, number, digest)
 }
 
-/// The same.
+/// How the act stands to the version of its one object.
 fn stands(
     alloc: Global,
     states: &[ObjState],
@@ -63,7 +63,7 @@ fn stands(
     }
 }
 
-/// The same for an act on one object, which keeps this row of the client.
+/// How an act on this object stands to the row that the object's version keeps of the client.
 fn by_row(
     alloc: Global,
     object: ObjectId,

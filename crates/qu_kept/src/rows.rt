@@ -28,7 +28,7 @@ pub fn with_row(alloc: Global, rows: &[KeptRow], row: KeptRow) -> Result<List<Ke
     replaced(alloc, rows, row)
 }
 
-/// The same.
+/// The rows with this one in the place of its client's.
 fn replaced(alloc: Global, rows: &[KeptRow], row: KeptRow) -> Result<List<KeptRow>, NoMemory>
     ensures { IfOk result (λ new. new ≡ with_row row rows.now) }
 {

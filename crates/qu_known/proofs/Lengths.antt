@@ -1,8 +1,9 @@
 -- How long the spelling of a reply is at most: replies of few histories are short enough to be decoded.
-use Rattle.std.proofs.Common.{ℕ, ◌+◌, ◌*◌, ◌^◌, ◌≤◌, ◌==◌, Bool, true, false, List, [], ◌∷◌, ◌++◌, length, Option, None, Some, arith, length-append}
+use Rattle.std.proofs.Common.{◌≡◌, ℕ, ◌+◌, ◌*◌, ◌^◌, ◌≤◌, ◌==◌, Bool, true, false, List, [], ◌∷◌, ◌++◌, length, Option, None, Some, arith, length-append}
 use Rattle.std.specs.List.{flat_map}
 use Rattle.std.specs.Int.{Width, w8, w16, w64, byte_len, to_be_bytes}
 use Rattle.std.proofs.Math.Nat.{suc-mul}
+use Rattle.std.proofs.lemmas.Bool.Decides.{nat_tests}
 use Rattle.std.proofs.lemmas.Nat.{mul-le}
 use Rattle.qu_base.specs.declared.bad_text.Why.{Why}
 use Rattle.qu_base.specs.declared.bad_text.Why.TheVariants.{Range, Order}
@@ -14,11 +15,12 @@ use Rattle.qu_base.specs.Format.{Format, number, bytes, nothing, both, tested, F
 use Rattle.qu_base.proofs.Formats.{IsWide, wide8, wide16, wide64}
 use Rattle.qu_stamp.specs.declared.stamp.Stamp.{Stamp}
 use Rattle.qu_stamp.specs.declared.candidate.Candidate.{Candidate}
-use Rattle.qu_stamp.specs.Formats.{least_client, most_client, stamp_client_form, stamp_with, stamp_form, prior_form, candidate_with, candidate_form}
+use Rattle.qu_stamp.specs.Formats.{least_client, most_client, stamp_client_form, stamp_with, stamp_form, object_from, member_form, spelled_member, after_member, may_be_size, members_form, group_form, basis_form, candidate_with, spelled_candidate}
+use Rattle.qu_stamp.specs.declared.limits.TheConstants.{LAST_TIME}
 use Rattle.qu_history.specs.declared.limits.TheConstants.{HISTORY_LIMIT, OBJECTS_LIMIT}
 use Rattle.qu_history.specs.declared.sealed.Sealed.{Sealed}
 use Rattle.qu_history.specs.History.{ObjectHistory}
-use Rattle.qu_history.specs.Formats.{next_stamp, next_candidate, candidates_form, history_with, history_form, macs_form, sealed_with, sealed_form, object_from, sealed_from, object_after, shown_form}
+use Rattle.qu_history.specs.Formats.{next_stamp, next_candidate, candidates_form, history_with, history_form, macs_form, sealed_with, sealed_form, sealed_from, object_after, shown_form}
 use Rattle.qu_objects.specs.declared.answer.Answer.TheVariants as answer
 use Rattle.qu_base.specs.declared.kind.Item.TheVariants.{Number, Bytes, Entries}
 use Rattle.qu_base.specs.declared.limits.TheConstants.{CONTENT_LIMIT, NAME_LIMIT, ENTRIES_LIMIT}
@@ -170,29 +172,46 @@ stamp-short may =
     both-short 33 32 _ _ (optional-short 32 _ digest_form digest-short) (λ act.
     tested-short 32 _ Range digest_form digest-short)))))
 
-candidate_with-short : (own : Format Stamp) → IsShort 76 own → IsShort 153 (candidate_with own)
-unfolding prior_form
-candidate_with-short own short =
-    fields-short 153 _ _ _
-    (both-short 76 77 own prior_form short (λ stamp.
-    fields-short 77 _ _ _
-    (both-short 76 1 _ _ (tested-short 76 _ Range stamp_form (stamp-short true)) (λ prior. byte-short 0 0))))
+few_members : (stamp : Stamp) (many : ℕ) → may_be_size stamp many ≡ true → many ≤ 4
+few_members stamp many may = grind (arith, nat_tests)
 
-next-short : (before : Option Stamp) (candidate : Candidate) → (next_candidate before).Fits candidate
-    → length (candidate_form.spell candidate) ≤ 153
-unfolding next_candidate candidate_form
-next-short None candidate fits =
-    (candidate_with-short (next_stamp None) (tested-short 76 _ Range stamp_form (stamp-short true))).within candidate
-    fits
-next-short (Some before) candidate fits =
-    (candidate_with-short (next_stamp (Some before)) (tested-short 76 _ Order stamp_form (stamp-short true))).within
+member-short : (least : ℕ) (member : ObjectId × ℕ) → (member_form least).Fits member
+    → length (spelled_member member) ≤ 10
+unfolding member_form
+member-short least member fits =
+    (both-short 2 8 (object_from least) _ (tested-short 2 _ Order object_form object-short)
+    (λ object. eight-short 1 LAST_TIME)).within member fits
+
+group-short : (object : ObjectId) (stamp : Stamp) → IsShort 41 (group_form object stamp)
+unfolding group_form members_form
+group-short object stamp =
+    tested-short 41 _ Range _
+    (counted-short 1 4 10 (tested (may_be_size stamp) Range (number w8 0 255)) spelled_member member_form after_member 0
+    (tested-short 1 _ Range _ (byte-short 0 255)) (λ many fits. few_members stamp many fits.1) member-short)
+
+candidate_with-short : (object : ObjectId) (own : Format Stamp) → IsShort 76 own
+    → IsShort 193 (candidate_with object own)
+unfolding basis_form
+candidate_with-short object own short =
+    fields-short 193 _ _ _
+    (both-short 76 117 own (basis_form object) short (λ stamp.
+    both-short 76 41 _ _ (tested-short 76 _ Range stamp_form (stamp-short true)) (λ prior. group-short object stamp)))
+
+next-short : (object : ObjectId) (before : Option Stamp) (candidate : Candidate)
+    → (next_candidate object before).Fits candidate → length (spelled_candidate candidate) ≤ 193
+unfolding next_candidate basis_form group_form members_form
+next-short object None candidate fits =
+    (candidate_with-short object (next_stamp None) (tested-short 76 _ Range stamp_form (stamp-short true))).within
     candidate fits
+next-short object (Some before) candidate fits =
+    (candidate_with-short object (next_stamp (Some before))
+    (tested-short 76 _ Order stamp_form (stamp-short true))).within candidate fits
 
-candidates-short : IsShort 156674 candidates_form
+candidates-short : (object : ObjectId) → IsShort 197634 (candidates_form object)
 unfolding candidates_form
-candidates-short =
-    counted-short 2 1024 153 (number w16 1 HISTORY_LIMIT) candidate_form.spell next_candidate
-    (λ candidate. Some candidate.stamp) None (two-short 1 _) (λ many fits. fits.1) next-short
+candidates-short object =
+    counted-short 2 1024 193 (number w16 1 HISTORY_LIMIT) spelled_candidate (next_candidate object)
+    (λ candidate. Some candidate.stamp) None (two-short 1 _) (λ many fits. fits.1) (next-short object)
 
 macs-short : IsShort 8161 macs_form
 macs-short =
@@ -202,17 +221,17 @@ macs-short =
 
 -- of an object and a replica of any formats of these sizes
 history-short : (object : Format ObjectId) (replica : Format ReplicaId) → IsShort 2 object → IsShort 1 replica
-    → IsShort 156677 (history_with object replica)
+    → IsShort 197637 (history_with object replica)
 history-short object replica short_object short_replica =
-    fields-short 156677 _ _ _
-    (both-short 2 156675 object _ short_object (λ _. both-short 1 156674 replica _ short_replica
-    (λ _. candidates-short)))
+    fields-short 197637 _ _ _
+    (both-short 2 197635 object _ short_object (λ of. both-short 1 197634 replica _ short_replica
+    (λ _. candidates-short of)))
 
-sealed-short : (form : Format ObjectHistory) → IsShort 156677 form → IsShort 164838 (sealed_with form)
-sealed-short form short = fields-short 164838 _ _ _ (both-short 156677 8161 form _ short (λ _. macs-short))
+sealed-short : (form : Format ObjectHistory) → IsShort 197637 form → IsShort 205798 (sealed_with form)
+sealed-short form short = fields-short 205798 _ _ _ (both-short 197637 8161 form _ short (λ _. macs-short))
 
 shown_by-short : (me : ReplicaId) (least : ℕ) (sealed : Sealed) → (sealed_from me least).Fits sealed
-    → length (sealed_form.spell sealed) ≤ 164838
+    → length (sealed_form.spell sealed) ≤ 205798
 unfolding sealed_from sealed_form history_form
 shown_by-short me least sealed fits =
     (sealed-short _
@@ -220,10 +239,10 @@ shown_by-short me least sealed fits =
     (tested-short 2 _ Order object_form object-short) (tested-short 1 _ Range replica_form replica-short))).within
     sealed fits
 
-shown-short : (me : ReplicaId) → IsShort 1318705 (shown_form me)
+shown-short : (me : ReplicaId) → IsShort 1646385 (shown_form me)
 unfolding shown_form
 shown-short me =
-    counted-short 1 8 164838 (number w8 0 OBJECTS_LIMIT) sealed_form.spell (sealed_from me) object_after 0 (byte-short
+    counted-short 1 8 205798 (number w8 0 OBJECTS_LIMIT) sealed_form.spell (sealed_from me) object_after 0 (byte-short
     0 _)
     (λ many fits. fits.1) (shown_by-short me)
 
@@ -340,15 +359,15 @@ culled-short =
     (λ many fits. fits.1)
     (λ before pair fits. (both-short 2 1 object_form _ object-short (λ object. replica-short)).within pair fits.0)
 
-reply_form-short : IsShort 1589798 reply_form
+reply_form-short : IsShort 1917478 reply_form
 reply_form-short =
-    both-short 1 1589797 replica_form _ replica-short (λ replica.
-    both-short 2 1589795 client_form _ client-short (λ client.
-    both-short 8 1589787 word_form _ (eight-short 0 _) (λ number.
-    both-short 1 1589786 round_form _ (byte-short 1 _) (λ round.
-    both-short 270664 1319122 verdict_form _ verdict-short (λ verdict.
-    both-short 385 1318737 culled_form _ culled-short (λ culled.
-    both-short 1318705 32 (shown_form replica) _ (shown-short replica) (λ shown. bytes-short 32)))))))
+    both-short 1 1917477 replica_form _ replica-short (λ replica.
+    both-short 2 1917475 client_form _ client-short (λ client.
+    both-short 8 1917467 word_form _ (eight-short 0 _) (λ number.
+    both-short 1 1917466 round_form _ (byte-short 1 _) (λ round.
+    both-short 270664 1646802 verdict_form _ verdict-short (λ verdict.
+    both-short 385 1646417 culled_form _ culled-short (λ culled.
+    both-short 1646385 32 (shown_form replica) _ (shown-short replica) (λ shown. bytes-short 32)))))))
 
 -- so each reply is short enough to be decoded
 pub reply-short : (replica : ReplicaId) (client : ClientId) (number round : ℕ) (verdict : Verdict)

@@ -1,16 +1,15 @@
--- What a replica answers shows all that its step added to its histories: a reply shows the history of the one object
+-- What a replica answers shows all that its step added to its histories: a reply shows the histories of all objects
 -- that may have changed, and the histories of a replica that sends none stay as they were.
-use Rattle.std.proofs.Common.{◌≡◌, ◌⊎◌, ℕ, ◌≤◌, List, [], ◌∷◌, map, Option, None, Some, inl, inr, refl, sym, ap, subst, ◌∙◌, arith, true, false, ◌==◌, ◌||◌, Result, Ok}
-use Rattle.std.proofs.lemmas.Bool.{false≢true, or_cases, eqb-true}
+use Rattle.std.proofs.Common.{◌≡◌, ◌⊎◌, ℕ, ◌≤◌, List, [], ◌∷◌, map, Option, None, Some, inl, inr, refl, sym, ap, subst, ◌∙◌, arith, true, false, Result, Ok}
+use Rattle.std.proofs.lemmas.Bool.{false≢true}
 use Rattle.qu_base.specs.declared.party.ClientId.{ClientId}
 use Rattle.qu_base.specs.declared.party.ObjectId.{ObjectId}
 use Rattle.qu_base.specs.declared.party.Party.TheVariants as party
 use Rattle.qu_base.specs.Format.{AreBytes}
 use Rattle.qu_history.specs.declared.sets.SetOf.{SetOf}
-use Rattle.qu_history.specs.Formats.{sets_form}
 use Rattle.qu_history.specs.Sealing.{sealed_by}
 use Rattle.qu_objects.specs.declared.act.Method.{Method}
-use Rattle.qu_objects.specs.Formats.{act_form}
+use Rattle.qu_objects.specs.Formats.{is_one_of, act_form}
 use Rattle.qu_frames.specs.declared.frame.Body.{Body}
 use Rattle.qu_frames.specs.declared.frame.Body.TheVariants as body
 use Rattle.qu_frames.specs.declared.frame.Frame.{Frame}
@@ -63,45 +62,36 @@ pub record IsSilent (old : ReplicaState) (made : ReplicaState × List Letter) : 
   pub histories : made.0.histories ≡ old.histories
   pub none : (seen : Seen) → see_letters made.1 seen ≡ seen
 
--- it sends a reply, which shows its history of one object, and its other histories stay as they are
+-- it sends a reply, which shows its histories of some objects, and its other histories stay as they are
 pub record Shows (old : ReplicaState) (made : ReplicaState × List Letter) : Type 0 where
-  pub set : SetOf
+  pub sets : List SetOf
   pub letter : Letter
   pub letters : made.1 ≡ letter ∷ []
   pub from : letter.from ≡ party.Replica made.0.me
-  pub tells : shown_in (decoded letter.text) ≡ map (sealed_by made.0.keys) (shown made.0 (set ∷ []))
-  pub others : (object : ObjectId) → (object.0 ≡ (set.object).0 → ⊥)
+  pub tells : shown_in (decoded letter.text) ≡ map (sealed_by made.0.keys) (shown made.0 sets)
+  pub others : (object : ObjectId) → is_one_of (objects_in_sets sets) object ≡ false
       → own_candidates made.0 object ≡ own_candidates old object
 
 -- ---- the objects of a request
 
 -- the parts of a request are on objects of its sets
-part_in_set : (set : SetOf) (parts : List (ObjectId × Method))
-    → (body_form (objects_in_sets (set ∷ []))).Fits (body.Act parts) → (object : ObjectId) → Names parts object
-    → object.0 ≡ (set.object).0
+part_in_sets : (sets : List SetOf) (parts : List (ObjectId × Method))
+    → (body_form (objects_in_sets sets)).Fits (body.Act parts) → (object : ObjectId) → Names parts object
+    → is_one_of (objects_in_sets sets) object ≡ true
 unfolding body_form act_form
-part_in_set set [] fits object names = absurd names
-part_in_set set (part ∷ []) fits object names =
-    let known : (((set.object).0 == (part.0).0) || false) ≡ true = fits.1.1.1.0.0.0.1 in
-    elim (or_cases ((set.object).0 == (part.0).0) false known) [
-      | inl same ↦
-          ap (λ (it : ObjectId). it.0) (sym (one_named part object names)) ∙ sym (eqb-true _ _ same)
-      | inr never ↦ absurd (false≢true never)
-    ]
-part_in_set set (first ∷ second ∷ later) fits object names = absurd (omega (arith, ((fits.1).0).1))
+part_in_sets sets [] fits object names = absurd names
+part_in_sets sets (part ∷ []) fits object names =
+    ap (is_one_of (objects_in_sets sets)) (sym (one_named part object names)) ∙ fits.1.1.1.0.0.0.1
+part_in_sets sets (first ∷ second ∷ later) fits object names = absurd (omega (arith, ((fits.1).0).1))
 
 -- and so is what the request adds to
-added_in_set : (set : SetOf) (asks : Body) → (body_form (objects_in_sets (set ∷ []))).Fits asks → (object : ObjectId)
-    → AddsTo asks object → object.0 ≡ (set.object).0
+added_in_sets : (sets : List SetOf) (asks : Body) → (body_form (objects_in_sets sets)).Fits asks → (object : ObjectId)
+    → AddsTo asks object → is_one_of (objects_in_sets sets) object ≡ true
 unfolding body_form
-added_in_set set (body.Act parts) fits object names = part_in_set set parts fits object names
-added_in_set set (body.Ask parts) fits object never = absurd never
-added_in_set set (body.Mend target) fits object is =
-    let known : (((set.object).0 == target.0) || false) ≡ true = (fits.1).1 in
-    elim (or_cases ((set.object).0 == target.0) false known) [
-      | inl same ↦ ap (λ (it : ObjectId). it.0) (sym is) ∙ sym (eqb-true _ _ same)
-      | inr never ↦ absurd (false≢true never)
-    ]
+added_in_sets sets (body.Act parts) fits object names = part_in_sets sets parts fits object names
+added_in_sets sets (body.Ask parts) fits object never = absurd never
+added_in_sets sets (body.Mend target) fits object is =
+    ap (is_one_of (objects_in_sets sets)) (sym is) ∙ (fits.1).1
 
 -- ---- a reply
 
@@ -171,65 +161,52 @@ module _ (old : ReplicaState) (fits : StateFits old) (request : TakenRequest)
       absurd (no_answer missing verdict accepted
       (sym is ∙ ap (decision_of old) (same_Some request other same) ∙ decides))))
 
-  -- a request of one set
-  answered : (set : SetOf) → request.sets ≡ set ∷ [] → (decision : Decision) → decision_of old request ≡ decision
-      → ((object : ObjectId) → (object.0 ≡ (set.object).0 → ⊥)
+  answered : (decision : Decision) → decision_of old request ≡ decision
+      → ((object : ObjectId) → is_one_of (objects_in_sets request.sets) object ≡ false
       → own_candidates (carried_out old request decision).0 object ≡ own_candidates old object)
       → IsSilent old (carried_out old request decision) ⊎ Shows old (carried_out old request decision)
-  answered set is_set (Waits missing) is others = inl (record {
+  answered (Waits missing) is others = inl (record {
     me = refl;
     keys = refl;
     histories = refl;
     none = none_shown (fetches_of old.keys old.me missing) (fetches_shown missing is);
   })
-  answered set is_set (Answers verdict accepted) is others =
+  answered (Answers verdict accepted) is others =
       let new : ReplicaState = accept_all old accepted in
       let made : Letter = reply new request.client request.number request.round request.sets verdict in
       inr (record {
-        set = set;
+        sets = request.sets;
         letter = made;
         letters = refl;
         from = refl;
         tells = reply_shown new request.client request.number request.round request.sets verdict
-            (answers_fit old (request_frame_of request) fits within request refl verdict accepted is)
-            ∙ ap (λ (sets : List SetOf). map (sealed_by new.keys) (shown new sets)) is_set;
+            (answers_fit old (request_frame_of request) fits within request refl verdict accepted is);
         others = others;
       })
 
   -- what the step leaves as it is
-  others_stay : (set : SetOf) → request.sets ≡ set ∷ [] → (object : ObjectId) → (object.0 ≡ (set.object).0 → ⊥)
+  others_stay : (object : ObjectId) → is_one_of (objects_in_sets request.sets) object ≡ false
       → own_candidates (decided old request).0 object ≡ own_candidates old object
-  others_stay set is_set object apart =
+  others_stay object apart =
       let asked : Frame = request_frame_of request in
       elim (step_moves old request (fits_parts asked within)
       (formed_by old asked (are_thresholds old.keys.bounds (count_has_faults old.keys.bounds fits.bounds)) within)) [
         | inl alike ↦ ap (λ (them : List ObjectHistory). candidates_in (slice_get them object.0)) alike.histories
-        | inr accepts ↦ accepts.others object
-            (λ adds. apart (of_set accepts.client accepts.number accepts.round accepts.sent accepts.asks accepts.mac
-            accepts.is_request
-            (subst (λ (sets : List SetOf). (body_form (objects_in_sets sets)).Fits request.body) is_set fields.asked)
-            object adds))
+        | inr accepts ↦ accepts.others object (λ adds. false≢true (sym apart
+            ∙ in_sets accepts.client accepts.number accepts.round accepts.sent accepts.asks accepts.mac
+            accepts.is_request object adds))
       ]
     where
-      of_set : (other : ClientId) (again turn : ℕ) (sent : List SetOf) (these : Body) (seal : List ℕ)
+      in_sets : (other : ClientId) (again turn : ℕ) (sent : List SetOf) (these : Body) (seal : List ℕ)
           → request_frame_of request ≡ frame.Request other again turn sent these seal
-          → (body_form (objects_in_sets (set ∷ []))).Fits request.body → (object : ObjectId) → AddsTo these object
-          → object.0 ≡ (set.object).0
-      of_set other again turn sent these seal same asked object adds =
+          → (object : ObjectId) → AddsTo these object → is_one_of (objects_in_sets request.sets) object ≡ true
+      in_sets other again turn sent these seal same object adds =
           let is : request.body ≡ these = cc in
-          added_in_set set these (subst (λ (it : Body). (body_form (objects_in_sets (set ∷ []))).Fits it) is asked)
-          object adds
-
-  -- a request that fits has one set
-  by_sets : (sets : List SetOf) → request.sets ≡ sets → sets_form.Fits sets
-      → IsSilent old (decided old request) ⊎ Shows old (decided old request)
-  unfolding sets_form
-  by_sets [] are sets = absurd (omega (arith, (sets.0).0))
-  by_sets (set ∷ []) are sets = answered set are (decision_of old request) refl (others_stay set are)
-  by_sets (first ∷ second ∷ later) are sets = absurd (omega (arith, (sets.0).1))
+          added_in_sets request.sets these
+          (subst (λ (it : Body). (body_form (objects_in_sets request.sets)).Fits it) is fields.asked) object adds
 
   decided_shows : IsSilent old (decided old request) ⊎ Shows old (decided old request)
-  decided_shows = by_sets request.sets refl fields.shown
+  decided_shows = answered (decision_of old request) refl others_stay
 
 if_handled_shows : (state : ReplicaState) (found : Option TakenRequest) → StateFits state
     → ((request : TakenRequest) → found ≡ Some request → frame_form.Fits (request_frame_of request))
@@ -248,7 +225,7 @@ since_learned old mid taken made is (inl silent) = inl (record {
   none = silent.none;
 })
 since_learned old mid taken made is (inr shows) = inr (record {
-  set = shows.set;
+  sets = shows.sets;
   letter = shows.letter;
   letters = shows.letters;
   from = shows.from;

@@ -9,7 +9,7 @@ use Rattle.qu_base.specs.declared.party.ObjectId.{ObjectId}
 use Rattle.qu_claims.specs.Origins.{Origin}
 use Rattle.qu_stamp.specs.declared.stamp.Stamp.{Stamp}
 use Rattle.qu_trace.specs.declared.trace.Trace.{Trace}
-use Rattle.qu_laws.proofs.Origins.{accepted_from}
+use Rattle.qu_laws.proofs.Origins.{accepted_from, no_member_yet}
 use Rattle.qu_claims.specs.Accepted.{is_accepted}
 use Rattle.qu_claims.specs.Chained.{last_world}
 use Rattle.qu_laws.proofs.Laws.{one_accepted, copies}
@@ -47,6 +47,7 @@ module _ (trace : Trace) (is_run : IsRun trace) (have : ArePlain trace) where
             | inr other_came ↦
                 same_candidate candidate other same
                 ((stamps_name trace is_run have no_collision).prior object candidate other came other_came same)
+                ((came.made).group ∙ sym (other_came.made).group)
           ]
         ]
 
@@ -58,7 +59,8 @@ module _ (trace : Trace) (is_run : IsRun trace) (have : ArePlain trace) where
           (somewhere_accepted object candidate (last_world trace).replicas place accepted)
           (somewhere_accepted object other (last_world trace).replicas elsewhere again) same;
       joint = λ time object place candidate other stamp good within accepted apart is.
-          absurd (none-some stamp is);
+          absurd (none-some stamp (sym (no_member_yet trace is_run have time place object candidate accepted other)
+          ∙ is));
       together = λ time object other place elsewhere candidate companion apart new again.
           absurd (apart (ap (λ (it : ObjectId). it.0)
           (one_accepted trace is_run have time object other place elsewhere candidate companion new again).objects));

@@ -1,13 +1,16 @@
 -- A run of the world meets the laws of the theory of what is decided.
-use Rattle.std.proofs.Common.{◌≡◌, List, Some, ap, arith, false, inl, inr, length, not, refl, subst, suc, sym, true, zero, ℕ, ◌⊎◌, ◌<◌, ◌≤◌, ◌∙◌, ◌+◌, Option, None, add-one}
+use Rattle.std.proofs.Common.{[], ◌≡◌, List, Some, ap, arith, false, inl, inr, length, not, refl, subst, suc, sym, true, zero, ℕ, ◌⊎◌, ◌<◌, ◌≤◌, ◌∙◌, ◌+◌, Option, None, add-one}
 use Rattle.qu_accepts.proofs.Accepting.{StepAt, step_at, Acceptance}
 use Rattle.qu_claims.specs.Grounds.{IsGround, Accepts, IsDelivered, AddsTo, Performs, IsFound, Mends, Reasons, IsMade, IsRemedy, made_stamp}
 use Rattle.qu_runs.specs.Plain.{ArePlain}
 use Rattle.qu_base.specs.Bounds.{AreThresholds, quorum, replicas, repair}
 use Rattle.qu_stamp.specs.declared.candidate.Candidate.{Candidate}
 use Rattle.qu_chain.proofs.Counting.{test_at-here}
-use Rattle.qu_chain.specs.Laws.{Given, IsLinked, Laws}
-use Rattle.qu_claims.specs.Setting.{IsNew, acceptors, IsAttested}
+use Rattle.qu_chain.specs.Laws.{Given, IsLinked, Laws, Sizes}
+use Rattle.qu_chain.proofs.Ancestry.{acceptor}
+use Rattle.qu_stamp.proofs.Groups.{alone_has_no_member}
+use Rattle.qu_laws.proofs.Origins.{no_member_yet}
+use Rattle.qu_claims.specs.Setting.{IsNew, acceptors, IsAttested, IsAccepted}
 use Rattle.qu_world.specs.Run.{IsRun}
 use Rattle.qu_base.specs.declared.party.ObjectId.{ObjectId}
 use Rattle.qu_rows.specs.State.{ReplicaState, own_candidates, own_latest}
@@ -57,10 +60,26 @@ use Rattle.qu_runs.proofs.Fits.FitParts.{fits_parts}
 module _ (trace : Trace) (is_run : IsRun trace) (have : ArePlain trace) where
   -- ---- the base of what is accepted
 
-  -- a candidate that is attested, or rests on such a one
+  -- a candidate that is attested, or rests on such a one and stands alone
   abbrev IsBased : ℕ → ObjectId → ℕ → Candidate → Type 0
   IsBased time object place candidate =
-      IsAttested (setting trace) time object candidate ⊎ IsLinked (setting trace) time object place candidate
+      IsAttested (setting trace) time object candidate
+      ⊎ (IsLinked (setting trace) time object place candidate × (candidate.group ≡ []))
+
+  -- what is attested is accepted somewhere
+  accepted_then : (time : ℕ) (object : ObjectId) (candidate : Candidate)
+      → IsAttested (setting trace) time object candidate → IsAccepted (setting trace) time object candidate
+  accepted_then time object candidate attested =
+      let size : Sizes (setting trace) = sizes trace is_run have in
+      omega (arith, attested, size.borne, size.meets, size.within)
+
+  -- so it has no member on any object
+  attested_alone : (time : ℕ) (object : ObjectId) (candidate : Candidate)
+      → IsAttested (setting trace) time object candidate → (other : ObjectId)
+      → (setting trace).member candidate other ≡ None
+  attested_alone time object candidate attested other =
+      let who = acceptor (setting trace) time object candidate (accepted_then time object candidate attested) in
+      no_member_yet trace is_run have time who.replica object candidate who.accepted other
 
   module _ (time : ℕ) (within : time < length trace.entries) (object : ObjectId) (place : ℕ) (candidate : Candidate)
       (accepted : Acceptance trace time object place candidate) where
@@ -224,7 +243,7 @@ module _ (trace : Trace) (is_run : IsRun trace) (have : ArePlain trace) where
             absurd (no_barrier it barrier plain_it)
         by_remedy it version (IsRemedy.copy latest state kind made barrier is_latest full stored) plain_it enough
             current =
-            inr (copy_linked asked latest it sets enough current no_act made barrier is_latest full)
+            inr (copy_linked asked latest it sets enough current no_act made barrier is_latest full, made.group)
 
     -- whatever the request asks for
     based_by : (client : ClientId) (number : ℕ) (asks : Body)
@@ -232,7 +251,10 @@ module _ (trace : Trace) (is_run : IsRun trace) (have : ArePlain trace) where
         → AddsTo asks object → (setting trace).plain (upon.candidates object) ≡ true
         → IsBased time object place (upon.candidates object)
     based_by client number (body.Act parts) reasons names plain =
-        inr (act_linked (asked_of client number upon.sets (body.Act parts)) parts refl reasons names)
+        inr (
+          act_linked (asked_of client number upon.sets (body.Act parts)) parts refl reasons names,
+          (reasons.grounds object names).group,
+        )
     based_by client number (body.Ask parts) reasons never plain = absurd never
     based_by client number (body.Mend target) reasons is plain =
         mended_based (asked_of client number upon.sets (body.Mend target)) target refl refl reasons is plain
@@ -256,11 +278,13 @@ module _ (trace : Trace) (is_run : IsRun trace) (have : ArePlain trace) where
         elim (based_by client number asks reasons adds plain) [
           | inl attested ↦ inl attested
           | inr linked ↦ inr (record {
-            base = linked.base;
-            prior = linked.prior;
-            attested = linked.attested;
-            joined = λ other companion apart is_member also. absurd (none-some companion.stamp is_member);
-            covered = λ other stamp apart is_member none. absurd (none-some stamp is_member);
+            base = linked.0.base;
+            prior = linked.0.prior;
+            attested = linked.0.attested;
+            joined = λ other companion apart is_member also. absurd (none-some companion.stamp
+                (sym (alone_has_no_member (upon.candidates object) other linked.1) ∙ is_member));
+            covered = λ other stamp apart is_member none. absurd (none-some stamp
+                (sym (attested_alone time object linked.0.base linked.0.attested other) ∙ is_member));
           })
         ]
 
@@ -275,11 +299,14 @@ module _ (trace : Trace) (is_run : IsRun trace) (have : ArePlain trace) where
 
   linked : (time : ℕ) (object : ObjectId) (place : ℕ) (candidate : Candidate)
       → (setting trace).plain candidate ≡ true → IsNew (setting trace) time object place candidate
-      → IsBased time object place candidate
+      → IsAttested (setting trace) time object candidate ⊎ IsLinked (setting trace) time object place candidate
   unfolding setting
   linked time object place candidate plain new =
-      is_based time new.step object place candidate
-      (acceptance_of trace is_run have time object place candidate new) plain
+      elim (is_based time new.step object place candidate
+      (acceptance_of trace is_run have time object place candidate new) plain) [
+        | inl attested ↦ inl attested
+        | inr based ↦ inr based.0
+      ]
 
   pub copies : (time : ℕ) (object : ObjectId) (place : ℕ) (candidate : Candidate)
       → (setting trace).plain candidate ≡ true → (setting trace).is_act candidate ≡ false

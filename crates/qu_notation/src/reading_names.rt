@@ -1,7 +1,7 @@
-ghost use Rattle.std.specs.Prelude.{◌≡◌, ◌==◌, ◌++◌, map, IfOk, OnOk, MatchResult};
+ghost use Rattle.std.specs.Prelude.{◌≡◌, ◌==◌, ◌++◌, map, IfOk};
 ghost use Rattle.std.specs.List.{list_all, slice_split};
 ghost use Rattle.std.specs.Option.{option_map};
-ghost use Rattle.qu_notation.specs.Names.{is_plain_byte, plain_bytes, coded_bytes, coded_pieces, pieces_bytes, name_bytes};
+ghost use Rattle.qu_notation.specs.Names.{is_plain_byte, plain_bytes, coded_bytes, pieces_bytes, name_bytes};
 
 use super::cut::next_word;
 use super::names::is_plain_byte;

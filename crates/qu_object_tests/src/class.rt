@@ -3,7 +3,7 @@ use super::history::{OBJECT, one_object, put, update_by};
 use qu_base::{Bounds, ClientId, Digest, List};
 use qu_class::{Class, classify, evidence, plan_copy};
 use qu_history::Sets;
-use qu_stamp::{Candidate, Stamp};
+use qu_stamp::{Candidate, Group, Stamp};
 use qu_testing::holds;
 use std::alloc::Global;
 use std::test::Fail;
@@ -19,6 +19,7 @@ fn barrier() -> Candidate {
             set: Digest([2; 32]),
         },
         prior: update_by(1).stamp,
+        group: Group::none(),
     }
 }
 

@@ -1,7 +1,7 @@
 use super::facts::all_hold;
 use qu_base::{Bounds, ClientId, Digest, List, ObjectId, ReplicaId};
 use qu_history::{AddFail, History, Sealed, SetOf, Sets};
-use qu_stamp::{Candidate, Stamp};
+use qu_stamp::{Candidate, Group, Stamp};
 use std::alloc::Global;
 use std::test::Fail;
 
@@ -22,6 +22,7 @@ pub(super) fn update_by(client: u16) -> Candidate {
     Candidate {
         stamp: stamp_at(1, client),
         prior: Stamp::opening(),
+        group: Group::none(),
     }
 }
 
@@ -144,6 +145,7 @@ fn next_of(history: &History, time: u64) -> Candidate {
     Candidate {
         stamp: stamp_at(time, 1),
         prior: history.latest(),
+        group: Group::none(),
     }
 }
 

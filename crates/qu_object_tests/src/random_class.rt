@@ -5,7 +5,7 @@ use super::history::{OBJECT, one_object, put};
 use qu_base::{Bounds, ClientId, Digest, List};
 use qu_class::Class;
 use qu_history::{Sealed, Sets};
-use qu_stamp::{Candidate, Stamp};
+use qu_stamp::{Candidate, Group, Stamp};
 use qu_testing::holds;
 use rand_core::utils::NextWord;
 use rand_pcg::Lcg64Xsh32;
@@ -23,6 +23,16 @@ fn candidate_of(time: u64, kind: u32) -> Candidate {
     Candidate {
         stamp: stamp_at(time, barrier, client),
         prior: stamp_at(0, false, prior_client),
+        group: Group::none(),
+    }
+}
+
+/// The candidate with this stamp upon this prior.
+fn alone(stamp: Stamp, prior: Stamp) -> Candidate {
+    Candidate {
+        stamp,
+        prior,
+        group: Group::none(),
     }
 }
 
@@ -93,10 +103,10 @@ fn first_row(shown: &[(Stamp, Stamp, u8)], bounds: &Bounds) -> Option<Class> {
     let latest = shown.last()?.0;
     let (stamp, prior, order) = last_of(shown, false, bounds)?;
     if stamp == latest && order >= bounds.q() {
-        return Some(Class::Method(Candidate { stamp, prior }));
+        return Some(Class::Method(alone(stamp, prior)));
     }
     if stamp == latest {
-        return Some(Class::InlineMethod(Candidate { stamp, prior }));
+        return Some(Class::InlineMethod(alone(stamp, prior)));
     }
     Some(barrier_row(shown, bounds, latest).unwrap_or(Class::Barrier { prior: stamp }))
 }
@@ -109,7 +119,7 @@ fn barrier_row(shown: &[(Stamp, Stamp, u8)], bounds: &Bounds, latest: Stamp) -> 
     if order >= bounds.q() {
         return Some(Class::Copy);
     }
-    Some(Class::InlineBarrier(Candidate { stamp, prior }))
+    Some(Class::InlineBarrier(alone(stamp, prior)))
 }
 
 /// The last one with a barrier, or without, that may be repaired.

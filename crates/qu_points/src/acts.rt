@@ -101,7 +101,7 @@ fn handled_act(
     }
 }
 
-/// The same of a text that reaches a party, which is this frame or none.
+/// The act that a text asks of the party that it reaches. The text is this frame, or none.
 #[tactic(auto, using(qu_trace::proofs::DecodedLaws::decoded_to, crate::proofs::Handled::SignedActs::no_request))]
 fn act_to(
     alloc: Global,
@@ -124,7 +124,7 @@ fn act_to(
     }
 }
 
-/// The same of a frame that reaches a replica. The HMAC is verified only of what would be an act.
+/// The act that a frame asks of the replica that it reaches. The HMAC is verified only of what would be an act.
 #[tactic(auto, unfolding(qu_frames::specs::Signing::brought), using(crate::proofs::Handled::SignedActs::signed_act, crate::proofs::Handled::SignedActs::unsigned_act, crate::proofs::Handled::SignedActs::no_act))]
 fn act_brought(
     alloc: Global,
@@ -149,7 +149,7 @@ fn act_brought(
     }
 }
 
-/// The same of its frame, whichever replica handles it: an act does not depend on what is culled of the sets.
+/// The act that a frame asks for, whichever replica handles it: it does not depend on what is culled of the sets.
 fn act_in(
     alloc: Global,
     setup: &Setup,

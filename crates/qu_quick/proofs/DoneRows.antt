@@ -91,7 +91,7 @@ module _ (state : ReplicaState) (client : ClientId) (number : ℕ) (set : SetOf)
   shown = entries_of set.object (set ∷ [])
 
   abbrev fresh : Candidate
-  fresh = record { stamp = fresh_stamp asked set.object; prior = base.stamp }
+  fresh = record { stamp = fresh_stamp asked set.object; prior = base.stamp; group = [] }
 
   based : IsBase state.keys.bounds shown base
   based = is_base state.keys.bounds shown base ready.method
@@ -101,7 +101,7 @@ module _ (state : ReplicaState) (client : ClientId) (number : ℕ) (set : SetOf)
       ap (λ (stamp : Stamp). is_below stamp (own_latest state object)) (sym based.latest) ∙ ready.current
 
   grounds : IsGround state asked object fresh base
-  grounds = record { method = ready.method; prior = refl; stamp = refl; current = is_current }
+  grounds = record { method = ready.method; prior = refl; group = refl; stamp = refl; current = is_current }
 
   fresh_is : fresh_act state asked object ≡ Some fresh
   fresh_is = rw (ready.method) refl

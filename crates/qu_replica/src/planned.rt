@@ -40,7 +40,7 @@ impl Gain {
         }
     }
 
-    /// The same with this history, and with these versions of what is accepted.
+    /// This gain with a history, and with these versions of what is accepted.
     pub(crate) fn with_accepted(self, history: History, versions: Prepared) -> Gain
         ensures { result ≡ record self { history = Some history; versions = versions } }
     {
@@ -53,7 +53,7 @@ impl Gain {
         }
     }
 
-    /// The same with this change of a slot.
+    /// This gain with this change of a slot.
     pub(crate) fn with_turn(self, client: ClientId, next: Next) -> Gain
         ensures { result ≡ record self { turn = Some (record { client = client; next = next }) } }
     {
@@ -66,7 +66,7 @@ impl Gain {
         }
     }
 
-    /// The same with these fetches.
+    /// This gain with these fetches.
     pub(crate) fn with_fetching(self, fetching: List<Running>) -> Gain
         ensures { result ≡ record self { fetching = Some fetching } }
     {

@@ -119,8 +119,8 @@ impl Replica {
         self.histories.as_slice().get(usize::from(object.0))
     }
 
-    /// The version of an object under a stamp, None exactly where it stores none: where it accepted no such candidate,
-    /// or a barrier, which has no version.
+    /// The version of an object under a stamp, None exactly where it stores none. Of each candidate that it accepted it
+    /// stores one, but of barriers, which have none; and it may store one of a candidate that it has not accepted.
     pub fn version(&self, object: ObjectId, stamp: &Stamp) -> Option<&ObjState>
         ensures { option_copied result ≡ version_at object stamp.now self.now.versions }
     {
@@ -176,7 +176,7 @@ impl Replica {
         }
     }
 
-    /// The same, where this is a reading of the request that the text says.
+    /// What `step` will make of this text, where this is a reading of the request that it says.
     pub fn plan_read(&self, text: &[u8], reading: &Reading) -> Result<Planned, NoMemory>
         requires { before_mac text.now ≡ reading.now.front }
         ensures state { IfOk result (λ planned. with_gain self.now planned.gain

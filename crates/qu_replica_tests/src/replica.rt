@@ -4,12 +4,12 @@ ghost use Rattle.std.specs.Prelude.{◌≤◌};
 
 use kind_counter::Counter;
 use qu_base::{Bounds, ClientId, Digest, List, ObjectId, Party, ReplicaId};
-use qu_frames::{Body, ClassCode, Frame, Letter, Refusal, Verdict, blank_mac, decode};
+use qu_frames::{Body, Frame, Letter, Refusal, Verdict, blank_mac, decode};
 use qu_history::{History, SetOf, Sets};
 use qu_objects::{Act, Answer, Item, KindName, Method, ObjState, Value};
 use qu_replica::Replica;
 use qu_seal::KeyRing;
-use qu_stamp::{Candidate, LAST_TIME, Stamp};
+use qu_stamp::{Candidate, Group, LAST_TIME, Stamp};
 use qu_testing::holds;
 use std::alloc::Global;
 use std::test::Fail;
@@ -38,25 +38,14 @@ fn started(alloc: Global) -> Result<Replica, Fail> {
 
 /// The sets of a quorum whose histories end with this stamp, sealed by these keys.
 fn sets(alloc: Global, keys: &KeyRing, latest: Stamp) -> Result<Sets, Fail> {
-    torn(alloc, keys, latest, latest)
-}
-
-/// The sets of a quorum, sealed by these keys, where the histories of so many replicas as a repair needs end with the
-/// first stamp, and those of the others with the second.
-fn torn(alloc: Global, keys: &KeyRing, first: Stamp, second: Stamp) -> Result<Sets, Fail> {
     let mut entries = List::new(alloc);
     for replica in 0..keys.bounds().q() {
         let mut history = History::opening(alloc, COUNTER, ReplicaId(replica))?;
-        let latest = if replica < keys.bounds().r() {
-            first
-        } else {
-            second
-        };
         if latest != Stamp::opening() {
-            let prior = Stamp::opening();
             history.add(Candidate {
                 stamp: latest,
-                prior,
+                prior: Stamp::opening(),
+                group: Group::none(),
             })?;
         }
         entries.push(history.sealed(alloc, keys)?)?;
@@ -76,16 +65,6 @@ fn verdict(
     latest: Stamp,
 ) -> Result<Verdict, Fail> {
     let sets = sets(alloc, &keys()?, latest)?;
-    Ok(answer(alloc, replica, number, sets)?.0)
-}
-
-/// The verdict on an act of client 1 with this number and these sets, and the entries that the reply names.
-fn answer(
-    alloc: Global,
-    replica: &mut Replica,
-    number: u64,
-    sets: Sets,
-) -> Result<(Verdict, List<(ObjectId, ReplicaId)>), Fail> {
     answer_to(alloc, replica, &act(alloc, number, sets)?)
 }
 
@@ -102,32 +81,22 @@ fn act(alloc: Global, number: u64, sets: Sets) -> Result<Frame, Fail> {
     })
 }
 
-/// The verdict of the reply that a frame brings about, and the entries that the reply names.
-fn answer_to(
-    alloc: Global,
-    replica: &mut Replica,
-    frame: &Frame,
-) -> Result<(Verdict, List<(ObjectId, ReplicaId)>), Fail> {
+/// The verdict of the reply that a frame brings about.
+fn answer_to(alloc: Global, replica: &mut Replica, frame: &Frame) -> Result<Verdict, Fail> {
     answer_with(alloc, &keys()?, replica, frame)
 }
 
-/// The verdict of the reply that a frame brings about under these keys, and the entries that the reply names.
+/// The verdict of the reply that a frame brings about under these keys.
 fn answer_with(
     alloc: Global,
     keys: &KeyRing,
     replica: &mut Replica,
     frame: &Frame,
-) -> Result<(Verdict, List<(ObjectId, ReplicaId)>), Fail> {
+) -> Result<Verdict, Fail> {
     let letters = stepped(alloc, keys, replica, frame)?;
     let letter = letters.get(0).ok_or("nothing is sent")?;
     match decode(alloc, letter.text.as_slice()) {
-        Ok(
-            Frame::Reply {
-                verdict,
-                culled,
-                ..
-            },
-        ) => Ok((verdict, culled)),
+        Ok(Frame::Reply { verdict, .. }) => Ok(verdict),
         _ => Err("no reply")?,
     }
 }
@@ -179,7 +148,7 @@ fn time_can_be_spent(rt: HostRuntime) -> Result<(), Fail> {
     assert_eq!(rt; fetches.len(), 5);
     let first = stepped(alloc, &keys, &mut replica, &told(alloc, 1, stamp, 5))?;
     assert!(rt; first.is_empty());
-    let found = answer_to(alloc, &mut replica, &told(alloc, 2, stamp, 5))?.0;
+    let found = answer_to(alloc, &mut replica, &told(alloc, 2, stamp, 5))?;
     assert_eq!(rt; found, Verdict::Refused(Refusal::TimeSpent(COUNTER)));
     Ok(())
 }
@@ -199,7 +168,7 @@ fn finds_behind_lies(alloc: Global, b: u8) -> Result<bool, Fail>
         holds(letters.is_empty(), "nothing is sent")?;
     }
     let last = told(alloc, 2 * b + 1, stamp, 5);
-    let verdict = answer_with(alloc, &keys, &mut replica, &last)?.0;
+    let verdict = answer_with(alloc, &keys, &mut replica, &last)?;
     holds(matches!(&verdict, Verdict::Done { .. }), "the act is done")?;
     let version = replica.version(COUNTER, &stamp).ok_or("no version")?;
     Ok(matches!(&version.value, Value::Counter(counter) if counter.number() == 5))
@@ -237,18 +206,5 @@ fn a_repeated_act_is_told_its_answer(rt: HostRuntime) -> Result<(), Fail> {
     assert_eq!(rt; again, Verdict::Already(Answer::Ok(items)));
     let lower = verdict(rt.alloc(), &mut replica, 1, latest)?;
     assert_eq!(rt; lower, Verdict::Refused(Refusal::Spent(COUNTER, 2)));
-    Ok(())
-}
-
-#[test]
-fn an_act_is_told_the_class_that_bars_it(rt: HostRuntime) -> Result<(), Fail> {
-    let alloc = rt.alloc();
-    let mut replica = started(alloc)?;
-    verdict(alloc, &mut replica, 1, Stamp::opening())?;
-    let latest = replica.history(COUNTER).ok_or("no history")?.latest();
-    let sets = torn(alloc, &keys()?, latest, Stamp::opening())?;
-    let found = answer(alloc, &mut replica, 2, sets)?.0;
-    let class = ClassCode::InlineMethod;
-    assert_eq!(rt; found, Verdict::Refused(Refusal::NotMethod(COUNTER, class)));
     Ok(())
 }

@@ -92,7 +92,7 @@ ActTells state asked act object (Answers (verdict.Refused why) accepted) = Unit 
 ActTells state asked act object (Waits missing) = Unit {0}
 
 abbrev fresh_of : Asked → ObjectId → Candidate → Candidate
-fresh_of asked object base = record { stamp = fresh_stamp asked object; prior = base.stamp }
+fresh_of asked object base = record { stamp = fresh_stamp asked object; prior = base.stamp; group = [] }
 
 -- a version that says Already keeps the act
 keeps_by : (asked : Asked) (part : ObjectId × Method) (act : Digest) → asked.act ≡ Some act → (version : ObjState)

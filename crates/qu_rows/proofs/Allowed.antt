@@ -170,8 +170,8 @@ unfolding row_told
 told-may state asked parts objects decision given = subst (MayDecide state) (same_Some _ decision given) tt
 
 made_of : (asked : Asked) (object : ObjectId) (base : Option Candidate) (fresh : Candidate)
-    → option_map (λ (it : Candidate). record { stamp = fresh_stamp asked object; prior = it.stamp }) base ≡ Some
-    fresh → (base ≡ None → ⊥) × (fresh.stamp ≡ fresh_stamp asked object)
+    → option_map (λ (it : Candidate). record { stamp = fresh_stamp asked object; prior = it.stamp; group = [] }) base
+    ≡ Some fresh → (base ≡ None → ⊥) × (fresh.stamp ≡ fresh_stamp asked object)
 made_of asked object None fresh made = absurd (none-some fresh made)
 made_of asked object (Some it) fresh made =
     ((λ none. none-some it (sym none)), sym (ap (λ (candidate : Candidate). candidate.stamp) (same_Some _ _ made)))

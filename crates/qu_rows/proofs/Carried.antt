@@ -38,6 +38,7 @@ stamp_by : (asked : Asked) (object : ObjectId) (found : Option Candidate) (fresh
     → option_map (λ (base : Candidate). let made : Candidate = record {
       stamp = fresh_stamp asked object;
       prior = base.stamp;
+      group = [];
     } in made) found ≡ Some fresh → fresh_stamp asked object ≡ fresh.stamp
 stamp_by asked object None fresh made = absurd (none-some fresh made)
 stamp_by asked object (Some base) fresh made = ap (λ (it : Candidate). it.stamp) (same_Some _ fresh made)

@@ -1,5 +1,5 @@
 -- A candidate with a time after the last is not held.
-use Rattle.std.proofs.Common.{◌≡◌, ◌+◌, ◌≤◌, Bool, true, false, List, Option, None, Some, refl, sym, ◌∙◌, arith, inl, inr}
+use Rattle.std.proofs.Common.{[], ◌≡◌, ◌+◌, ◌≤◌, Bool, true, false, List, Option, None, Some, refl, sym, ◌∙◌, arith, inl, inr}
 use Rattle.std.specs.Prelude.{slice_get, option_map}
 use Rattle.std.proofs.lemmas.Bool.{cases_Bool, cases_lt, false≢true}
 use Rattle.qu_base.specs.declared.party.ObjectId.{ObjectId}
@@ -37,9 +37,9 @@ own_in_time state object held own is_held =
 
 fresh_not_held : (state : ReplicaState) (asked : Asked) (object : ObjectId) (base : Candidate)
     → AreHistories state → LAST_TIME ≤ (latest_of (shown_of asked object)).time
-    → holds (record { stamp = fresh_stamp asked object; prior = base.stamp }) (own_candidates state object) ≡ false
+    → holds (record { stamp = fresh_stamp asked object; prior = base.stamp; group = [] }) (own_candidates state object) ≡ false
 fresh_not_held state asked object base own spent =
-    let fresh : Candidate = record { stamp = fresh_stamp asked object; prior = base.stamp } in
+    let fresh : Candidate = record { stamp = fresh_stamp asked object; prior = base.stamp; group = [] } in
     elim (cases_Bool (holds fresh (own_candidates state object))) [
       | inl is_held ↦
           let in_time : (latest_of (shown_of asked object)).time + 1 ≤ LAST_TIME =
@@ -61,6 +61,7 @@ spent_not_held state asked object own spent =
     (option_map (λ (it : Candidate). let fresh : Candidate = record {
       stamp = fresh_stamp asked object;
       prior = it.stamp;
+      group = [];
     } in fresh) base) ≡ false) [
       | None ↦ refl
       | Some base ↦ fresh_not_held state asked object base own spent

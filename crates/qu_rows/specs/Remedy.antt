@@ -1,5 +1,5 @@
 -- What is added to the history of an object that is mended, by its class (Query/Update: repair, inline repair).
-use Rattle.std.specs.Prelude.{ℕ, Bool, true, false, not, ◌+◌, ◌≡◌, ◌≤◌, nat_le, nat_lt, if◌then◌else◌, List, Option, None, Some, IsSome}
+use Rattle.std.specs.Prelude.{[], ℕ, Bool, true, false, not, ◌+◌, ◌≡◌, ◌≤◌, nat_le, nat_lt, if◌then◌else◌, List, Option, None, Some, IsSome}
 use Rattle.qu_base.specs.declared.party.ClientId.{ClientId}
 use Rattle.qu_base.specs.declared.party.Digest.{Digest}
 use Rattle.qu_base.specs.declared.party.ObjectId.{ObjectId}
@@ -54,6 +54,7 @@ fresh_repair mend barrier prior =
         set = mend.set;
       };
       prior = prior;
+      group = [];
     }
 
 -- the candidate that the remedy adds; none has a time after the last

@@ -116,8 +116,8 @@ fresh_stamp asked object =
 -- the candidate that the act makes on an object
 abbrev pub fresh_act : ReplicaState → Asked → ObjectId → Option Candidate
 fresh_act state asked object =
-    option_map (λ base. record { stamp = fresh_stamp asked object; prior = base.stamp }) (method_base state asked
-    object)
+    option_map (λ base. record { stamp = fresh_stamp asked object; prior = base.stamp; group = [] })
+    (method_base state asked object)
 
 -- the objects, each with its stamp
 abbrev pub stamps_by : (ObjectId → Option Stamp) → List ObjectId → List (ObjectId × Stamp)

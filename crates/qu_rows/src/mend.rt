@@ -12,7 +12,7 @@ use qu_base::{Bounds, ClientId, Digest, NoMemory, ObjectId};
 use qu_frames::Refusal;
 use qu_history::{History, Sets};
 use qu_objects::ObjState;
-use qu_stamp::{Candidate, LAST_TIME, Stamp};
+use qu_stamp::{Candidate, Group, LAST_TIME, Stamp};
 use std::alloc::Global;
 
 /// A request to mend an object, with what its culled sets say of it.
@@ -211,7 +211,11 @@ impl Mend {
             act: None,
             set: self.set,
         };
-        Some(Candidate { stamp, prior })
+        Some(Candidate {
+            stamp,
+            prior,
+            group: Group::none(),
+        })
     }
 
     /// What is stored under the stamp of what is added: a copy of the version that is copied.

@@ -4,7 +4,7 @@ use qu_base::{Bounds, ClientId, Digest, List, ObjectId, ReplicaId};
 use qu_frames::Refusal;
 use qu_history::{HISTORY_LIMIT, History, Sealed, SetOf, Sets};
 use qu_objects::{ObjState, Value};
-use qu_stamp::{Candidate, LAST_TIME, Stamp};
+use qu_stamp::{Candidate, Group, LAST_TIME, Stamp};
 use std::alloc::Global;
 use std::test::Fail;
 
@@ -38,6 +38,7 @@ fn candidate(time: u64, barrier: bool, prior: Stamp) -> Candidate {
             set: Digest([2; 32]),
         },
         prior,
+        group: Group::none(),
     }
 }
 
@@ -54,6 +55,11 @@ fn mend(remedy: Remedy, latest: u64) -> Mend {
         },
         remedy,
     }
+}
+
+/// The candidate of this time, as the sets show it.
+fn shown(time: u64) -> Remedy {
+    Remedy::Shown(at(time))
 }
 
 fn barrier() -> Remedy {
@@ -134,16 +140,15 @@ fn not_current() -> Seen {
 #[test]
 fn a_row_comes_alone(rt: HostRuntime) -> Result<(), Fail> {
     let alloc = rt.alloc();
-    let inline = Remedy::Shown(at(3));
     let other = Remedy::Shown(upon(3, at(1).stamp));
     let sound = Seen::Refuses(Refusal::Sound(OBJECT));
-    wants(alloc, inline, 3, (4, false), &Seen::Holds(at(3).stamp))?;
+    wants(alloc, shown(3), 3, (4, false), &Seen::Holds(at(3).stamp))?;
     wants(alloc, copy(), 2, (4, true), &not_current())?;
     wants(alloc, other, 3, (4, true), &not_current())?;
     wants(alloc, Remedy::Nothing, 3, (4, false), &sound)?;
-    wants(alloc, inline, 3, (2, false), &Seen::Waits)?;
+    wants(alloc, shown(3), 3, (2, false), &Seen::Waits)?;
     wants(alloc, copy(), 3, (2, false), &Seen::Waits)?;
-    wants(alloc, inline, 3, (2, true), &Seen::Adds(at(3), None))
+    wants(alloc, shown(3), 3, (2, true), &Seen::Adds(at(3), None))
 }
 
 #[test]
@@ -180,19 +185,17 @@ fn fresh_candidates_stand_above_all_that_is_shown(rt: HostRuntime) -> Result<(),
 #[test]
 fn what_is_shown_is_added_up_to_the_last_time(rt: HostRuntime) -> Result<(), Fail> {
     let alloc = rt.alloc();
-    let last = at(LAST_TIME);
     let after = LAST_TIME + 1;
     let spent = Seen::Refuses(Refusal::TimeSpent(OBJECT));
-    let added = Seen::Adds(last, None);
-    wants(alloc, Remedy::Shown(last), LAST_TIME, (4, true), &added)?;
-    wants(alloc, Remedy::Shown(at(after)), after, (4, true), &spent)
+    let added = Seen::Adds(at(LAST_TIME), None);
+    wants(alloc, shown(LAST_TIME), LAST_TIME, (4, true), &added)?;
+    wants(alloc, shown(after), after, (4, true), &spent)
 }
 
 #[test]
 fn of_two_rows_the_earlier_one_comes(rt: HostRuntime) -> Result<(), Fail> {
     let alloc = rt.alloc();
-    let inline = Remedy::Shown(at(2));
-    wants(alloc, inline, 2, (4, false), &Seen::Holds(at(2).stamp))?;
+    wants(alloc, shown(2), 2, (4, false), &Seen::Holds(at(2).stamp))?;
     wants(alloc, Remedy::Nothing, 2, (4, true), &not_current())?;
     wants(alloc, copy(), 2, (4, false), &not_current())?;
     wants(alloc, copy(), LAST_TIME, (4, false), &Seen::Waits)
@@ -202,23 +205,21 @@ fn of_two_rows_the_earlier_one_comes(rt: HostRuntime) -> Result<(), Fail> {
 fn a_full_history_is_told_last(rt: HostRuntime) -> Result<(), Fail> {
     let alloc = rt.alloc();
     let full = HISTORY_LIMIT;
-    let later = Remedy::Shown(at(2000));
     let sound = Seen::Refuses(Refusal::Sound(OBJECT));
     let spent = Seen::Refuses(Refusal::TimeSpent(OBJECT));
     let is_full = Seen::Refuses(Refusal::HistoryFull(OBJECT));
-    let newest = at(1023);
-    let held = Seen::Holds(newest.stamp);
-    let passed = Seen::Refuses(Refusal::NotCurrent(OBJECT, newest.stamp));
-    wants(alloc, Remedy::Shown(newest), 1023, (full, true), &held)?;
+    let held = Seen::Holds(at(1023).stamp);
+    let passed = Seen::Refuses(Refusal::NotCurrent(OBJECT, at(1023).stamp));
+    wants(alloc, shown(1023), 1023, (full, true), &held)?;
     wants(alloc, copy(), 2, (full, true), &passed)?;
     wants(alloc, Remedy::Nothing, 2000, (full, true), &sound)?;
     wants(alloc, copy(), 2000, (full, false), &Seen::Waits)?;
     wants(alloc, barrier(), LAST_TIME, (full, false), &spent)?;
     wants(alloc, barrier(), 2000, (full, false), &is_full)?;
-    wants(alloc, later, 2000, (full, true), &is_full)?;
+    wants(alloc, shown(2000), 2000, (full, true), &is_full)?;
     wants(
         alloc,
-        later,
+        shown(2000),
         2000,
         (full - 1, true),
         &Seen::Adds(at(2000), None),
@@ -287,13 +288,13 @@ fn mends(
 fn a_barrier_and_then_a_copy_mend_a_torn_object(rt: HostRuntime) -> Result<(), Fail> {
     let alloc = rt.alloc();
     let base = at(1).stamp;
-    let barrier = candidate(2, true, base);
     let first = asked(alloc, None)?;
-    let second = asked(alloc, Some(barrier))?;
+    let second = asked(alloc, Some(candidate(2, true, base)))?;
     assert!(rt; first.remedy.wanted().is_none());
     assert_eq!(rt; second.remedy.wanted(), Some(base));
     for replica in 0..6 {
-        mends(alloc, replica, &first, &second, (barrier, upon(3, base)))?;
+        let added = (candidate(2, true, base), upon(3, base));
+        mends(alloc, replica, &first, &second, added)?;
     }
     Ok(())
 }

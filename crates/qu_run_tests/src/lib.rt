@@ -10,9 +10,3 @@ mod listing;
 mod print;
 #[cfg(test)]
 mod quick;
-#[cfg(test)]
-mod script;
-#[cfg(test)]
-mod trace;
-#[cfg(test)]
-mod world;

@@ -1,5 +1,5 @@
 -- Small lemmas that several files need: the first of a list, letters of entries, and equality of what has equal parts.
-use Rattle.std.proofs.Common.{◌≡◌, ℕ, ◌<◌, ◌≤◌, true, false, List, [], ◌∷◌, length, Option, None, Some, refl, sym, arith, inl, inr, subst, ap, ◌∙◌}
+use Rattle.std.proofs.Common.{◌≡◌, ℕ, ◌<◌, ◌≤◌, true, false, List, [], ◌∷◌, length, Option, None, Some, refl, sym, arith, inl, inr, subst}
 use Rattle.std.specs.Prelude.{◌==◌, is_none, Contains}
 use Rattle.std.specs.List.{All, flat_map}
 use Rattle.std.proofs.lemmas.Bool.{false≢true}
@@ -11,7 +11,6 @@ use Rattle.qu_base.proofs.ThresholdFacts.{are_thresholds}
 use Rattle.qu_machine.specs.declared.record.Point.{Point}
 use Rattle.qu_trace.specs.declared.trace.Entry.{Entry}
 use Rattle.std.proofs.lemmas.List.Concat.{flat_map-cons}
-use Rattle.qu_stamp.specs.declared.stamp.Stamp.{Stamp}
 use Rattle.qu_stamp.specs.declared.candidate.Candidate.{Candidate}
 
 -- ---- the first of some
@@ -68,8 +67,6 @@ contains_mapped f (first ∷ later) item it held inside =
     ])
 
 pub same_candidate : (first second : Candidate) → first.stamp ≡ second.stamp → first.prior ≡ second.prior
-    → first ≡ second
-same_candidate first second stamps priors =
-    let by_stamp : Stamp → Candidate = λ it. record { stamp = it; prior = first.prior } in
-    let by_prior : Stamp → Candidate = λ it. record { stamp = second.stamp; prior = it } in
-    ap by_stamp stamps ∙ ap by_prior priors
+    → first.group ≡ second.group → first ≡ second
+same_candidate first second stamps priors groups =
+    λ i. record { stamp = stamps i; prior = priors i; group = groups i }

@@ -80,6 +80,7 @@ far_candidate = record {
     set = record { 0 = repeat 32 (255 ∷ []) };
   };
   prior = opening_stamp;
+  group = [];
 }
 
 abbrev pub far_history : ReplicaId → ObjectId → ObjectHistory

@@ -13,7 +13,7 @@ use qu_base::{Bounds, ClientId, Digest, List, NoMemory, ObjectId, Party, ReadFai
 use qu_frames::{Frame, Refusal, Verdict, decode};
 use qu_history::{AddFail, History, Sealed, Sets};
 use qu_seal::KeyRing;
-use qu_stamp::{Candidate, LAST_TIME, Stamp};
+use qu_stamp::{Candidate, Group, LAST_TIME, Stamp};
 use qu_world::World;
 use std::alloc::Global;
 
@@ -320,6 +320,7 @@ fn far_candidate() -> Candidate
             set: Digest([0xff; 32]),
         },
         prior: Stamp::opening(),
+        group: Group::none(),
     }
 }
 

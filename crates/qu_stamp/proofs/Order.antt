@@ -1,24 +1,28 @@
 -- The orders of stamps and of candidates are strict and total, and `same` tests whether two are equal.
 use mathlib.Core.Bool.{beq}
-use Rattle.std.proofs.Common.{◌≡◌, ℕ, Bool, ◌⊎◌, ◌<◌, ◌≤◌, true, false, not, ◌&&◌, List, [], ◌∷◌, length, inl, inr, refl, sym, ◌∙◌, ap, arith, None, Some}
+use Rattle.std.proofs.Common.{◌≡◌, ℕ, Bool, ◌<◌, ◌≤◌, true, false, not, ◌&&◌, ◌||◌, List, [], ◌∷◌, length, inl, inr, refl, sym, ◌∙◌, ap, arith, None, Some}
 use Rattle.std.specs.Prelude.{Option, ◌==◌, MatchOption, ⊤}
 use Rattle.std.specs.declared.cmp.Ordering.{Ordering}
 use Rattle.std.specs.declared.cmp.Ordering.TheVariants.{Less, Equal, Greater}
-use Rattle.std.specs.Ordering.{nat_cmp, bool_cmp, ordering_then, ordering_reverse, is_lt, is_eq, is_gt}
+use Rattle.std.specs.Ordering.{nat_cmp, bool_cmp, ordering_then, is_lt, is_eq}
 use Rattle.std.specs.List.{repeat}
 use Rattle.std.specs.Option.{option_cmp, option_eq}
 use Rattle.std.specs.Cmp.{IsTotalOrder, bool_cmp_total}
 use Rattle.std.specs.Cmp.Lexicographic.{slice_cmp, options_total, bytes_decides}
-use Rattle.std.proofs.lemmas.Cmp.{nat_cmp_total, lists_total, on_total, then_total, tied_itself, upto}
+use Rattle.std.proofs.lemmas.Cmp.{nat_cmp_total, lists_total, on_total, then_total, tied_itself}
 use Rattle.std.proofs.lemmas.Map.Lookups.{CmpEqualImpliesEq, exact_unsigned, exact_bytes}
 use Rattle.std.specs.Bool.{Decides}
 use Rattle.std.specs.Cmp.{booleans_Decides}
-use Rattle.std.proofs.lemmas.Bool.{false≢true, cases_Bool, or_cases, and_parts, and_from, eq-eqb, eqb-true}
+use Rattle.std.proofs.lemmas.Bool.{false≢true, cases_Bool, or_left, and_parts, and_from, eq-eqb, eqb-true}
 use Rattle.std.proofs.lemmas.Bool.Decides.{nat_tests}
 use Rattle.qu_base.specs.declared.party.Digest.{Digest}
+use Rattle.qu_base.specs.declared.party.ObjectId.{ObjectId}
+use Rattle.qu_stamp.proofs.Below.{both_equal, is_Equal, lt_then, eq_then, lt-self, lt-chain, lt-not_back, lt-other, lt-not_chain}
+use Rattle.qu_stamp.proofs.Groups.{groups_total, exact_groups, decides_group, same_group-self}
 use Rattle.qu_stamp.specs.declared.stamp.Stamp.{Stamp}
 use Rattle.qu_stamp.specs.declared.candidate.Candidate.{Candidate}
 use Rattle.qu_stamp.specs.Stamp.{opening_stamp, is_sized, digest_cmp, stamp_cmp, is_below, same_digest, same_stamp}
+use Rattle.qu_stamp.specs.Group.{group_cmp, is_group_below, same_group}
 use Rattle.qu_stamp.specs.Candidate.{is_before, same}
 
 -- ---- the total order
@@ -37,11 +41,6 @@ stamps_total =
     (on_total (λ (stamp : Stamp). stamp.set) digests_total))))
 
 -- ---- stamps that compare alike are equal
-
-both_equal : (first later : Ordering) → ordering_then first later ≡ Equal → (first ≡ Equal) × (later ≡ Equal)
-both_equal Less later level = absurd (false≢true (ap is_eq level))
-both_equal Equal later level = (refl, level)
-both_equal Greater later level = absurd (false≢true (ap is_eq level))
 
 abbrev digest_of_bytes : List ℕ → Digest
 digest_of_bytes bytes = record { 0 = bytes }
@@ -113,49 +112,18 @@ derived_cmp a b set other_set act other_act =
 
 -- ---- the order below
 
-is_Less : (order : Ordering) → is_lt order ≡ true → order ≡ Less
-is_Less Less below = refl
-is_Less Equal below = absurd (false≢true below)
-is_Less Greater below = absurd (false≢true below)
-
-is_Equal : (order : Ordering) → is_eq order ≡ true → order ≡ Equal
-is_Equal Less level = absurd (false≢true level)
-is_Equal Equal level = refl
-is_Equal Greater level = absurd (false≢true level)
-
-turned_lt : (order : Ordering) → is_lt (ordering_reverse order) ≡ is_gt order
-turned_lt Less = refl
-turned_lt Equal = refl
-turned_lt Greater = refl
-
-not_both : (order : Ordering) → is_lt order ≡ true → is_gt order ≡ false
-not_both Less below = refl
-not_both Equal below = refl
-not_both Greater below = absurd (false≢true below)
-
-one_of : (order : Ordering) → is_lt order ≡ false → is_eq order ≡ false → is_gt order ≡ true
-one_of Less not_below unlike = absurd (false≢true (sym not_below))
-one_of Equal not_below unlike = absurd (false≢true (sym unlike))
-one_of Greater not_below unlike = refl
-
 -- no stamp is below itself
 pub is_below-self : (a : Stamp) → is_below a a ≡ false
 unfolding is_below
-is_below-self a = ap is_lt (tied_itself stamps_total a)
+is_below-self = lt-self stamp_cmp stamps_total
 
 pub is_below-chain : (a b c : Stamp) → is_below a b ≡ true → is_below b c ≡ true → is_below a c ≡ true
 unfolding is_below
-is_below-chain a b c ab bc =
-    ap is_lt (stamps_total.trans a b c (is_Less (stamp_cmp a b) ab) (is_Less (stamp_cmp b c) bc))
-
--- the second is below the first where the order answers `Greater`
-above : (a b : Stamp) → is_below b a ≡ is_gt (stamp_cmp a b)
-unfolding is_below
-above a b = ap is_lt (stamps_total.antisymm b a) ∙ turned_lt (stamp_cmp a b)
+is_below-chain = lt-chain stamp_cmp stamps_total
 
 pub is_below-not_back : (a b : Stamp) → is_below a b ≡ true → is_below b a ≡ false
 unfolding is_below
-is_below-not_back a b ab = above a b ∙ not_both (stamp_cmp a b) ab
+is_below-not_back = lt-not_back stamp_cmp stamps_total
 
 decides_digest : (a b : Digest) → Decides (same_digest a b) (a ≡ b)
 decides_digest a b = (
@@ -193,21 +161,31 @@ equal_by_same_stamp a b alike =
     (eqb-true (a.client).0 (b.client).0 client.0) (equal_by_same_act a.act b.act act.0)
     ((decides_digest a.set b.set).0 act.1)
 
+-- the same stamps are those that compare alike
+alike_stamps : (a b : Stamp) → same_stamp a b ≡ is_eq (stamp_cmp a b)
+alike_stamps a b =
+    elim (cases_Bool (same_stamp a b)) [
+      | inl alike ↦
+          alike ∙ sym (ap (λ other. is_eq (stamp_cmp a other)) (sym (equal_by_same_stamp a b alike))
+          ∙ ap is_eq (tied_itself stamps_total a))
+      | inr unlike ↦ elim (cases_Bool (is_eq (stamp_cmp a b))) [
+        | inl level ↦ absurd
+            (false≢true (sym unlike ∙ ap (same_stamp a) (sym (exact_stamps a b (is_Equal (stamp_cmp a b) level)))
+            ∙ same_stamp-self a))
+        | inr not_level ↦ unlike ∙ sym not_level
+      ]
+    ]
+
 -- of two stamps that are not the same, one is below the other
 pub is_below-other : (a b : Stamp) → is_below a b ≡ false → same_stamp a b ≡ false → is_below b a ≡ true
 unfolding is_below
 is_below-other a b not_below unlike =
-    above a b ∙ one_of (stamp_cmp a b) not_below (elim (cases_Bool (is_eq (stamp_cmp a b))) [
-      | inl level ↦ absurd
-          (false≢true (sym unlike ∙ ap (same_stamp a) (sym (exact_stamps a b (is_Equal (stamp_cmp a b) level)))
-          ∙ same_stamp-self a))
-      | inr not_level ↦ not_level
-    ])
+    lt-other stamp_cmp stamps_total a b not_below (sym (alike_stamps a b) ∙ unlike)
 
 -- what is not above one stamp is not above a later one
 pub is_below-not_chain : (a b c : Stamp) → is_below a b ≡ false → is_below b c ≡ false → is_below a c ≡ false
-is_below-not_chain a b c ab bc =
-    above c a ∙ upto stamps_total c b a (sym (above c b) ∙ bc) (sym (above b a) ∙ ab)
+unfolding is_below
+is_below-not_chain = lt-not_chain stamp_cmp stamps_total
 
 not_lt_then : (first later : Ordering) → is_lt first ≡ false → is_lt later ≡ false
     → is_lt (ordering_then first later) ≡ false
@@ -277,76 +255,92 @@ is_below-time a b below = time_decides a.time b.time _ below
 
 -- ---- candidates
 
+-- the order of candidates, in one comparison
+abbrev candidate_cmp : Candidate → Candidate → Ordering
+candidate_cmp a b =
+    ordering_then (stamp_cmp a.stamp b.stamp)
+    (ordering_then (stamp_cmp a.prior b.prior) (group_cmp a.group b.group))
+
+candidates_total : IsTotalOrder candidate_cmp
+candidates_total =
+    then_total (on_total (λ (candidate : Candidate). candidate.stamp) stamps_total)
+    (then_total (on_total (λ (candidate : Candidate). candidate.prior) stamps_total)
+    (on_total (λ (candidate : Candidate). candidate.group) groups_total))
+
+alike_groups : (a b : List (ObjectId × ℕ)) → same_group a b ≡ is_eq (group_cmp a b)
+alike_groups a b =
+    elim (cases_Bool (same_group a b)) [
+      | inl alike ↦
+          alike ∙ sym (ap (λ other. is_eq (group_cmp a other)) (sym ((decides_group a b).0 alike))
+          ∙ ap is_eq (tied_itself groups_total a))
+      | inr unlike ↦ elim (cases_Bool (is_eq (group_cmp a b))) [
+        | inl level ↦ absurd
+            (false≢true (sym unlike ∙ ap (same_group a) (sym (exact_groups a b (is_Equal (group_cmp a b) level)))
+            ∙ same_group-self a))
+        | inr not_level ↦ unlike ∙ sym not_level
+      ]
+    ]
+
+is_before-lt : (a b : Candidate) → is_before a b ≡ is_lt (candidate_cmp a b)
+unfolding is_below
+is_before-lt a b =
+    ap (λ same. is_below a.stamp b.stamp || (same && (is_below a.prior b.prior
+    || (same_stamp a.prior b.prior && is_group_below a.group b.group)))) (alike_stamps a.stamp b.stamp)
+    ∙ ap (λ same. is_below a.stamp b.stamp || (is_eq (stamp_cmp a.stamp b.stamp) && (is_below a.prior b.prior
+    || (same && is_group_below a.group b.group)))) (alike_stamps a.prior b.prior)
+    ∙ ap (λ later. is_below a.stamp b.stamp || (is_eq (stamp_cmp a.stamp b.stamp) && later))
+    (lt_then (stamp_cmp a.prior b.prior) (group_cmp a.group b.group))
+    ∙ lt_then (stamp_cmp a.stamp b.stamp) _
+
+same-eq : (a b : Candidate) → same a b ≡ is_eq (candidate_cmp a b)
+same-eq a b =
+    ap (λ alike. alike && (same_stamp a.prior b.prior && same_group a.group b.group)) (alike_stamps a.stamp b.stamp)
+    ∙ ap (λ alike. is_eq (stamp_cmp a.stamp b.stamp) && (alike && same_group a.group b.group))
+    (alike_stamps a.prior b.prior)
+    ∙ ap (λ alike. is_eq (stamp_cmp a.stamp b.stamp) && (is_eq (stamp_cmp a.prior b.prior) && alike))
+    (alike_groups a.group b.group)
+    ∙ ap (λ later. is_eq (stamp_cmp a.stamp b.stamp) && later)
+    (eq_then (stamp_cmp a.prior b.prior) (group_cmp a.group b.group))
+    ∙ eq_then (stamp_cmp a.stamp b.stamp) _
+
 -- no candidate is before itself
 pub is_before-self : (a : Candidate) → is_before a a ≡ false
-is_before-self a = grind (arith, nat_tests, is_below-self a.stamp, is_below-self a.prior)
+is_before-self a = is_before-lt a a ∙ lt-self candidate_cmp candidates_total a
 
 -- a candidate with an earlier stamp is before one with a later stamp
 pub is_before_by_stamp : (a b : Candidate) → is_below a.stamp b.stamp ≡ true → is_before a b ≡ true
-is_before_by_stamp a b below = grind (arith, nat_tests)
-
-pub is_before_by_prior : (a b : Candidate) → a.stamp ≡ b.stamp → is_below a.prior b.prior ≡ true → is_before a b ≡ true
-is_before_by_prior a b equal below = grind (arith, nat_tests, same_stamp-self a.stamp, ap (same_stamp a.stamp) equal)
-
-pub is_before-cases : (a b : Candidate) → is_before a b ≡ true → (is_below a.stamp b.stamp ≡ true)
-    ⊎ ((a.stamp ≡ b.stamp) × (is_below a.prior b.prior ≡ true))
-is_before-cases a b before =
-    elim (or_cases (is_below a.stamp b.stamp) (same_stamp a.stamp b.stamp && is_below a.prior b.prior) before) [
-      | inl below ↦ inl below
-      | inr level ↦
-          let parts : (same_stamp a.stamp b.stamp ≡ true) × (is_below a.prior b.prior ≡ true) = and_parts _ _ level in
-          inr (equal_by_same_stamp a.stamp b.stamp parts.0, parts.1)
-    ]
+is_before_by_stamp a b below = or_left _ _ below
 
 pub is_before-chain : (a b c : Candidate) → is_before a b ≡ true → is_before b c ≡ true → is_before a c ≡ true
 is_before-chain a b c ab bc =
-    elim (is_before-cases a b ab) [
-      | inl ab_stamp ↦ elim (is_before-cases b c bc) [
-        | inl bc_stamp ↦ is_before_by_stamp a c (is_below-chain a.stamp b.stamp c.stamp ab_stamp bc_stamp)
-        | inr bc_level ↦ is_before_by_stamp a c (ap (λ stamp. is_below a.stamp stamp) (sym bc_level.0) ∙ ab_stamp)
-      ]
-      | inr ab_level ↦ elim (is_before-cases b c bc) [
-        | inl bc_stamp ↦ is_before_by_stamp a c (ap (λ stamp. is_below stamp c.stamp) ab_level.0 ∙ bc_stamp)
-        | inr bc_level ↦ is_before_by_prior a c (ab_level.0 ∙ bc_level.0)
-            (is_below-chain a.prior b.prior c.prior ab_level.1 bc_level.1)
-      ]
-    ]
+    is_before-lt a c ∙ lt-chain candidate_cmp candidates_total a b c (sym (is_before-lt a b) ∙ ab)
+    (sym (is_before-lt b c) ∙ bc)
 
 pub is_before-not_back : (a b : Candidate) → is_before a b ≡ true → is_before b a ≡ false
 is_before-not_back a b ab =
-    elim (cases_Bool (is_before b a)) [
-      | inl back ↦ absurd (false≢true (sym (is_before-self a) ∙ is_before-chain a b a ab back))
-      | inr not_back ↦ not_back
-    ]
+    is_before-lt b a ∙ lt-not_back candidate_cmp candidates_total a b (sym (is_before-lt a b) ∙ ab)
 
 -- of two candidates that are not the same, one is before the other
 pub is_before-other : (a b : Candidate) → is_before a b ≡ false → same a b ≡ false → is_before b a ≡ true
 is_before-other a b not_before unlike =
-    elim (cases_Bool (same_stamp a.stamp b.stamp)) [
-      | inl level ↦
-          is_before_by_prior b a (sym (equal_by_same_stamp a.stamp b.stamp level))
-          (is_below-other a.prior b.prior (grind (arith, nat_tests)) (grind (arith, nat_tests)))
-      | inr apart ↦ is_before_by_stamp b a (is_below-other a.stamp b.stamp (grind (arith, nat_tests)) apart)
-    ]
-
-pub same-self : (a : Candidate) → same a a ≡ true
-same-self a = grind (arith, nat_tests, same_stamp-self a.stamp, same_stamp-self a.prior)
-
-pub equal_by_same : (a b : Candidate) → same a b ≡ true → a ≡ b
-equal_by_same a b alike =
-    let parts : (same_stamp a.stamp b.stamp ≡ true) × (same_stamp a.prior b.prior ≡ true) = and_parts _ _ alike in
-    λ i. record {
-      stamp = equal_by_same_stamp a.stamp b.stamp parts.0 i;
-      prior = equal_by_same_stamp a.prior b.prior parts.1 i;
-    }
+    is_before-lt b a ∙ lt-other candidate_cmp candidates_total a b (sym (is_before-lt a b) ∙ not_before)
+    (sym (same-eq a b) ∙ unlike)
 
 -- what is not above one candidate is not above a later one
 pub is_before-not_chain : (a b c : Candidate) → is_before a b ≡ false → is_before b c ≡ false → is_before a c ≡ false
 is_before-not_chain a b c ab bc =
-    elim (cases_Bool (is_before a c)) [
-      | inl before ↦ elim (cases_Bool (same b c)) [
-        | inl alike ↦ sym (ap (λ other. is_before a other) (equal_by_same b c alike)) ∙ ab
-        | inr unlike ↦ absurd (false≢true (sym ab ∙ is_before-chain a c b before (is_before-other b c bc unlike)))
-      ]
-      | inr not_before ↦ not_before
-    ]
+    is_before-lt a c ∙ lt-not_chain candidate_cmp candidates_total a b c (sym (is_before-lt a b) ∙ ab)
+    (sym (is_before-lt b c) ∙ bc)
+
+pub same-self : (a : Candidate) → same a a ≡ true
+same-self a =
+    and_from _ _ (same_stamp-self a.stamp) (and_from _ _ (same_stamp-self a.prior) (same_group-self a.group))
+
+pub equal_by_same : (a b : Candidate) → same a b ≡ true → a ≡ b
+equal_by_same a b alike =
+    let stamp = and_parts (same_stamp a.stamp b.stamp) _ alike in
+    let prior = and_parts (same_stamp a.prior b.prior) (same_group a.group b.group) stamp.1 in
+    let stamps = equal_by_same_stamp a.stamp b.stamp stamp.0 in
+    let priors = equal_by_same_stamp a.prior b.prior prior.0 in
+    let groups = (decides_group a.group b.group).0 prior.1 in
+    λ i. record { stamp = stamps i; prior = priors i; group = groups i }

@@ -1,17 +1,19 @@
 ghost use Rattle.std.specs.Prelude.{◌≡◌};
 
-use super::Stamp;
+use super::{Group, Stamp};
+use qu_base::ObjectId;
 
-/// A version of an object that a replica may accept: its own stamp, and the stamp of the version
-/// upon which it rests.
-#[derive(Clone, Copy, Debug, PartialEq, Eq, Hash)]
+/// A version of an object that a replica may accept: its own stamp, the stamp of the version upon which it rests,
+/// and the objects on which it is accepted together with others.
+#[derive(Clone, Copy, Debug, PartialEq, Eq)]
 pub struct Candidate {
     pub stamp: Stamp,
     pub prior: Stamp,
+    pub group: Group,
 }
 
 impl Candidate {
-    ghost use Rattle.qu_stamp.specs.Candidate.{opening, is_before};
+    ghost use Rattle.qu_stamp.specs.Candidate.{opening, is_based_below, is_before, member};
 
     /// The candidate with which each object begins. It rests upon itself.
     pub const fn opening() -> Candidate
@@ -20,6 +22,7 @@ impl Candidate {
         Candidate {
             stamp: Stamp::opening(),
             prior: Stamp::opening(),
+            group: Group::none(),
         }
     }
 
@@ -28,7 +31,25 @@ impl Candidate {
     pub fn is_before(&self, other: &Candidate) -> bool
         ensures { result ≡ is_before self.now other.now }
     {
-        self.stamp.is_below(&other.stamp)
-            || self.stamp == other.stamp && self.prior.is_below(&other.prior)
+        self.stamp.is_below(&other.stamp) || self.stamp == other.stamp && self.is_based_below(other)
+    }
+
+    /// The same of two candidates with one stamp.
+    #[tactic(auto, unfolding(crate::specs::Stamp::same_stamp))]
+    fn is_based_below(&self, other: &Candidate) -> bool
+        ensures { result ≡ is_based_below self.now other.now }
+    {
+        self.prior.is_below(&other.prior)
+            || self.prior == other.prior && self.group.is_below(&other.group)
+    }
+
+    /// The stamp of its group on an object: its own with the time that the group lists there; `None` exactly where
+    /// the group does not list the object.
+    #[tactic(auto, unfolding(crate::specs::Candidate::member))]
+    pub fn member(&self, object: ObjectId) -> Option<Stamp>
+        ensures { result ≡ member self.now object }
+    {
+        let time = self.group.time(object)?;
+        Some(Stamp { time, ..self.stamp })
     }
 }

@@ -18,7 +18,7 @@ pub enum Fetch {
 }
 
 impl Fetch {
-    /// The same with an equal text.
+    /// What an answer brings, with a copy of its text.
     pub fn copy(&self, alloc: Global) -> Result<Fetch, NoMemory>
         ensures { IfOk result (λ fetch. fetch ≡ self.now) }
     {

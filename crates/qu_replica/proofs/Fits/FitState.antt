@@ -13,7 +13,7 @@ use Rattle.qu_stamp.specs.declared.stamp.Stamp.{Stamp}
 use Rattle.qu_stamp.specs.declared.candidate.Candidate.{Candidate}
 use Rattle.qu_stamp.specs.Stamp.{is_below, same_stamp}
 use Rattle.qu_stamp.specs.Candidate.{opening}
-use Rattle.qu_stamp.specs.Formats.{stamp_form, prior_form}
+use Rattle.qu_stamp.specs.Formats.{basis_form}
 use Rattle.qu_history.specs.declared.limits.TheConstants.{HISTORY_LIMIT}
 use Rattle.qu_history.specs.History.{ObjectHistory, is_history, latest, last_from}
 use Rattle.qu_history.specs.Formats.{next_candidate, candidates_form}
@@ -32,7 +32,7 @@ use Rattle.qu_replica.proofs.States.Growth.{length-with_candidate}
 use Rattle.qu_rows.proofs.Own.{own_history}
 use Rattle.qu_replica.proofs.States.Own.{accept-histories, opening-histories}
 use Rattle.qu_fitting.proofs.FitVersions.{none_rising, no_links}
-use Rattle.qu_fitting.proofs.FitStamps.{opening_fits, prior_of_opening_fits}
+use Rattle.qu_fitting.proofs.FitStamps.{CandidateFits, opening_fits, opening_candidate_fits}
 use Rattle.std.specs.List.{AllByRecursion}
 use Rattle.qu_fitting.proofs.FitAccepted.{AcceptFits, AcceptAllFit}
 
@@ -48,20 +48,19 @@ unfolding last_from
 after_is_last first [] = refl
 after_is_last first (next ∷ later) = after_is_last next later
 
-fits_after : (before : Option Stamp) (candidates : List Candidate) (candidate : Candidate)
-    → FitsFrom next_candidate (λ (it : Candidate). Some it.stamp) before candidates
-    → (next_candidate (stamp_after before candidates)).Fits candidate
-    → FitsFrom next_candidate (λ (it : Candidate). Some it.stamp) before (candidates ++ candidate ∷ [])
-fits_after before [] candidate fits here = (here, tt)
-fits_after before (first ∷ later) candidate fits here =
-    (fits.0, fits_after (Some first.stamp) later candidate fits.1 here)
+fits_after : (object : ObjectId) (before : Option Stamp) (candidates : List Candidate) (candidate : Candidate)
+    → FitsFrom (next_candidate object) (λ (it : Candidate). Some it.stamp) before candidates
+    → (next_candidate object (stamp_after before candidates)).Fits candidate
+    → FitsFrom (next_candidate object) (λ (it : Candidate). Some it.stamp) before (candidates ++ candidate ∷ [])
+fits_after object before [] candidate fits here = (here, tt)
+fits_after object before (first ∷ later) candidate fits here =
+    (fits.0, fits_after object (Some first.stamp) later candidate fits.1 here)
 
 -- a candidate that fits, above the stamp before it
-next_fits : (before : Stamp) (candidate : Candidate) → stamp_form.Fits candidate.stamp
-    → is_below before candidate.stamp ≡ true → (prior_form candidate.stamp).Fits candidate.prior
-    → (next_candidate (Some before)).Fits candidate
-unfolding next_candidate
-next_fits before candidate fits below prior = ((fits, below), prior)
+next_fits : (object : ObjectId) (before : Stamp) (candidate : Candidate) → CandidateFits object candidate
+    → is_below before candidate.stamp ≡ true → (next_candidate object (Some before)).Fits candidate
+unfolding next_candidate basis_form
+next_fits object before candidate fits below = ((fits.stamp, below), (fits.prior, fits.group))
 
 last_is : (candidates : List Candidate) → IsTrue (is_history candidates) → stamp_after None candidates ≡ Some
     (latest candidates)
@@ -69,21 +68,21 @@ unfolding is_history last_from
 last_is [] rises = absurd (false≢true rises)
 last_is (first ∷ later) rises = after_is_last first later ∙ ap Some (sym (latest_is_last (first ∷ later) rises))
 
-pub push_fits : (candidates : List Candidate) (candidate : Candidate) → candidates_form.Fits candidates
+pub push_fits : (object : ObjectId) (candidates : List Candidate) (candidate : Candidate)
+    → (candidates_form object).Fits candidates
     → IsTrue (is_history candidates) → is_below (latest candidates) candidate.stamp ≡ true
-    → length candidates < HISTORY_LIMIT
-    → stamp_form.Fits candidate.stamp → (prior_form candidate.stamp).Fits candidate.prior
-    → candidates_form.Fits (candidates ++ candidate ∷ [])
+    → length candidates < HISTORY_LIMIT → CandidateFits object candidate
+    → (candidates_form object).Fits (candidates ++ candidate ∷ [])
 unfolding candidates_form
-push_fits candidates candidate fits rises later room stamp prior =
+push_fits object candidates candidate fits rises later room here =
     let count : length (candidates ++ candidate ∷ []) ≡ length candidates + 1 =
     length-append candidates (candidate ∷ []) in (
       (omega (arith, count), omega (arith, count, room)),
       (
         refl,
-        fits_after None candidates candidate (fits.1).1
-            (subst (λ (before : Option Stamp). (next_candidate before).Fits candidate)
-            (sym (last_is candidates rises)) (next_fits (latest candidates) candidate stamp later prior)),
+        fits_after object None candidates candidate (fits.1).1
+            (subst (λ (before : Option Stamp). (next_candidate object before).Fits candidate)
+            (sym (last_is candidates rises)) (next_fits object (latest candidates) candidate here later)),
       ),
     )
 
@@ -91,15 +90,15 @@ push_fits candidates candidate fits rises later room stamp prior =
 
 histories_with : (number : ℕ) (candidate : Candidate) (histories : List ObjectHistory)
     → ((place : ℕ) (history : ObjectHistory) → slice_get histories place ≡ Some history
-    → candidates_form.Fits history.candidates)
+    → (candidates_form history.object).Fits history.candidates)
     → ((history : ObjectHistory) → slice_get histories number ≡ Some history
-    → candidates_form.Fits (history.candidates ++ candidate ∷ []))
+    → (candidates_form history.object).Fits (history.candidates ++ candidate ∷ []))
     → (place : ℕ) (history : ObjectHistory) → slice_get (with_candidate number candidate histories) place ≡ Some
-    history → candidates_form.Fits history.candidates
+    history → (candidates_form history.object).Fits history.candidates
 unfolding with_candidate
 histories_with number candidate [] before grown place history found = before place history found
 histories_with zero candidate (here ∷ later) before grown zero history found =
-    subst (λ (it : ObjectHistory). candidates_form.Fits it.candidates)
+    subst (λ (it : ObjectHistory). (candidates_form it.object).Fits it.candidates)
     (same_Some (record here { candidates = here.candidates ++ candidate ∷ [] }) history found) (grown here refl)
 histories_with zero candidate (here ∷ later) before grown (suc place) history found = before (suc place) history found
 histories_with (suc number) candidate (here ∷ later) before grown zero history found = before zero history found
@@ -132,8 +131,11 @@ accept-fits state accepted fits may made = record {
       (sym found) ∙ may.later in
       let room : length history.candidates < HISTORY_LIMIT =
       subst (λ (it : Option ObjectHistory). length (candidates_in it) < HISTORY_LIMIT) found may.room in
-      push_fits history.candidates accepted.candidate (fits.histories (accepted.object).0 history found)
-      (own_history state (accepted.object).0 history fits.own found).rises later room made.stamp made.prior);
+      let own = own_history state (accepted.object).0 history fits.own found in
+      let object : accepted.object ≡ history.object = λ i. record { 0 = sym own.object i } in
+      push_fits history.object history.candidates accepted.candidate (fits.histories (accepted.object).0 history found)
+      own.rises later room (subst (λ (it : ObjectId). CandidateFits it accepted.candidate) object
+      (record { stamp = made.stamp; prior = made.prior; group = made.group })));
   versions = versions_with state.versions _ fits.versions
       (stored_fits accepted.object accepted.candidate.stamp accepted.state made.version);
   waiting = fits.waiting;
@@ -148,9 +150,11 @@ accept_all-fits state (first ∷ second ∷ later) fits may made = absurd may
 
 -- ---- the beginning
 
-opening_candidates : candidates_form.Fits (opening ∷ [])
-unfolding candidates_form next_candidate same_stamp
-opening_candidates = ((omega arith, omega arith), (refl, (((opening_fits, refl), prior_of_opening_fits), tt)))
+opening_candidates : (object : ObjectId) → (candidates_form object).Fits (opening ∷ [])
+unfolding candidates_form next_candidate basis_form same_stamp
+opening_candidates object =
+    let fits = opening_candidate_fits object in
+    ((omega arith, omega arith), (refl, (((opening_fits, refl), (fits.prior, fits.group)), tt)))
 
 pub opening_number : (me : ReplicaId) (first : ℕ) (kinds : List KindName)
     → length (opening_histories me first kinds) ≡ length kinds
@@ -159,11 +163,13 @@ opening_number me first [] = refl
 opening_number me first (kind ∷ kinds) = ap suc (opening_number me (first + 1) kinds)
 
 opening_histories_fit : (me : ReplicaId) (first : ℕ) (kinds : List KindName) (place : ℕ) (history : ObjectHistory)
-    → slice_get (opening_histories me first kinds) place ≡ Some history → candidates_form.Fits history.candidates
+    → slice_get (opening_histories me first kinds) place ≡ Some history
+    → (candidates_form history.object).Fits history.candidates
 unfolding opening_histories
 opening_histories_fit me first [] place history found = absurd (none-some history found)
 opening_histories_fit me first (kind ∷ kinds) zero history found =
-    subst (λ (it : ObjectHistory). candidates_form.Fits it.candidates) (same_Some _ history found) opening_candidates
+    subst (λ (it : ObjectHistory). (candidates_form it.object).Fits it.candidates) (same_Some _ history found)
+    (opening_candidates _)
 opening_histories_fit me first (kind ∷ kinds) (suc place) history found =
     opening_histories_fit me (first + 1) kinds place history found
 

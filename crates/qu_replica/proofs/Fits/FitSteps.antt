@@ -1,18 +1,19 @@
 -- The letters that answer a text carry frames that fit, and what the replica holds fits after each step.
-use Rattle.std.proofs.Common.{◌≡◌, ℕ, ◌-◌, ◌^◌, ◌≤◌, Bool, true, false, cond, List, [], ◌∷◌, map, Option, None, Some, refl, subst, arith, set, option_map, ◌++◌, ◌∙◌, zero, suc, ◌+◌, inl, inr, sym, ap}
+use Rattle.std.proofs.Common.{◌≡◌, ℕ, ◌-◌, ◌^◌, ◌≤◌, Bool, true, false, cond, length, List, [], ◌∷◌, map, Option, None, Some, refl, subst, arith, set, option_map, ◌++◌, ◌∙◌, zero, suc, ◌+◌, inl, inr, sym, ap}
 use Rattle.std.specs.Prelude.{is_none, slice_get, ◌==◌}
 use Rattle.std.specs.List.{cons_option, AllByRecursion}
-use Rattle.std.proofs.lemmas.Bool.{le-leb, eq-eqb, cond_both, cases_Bool}
+use Rattle.std.proofs.lemmas.Bool.{le-leb, leb-true, eq-eqb, cond_both, cases_Bool}
 use Rattle.std.proofs.lemmas.Option.{same_Some, none-some}
 use Rattle.qu_frames.specs.declared.limits.TheConstants.{LAST_ROUND}
 use Rattle.qu_base.specs.declared.limits.TheConstants.{REPLICA_IDS, OBJECT_IDS, LAST_CLIENT}
 use Rattle.qu_base.specs.declared.party.Party.TheVariants as party
 use Rattle.qu_base.specs.declared.party.ClientId.{ClientId}
 use Rattle.qu_base.specs.declared.party.ObjectId.{ObjectId}
-use Rattle.qu_base.specs.Format.{AreBytes}
+use Rattle.qu_base.specs.Format.{AreBytes, FitsFrom}
+use Rattle.qu_history.specs.declared.sealed.Sealed.{Sealed}
 use Rattle.qu_history.specs.declared.sets.SetOf.{SetOf}
 use Rattle.qu_history.specs.History.{ObjectHistory}
-use Rattle.qu_history.specs.Formats.{set_form, sets_form, sealed_from, shown_form}
+use Rattle.qu_history.specs.Formats.{set_form, sets_form, sealed_from, object_after, shown_form}
 use Rattle.qu_history.specs.Culling.{history_digest, culled, left_out}
 use Rattle.qu_history.specs.Sealing.{sealed_by}
 use Rattle.qu_frames.specs.declared.frame.Frame.{Frame}
@@ -54,40 +55,74 @@ use Rattle.qu_objects.specs.States.{state_form}
 -- ---- a reply
 
 module _ (state : ReplicaState) (fits : StateFits state) where
-  one_shown : (object : ObjectId) → object.0 ≤ OBJECT_IDS - 1 → (found : Option ObjectHistory)
-      → slice_get state.histories object.0 ≡ found → (shown_form state.me).Fits
-      (map (sealed_by state.keys) (cons_option found []))
-  unfolding shown_form sealed_from
-  one_shown object within None is = ((omega arith, omega arith), (refl, tt))
-  one_shown object within (Some history) is =
+  -- histories that fit from a number on fit from a lower one on
+  shown_lower : (least lower : ℕ) (items : List Sealed) → lower ≤ least
+      → FitsFrom (sealed_from state.me) object_after least items
+      → FitsFrom (sealed_from state.me) object_after lower items
+  unfolding sealed_from
+  shown_lower least lower [] order fit = tt
+  shown_lower least lower (sealed ∷ later) order fit =
+      let head = (fit.0).0 in
+      let above : least ≤ ((sealed.history).object).0 = leb-true _ _ (head.0).1 in
+      (((((head.0).0, le-leb lower ((sealed.history).object).0 (omega (arith, above, order))), head.1), (fit.0).1), fit.1)
+
+  -- the replica's own history of an object
+  one_shown : (least : ℕ) (object : ObjectId) (history : ObjectHistory) → least ≤ object.0
+      → object.0 ≤ OBJECT_IDS - 1 → slice_get state.histories object.0 ≡ Some history
+      → (sealed_from state.me least).Fits (sealed_by state.keys history)
+  unfolding sealed_from
+  one_shown least object history above within is =
       let own : IsOwn state.me object.0 history = own_history state object.0 history fits.own is in
       let number : (history.object).0 ≡ object.0 = own.object in
       let mine : (history.replica).0 ≡ (state.me).0 = own.replica in
       let low : (history.object).0 ≤ OBJECT_IDS - 1 = omega (arith, number, within) in
       let few : (history.replica).0 ≤ REPLICA_IDS - 1 = omega (arith, mine, fits.me) in (
-        (omega arith, omega arith),
         (
-          refl,
-          (
-            (
-              (
-                ((omega arith, low), le-leb _ _ (omega arith)),
-                (((omega arith, few), eq-eqb _ _ mine), fits.histories object.0 history is),
-              ),
-              seals_fit state.keys history.replica (history_digest history) fits.bounds,
-            ),
-            tt,
-          ),
+          ((omega arith, low), le-leb _ _ (omega (arith, number, above))),
+          (((omega arith, few), eq-eqb _ _ mine), fits.histories object.0 history is),
         ),
+        seals_fit state.keys history.replica (history_digest history) fits.bounds,
       )
+
+  -- those of the objects of the sets that the replica has, by rising objects
+  shown_from : (least : ℕ) (sets : List SetOf) → FitsFrom set_form (λ (set : SetOf). (set.object).0 + 1) least sets
+      → FitsFrom (sealed_from state.me) object_after least (map (sealed_by state.keys) (shown state sets))
+  unfolding shown set_form
+  shown_from least [] within = tt
+  shown_from least (set ∷ later) within =
+      let object = (within.0).0 in
+      let above : least ≤ (set.object).0 = leb-true _ _ object.1 in
+      let rest = shown_from ((set.object).0 + 1) later within.1 in
+      elim (slice_get state.histories (set.object).0) as (λ (found : Option ObjectHistory).
+      slice_get state.histories (set.object).0 ≡ found → FitsFrom (sealed_from state.me) object_after least
+      (map (sealed_by state.keys) (cons_option found (shown state later)))) [
+        | None ↦ λ is. shown_lower ((set.object).0 + 1) least (map (sealed_by state.keys) (shown state later))
+            (omega (arith, above)) rest
+        | Some history ↦ λ is. (
+          one_shown least set.object history above (object.0).1 is,
+          subst (λ (number : ℕ). FitsFrom (sealed_from state.me) object_after (number + 1)
+              (map (sealed_by state.keys) (shown state later)))
+              (sym (own_history state (set.object).0 history fits.own is).object) rest,
+        )
+      ] refl
+
+  -- no more than there are objects in the sets
+  shown_few : (sets : List SetOf) → length (map (sealed_by state.keys) (shown state sets)) ≤ length sets
+  unfolding shown
+  shown_few [] = omega arith
+  shown_few (set ∷ later) =
+      let rest = shown_few later in
+      elim (slice_get state.histories (set.object).0) as (λ (found : Option ObjectHistory).
+      length (map (sealed_by state.keys) (cons_option found (shown state later))) ≤ length (set ∷ later)) [
+        | None ↦ omega (arith, rest)
+        | Some history ↦ omega (arith, rest)
+      ]
 
   shown_fits : (sets : List SetOf) → sets_form.Fits sets → (shown_form state.me).Fits
       (map (sealed_by state.keys) (shown state sets))
-  unfolding shown sets_form set_form
-  shown_fits [] within = absurd (omega (arith, (within.0).0))
-  shown_fits (set ∷ []) within =
-      one_shown set.object (((((within.1).1).0).0).0).1 (slice_get state.histories (set.object).0) refl
-  shown_fits (first ∷ second ∷ later) within = absurd (omega (arith, (within.0).1))
+  unfolding sets_form shown_form
+  shown_fits sets within =
+      ((omega arith, omega (arith, shown_few sets, (within.0).1)), (refl, shown_from 0 sets (within.1).1))
 
   named_fits : (sets : List SetOf) → sets_form.Fits sets → culled_form.Fits (named state sets)
   unfolding named

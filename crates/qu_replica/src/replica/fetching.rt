@@ -262,7 +262,7 @@ impl Replica {
         }
     }
 
-    /// The same, where this is the request that the version wakes.
+    /// What it makes of the version that is found, where this is the request that the version wakes.
     fn plan_woken(
         &self,
         waiting: &Waiting,

@@ -16,7 +16,7 @@ use qu_frames::{ClassCode, Refusal, Verdict};
 use qu_history::Sets;
 use qu_kept::{Performed, Standing, perform, standing_of};
 use qu_objects::{Act, Answer, ObjState, Query, tell_all};
-use qu_stamp::{Candidate, LAST_TIME, Stamp};
+use qu_stamp::{Candidate, Group, LAST_TIME, Stamp};
 use std::alloc::Global;
 use std::slice::from_ref;
 
@@ -258,6 +258,7 @@ impl<'a> Rows<'a> {
                     set: asked.set,
                 },
                 prior: base.stamp,
+                group: Group::none(),
             }),
             None => None,
         }

@@ -2,6 +2,8 @@
 use Rattle.std.proofs.Common.{◌≡◌, ◌⊎◌, true, false, not, length, Some, sym, ap, subst, ◌∙◌, arith, inl, inr, ℕ, ◌≤◌, ◌<◌}
 use Rattle.std.specs.Prelude.{is_some, Option}
 use Rattle.std.proofs.lemmas.Option.{none-some}
+use Rattle.qu_chain.proofs.Ancestry.{acceptor}
+use Rattle.qu_laws.proofs.Origins.{no_member_yet}
 use Rattle.qu_base.specs.declared.party.Digest.{Digest}
 use Rattle.qu_base.specs.declared.party.ObjectId.{ObjectId}
 use Rattle.qu_stamp.specs.declared.candidate.Candidate.{Candidate}
@@ -173,7 +175,10 @@ module _ (trace : Trace) (is_run : IsRun trace) (have : ArePlain trace) where
         → IsEverAccepted trace other companion → IsOf trace update other companion
     unfolding setting
     no_group update object other candidate companion is_of accepted apart is_member also =
-        absurd (none-some companion.stamp is_member)
+        let who = acceptor (setting trace) (setting trace).last object candidate accepted in
+        absurd (none-some companion.stamp
+        (sym (no_member_yet trace is_run have (setting trace).last who.replica object candidate who.accepted other)
+        ∙ is_member))
 
     pub update_facts : UpdateFacts trace
     update_facts = record {

@@ -1,8 +1,10 @@
 -- No candidate is refused as too early.
 use Rattle.std.proofs.Common.{◌∙◌, Err, ap, sym, arith}
+use Rattle.qu_stamp.specs.declared.candidate.Candidate.{Candidate}
 use Rattle.qu_stamp.specs.declared.stamp.Stamp.{Stamp}
+use Rattle.qu_stamp.specs.Stamp.{is_below}
 use Rattle.qu_history.specs.declared.history.AddFail.TheVariants.{NotLater}
-use Rattle.qu_history.specs.History.{ObjectHistory}
+use Rattle.qu_history.specs.History.{ObjectHistory, latest}
 use Rattle.qu_adversary.proofs.Named.{never_early}
 use Rattle.qu_adversary.proofs.naming.in_name_of.Goals as goal
 
@@ -16,4 +18,5 @@ unreachable-requires c =
     c.loop-place.place _ (rw (sym c.candidates.ensures.value) c.candidates.ensures.rising) same
     (ap (λ (it : ObjectHistory). it.candidates) c.loop-place.invariant)
     (omega (arith, c.loop-place.auto.place)) (omega (arith, c.loop-place-test.true, c.len-place-end.ensures.value))
-    early
+    (ap (λ (it : Candidate). is_below (latest c.loop-place.named.candidates) it.stamp)
+    (sym c.index-candidates-place.is) ∙ early)
