@@ -1,4 +1,5 @@
 pub mod KeyedLaws
 pub mod OneObject
+pub mod PerformedStates
 pub mod RowLaws
 pub mod StandingLaws

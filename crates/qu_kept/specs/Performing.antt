@@ -49,14 +49,21 @@ abbrev pub state_after : KeptRow → Value → List Link → ObjState → ObjSta
 state_after row value links state =
     record { value = value; kept = with_row row state.kept; links = with_links links state.links }
 
+-- the state after an act with these parts, by the object's own part, its new stamp, its value then and its state before
+abbrev pub written : KeptRow → List (ObjectId × Method) → (ObjectId × Method) × (Stamp × (Value × ObjState)) → ObjState
+written row parts each =
+    let stamp = (each.1).0 in
+    let changed = (each.1).1 in
+    state_after row changed.0 (links_to_others (each.0).0 stamp parts) changed.1
+
+-- the states after an act with these parts, by its row and the values then, all in the order of the parts
+abbrev pub states_after : KeptRow → List (ObjectId × Method) → List Stamp → List Value → List ObjState → List ObjState
+states_after row parts stamps values states = map (written row parts) (zip parts (zip stamps (zip values states)))
+
 -- the states after the act, in the order of its parts
 abbrev pub performed_states : ClientId → ℕ → List (ObjectId × Method) → List Stamp → List ObjState → List ObjState
 performed_states client number parts stamps states =
-    map (λ (each : (ObjectId × Method) × (Stamp × (Value × ObjState))).
-    let stamp = (each.1).0 in
-    let changed = (each.1).1 in
-    state_after (row_for client number parts states) changed.0 (links_to_others (each.0).0 stamp parts) changed.1)
-    (zip parts (zip stamps (zip (performed_values parts (values_of states)) states)))
+    states_after (row_for client number parts states) parts stamps (performed_values parts (values_of states)) states
 
 -- their links
 abbrev pub performed_links : List (ObjectId × Method) → List Stamp → List ObjState → List (List Link)

@@ -2,6 +2,7 @@
 //! never performed twice.
 #![tactic(auto)]
 
+mod links;
 mod performing;
 mod repeats;
 mod rows;

@@ -5,14 +5,14 @@ ghost use Rattle.qu_objects.specs.Digesting.{act_digest};
 ghost use Rattle.qu_kept.specs.declared.repeats.Standing.TheVariants.{Already};
 ghost use Rattle.qu_kept.specs.Rows.{row_of, with_row};
 ghost use Rattle.qu_kept.specs.Standing.{standing_of};
-ghost use Rattle.qu_kept.specs.Performing.{values_of, row_for, state_after, performed_states, performed_links};
+ghost use Rattle.qu_kept.specs.Performing.{values_of, row_for, states_after, performed_states, performed_links};
 
+use super::links::links_after;
 use super::with_row;
-use qu_base::{ClientId, List, NoMemory};
-use qu_objects::{Act, Answer, KeptRow, ObjState, PerformedValues, act_digest, only_value};
+use qu_base::{ClientId, List, NoMemory, ObjectId};
+use qu_objects::{Act, Answer, KeptRow, Method, ObjState, PerformedValues, Value, act_digest};
 use qu_stamp::Stamp;
 use std::alloc::Global;
-use std::slice;
 
 /// What an act makes of the versions of its objects, and the answer.
 #[derive(Debug, Drop)]
@@ -36,8 +36,9 @@ impl Performed {
 /// Performs an act of a client, which is its operation with this number, counted from 1, on the versions of the
 /// act's objects. Those and the stamps of the new versions are given in the order of the act's parts.
 ///
-/// All values change or none. Each version keeps the act and its answer in any case.
-#[tactic(auto, using(qu_objects::proofs::Single::values_one))]
+/// All values change or none. Each version keeps the act and its answer, and links to the act's other objects, in any
+/// case.
+#[tactic(auto, using(crate::proofs::PerformedStates::performed_laws))]
 pub fn perform(
     alloc: Global,
     states: &[ObjState],
@@ -62,47 +63,46 @@ pub fn perform(
     ensures repeated { IfOk result (λ performed. standing_of by number (act_digest by number act.now) act.now
         performed.states ≡ Already performed.answer) }
 {
-    match (states, act.parts().as_slice(), stamps) {
-        ([state], [_], [_]) => perform_one(alloc, state, act, by, number),
-        _ => unreachable!(),
-    }
-}
-
-/// The act on the version of its one object, whose links stay.
-#[tactic(auto, using(qu_objects::proofs::Single::values_one))]
-fn perform_one(
-    alloc: Global,
-    state: &ObjState,
-    act: &Act,
-    by: ClientId,
-    number: u64,
-) -> Result<Performed, NoMemory>
-    requires { length act.now ≡ 1 }
-    ensures states { IfOk result (λ performed. performed.states
-        ≡ map (λ value. state_after (row_for by number act.now (state.now ∷ [])) value [] state.now)
-        (performed_values act.now (state.now.value ∷ []))) }
-    ensures answer { IfOk result (λ performed. performed.answer ≡ performed_answer act.now (state.now.value ∷ [])) }
-{
-    let digest = act_digest(alloc, by, number, act)?;
-    let PerformedValues { values, answer } = qu_objects::perform(
-        alloc,
-        slice::from_ref(&state.value),
-        act,
-    )?;
-    let value = only_value(values);
+    let values = values_of(alloc, states)?;
+    let PerformedValues { values, answer } = qu_objects::perform(alloc, values.as_slice(), act)?;
     let row = KeptRow {
         client: by,
         number,
-        act: digest,
+        act: act_digest(alloc, by, number, act)?,
         answer: answer.copy(alloc)?,
     };
-    let state = ObjState {
-        value,
-        kept: with_row(alloc, state.kept.as_slice(), row)?,
-        links: state.links.copy(alloc)?,
-    };
-    Ok(Performed {
-        states: List::one(alloc, state)?,
-        answer,
-    })
+    let states = states_after(alloc, &row, act.parts().as_slice(), stamps, values, states)?;
+    Ok(Performed { states, answer })
+}
+
+/// Their values.
+fn values_of(alloc: Global, states: &[ObjState]) -> Result<List<Value>, NoMemory>
+    ensures { IfOk result (λ values. values ≡ values_of states.now) }
+{
+    let mut values = List::new(alloc);
+    for state in states {
+        values.push(state.value.copy(alloc)?)?;
+    }
+    Ok(values)
+}
+
+/// The versions after an act with these parts, by the row that each keeps of it and the values that it leaves.
+fn states_after(
+    alloc: Global,
+    row: &KeptRow,
+    parts: &[(ObjectId, Method)],
+    stamps: &[Stamp],
+    values: List<Value>,
+    states: &[ObjState],
+) -> Result<List<ObjState>, NoMemory>
+    ensures { IfOk result (λ new. new ≡ states_after row.now parts.now stamps.now values states.now) }
+{
+    let mut new = List::new(alloc);
+    let changed = values.into_vec().into_iter().zip(states);
+    for ((object, _), (stamp, (value, state))) in parts.iter().zip(stamps.iter().zip(changed)) {
+        let kept = with_row(alloc, state.kept.as_slice(), row.copy(alloc)?)?;
+        let links = links_after(alloc, state.links.as_slice(), *object, *stamp, parts)?;
+        new.push(ObjState { value, kept, links })?;
+    }
+    Ok(new)
 }

@@ -1,13 +1,13 @@
-ghost use Rattle.std.specs.Prelude.{◌≡◌, ◌↔◌, ◌≤◌, ℕ, length, if◌then◌else◌, IsTrue, IfOk};
+ghost use Rattle.std.specs.Prelude.{◌≡◌, ◌↔◌, ◌≤◌, ℕ, length, IsTrue, IfOk};
 ghost use Rattle.std.specs.Option.{option_copied};
 ghost use Rattle.qu_base.specs.declared.party.ObjectId.{ObjectId as Object};
 ghost use Rattle.qu_objects.specs.Parts.{are_parts};
 ghost use Rattle.qu_kept.specs.declared.repeats.Standing.TheVariants.{Fresh, Spent};
-ghost use Rattle.qu_kept.specs.Standing.{is_of_act, told_again, spent_or, standing_of, is_already, is_repeated, AreLower};
+ghost use Rattle.qu_kept.specs.Standing.{is_of_act, is_repeated, told_by_first, first_spent, standing_of, is_already, AreLower};
 
 use super::row_of;
 use qu_base::{ClientId, Digest, NoMemory, ObjectId};
-use qu_objects::{Act, Answer, KeptRow, ObjState};
+use qu_objects::{Act, Answer, KeptRow, Method, ObjState};
 use std::alloc::Global;
 
 /// How an act of a client stands to what the versions of its objects keep of this client.
@@ -41,7 +41,7 @@ pub fn standing_of(
     stands(alloc, states, act, by, number, digest)
 }
 
-/// How the act stands to the version of its one object.
+/// The standing of the act, which has parts.
 fn stands(
     alloc: Global,
     states: &[ObjState],
@@ -54,34 +54,62 @@ fn stands(
     ensures value { IfOk result (λ standing. standing ≡ standing_of by number digest.now act.now states.now) }
     ensures in_order { IsTrue (are_parts act.now) }
 {
-    match (states, act.parts().as_slice()) {
-        ([state], [(object, _)]) => {
-            let row = row_of(state.kept.as_slice(), by);
-            by_row(alloc, *object, row, number, digest)
-        }
-        _ => unreachable!(),
+    let parts = act.parts().as_slice();
+    if is_repeated(states, by, number, digest) {
+        told_by_first(alloc, states, by)
+    } else {
+        Ok(first_spent(parts, states, by, number))
     }
 }
 
-/// How an act on this object stands to the row that the object's version keeps of the client.
-fn by_row(
-    alloc: Global,
-    object: ObjectId,
-    row: Option<&KeptRow>,
-    number: u64,
-    digest: &Digest,
-) -> Result<Standing, NoMemory>
-    ensures { IfOk result (λ standing. standing ≡ (if is_of_act number digest.now (option_copied row.entry)
-        then told_again (option_copied row.entry) else spent_or number object Fresh (option_copied row.entry))) }
+/// Whether it is the client's last act on each of the objects.
+fn is_repeated(states: &[ObjState], by: ClientId, number: u64, digest: &Digest) -> bool
+    ensures { result ≡ is_repeated by number digest.now states.now }
+{
+    states.iter().all(|state| is_of_act(row_of(state.kept.as_slice(), by), number, digest))
+}
+
+/// Whether the row is that of exactly this act.
+fn is_of_act(row: Option<&KeptRow>, number: u64, digest: &Digest) -> bool
+    ensures { result ≡ is_of_act number digest.now (option_copied row.entry) }
 {
     match row {
-        Some(row) if row.number == number && row.act == *digest => {
-            Ok(Standing::Already(row.answer.copy(alloc)?))
-        }
-        Some(row) if number <= row.number => Ok(Standing::Spent {
-            object,
-            number: row.number,
-        }),
-        Some(_) | None => Ok(Standing::Fresh),
+        Some(row) => row.number == number && row.act == *digest,
+        None => false,
     }
+}
+
+/// What the row of the first object tells of the client's last act.
+fn told_by_first(alloc: Global, states: &[ObjState], by: ClientId) -> Result<Standing, NoMemory>
+    ensures { IfOk result (λ standing. standing ≡ told_by_first by states.now) }
+{
+    match states {
+        [state, ..] => match row_of(state.kept.as_slice(), by) {
+            Some(row) => Ok(Standing::Already(row.answer.copy(alloc)?)),
+            None => Ok(Standing::Fresh),
+        },
+        [] => Ok(Standing::Fresh),
+    }
+}
+
+/// Names the first object that keeps a number of the client which is at least this one.
+fn first_spent(
+    parts: &[(ObjectId, Method)],
+    states: &[ObjState],
+    by: ClientId,
+    number: u64,
+) -> Standing
+    ensures { result ≡ first_spent by number parts.now states.now }
+{
+    for ((object, _), state) in parts.iter().zip(states) {
+        if let Some(row) = row_of(state.kept.as_slice(), by)
+            && number <= row.number
+        {
+            return Standing::Spent {
+                object: *object,
+                number: row.number,
+            };
+        }
+    }
+    Standing::Fresh
 }

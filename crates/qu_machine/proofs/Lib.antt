@@ -1,5 +1,5 @@
-mod OneObject
 pub mod Equalities
 pub mod Firsts
+pub mod NamedValues
 pub mod Running
 pub mod Verdict

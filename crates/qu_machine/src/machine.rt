@@ -1,14 +1,11 @@
-ghost use Rattle.std.specs.Prelude.{◌≡◌, ◌<◌, length, map, IfOk, OnOk, OnErr, All, slice_set};
+ghost use Rattle.std.specs.Prelude.{◌≡◌, ◌<◌, length, map, IfOk, OnOk, OnErr, All};
 ghost use Rattle.qu_objects.specs.Kind.{fresh_value};
-ghost use Rattle.qu_machine.specs.Machine.{act_answer, act_values, query_answer};
+ghost use Rattle.qu_machine.specs.Machine.{values_at, with_values, act_answer, act_values, query_answer};
 
-use qu_base::NoMemory;
-use qu_objects::{
-    Act, Answer, KindName, PerformedValues, Query, Value, only_value, perform, tell_all,
-};
+use qu_base::{List, NoMemory, ObjectId};
+use qu_objects::{Act, Answer, KindName, PerformedValues, Query, Value, perform, tell_all};
 use std::alloc::Global;
 use std::marker::Model;
-use std::slice;
 
 /// Plain values, on which operations are run whole and one after another.
 #[derive(Debug, Drop)]
@@ -44,8 +41,9 @@ impl Machine {
         ensures values { OnOk result (self.new ≡ act_values self.old act.now) }
         ensures err { OnErr result (self.new ≡ self.old) }
     {
-        let (index, value, answer) = performed_on(alloc, self.values.as_slice(), act)?;
-        self.values[index] = value;
+        let before = values_at(alloc, self.values.as_slice(), act.parts().as_slice())?;
+        let PerformedValues { values, answer } = perform(alloc, before.as_slice(), act)?;
+        put_values(self.values.as_mut_slice(), act.parts().as_slice(), values);
         Ok(answer)
     }
 
@@ -54,41 +52,34 @@ impl Machine {
         requires { All (λ part. (part.0).0 < length self.now) query.now }
         ensures { IfOk result (λ answer. answer ≡ query_answer self.now query.now) }
     {
-        match query.parts().as_slice() {
-            [(object, _)] => {
-                tell_all(
-                    alloc,
-                    slice::from_ref(&self.values[usize::from(object.0)]),
-                    query,
-                )
-            }
-            _ => unreachable!(),
-        }
+        let values = values_at(alloc, self.values.as_slice(), query.parts().as_slice())?;
+        tell_all(alloc, values.as_slice(), query)
     }
 }
 
-/// Where the object stands that an act on one object names, what the act makes of its value, and the answer.
-#[tactic(auto, using(qu_objects::proofs::Single::values_one))]
-fn performed_on(
+/// The values of the objects that an operation names, in the order of its parts.
+fn values_at<X>(
     alloc: Global,
     values: &[Value],
-    act: &Act,
-) -> Result<(usize, Value, Answer), NoMemory>
-    requires { All (λ part. (part.0).0 < length values.now) act.now }
-    ensures index { IfOk result (λ made. made.0 < length values.now) }
-    ensures values { IfOk result (λ made. act_values values.now act.now ≡ slice_set values.now made.0 made.1) }
-    ensures answer { IfOk result (λ made. act_answer values.now act.now ≡ made.2) }
+    parts: &[(ObjectId, X)],
+) -> Result<List<Value>, NoMemory>
+    requires { All (λ part. (part.0).0 < length values.now) parts.now }
+    ensures values { IfOk result (λ named. named ≡ values_at values.now parts.now) }
+    ensures one_each { IfOk result (λ named. length named ≡ length parts.now) }
 {
-    match act.parts().as_slice() {
-        [(object, _)] => {
-            let index = usize::from(object.0);
-            let PerformedValues { values, answer } = perform(
-                alloc,
-                slice::from_ref(&values[index]),
-                act,
-            )?;
-            Ok((index, only_value(values), answer))
-        }
-        _ => unreachable!(),
+    let mut named = List::new(alloc);
+    for (object, _) in parts {
+        named.push(values[usize::from(object.0)].copy(alloc)?)?;
+    }
+    Ok(named)
+}
+
+/// Puts values, given in the order of the parts, in the places of the objects that an operation names.
+fn put_values<X>(values: &mut [Value], parts: &[(ObjectId, X)], made: List<Value>)
+    requires { All (λ part. (part.0).0 < length values.old) parts.now }
+    ensures { values.new ≡ with_values values.old parts.now made }
+{
+    for ((object, _), value) in parts.iter().zip(made.into_vec()) {
+        values[usize::from(object.0)] = value;
     }
 }

@@ -3,3 +3,4 @@ pub mod Forms
 pub mod Text
 pub mod ReadingLaws
 pub mod StateLaws
+pub mod FewParts

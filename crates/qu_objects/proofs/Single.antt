@@ -1,5 +1,5 @@
--- An act on one object changes one value, and the last of one item is the item.
-use Rattle.std.proofs.Common.{◌≡◌, ap, List, [], ◌∷◌, ◌++◌, length, length-append, refl, arith}
+-- An act on one object makes one value.
+use Rattle.std.proofs.Common.{◌≡◌, List, [], ◌∷◌, length, refl, arith}
 use Rattle.qu_base.specs.declared.kind.Applied.{Applied}
 use Rattle.qu_base.specs.declared.kind.Applied.TheVariants.{Changed, Refused}
 use Rattle.qu_base.specs.declared.party.ObjectId.{ObjectId}
@@ -7,12 +7,6 @@ use Rattle.qu_objects.specs.declared.act.Method.{Method}
 use Rattle.qu_objects.specs.declared.kind.Value.{Value}
 use Rattle.qu_objects.specs.Kind.{applied}
 use Rattle.qu_objects.specs.Performing.{refusal_from, changed_values, values_by, performed_values}
-
-pub only_last : {X : Type 0} (all rest : List X) (item : X) → length all ≡ 1 → all ≡ rest ++ item ∷ []
-    → all ≡ item ∷ []
-only_last all [] item one is = is
-only_last all (first ∷ rest) item one is =
-    absurd (omega (arith, one, ap length is, length-append rest (item ∷ [])))
 
 values_one_by : (value : Value) (made : Applied Value)
     → length (values_by (refusal_from 0 (made ∷ [])) (value ∷ []) (changed_values (made ∷ []))) ≡ 1

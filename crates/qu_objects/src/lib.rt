@@ -31,7 +31,7 @@ pub use limits::{
     limits_are_these,
 };
 pub use op::{Op, Outcome};
-pub use performing::{PerformedValues, only_value, perform, tell_all};
+pub use performing::{PerformedValues, perform, tell_all};
 pub use qu_base::{Applied, Item, Kind, Told};
 pub use query::{Ask, Query};
 pub use reading_answer::read_answer;

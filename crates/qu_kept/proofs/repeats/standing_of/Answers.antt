@@ -19,6 +19,6 @@ returns-clause-already c =
 pub returns-clause-spent : goal.returns-clause-spent
 returns-clause-spent c = λ object kept.
     IfOk-weaker c.stands.result _ _
-    (λ standing is. rw is (spent_where c.args.by c.args.number c.args.digest.now c.args.act.now c.args.states.now object
-    kept c.stands.ensures.in_order c.requires))
+    (λ standing is. rw is (spent_where c.args.by c.args.number c.args.digest.now c.args.act.now c.args.states.now
+    c.stands.ensures.in_order c.requires object kept))
     c.stands.ensures.value
