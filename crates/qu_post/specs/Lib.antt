@@ -1,0 +1,4 @@
+pub mod Actors
+pub mod Letters
+pub mod Bags
+pub mod PostState

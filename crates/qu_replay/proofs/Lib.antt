@@ -1,0 +1,13 @@
+pub mod Actors
+pub mod Openings
+pub mod Told
+pub mod Naming
+pub mod Sending
+pub mod Merged
+pub mod Replayed
+pub mod Operations
+pub mod Growing
+pub mod Sorting
+pub mod Merging
+pub mod Standing
+pub mod LastTicket
