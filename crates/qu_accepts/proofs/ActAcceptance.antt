@@ -1,6 +1,6 @@
 -- What an act makes a replica accept: the rows that accept nothing, and the one that accepts.
-use Rattle.std.proofs.Common.{◌≡◌, ◌⊎◌, ℕ, zero, suc, ◌<◌, Bool, true, false, ◌||◌, cond, List, [], ◌∷◌, ◌++◌, length, Option, None, Some, inl, inr, refl, sym, subst, ap, ◌∙◌, arith}
-use Rattle.std.specs.Prelude.{slice_get, option_map, option_and_then, IsTrue}
+use Rattle.std.proofs.Common.{map, ◌≡◌, ◌⊎◌, ℕ, zero, suc, ◌<◌, Bool, true, false, cond, List, [], ◌∷◌, ◌++◌, length, Option, None, Some, inl, inr, refl, sym, subst, ap, ◌∙◌, arith}
+use Rattle.std.specs.Prelude.{◌==◌, slice_get, option_map, option_and_then, IsTrue}
 use Rattle.std.proofs.lemmas.Option.{none-some, same_Some}
 use Rattle.std.specs.List.{AllByRecursion}
 use Rattle.std.proofs.lemmas.Bool.{false≢true, eqb-true, eq-eqb}
@@ -26,19 +26,13 @@ use Rattle.qu_history.specs.History.{ObjectHistory}
 use Rattle.qu_history.specs.Sets.{latest_of}
 use Rattle.qu_objects.specs.declared.act.Method.{Method}
 use Rattle.qu_objects.specs.declared.query.Ask.{Ask}
-use Rattle.qu_objects.specs.declared.kind.Value.{Value}
 use Rattle.qu_objects.specs.declared.state.ObjState.{ObjState}
-use Rattle.qu_objects.specs.declared.state.Link.{Link}
 use Rattle.qu_objects.specs.Digesting.{act_digest}
 use Rattle.qu_objects.specs.Parts.{are_parts}
-use Rattle.qu_objects.specs.Performing.{performed_values}
 use Rattle.qu_kept.specs.declared.repeats.Standing.{Standing}
 use Rattle.qu_kept.specs.declared.repeats.Standing.TheVariants.{Fresh, Already, Spent}
-use Rattle.qu_kept.specs.Performing.{row_by, links_to_others, state_after}
 use Rattle.qu_kept.specs.Rows.{row_of}
 use Rattle.qu_kept.specs.Standing.{IsLower, standing_of}
-use Rattle.qu_objects.proofs.Single.{values_one}
-use Rattle.qu_kept.proofs.OneObject.{no_others, performed_to}
 use Rattle.qu_kept.proofs.StandingLaws.{fresh_where}
 use Rattle.qu_frames.specs.declared.frame.Body.TheVariants as body
 use Rattle.qu_frames.specs.declared.frame.Frame.TheVariants as frame
@@ -51,18 +45,14 @@ use Rattle.qu_rows.specs.declared.decision.Accepted.{Accepted}
 use Rattle.qu_rows.specs.declared.decision.Decision.{Decision}
 use Rattle.qu_rows.specs.declared.decision.Decision.TheVariants.{Answers, Waits}
 use Rattle.qu_rows.specs.State.{ReplicaState, candidates_in, own_candidates, own_latest}
-use Rattle.qu_replica.specs.State.{with_candidate, accept, accept_all}
-use Rattle.qu_rows.specs.Rows.{Asked, asked_at, refuse, shown_of, method_base, base_version, fresh_stamp, fresh_act, standing_in, done_again, repeated, row_unknown, row_thin, row_retry, row_current, row_method, row_version, row_kept, row_time, row_full, row_done, row_told, decide_act, decide_ask, class_told}
+use Rattle.qu_replica.specs.State.{with_candidate, accept_all}
+use Rattle.qu_rows.specs.Rows.{Asked, asked_at, refuse, shown_of, fresh_stamp, standing_in, done_again, repeated, row_unknown, row_thin, row_retry, row_current, row_method, row_version, row_kept, row_time, row_full, row_done, row_told, decide_act, decide_ask}
 use Rattle.qu_rows.specs.Table.{first_given}
 use Rattle.qu_replica.specs.Step.{carried_out, replica_on_frame}
 use Rattle.qu_versions.specs.Versions.{version_at}
-use Rattle.qu_rows.specs.Allowed.{HasParts, MayAccept, MayAcceptAll, MayDecide}
-use Rattle.qu_replica.proofs.States.Accepting.{other_history}
-use Rattle.qu_rows.proofs.Allowed.{decision_on-may, no_first}
-use Rattle.qu_rows.proofs.Carried.{versions_one, done_one}
-use Rattle.qu_claims.specs.Grounds.{IsGround, Accepts, Performs}
-use Rattle.qu_accepts.proofs.Parts.{one_named}
-use Rattle.qu_runs.proofs.Small.{some_of, single}
+use Rattle.qu_rows.specs.Allowed.{HasParts, MayAcceptAll, MayDecide}
+use Rattle.qu_rows.proofs.Allowed.{decision_on-may}
+use Rattle.qu_claims.specs.Grounds.{Accepts, Performs}
 use Rattle.qu_rows.specs.declared.remedy.Remedy.TheVariants.{Fresh}
 use Rattle.qu_replica.specs.Growth.{HoldsAlike}
 use Rattle.qu_rows.specs.Waiting.{TakenRequest}
