@@ -24,13 +24,13 @@ use Rattle.qu_rows.specs.declared.decision.Accepted.{Accepted}
 use Rattle.qu_rows.specs.declared.decision.Decision.{Decision}
 use Rattle.qu_rows.specs.declared.decision.Decision.TheVariants.{Waits}
 use Rattle.qu_rows.specs.State.{ReplicaState, candidates_in, own_candidates, own_latest}
-use Rattle.qu_replica.specs.State.{accept, accept_all}
+use Rattle.qu_fitting.specs.Holding.{accept, accept_all}
 use Rattle.qu_rows.specs.Rows.{Asked, asked_at, refuse, shown_of, decision_on, row_few, decide_repair, mend_asked, wanted_version, decision_by, mending_on}
 use Rattle.qu_rows.specs.Table.{first_given}
 use Rattle.qu_replica.specs.Step.{carried_out, replica_on_frame}
 use Rattle.qu_versions.specs.Versions.{version_at}
 use Rattle.qu_rows.specs.Allowed.{HasParts, MayAccept, MayAcceptAll}
-use Rattle.qu_replica.proofs.States.Accepting.{other_history}
+use Rattle.qu_fitting.proofs.Accepting.{other_history}
 use Rattle.qu_rows.proofs.Allowed.{decision_on-may}
 use Rattle.qu_claims.specs.Grounds.{Accepts, IsMade, IsRemedy, made_stamp, IsFound}
 use Rattle.qu_rows.specs.declared.mending.Mending.{Mending}

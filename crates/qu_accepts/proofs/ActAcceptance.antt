@@ -7,10 +7,10 @@ use Rattle.std.proofs.lemmas.Bool.{false≢true, eqb-true, eq-eqb}
 use Rattle.std.proofs.lemmas.List.{length-map}
 use Rattle.qu_kept.specs.Standing.{AreLower}
 use Rattle.qu_kept.proofs.EachObject.{objects_named, distinct_parts, values_are}
-use Rattle.qu_rows.proofs.CarriedEach.{AreBases, AreBefores, fresh_candidates, versions_made, accepted_each, versions_each, done_each}
-use Rattle.qu_rows.proofs.PassedRows.{base_of, before_of, passed_method, passed_version, passed_current}
-use Rattle.qu_replica.specs.State.{accepted_of, stored_all}
-use Rattle.qu_replica.proofs.States.AcceptingAll.{accept_all-is, accepted_grows, accepted_may, history_of}
+use Rattle.qu_fitting.proofs.CarriedEach.{AreBases, AreBefores, fresh_candidates, versions_made, accepted_each, versions_each, done_each}
+use Rattle.qu_fitting.proofs.PassedRows.{base_of, before_of, passed_method, passed_version, passed_current}
+use Rattle.qu_fitting.specs.Holding.{accepted_of, stored_all}
+use Rattle.qu_fitting.proofs.AcceptingAll.{accept_all-is, accepted_grows, accepted_may, history_of}
 use Rattle.qu_claims.specs.Grounds.{stored_of}
 use Rattle.qu_claims.specs.Parts.{Names}
 use Rattle.qu_versions.specs.declared.stored.Stored.{Stored}
@@ -45,7 +45,7 @@ use Rattle.qu_rows.specs.declared.decision.Accepted.{Accepted}
 use Rattle.qu_rows.specs.declared.decision.Decision.{Decision}
 use Rattle.qu_rows.specs.declared.decision.Decision.TheVariants.{Answers, Waits}
 use Rattle.qu_rows.specs.State.{ReplicaState, candidates_in, own_candidates, own_latest}
-use Rattle.qu_replica.specs.State.{with_candidate, accept_all}
+use Rattle.qu_fitting.specs.Holding.{with_candidate, accept_all}
 use Rattle.qu_rows.specs.Rows.{Asked, asked_at, refuse, shown_of, fresh_stamp, standing_in, done_again, repeated, row_unknown, row_thin, row_retry, row_current, row_method, row_version, row_kept, row_time, row_full, row_done, row_told, decide_act, decide_ask}
 use Rattle.qu_rows.specs.Table.{first_given}
 use Rattle.qu_replica.specs.Step.{carried_out, replica_on_frame}

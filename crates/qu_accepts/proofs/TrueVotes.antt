@@ -28,7 +28,7 @@ use Rattle.qu_rows.specs.State.{ReplicaState}
 use Rattle.qu_rows.specs.Waiting.{Running}
 use Rattle.qu_fitting.specs.Fits.{StateFits, StepFits}
 use Rattle.qu_replica.specs.Step.{replica_on_received, replica_step}
-use Rattle.qu_replica.proofs.Fits.FitState.{opening-fits}
+use Rattle.qu_fitting.proofs.FitState.{opening-fits}
 use Rattle.qu_replica.proofs.Fits.FitSteps.{on_received-fits}
 use Rattle.qu_trace.specs.declared.event.Event.{Event}
 use Rattle.qu_trace.specs.declared.trace.Entry.{Entry}

@@ -15,7 +15,7 @@ use Rattle.qu_rows.specs.declared.decision.Decision.TheVariants.{Answers, Waits}
 use Rattle.qu_rows.specs.Rows.{asked_at, decision_on}
 use Rattle.qu_rows.specs.Waiting.{TakenRequest, Waiting, request_frame_of}
 use Rattle.qu_rows.specs.State.{ReplicaState}
-use Rattle.qu_replica.specs.State.{accept, accept_all}
+use Rattle.qu_fitting.specs.Holding.{accept, accept_all}
 use Rattle.qu_waiting.specs.Slots.{lacks, first_waiting, without_request}
 use Rattle.qu_replica.specs.Step.{has_kind, is_found, learned, handled, carried_out, if_handled, replica_on_frame, replica_on_received, replica_step}
 use Rattle.qu_trace.specs.declared.event.Event.{Event}

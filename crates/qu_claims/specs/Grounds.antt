@@ -23,7 +23,7 @@ use Rattle.qu_frames.specs.declared.frame.Frame.TheVariants as frame
 use Rattle.qu_versions.specs.declared.stored.Stored.{Stored}
 use Rattle.qu_rows.specs.Rows.{Asked, asked_of, fresh_stamp}
 use Rattle.qu_rows.specs.State.{ReplicaState, own_candidates, own_latest}
-use Rattle.qu_replica.specs.State.{stored_if}
+use Rattle.qu_fitting.specs.Holding.{stored_if}
 use Rattle.qu_versions.specs.Versions.{version_at}
 use Rattle.qu_trace.specs.declared.trace.Trace.{Trace}
 use Rattle.qu_claims.specs.Handling.{Handles}

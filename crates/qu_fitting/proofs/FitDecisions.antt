@@ -55,7 +55,8 @@ use Rattle.qu_fitting.proofs.FitVersions.{act_sized}
 use Rattle.qu_kept.proofs.KeyedLaws.{rising_with}
 use Rattle.qu_rows.proofs.Own.{own_history}
 use Rattle.qu_rows.proofs.Held.{is_held_by, own_in_time}
-use Rattle.qu_rows.proofs.Carried.{stamps_one, versions_one, fresh_on-stamp, done_one, told_one}
+use Rattle.qu_fitting.proofs.CarriedOne.{stamps_one, versions_one, done_one, told_one}
+use Rattle.qu_rows.proofs.Carried.{fresh_on-stamp}
 use Rattle.qu_fitting.proofs.FitStamps.{CandidateFits, stamp_fits, later_time, not_opening, prior_fits, opening_fits, candidates_fit, shown_fit, base_latest, base_shown, plain_fits}
 use Rattle.qu_fitting.proofs.FitVerdicts.{unknown_fits, thin_fits, time_fits, full_fits, method_fits, current_fits, done_fits, told_fits, performed_fits, after_fits, read_fits, already_fits, spent_fits}
 use Rattle.qu_fitting.proofs.FitAccepted.{AcceptAllFit, version_fits}

@@ -8,3 +8,12 @@ pub mod FitDecisions
 pub mod FitRepairs
 pub mod FitMends
 pub mod FitRequests
+pub mod Accepting
+pub mod AcceptingAll
+pub mod CarriedEach
+pub mod CarriedOne
+pub mod CulledRequests
+pub mod Decoded
+pub mod FitState
+pub mod OwnHistories
+pub mod PassedRows

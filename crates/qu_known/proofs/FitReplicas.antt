@@ -13,7 +13,7 @@ use Rattle.qu_frames.specs.declared.frame.Letter.{Letter}
 use Rattle.qu_rows.specs.State.{ReplicaState}
 use Rattle.qu_replica.specs.Step.{replica_step}
 use Rattle.qu_fitting.specs.Fits.{StateFits}
-use Rattle.qu_replica.proofs.Fits.FitState.{opening-fits}
+use Rattle.qu_fitting.proofs.FitState.{opening-fits}
 use Rattle.qu_replica.proofs.Fits.FitSteps.{step-fits}
 use Rattle.qu_trace.specs.declared.event.Event.{Event}
 use Rattle.qu_trace.specs.declared.event.Event.TheVariants.{Invoke, Deliver, Tick, Inject}

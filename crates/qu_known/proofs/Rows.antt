@@ -8,8 +8,8 @@ use Rattle.qu_seal.specs.Keys.{Ring}
 use Rattle.qu_stamp.specs.Candidate.{opening}
 use Rattle.qu_objects.specs.declared.kind.KindName.{KindName}
 use Rattle.qu_rows.specs.State.{candidates_in}
-use Rattle.qu_replica.specs.State.{opening_histories}
-use Rattle.qu_replica.proofs.Fits.FitState.{opening_number}
+use Rattle.qu_fitting.specs.Holding.{opening_histories}
+use Rattle.qu_fitting.proofs.FitState.{opening_number}
 use Rattle.qu_trace.specs.declared.trace.Trace.{Trace}
 use Rattle.qu_world.specs.State.{WorldState, kinds_at, opening_replicas, ring_of}
 use Rattle.qu_claims.specs.Times.{world_after}

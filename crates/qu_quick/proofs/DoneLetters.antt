@@ -27,7 +27,7 @@ use Rattle.qu_frames.specs.Signing.{brought, signature, sender, is_signed}
 use Rattle.qu_frames.proofs.Signed.{brought_is_signed, signed_is_spelled, signed_is_brought}
 use Rattle.qu_rows.specs.declared.decision.Accepted.{Accepted}
 use Rattle.qu_rows.specs.State.{ReplicaState}
-use Rattle.qu_replica.specs.State.{accept_all}
+use Rattle.qu_fitting.specs.Holding.{accept_all}
 use Rattle.qu_rows.specs.Rows.{unknown_in}
 use Rattle.qu_rows.specs.Waiting.{TakenRequest}
 use Rattle.qu_replica.specs.Step.{shown, named, answer_frame, reply, carried_out, replica_on_received, replica_step}

@@ -38,7 +38,7 @@ use Rattle.qu_rows.specs.declared.decision.Decision.{Decision}
 use Rattle.qu_rows.specs.declared.decision.Decision.TheVariants.{Answers, Waits}
 use Rattle.qu_rows.specs.State.{ReplicaState, own_candidates, own_latest}
 use Rattle.qu_rows.specs.Rows.{Asked, asked_of, asked_at, refuse, shown_of, base_version, fresh_stamp, fresh_act, is_held, repeated, row_unknown, row_thin, row_retry, row_current, row_method, row_version, row_kept, row_time, row_full, row_done, decide_act, decision_on}
-use Rattle.qu_rows.proofs.Carried.{versions_one, done_one}
+use Rattle.qu_fitting.proofs.CarriedOne.{versions_one, done_one}
 use Rattle.qu_rows.specs.Table.{first_given}
 use Rattle.qu_claims.specs.Grounds.{IsGround}
 use Rattle.qu_accepts.proofs.Grounds.{IsBase, is_base, above_held}

@@ -4,7 +4,7 @@ use Rattle.qu_base.specs.declared.party.Party.{Party}
 use Rattle.qu_base.specs.declared.party.Party.TheVariants as party
 use Rattle.qu_base.specs.declared.party.ReplicaId.{ReplicaId}
 use Rattle.qu_base.specs.Bounds.{replicas}
-use Rattle.qu_replica.specs.State as replica
+use Rattle.qu_fitting.specs.Holding as replica
 use Rattle.qu_rows.specs.State.{ReplicaState}
 use Rattle.qu_client.specs.State as client
 use Rattle.qu_client.specs.declared.state.ClientState.{ClientState}

@@ -1,4 +1,4 @@
--- How what a replica holds changes, and how it begins.
+-- How what a replica holds changes by a step.
 use Rattle.std.specs.Prelude.{ℕ, zero, suc, ◌+◌, ◌==◌, List, [], ◌∷◌, ◌++◌, set, replicate, find, Option, None, Some, unwrap_or}
 use Rattle.std.specs.List.{flat_map}
 use Rattle.qu_base.specs.declared.limits.TheConstants.{LAST_CLIENT}
@@ -18,42 +18,6 @@ use Rattle.qu_rows.specs.State.{ReplicaState}
 use Rattle.qu_replica.specs.declared.planned.Gain.{Gain}
 use Rattle.qu_waiting.specs.Slots.{with_turn}
 
--- the histories with a candidate at the end of that of the object with this number
-unfoldable pub with_candidate : ℕ → Candidate → List ObjectHistory → List ObjectHistory
-with_candidate number candidate [] = []
-with_candidate zero candidate (history ∷ later) =
-    record history { candidates = history.candidates ++ candidate ∷ [] } ∷ later
-with_candidate (suc number) candidate (history ∷ later) = history ∷ with_candidate number candidate later
-
--- the version that is stored under the stamp, if there is one
-abbrev pub stored_if : ObjectId → Stamp → Option ObjState → List Stored
-stored_if object stamp None = []
-stored_if object stamp (Some version) = record { object = object; stamp = stamp; state = version } ∷ []
-
-abbrev pub stored_of : Accepted → List Stored
-stored_of accepted = stored_if accepted.object accepted.candidate.stamp accepted.state
-
--- the versions of what is accepted
-abbrev pub stored_all : List Accepted → List Stored
-stored_all accepted = flat_map stored_of accepted
-
--- what is accepted of an object
-abbrev pub accepted_of : ObjectId → List Accepted → Option Accepted
-accepted_of object accepted = find (λ one. (one.object).0 == object.0) accepted
-
--- a candidate is accepted, with its version where it has one that is not stored yet
-abbrev pub accept : ReplicaState → Accepted → ReplicaState
-accept state accepted = record state {
-  histories = with_candidate (accepted.object).0 accepted.candidate state.histories;
-  versions = state.versions ++ stored_of accepted;
-}
-
-unfoldable pub accept_all : ReplicaState → List Accepted → ReplicaState
-accept_all state [] = state
-accept_all state (accepted ∷ later) = accept_all (accept state accepted) later
-
--- ---- what a step makes of the state
-
 -- each of those that grew in the place of that of its object
 abbrev pub with_histories : List ObjectHistory → List ObjectHistory → List ObjectHistory
 with_histories [] histories = histories
@@ -67,23 +31,3 @@ with_gain state gain = record state {
   waiting = with_turn gain.turn state.waiting;
   fetching = unwrap_or gain.fetching state.fetching;
 }
-
--- the objects from this number on, as they begin
-unfoldable pub opening_histories : ReplicaId → ℕ → List KindName → List ObjectHistory
-opening_histories me number [] = []
-opening_histories me number (kind ∷ kinds) =
-    record { object = record { 0 = number }; replica = me; candidates = opening ∷ [] } ∷ opening_histories me
-    (number + 1) kinds
-
--- a replica that has accepted nothing but the opening candidates; nothing waits, and nothing is fetched
-abbrev pub replica_at_start : ReplicaId → Ring → List KindName → ReplicaState
-replica_at_start me keys kinds =
-    record {
-      me = me;
-      keys = keys;
-      kinds = kinds;
-      histories = opening_histories me 0 kinds;
-      versions = opening_store 0 kinds;
-      waiting = replicate (LAST_CLIENT + 1) None;
-      fetching = [];
-    }

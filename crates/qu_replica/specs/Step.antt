@@ -30,7 +30,7 @@ use Rattle.qu_rows.specs.declared.decision.Decision.{Decision}
 use Rattle.qu_rows.specs.declared.decision.Decision.TheVariants.{Answers, Waits}
 use Rattle.qu_rows.specs.Waiting.{TakenRequest, Running}
 use Rattle.qu_rows.specs.State.{ReplicaState}
-use Rattle.qu_replica.specs.State.{accept_all}
+use Rattle.qu_fitting.specs.Holding.{accept_all}
 use Rattle.qu_waiting.specs.declared.counting.Counting.{Counting}
 use Rattle.qu_waiting.specs.Slots.{with_slot, with_fetches, with_votes, without_fetch, counting_of, fetch_under, first_waiting, without_request}
 use Rattle.qu_rows.specs.Rows.{asked_at, unknown_in, decision_on}

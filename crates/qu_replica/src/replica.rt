@@ -7,7 +7,8 @@ ghost use Rattle.qu_rows.specs.State.{AreHistories, without_waiting, one_more};
 ghost use Rattle.qu_versions.specs.Versions.{version_at};
 ghost use Rattle.qu_rows.specs.Rows.{asked_at, unknown_in, unknown_refused, decision_on};
 ghost use Rattle.qu_rows.specs.Allowed.{MayDecide};
-ghost use Rattle.qu_replica.specs.State.{replica_at_start, with_histories, with_gain};
+ghost use Rattle.qu_fitting.specs.Holding.{replica_at_start};
+ghost use Rattle.qu_replica.specs.State.{with_histories, with_gain};
 ghost use Rattle.qu_history.specs.Culling.{culled};
 ghost use Rattle.qu_history.specs.Text.{sets_digest};
 ghost use Rattle.qu_frames.specs.Signing.{before_mac};
@@ -79,7 +80,7 @@ struct Handled {
 impl Replica {
     /// A replica that has accepted nothing but the opening candidates of its objects, which are
     /// numbered as their kinds stand.
-    #[tactic(auto, using(crate::proofs::States::Own::are_own_opening, qu_waiting::proofs::SlotLaws::opening_slots))]
+    #[tactic(auto, using(qu_fitting::proofs::OwnHistories::are_own_opening, qu_waiting::proofs::SlotLaws::opening_slots))]
     pub fn start(
         alloc: Global,
         me: ReplicaId,

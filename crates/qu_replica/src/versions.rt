@@ -1,5 +1,5 @@
 ghost use Rattle.std.specs.Prelude.{◌≡◌, IfOk};
-ghost use Rattle.qu_replica.specs.State.{stored_all};
+ghost use Rattle.qu_fitting.specs.Holding.{stored_all};
 
 use qu_base::NoMemory;
 use qu_rows::Accepted;

@@ -28,7 +28,7 @@ use Rattle.qu_rows.specs.State.{ReplicaState, own_candidates, own_latest}
 use Rattle.qu_rows.specs.Rows.{asked_of, Asked, refuse, shown_of, method_base, base_version, row_unknown, row_thin, row_retry, row_current, row_method, row_version, row_kept, row_time, row_full, row_done, row_told, decide_act, decide_ask, decision_on, class_told, row_few, decision_by, mending_on, decide_repair, mend_asked}
 use Rattle.qu_rows.specs.Table.{first_given}
 use Rattle.qu_versions.specs.Versions.{version_at}
-use Rattle.qu_rows.proofs.Carried.{told_one}
+use Rattle.qu_fitting.proofs.CarriedOne.{told_one}
 use Rattle.qu_replies.specs.Replies.{TellsQuery, IsOfUpdate}
 use Rattle.qu_accepts.proofs.Grounds.{is_base}
 use Rattle.qu_runs.proofs.Small.{some_of}

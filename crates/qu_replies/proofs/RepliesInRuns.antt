@@ -17,7 +17,7 @@ use Rattle.qu_rows.specs.declared.decision.Accepted.{Accepted}
 use Rattle.qu_rows.specs.declared.decision.Decision.{Decision}
 use Rattle.qu_rows.specs.declared.decision.Decision.TheVariants.{Answers}
 use Rattle.qu_rows.specs.State.{ReplicaState}
-use Rattle.qu_replica.specs.State.{accept_all}
+use Rattle.qu_fitting.specs.Holding.{accept_all}
 use Rattle.qu_rows.specs.Allowed.{has_parts}
 use Rattle.qu_rows.specs.Rows.{Asked, asked_of, asked_at, row_unknown, objects_of, decision_on}
 use Rattle.qu_replica.specs.Step.{replica_on_frame, carried_out}

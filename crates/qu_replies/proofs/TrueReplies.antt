@@ -34,11 +34,11 @@ use Rattle.qu_rows.specs.declared.decision.Accepted.{Accepted}
 use Rattle.qu_rows.specs.declared.decision.Decision.{Decision}
 use Rattle.qu_rows.specs.declared.decision.Decision.TheVariants.{Answers, Waits}
 use Rattle.qu_rows.specs.State.{ReplicaState, own_candidates}
-use Rattle.qu_replica.specs.State.{accept_all}
+use Rattle.qu_fitting.specs.Holding.{accept_all}
 use Rattle.qu_rows.specs.Rows.{asked_of, Asked, method_base, base_version, fresh_stamp, fresh_act, fresh_stamps, fresh_versions, is_held, standing_in, done_again, repeated, row_unknown, row_retry, row_current, row_method, row_version, row_kept, row_done, decide_act, decision_on}
 use Rattle.qu_rows.specs.Table.{first_given}
 use Rattle.qu_versions.specs.Versions.{is_stored, version_at}
-use Rattle.qu_rows.proofs.Carried.{versions_one, done_one}
+use Rattle.qu_fitting.proofs.CarriedOne.{versions_one, done_one}
 use Rattle.qu_versions.specs.declared.stored.Stored.{Stored}
 use Rattle.qu_versions.proofs.Lookup.{append_grows}
 use Rattle.qu_replies.specs.Replies.{Keeps, HasDone, TellsDone, HasKept, TellsAlready, IsOfUpdate}

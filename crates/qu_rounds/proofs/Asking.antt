@@ -17,7 +17,7 @@ use Rattle.qu_frames.specs.declared.verdict.Verdict.{Verdict}
 use Rattle.qu_frames.specs.Formats.{frame_form}
 use Rattle.qu_frames.specs.Signing.{brought, signed, signature, with_mac}
 use Rattle.qu_rows.specs.State.{ReplicaState}
-use Rattle.qu_replica.specs.State.{accept_all}
+use Rattle.qu_fitting.specs.Holding.{accept_all}
 use Rattle.qu_replica.specs.Step.{shown, named, reply, learned, replica_step, answer_frame}
 use Rattle.qu_replica.specs.Step as replica
 use Rattle.qu_fitting.proofs.FitRequests.{blank_sized}

@@ -15,7 +15,7 @@ use Rattle.qu_frames.specs.declared.frame.Frame.TheVariants as frame
 use Rattle.qu_frames.specs.declared.frame.Letter.{Letter}
 use Rattle.qu_frames.specs.declared.verdict.Verdict.{Verdict}
 use Rattle.qu_rows.specs.State.{ReplicaState}
-use Rattle.qu_replica.specs.State.{accept_all}
+use Rattle.qu_fitting.specs.Holding.{accept_all}
 use Rattle.qu_replica.specs.Growth.{Grows}
 use Rattle.qu_replica.specs.Step.{answer_frame, reply, learned, replica_on_frame, replica_on_received}
 use Rattle.qu_replica.proofs.States.Growth.{accept_all-me}

@@ -15,13 +15,13 @@ use Rattle.qu_rows.specs.declared.decision.Accepted.{Accepted}
 use Rattle.qu_rows.specs.declared.decision.Decision.{Decision}
 use Rattle.qu_rows.specs.declared.decision.Decision.TheVariants.{Answers, Waits}
 use Rattle.qu_rows.specs.State.{ReplicaState}
-use Rattle.qu_replica.specs.State.{with_candidate, accept, accept_all, replica_at_start}
+use Rattle.qu_fitting.specs.Holding.{with_candidate, accept, accept_all, replica_at_start}
 use Rattle.qu_rows.specs.Rows.{asked_at, decision_on}
 use Rattle.qu_replica.specs.Step.{with_waiting, carried_out, learned, handled, if_handled, replica_on_frame, replica_on_received, replica_step}
 use Rattle.qu_rows.specs.Waiting.{TakenRequest}
 use Rattle.qu_rows.proofs.Own.{IsOwn, own_history}
 use Rattle.qu_replica.proofs.States.Learning.{Learned, is_learned}
-use Rattle.qu_replica.proofs.States.Own.{opening-histories}
+use Rattle.qu_fitting.proofs.OwnHistories.{opening-histories}
 use Rattle.qu_world.specs.State.{WorldState, opening_replicas, history_at}
 use Rattle.qu_world.proofs.Each.{set_cases}
 use Rattle.qu_frames.specs.Signing.{brought}

@@ -2,7 +2,7 @@
 use Rattle.std.proofs.Common.{◌≡◌, ℕ, suc, ◌+◌, ◌-◌, ◌<◌, ◌≤◌, List, [], ◌∷◌, ◌++◌, refl, sym, ap, ◌∙◌, append_assoc, append-nil, arith}
 use Rattle.qu_seal.specs.Keys.{Ring}
 use Rattle.qu_objects.specs.declared.kind.KindName.{KindName}
-use Rattle.qu_replica.specs.State as replica
+use Rattle.qu_fitting.specs.Holding as replica
 use Rattle.qu_rows.specs.State.{ReplicaState}
 use Rattle.qu_client.specs.State as client
 use Rattle.qu_client.specs.declared.state.ClientState.{ClientState}

@@ -27,7 +27,7 @@ use Rattle.qu_frames.proofs.Decoded.{decoded_is_spelled}
 use Rattle.qu_rows.specs.declared.decision.Decision.{Decision}
 use Rattle.qu_rows.specs.declared.decision.Decision.TheVariants.{Answers, Waits}
 use Rattle.qu_rows.specs.State.{ReplicaState}
-use Rattle.qu_replica.specs.State.{accept_all}
+use Rattle.qu_fitting.specs.Holding.{accept_all}
 use Rattle.qu_waiting.specs.Slots.{first_waiting, without_request, lacks}
 use Rattle.qu_rows.specs.Rows.{Asked, asked_at, unknown_in, decision_on}
 use Rattle.qu_replica.specs.Step.{shown, named, answer_frame, carried_out, replica_on_frame, replica_on_received, replica_step, version_letters, with_found, with_told, learned, handled, fetches_from, fetches_of, decided, if_handled, is_found}
@@ -35,9 +35,9 @@ use Rattle.qu_rows.specs.Allowed.{MayDecide}
 use Rattle.qu_fitting.specs.Fits.{StateFits, StepFits, VersionFits, LetterFits, SlotFits, VersionsFit}
 use Rattle.qu_rows.proofs.Own.{IsOwn, own_history}
 use Rattle.qu_rows.proofs.Allowed.{decision_on-may}
-use Rattle.qu_rows.proofs.Decoded.{body_has_parts}
+use Rattle.qu_fitting.proofs.Decoded.{body_has_parts}
 use Rattle.qu_fitting.proofs.FitCulled.{seals_fit, left_out-fits, none_named-fit}
-use Rattle.qu_replica.proofs.Fits.FitState.{accept_all-fits, versions_with}
+use Rattle.qu_fitting.proofs.FitState.{accept_all-fits, versions_with}
 use Rattle.qu_fitting.proofs.FitAccepted.{version_fits}
 use Rattle.qu_fitting.proofs.FitDecisions.{DecisionFits, KeyFits}
 use Rattle.qu_fitting.proofs.FitRequests.{blank_sized, RequestFits, request-fits, decision-fits}

@@ -7,12 +7,12 @@ use Rattle.qu_history.specs.Culling.{left_out}
 use Rattle.qu_rows.specs.declared.decision.Accepted.{Accepted}
 use Rattle.qu_rows.specs.declared.decision.Decision.{Decision}
 use Rattle.qu_rows.specs.State.{ReplicaState}
-use Rattle.qu_replica.specs.State.{accept_all}
+use Rattle.qu_fitting.specs.Holding.{accept_all}
 use Rattle.qu_rows.specs.Rows.{unknown_in, unknown_refused}
 use Rattle.qu_replica.specs.Step.{named}
 use Rattle.qu_replica.specs.Growth.{Grows}
 use Rattle.qu_replica.proofs.States.Growth.{accept_all-grows}
-use Rattle.qu_rows.proofs.CulledRequests.{unknown_decides, unknown_may, known_passes}
+use Rattle.qu_fitting.proofs.CulledRequests.{unknown_decides, unknown_may, known_passes}
 
 module _ (state : ReplicaState) (sets : List SetOf) where
   pub unknown_names : (decision : Decision) → Some decision ≡ unknown_refused (unknown_in state sets)

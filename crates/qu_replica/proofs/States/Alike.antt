@@ -27,7 +27,7 @@ use Rattle.qu_rows.specs.Table.{first_given}
 use Rattle.qu_rows.specs.Waiting.{TakenRequest}
 use Rattle.qu_rows.specs.State.{ReplicaState, candidates_in, without_waiting, one_more}
 use Rattle.qu_rows.specs.Allowed.{MayAccept, MayAcceptAll, MayDecide}
-use Rattle.qu_replica.specs.State.{with_candidate, accept, accept_all}
+use Rattle.qu_fitting.specs.Holding.{with_candidate, accept, accept_all}
 use Rattle.qu_replica.specs.Growth.{HoldsAlike}
 use Rattle.qu_replica.specs.Step.{shown, named, reply, with_found, carried_out, decided}
 

@@ -18,11 +18,12 @@ use Rattle.qu_rows.specs.Allowed.{MayAcceptAll}
 use Rattle.qu_replica.specs.declared.planned.Gain.{Gain}
 use Rattle.qu_waiting.specs.declared.next.Turn.{Turn}
 use Rattle.qu_waiting.specs.declared.next.Next.TheVariants.{Nothing, Lacks}
-use Rattle.qu_replica.specs.State.{stored_all, accept_all, with_histories, with_gain}
+use Rattle.qu_fitting.specs.Holding.{stored_all, accept_all}
+use Rattle.qu_replica.specs.State.{with_histories, with_gain}
 use Rattle.qu_waiting.specs.Slots.{next_slot, with_turn, with_slot, with_fetches, without_fetch, first_waiting, without_request, AreSlots, TurnFits}
 use Rattle.qu_replica.specs.Growth.{MayGain}
 use Rattle.qu_replica.specs.Step.{answers_needed, with_waiting, with_found}
-use Rattle.qu_replica.proofs.States.AcceptingAll.{with_candidates, accept_all-is, accept_all-histories}
+use Rattle.qu_fitting.proofs.AcceptingAll.{with_candidates, accept_all-is, accept_all-histories}
 use Rattle.qu_replica.proofs.States.Growth.{accept_all-me}
 use Rattle.qu_waiting.proofs.SlotLaws.{turned, in_its_slot, set_over}
 

@@ -14,19 +14,13 @@ use Rattle.qu_rows.specs.declared.decision.Accepted.{Accepted}
 use Rattle.qu_rows.specs.declared.decision.Decision.{Decision}
 use Rattle.qu_rows.specs.declared.decision.Decision.TheVariants.{Answers, Waits}
 use Rattle.qu_rows.specs.State.{ReplicaState, candidates_in, own_candidates}
-use Rattle.qu_replica.specs.State.{with_candidate, stored_if, accept, accept_all}
+use Rattle.qu_fitting.specs.Holding.{with_candidate, stored_if, accept, accept_all}
 use Rattle.qu_rows.specs.Rows.{asked_at, decision_on}
 use Rattle.qu_rows.specs.Waiting.{TakenRequest}
 use Rattle.qu_replica.proofs.States.Learning.{Learned, is_learned}
 use Rattle.qu_replica.specs.Step.{with_waiting, carried_out, learned, handled, if_handled, replica_on_frame, replica_on_received, replica_step}
 use Rattle.qu_replica.specs.Growth.{Grows}
-
-pub length-with_candidate : (number : ℕ) (candidate : Candidate) (histories : List ObjectHistory)
-    → length (with_candidate number candidate histories) ≡ length histories
-unfolding with_candidate
-length-with_candidate number candidate [] = refl
-length-with_candidate zero candidate (history ∷ later) = refl
-length-with_candidate (suc number) candidate (history ∷ later) = ap suc (length-with_candidate number candidate later)
+use Rattle.qu_fitting.proofs.Accepting.{length-with_candidate}
 
 candidates-with_candidate : (number place : ℕ) (candidate : Candidate) (histories : List ObjectHistory)
     → (more : List Candidate)

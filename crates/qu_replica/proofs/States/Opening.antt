@@ -4,7 +4,7 @@ use Rattle.qu_base.specs.declared.party.ReplicaId.{ReplicaId}
 use Rattle.qu_stamp.specs.Candidate.{opening}
 use Rattle.qu_history.specs.History.{ObjectHistory}
 use Rattle.qu_objects.specs.declared.kind.KindName.{KindName}
-use Rattle.qu_replica.specs.State.{opening_histories}
+use Rattle.qu_fitting.specs.Holding.{opening_histories}
 
 histories_from : (me : ReplicaId) (first place : ℕ) (kinds : List KindName) → place < length kinds
     → opening_histories me first (take (suc place) kinds) ≡ opening_histories me first

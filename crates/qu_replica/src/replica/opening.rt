@@ -1,6 +1,6 @@
 ghost use Rattle.std.specs.Prelude.{◌≡◌, ◌≤◌, length, IfOk};
 ghost use Rattle.qu_base.specs.declared.limits.TheConstants.{OBJECT_IDS};
-ghost use Rattle.qu_replica.specs.State.{opening_histories};
+ghost use Rattle.qu_fitting.specs.Holding.{opening_histories};
 
 use qu_base::{NoMemory, ObjectId, ReplicaId};
 use qu_history::History;

@@ -2,7 +2,8 @@ ghost use Rattle.std.specs.Prelude.{◌≡◌, ◌<◌, ◌≤◌, [], ◌∷◌
 ghost use Rattle.std.specs.List.{AllByRecursion};
 ghost use Rattle.std.specs.Option.{option_copied};
 ghost use Rattle.qu_history.specs.Sealing.{sealed_by};
-ghost use Rattle.qu_replica.specs.State.{accept, accept_all, accepted_of, with_histories, with_gain};
+ghost use Rattle.qu_fitting.specs.Holding.{accept, accept_all, accepted_of};
+ghost use Rattle.qu_replica.specs.State.{with_histories, with_gain};
 ghost use Rattle.qu_replica.specs.Step.{shown, named, reply};
 ghost use Rattle.qu_versions.specs.declared.limits.TheConstants.{MOST_VERSIONS};
 ghost use Rattle.qu_rows.specs.Allowed.{MayAccept, MayAcceptAll};
@@ -184,7 +185,7 @@ impl Replica {
     }
 
     /// The history of the accepted candidate's object, with the candidate.
-    #[tactic(auto, using(crate::proofs::States::Accepting::read_history_after))]
+    #[tactic(auto, using(qu_fitting::proofs::Accepting::read_history_after))]
     fn grown(&self, accepted: &Accepted) -> Result<History, NoMemory>
         requires { MayAccept self.now accepted.now }
         ensures { IfOk result

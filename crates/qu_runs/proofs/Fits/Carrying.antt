@@ -30,7 +30,7 @@ use Rattle.qu_rows.specs.declared.decision.Accepted.{Accepted}
 use Rattle.qu_rows.specs.declared.decision.Decision.TheVariants.{Answers}
 use Rattle.qu_rows.specs.Rows.{asked_at, decision_on}
 use Rattle.qu_rows.specs.State.{ReplicaState}
-use Rattle.qu_replica.specs.State.{accept_all}
+use Rattle.qu_fitting.specs.Holding.{accept_all}
 use Rattle.qu_replica.specs.Step.{answer_frame, handled, learned}
 use Rattle.qu_client.specs.declared.state.ClientState.{ClientState}
 use Rattle.qu_client.specs.declared.work.Work.{Work}

@@ -4,14 +4,14 @@ use Rattle.std.specs.List.{AllZip}
 use Rattle.qu_base.specs.Bounds.{replicas}
 use Rattle.qu_objects.specs.declared.kind.KindName.{KindName}
 use Rattle.qu_rows.specs.State.{ReplicaState, candidates_in}
-use Rattle.qu_replica.specs.State.{opening_histories}
+use Rattle.qu_fitting.specs.Holding.{opening_histories}
 use Rattle.qu_replica.specs.Growth.{Grows}
 use Rattle.qu_trace.specs.declared.trace.Setup.{Setup}
 use Rattle.std.specs.Prelude.{if◌then◌else◌}
 use Rattle.qu_base.specs.declared.party.Party.TheVariants as party
 use Rattle.qu_trace.specs.Faulty.{is_faulty}
 use Rattle.qu_world.specs.State.{opening_replicas, opening_world, kinds_at, ring_of, WorldState}
-use Rattle.qu_replica.proofs.Fits.FitState.{opening_number}
+use Rattle.qu_fitting.proofs.FitState.{opening_number}
 use Rattle.qu_seal.specs.Keys.{Ring}
 use Rattle.std.specs.Prelude.{slice_get}
 use Rattle.std.proofs.lemmas.Option.{none-some, same_Some, slice_get_within}

@@ -18,7 +18,7 @@ use Rattle.qu_stamp.proofs.Order.{equal_by_same, same-self}
 use Rattle.qu_history.specs.History.{holds}
 use Rattle.qu_objects.specs.declared.kind.KindName.{KindName}
 use Rattle.qu_rows.specs.State.{ReplicaState, candidates_in, own_candidates}
-use Rattle.qu_replica.specs.State.{opening_histories, replica_at_start}
+use Rattle.qu_fitting.specs.Holding.{opening_histories, replica_at_start}
 use Rattle.qu_trace.specs.declared.trace.Trace.{Trace}
 use Rattle.qu_world.specs.State.{WorldState, kinds_at, opening_replicas, ring_of}
 use Rattle.qu_claims.specs.Times.{world_after}

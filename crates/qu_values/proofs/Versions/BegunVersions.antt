@@ -13,7 +13,7 @@ use Rattle.qu_history.specs.History.{holds}
 use Rattle.qu_objects.specs.declared.kind.KindName.{KindName}
 use Rattle.qu_objects.specs.declared.state.ObjState.{ObjState}
 use Rattle.qu_rows.specs.State.{ReplicaState, candidates_in, own_candidates}
-use Rattle.qu_replica.specs.State.{opening_histories, replica_at_start}
+use Rattle.qu_fitting.specs.Holding.{opening_histories, replica_at_start}
 use Rattle.qu_objects.specs.Kind.{opening_version}
 use Rattle.qu_versions.specs.Versions.{version_at, opening_store}
 use Rattle.qu_trace.specs.declared.trace.Trace.{Trace}

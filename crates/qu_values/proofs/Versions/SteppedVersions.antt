@@ -11,7 +11,7 @@ use Rattle.qu_history.specs.Sets.{entries_of, method_at}
 use Rattle.qu_objects.specs.declared.state.ObjState.{ObjState}
 use Rattle.qu_frames.specs.declared.frame.Body.TheVariants as body
 use Rattle.qu_rows.specs.State.{ReplicaState}
-use Rattle.qu_replica.specs.State.{stored_if}
+use Rattle.qu_fitting.specs.Holding.{stored_if}
 use Rattle.qu_versions.specs.Versions.{version_at}
 use Rattle.qu_trace.specs.declared.trace.Entry.{Entry}
 use Rattle.qu_trace.specs.declared.trace.Trace.{Trace}

@@ -1,6 +1,6 @@
 -- the versions so far are those of what was accepted so far
 use Rattle.std.proofs.Common.{◌≡◌, take}
-use Rattle.qu_replica.specs.State.{stored_all}
+use Rattle.qu_fitting.specs.Holding.{stored_all}
 use Rattle.qu_replica.proofs.versions.stored.Given as goal
 
 abbrev pub invariant-loop-one : goal.invariant-loop-one

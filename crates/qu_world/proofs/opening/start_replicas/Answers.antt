@@ -1,7 +1,7 @@
 -- Those that were started and those that are left are all.
 use Rattle.std.proofs.Common.{ap, ◌∙◌, arith}
 use Rattle.qu_base.specs.Bounds.{replicas}
-use Rattle.qu_replica.specs.State.{replica_at_start}
+use Rattle.qu_fitting.specs.Holding.{replica_at_start}
 use Rattle.qu_world.specs.State.{kinds_at, opening_replicas}
 use Rattle.qu_world.proofs.OpeningLaws.{replica_started, replicas_started}
 use Rattle.qu_world.proofs.opening.start_replicas.Goals as goal

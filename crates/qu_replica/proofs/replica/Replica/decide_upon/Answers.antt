@@ -2,7 +2,7 @@
 use Rattle.std.proofs.Common.{rules, ◌≡◌, ap, ◌∙◌}
 use Rattle.qu_rows.specs.State.{ReplicaState}
 use Rattle.qu_rows.specs.Rows.{asked_at, row_unknown}
-use Rattle.qu_rows.proofs.CulledRequests.{known_passes}
+use Rattle.qu_fitting.proofs.CulledRequests.{known_passes}
 use Rattle.qu_replica.proofs.replica.Replica.decide_upon.Goals as goal
 
 pub decide-requires : goal.decide-requires

@@ -1,7 +1,7 @@
 -- The candidate stands at the end of the history of its object.
 use Rattle.std.proofs.Common.{ap}
 use Rattle.qu_rows.specs.State.{ReplicaState}
-use Rattle.qu_replica.proofs.States.Accepting.{read_history_after}
+use Rattle.qu_fitting.proofs.Accepting.{read_history_after}
 use Rattle.qu_replica.proofs.replica.Replica.grown.Goals as goal
 
 pub returns-in-Ok : goal.returns-in-Ok

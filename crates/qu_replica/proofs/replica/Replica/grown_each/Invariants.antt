@@ -2,7 +2,7 @@
 use Rattle.std.proofs.Common.{◌≡◌, ◌<◌, length, take}
 use Rattle.std.specs.List.{AllByRecursion}
 use Rattle.qu_replica.specs.State.{with_histories}
-use Rattle.qu_replica.proofs.States.AcceptingAll.{with_candidates}
+use Rattle.qu_fitting.proofs.AcceptingAll.{with_candidates}
 use Rattle.qu_replica.proofs.replica.Replica.grown_each.Given as goal
 
 abbrev pub invariant-loop-one : goal.invariant-loop-one

@@ -4,8 +4,8 @@ use Rattle.std.specs.Prelude.{slice_get}
 use Rattle.std.proofs.lemmas.Result.{IfOk-weaker}
 use Rattle.qu_history.specs.History.{ObjectHistory}
 use Rattle.qu_rows.specs.State.{ReplicaState}
-use Rattle.qu_replica.specs.State.{accept_all, accepted_of}
-use Rattle.qu_replica.proofs.States.AcceptingAll.{accept_all-is, accepted_grows, accepted_may, history_of}
+use Rattle.qu_fitting.specs.Holding.{accept_all, accepted_of}
+use Rattle.qu_fitting.proofs.AcceptingAll.{accept_all-is, accepted_grows, accepted_may, history_of}
 use Rattle.qu_replica.proofs.replica.Replica.history_after.Goals as goal
 
 pub grown-requires : goal.grown-requires

@@ -11,7 +11,8 @@ use Rattle.qu_rows.specs.State.{ReplicaState}
 use Rattle.qu_rows.specs.declared.decision.Decision.TheVariants.{Answers, Waits}
 use Rattle.qu_rows.specs.declared.decision.Accepted.{Accepted}
 use Rattle.qu_replica.specs.declared.planned.Planned.{Planned}
-use Rattle.qu_replica.specs.State.{accept_all, with_gain}
+use Rattle.qu_fitting.specs.Holding.{accept_all}
+use Rattle.qu_replica.specs.State.{with_gain}
 use Rattle.qu_replica.specs.Growth.{HoldsAlike}
 use Rattle.qu_replica.specs.Step.{reply, carried_out, replica_step, with_waiting, fetches_of}
 use Rattle.qu_replica.proofs.States.Alike.{rows_alike, named_alike, may_alike, decided_so}

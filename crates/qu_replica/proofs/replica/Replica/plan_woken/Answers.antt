@@ -12,7 +12,8 @@ use Rattle.qu_rows.specs.declared.decision.Decision.TheVariants as decision
 use Rattle.qu_replica.specs.declared.planned.Gain.{Gain}
 use Rattle.qu_waiting.specs.declared.next.Next.TheVariants.{Nothing, Lacks}
 use Rattle.qu_replica.specs.declared.planned.Planned.{Planned}
-use Rattle.qu_replica.specs.State.{accept_all, with_gain}
+use Rattle.qu_fitting.specs.Holding.{accept_all}
+use Rattle.qu_replica.specs.State.{with_gain}
 use Rattle.qu_waiting.specs.Slots.{with_fetches, AreSlots}
 use Rattle.qu_replica.specs.Growth.{HoldsAlike, MayGain}
 use Rattle.qu_replica.specs.Step.{reply, with_found, with_waiting, carried_out, decided, fetches_of}

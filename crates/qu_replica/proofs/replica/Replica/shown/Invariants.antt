@@ -1,6 +1,6 @@
 use Rattle.std.proofs.Common.{◌≡◌, map, take}
 use Rattle.qu_history.specs.Sealing.{sealed_by}
-use Rattle.qu_replica.specs.State.{accept_all}
+use Rattle.qu_fitting.specs.Holding.{accept_all}
 use Rattle.qu_replica.specs.Step.{shown}
 use Rattle.qu_replica.proofs.replica.Replica.shown.Given as goal
 

@@ -3,9 +3,9 @@ use Rattle.std.proofs.Common.{◌≡◌, ◌+◌, ◌≤◌, ℕ, true, subst, �
 use Rattle.qu_base.specs.declared.limits.TheConstants.{LAST_CLIENT, MOST_FAULTS}
 use Rattle.qu_base.specs.Bounds.{replicas, is_replica_count}
 use Rattle.qu_base.proofs.ThresholdFacts.{replicas_are_count}
-use Rattle.qu_replica.proofs.Fits.FitState.{opening-fits}
+use Rattle.qu_fitting.proofs.FitState.{opening-fits}
 use Rattle.qu_waiting.proofs.SlotLaws.{opening_slots}
-use Rattle.qu_replica.proofs.States.Own.{are_own_opening}
+use Rattle.qu_fitting.proofs.OwnHistories.{are_own_opening}
 use Rattle.qu_replica.proofs.replica.Replica.start.Goals as goal
 
 pub invariant_of-result : goal.invariant_of-result

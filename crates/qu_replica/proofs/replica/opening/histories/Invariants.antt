@@ -1,5 +1,5 @@
 use Rattle.std.proofs.Common.{◌≡◌, take}
-use Rattle.qu_replica.specs.State.{opening_histories}
+use Rattle.qu_fitting.specs.Holding.{opening_histories}
 use Rattle.qu_replica.proofs.replica.opening.histories.Given as goal
 
 abbrev pub invariant-loop-number : goal.invariant-loop-number

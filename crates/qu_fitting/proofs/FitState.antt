@@ -23,15 +23,15 @@ use Rattle.qu_objects.specs.declared.state.ObjState.{ObjState}
 use Rattle.qu_rows.specs.declared.decision.Accepted.{Accepted}
 use Rattle.qu_versions.specs.declared.stored.Stored.{Stored}
 use Rattle.qu_rows.specs.State.{ReplicaState, candidates_in}
-use Rattle.qu_replica.specs.State.{with_candidate, stored_if, accept, accept_all, opening_histories, replica_at_start}
+use Rattle.qu_fitting.specs.Holding.{with_candidate, stored_if, accept, accept_all, opening_histories, replica_at_start}
 use Rattle.qu_rows.specs.Allowed.{MayAccept, MayAcceptAll}
-use Rattle.qu_replica.proofs.States.AcceptingAll.{all_after}
+use Rattle.qu_fitting.proofs.AcceptingAll.{all_after}
 use Rattle.qu_versions.specs.Versions.{opening_store}
 use Rattle.qu_fitting.proofs.FitValues.{fresh_fits}
 use Rattle.qu_fitting.specs.Fits.{VersionFits, VersionsFit, SlotFits, StateFits}
-use Rattle.qu_replica.proofs.States.Growth.{length-with_candidate}
+use Rattle.qu_fitting.proofs.Accepting.{length-with_candidate}
 use Rattle.qu_rows.proofs.Own.{own_history}
-use Rattle.qu_replica.proofs.States.Own.{accept-histories, opening-histories}
+use Rattle.qu_fitting.proofs.OwnHistories.{accept-histories, opening-histories}
 use Rattle.qu_fitting.proofs.FitVersions.{none_rising, no_links}
 use Rattle.qu_fitting.proofs.FitStamps.{CandidateFits, opening_fits, opening_candidate_fits}
 use Rattle.std.specs.List.{AllByRecursion}

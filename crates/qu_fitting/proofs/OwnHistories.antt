@@ -15,7 +15,7 @@ use Rattle.qu_history.proofs.Rising.{is_history_opening, is_history_push, latest
 use Rattle.qu_objects.specs.declared.kind.KindName.{KindName}
 use Rattle.qu_rows.specs.declared.decision.Accepted.{Accepted}
 use Rattle.qu_rows.specs.State.{ReplicaState, candidates_in, is_own, are_own, AreHistories}
-use Rattle.qu_replica.specs.State.{with_candidate, opening_histories, replica_at_start, accept}
+use Rattle.qu_fitting.specs.Holding.{with_candidate, opening_histories, replica_at_start, accept}
 use Rattle.qu_rows.specs.Allowed.{MayAccept}
 
 -- a history stays its replica's own where a later candidate in time follows
