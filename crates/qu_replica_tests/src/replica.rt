@@ -109,11 +109,7 @@ fn latest(replica: &Replica) -> Stamp {
 }
 
 /// Whether 1,023 acts are carried out, one upon the other.
-fn are_added(
-    alloc: Global,
-    keys: &KeyRing,
-    replica: &mut Replica,
-) -> Result<bool, Fail> {
+fn are_added(alloc: Global, keys: &KeyRing, replica: &mut Replica) -> Result<bool, Fail> {
     for number in 1..1024 {
         let above = latest(replica);
         if is_full(alloc, keys, replica, number, above)? {
@@ -126,7 +122,10 @@ fn are_added(
 fn fills(alloc: Global, keys: &KeyRing, replica: &mut Replica) -> Result<(), Fail> {
     holds(are_added(alloc, keys, replica)?, "a candidate for each act")?;
     let above = latest(replica);
-    holds(is_full(alloc, keys, replica, 1024, above)?, "no room for one more")
+    holds(
+        is_full(alloc, keys, replica, 1024, above)?,
+        "no room for one more",
+    )
 }
 
 #[test]
