@@ -8,8 +8,6 @@ use Rattle.qu_rows.specs.declared.decision.Accepted.{Accepted}
 use Rattle.qu_rows.specs.State.{ReplicaState, AreHistories}
 use Rattle.qu_fitting.specs.Holding.{with_candidate, accept}
 use Rattle.qu_rows.specs.Allowed.{MayAccept}
-use Rattle.qu_replica.proofs.Requests.NamedEntries.{accept_all-named}
-use Rattle.qu_replica.proofs.States.Growth.{accept_all-me, accept_all-keys, accept_all-bounds}
 use Rattle.qu_rows.proofs.Own.{own_history}
 use Rattle.qu_fitting.proofs.OwnHistories.{accept-histories}
 

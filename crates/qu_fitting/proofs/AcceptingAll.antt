@@ -14,7 +14,7 @@ use Rattle.qu_rows.specs.declared.decision.Accepted.{Accepted}
 use Rattle.qu_rows.specs.State.{ReplicaState, AreHistories, candidates_in}
 use Rattle.qu_rows.specs.Allowed.{MayAccept, MayAcceptAll}
 use Rattle.qu_fitting.specs.Holding.{with_candidate, stored_of, stored_all, accepted_of, accept, accept_all}
-use Rattle.qu_replica.specs.State.{with_histories}
+use Rattle.qu_fitting.specs.Holding.{with_histories}
 use Rattle.qu_fitting.proofs.Accepting.{other_history, put_history}
 use Rattle.qu_fitting.proofs.Accepting.{length-with_candidate}
 use Rattle.qu_fitting.proofs.OwnHistories.{accept-histories}

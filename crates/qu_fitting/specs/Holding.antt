@@ -1,5 +1,5 @@
 -- What a replica holds, at the beginning and once it accepts candidates.
-use Rattle.std.specs.Prelude.{ℕ, zero, suc, ◌+◌, ◌==◌, List, [], ◌∷◌, ◌++◌, set, replicate, find, Option, None, Some, unwrap_or}
+use Rattle.std.specs.Prelude.{ℕ, zero, suc, ◌+◌, ◌==◌, List, [], ◌∷◌, ◌++◌, set, replicate, find, Option, None, Some}
 use Rattle.std.specs.List.{flat_map}
 use Rattle.qu_base.specs.declared.limits.TheConstants.{LAST_CLIENT}
 use Rattle.qu_base.specs.declared.party.ObjectId.{ObjectId}
@@ -15,8 +15,6 @@ use Rattle.qu_versions.specs.declared.stored.Stored.{Stored}
 use Rattle.qu_versions.specs.Versions.{opening_store}
 use Rattle.qu_rows.specs.declared.decision.Accepted.{Accepted}
 use Rattle.qu_rows.specs.State.{ReplicaState}
-use Rattle.qu_replica.specs.declared.planned.Gain.{Gain}
-use Rattle.qu_waiting.specs.Slots.{with_turn}
 
 -- the histories with a candidate at the end of that of the object with this number
 unfoldable pub with_candidate : ℕ → Candidate → List ObjectHistory → List ObjectHistory
@@ -51,6 +49,11 @@ accept state accepted = record state {
 unfoldable pub accept_all : ReplicaState → List Accepted → ReplicaState
 accept_all state [] = state
 accept_all state (accepted ∷ later) = accept_all (accept state accepted) later
+
+-- each of those that grew in the place of that of its object
+abbrev pub with_histories : List ObjectHistory → List ObjectHistory → List ObjectHistory
+with_histories [] histories = histories
+with_histories (grown ∷ later) histories = with_histories later (set histories (grown.object).0 grown)
 
 -- ---- the beginning
 

@@ -19,7 +19,8 @@ use Rattle.qu_replica.specs.declared.planned.Gain.{Gain}
 use Rattle.qu_waiting.specs.declared.next.Turn.{Turn}
 use Rattle.qu_waiting.specs.declared.next.Next.TheVariants.{Nothing, Lacks}
 use Rattle.qu_fitting.specs.Holding.{stored_all, accept_all}
-use Rattle.qu_replica.specs.State.{with_histories, with_gain}
+use Rattle.qu_fitting.specs.Holding.{with_histories}
+use Rattle.qu_replica.specs.State.{with_gain}
 use Rattle.qu_waiting.specs.Slots.{next_slot, with_turn, with_slot, with_fetches, without_fetch, first_waiting, without_request, AreSlots, TurnFits}
 use Rattle.qu_replica.specs.Growth.{MayGain}
 use Rattle.qu_replica.specs.Step.{answers_needed, with_waiting, with_found}

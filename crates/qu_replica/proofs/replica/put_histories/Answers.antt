@@ -3,7 +3,7 @@ use Rattle.std.proofs.Common.{rules, ◌≡◌, ◌<◌, ℕ, List, ◌∷◌, l
 use Rattle.std.specs.List.{AllByRecursion}
 use Rattle.qu_base.specs.declared.party.ObjectId.{ObjectId}
 use Rattle.qu_history.specs.History.{ObjectHistory}
-use Rattle.qu_replica.specs.State.{with_histories}
+use Rattle.qu_fitting.specs.Holding.{with_histories}
 use Rattle.qu_fitting.proofs.AcceptingAll.{histories-snoc, length-with_histories}
 use Rattle.qu_replica.proofs.replica.put_histories.Goals as goal
 

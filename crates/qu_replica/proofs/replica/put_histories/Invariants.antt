@@ -1,7 +1,7 @@
 -- the histories so far stand in their places, and those that follow have one
 use Rattle.std.proofs.Common.{◌≡◌, ◌<◌, length}
 use Rattle.std.specs.List.{AllByRecursion}
-use Rattle.qu_replica.specs.State.{with_histories}
+use Rattle.qu_fitting.specs.Holding.{with_histories}
 use Rattle.qu_replica.proofs.replica.put_histories.Given as goal
 
 abbrev pub invariant-loop-history : goal.invariant-loop-history

@@ -6,7 +6,7 @@ use Rattle.qu_history.specs.History.{ObjectHistory}
 use Rattle.qu_rows.specs.declared.decision.Accepted.{Accepted}
 use Rattle.qu_rows.specs.Allowed.{MayAccept}
 use Rattle.qu_rows.specs.State.{ReplicaState, AreHistories}
-use Rattle.qu_replica.specs.State.{with_histories}
+use Rattle.qu_fitting.specs.Holding.{with_histories}
 use Rattle.qu_fitting.proofs.Accepting.{grown_place}
 use Rattle.qu_fitting.proofs.AcceptingAll.{with_candidates, accept_all-is, grown_more, all_push, one_of}
 use Rattle.qu_replica.proofs.replica.Replica.grown_each.Goals as goal

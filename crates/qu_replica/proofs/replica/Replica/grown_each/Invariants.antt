@@ -1,7 +1,7 @@
 -- the histories that grew so far are those of what was accepted so far
 use Rattle.std.proofs.Common.{◌≡◌, ◌<◌, length, take}
 use Rattle.std.specs.List.{AllByRecursion}
-use Rattle.qu_replica.specs.State.{with_histories}
+use Rattle.qu_fitting.specs.Holding.{with_histories}
 use Rattle.qu_fitting.proofs.AcceptingAll.{with_candidates}
 use Rattle.qu_replica.proofs.replica.Replica.grown_each.Given as goal
 
