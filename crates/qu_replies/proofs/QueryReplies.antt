@@ -32,7 +32,7 @@ use Rattle.qu_fitting.proofs.CarriedOne.{told_one}
 use Rattle.qu_replies.specs.Replies.{TellsQuery, IsOfUpdate}
 use Rattle.qu_accepts.proofs.Grounds.{is_base}
 use Rattle.qu_runs.proofs.Small.{some_of}
-use Rattle.qu_accepts.proofs.ActAcceptance.{no_wait}
+use Rattle.qu_fitting.proofs.PassedRows.{before_of, passed_version as each_version}
 use Rattle.qu_rows.proofs.Allowed.{no_first, not_first, unmapped, method_at_none}
 use Rattle.qu_rows.specs.declared.mending.Mending.TheVariants as mending
 use Rattle.qu_rows.specs.declared.mending.Mending.{Mending}
@@ -190,8 +190,7 @@ module _ (state : ReplicaState) (asked : Asked) (object : ObjectId) where
 
   pub passed_version : row_version state asked (object ∷ []) ≡ None → (it : ObjState)
       × (base_version state asked object ≡ Some it)
-  unfolding row_version
-  passed_version none = some_of (base_version state asked object) (no_wait _ _ none)
+  passed_version none = (before_of state asked object, (each_version state asked (object ∷ []) none).0)
 
   -- the version is that of the base
   pub version_of_base : (base : Candidate) (version : ObjState) → method_base state asked object ≡ Some base
