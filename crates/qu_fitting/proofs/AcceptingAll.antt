@@ -13,7 +13,7 @@ use Rattle.qu_history.specs.History.{ObjectHistory, latest}
 use Rattle.qu_rows.specs.declared.decision.Accepted.{Accepted}
 use Rattle.qu_rows.specs.State.{ReplicaState, AreHistories, candidates_in}
 use Rattle.qu_rows.specs.Allowed.{MayAccept, MayAcceptAll}
-use Rattle.qu_fitting.specs.Holding.{with_candidate, stored_of, stored_all, accepted_of, accept, accept_all}
+use Rattle.qu_fitting.specs.Holding.{with_candidate, stored_with, stored_all, accepted_of, accept, accept_all}
 use Rattle.qu_fitting.specs.Holding.{with_histories}
 use Rattle.qu_fitting.proofs.Accepting.{other_history, put_history}
 use Rattle.qu_fitting.proofs.Accepting.{length-with_candidate}
@@ -74,7 +74,7 @@ accept_all-is state (first ∷ later) =
     accept_all-is (accept state first) later
     ∙ (λ i. record state {
       histories = with_candidates later (with_candidate (first.object).0 first.candidate state.histories);
-      versions = append_assoc state.versions (stored_of first) (stored_all later) i;
+      versions = append_assoc state.versions (stored_with first) (stored_all later) i;
     })
 
 pub candidates-snoc : (accepted : List Accepted) (last : Accepted) (histories : List ObjectHistory)

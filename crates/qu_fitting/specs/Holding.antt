@@ -28,12 +28,12 @@ abbrev pub stored_if : ObjectId → Stamp → Option ObjState → List Stored
 stored_if object stamp None = []
 stored_if object stamp (Some version) = record { object = object; stamp = stamp; state = version } ∷ []
 
-abbrev pub stored_of : Accepted → List Stored
-stored_of accepted = stored_if accepted.object accepted.candidate.stamp accepted.state
+abbrev pub stored_with : Accepted → List Stored
+stored_with accepted = stored_if accepted.object accepted.candidate.stamp accepted.state
 
 -- the versions of what is accepted
 abbrev pub stored_all : List Accepted → List Stored
-stored_all accepted = flat_map stored_of accepted
+stored_all accepted = flat_map stored_with accepted
 
 -- what is accepted of an object
 abbrev pub accepted_of : ObjectId → List Accepted → Option Accepted
@@ -43,7 +43,7 @@ accepted_of object accepted = find (λ one. (one.object).0 == object.0) accepted
 abbrev pub accept : ReplicaState → Accepted → ReplicaState
 accept state accepted = record state {
   histories = with_candidate (accepted.object).0 accepted.candidate state.histories;
-  versions = state.versions ++ stored_of accepted;
+  versions = state.versions ++ stored_with accepted;
 }
 
 unfoldable pub accept_all : ReplicaState → List Accepted → ReplicaState

@@ -26,7 +26,7 @@ use Rattle.qu_rows.specs.declared.decision.Decision.TheVariants.{Answers, Waits}
 use Rattle.qu_rows.specs.State.{ReplicaState, own_candidates, own_latest}
 use Rattle.qu_rows.specs.Table.{first_given, has_no_room}
 use Rattle.qu_rows.specs.Rows.{Asked, seen_of, class_code, refuse, refuse_first, missing_of, method_base, base_version, base_versions, base_stamps, fresh_stamp, fresh_act, fresh_stamps, fresh_versions, is_held, standing_in, done_again, repeated, accepted_by, row_unknown, row_thin, row_retry, row_current, row_method, row_version, row_kept, row_time, row_full, row_done, row_told, decide_act, decide_ask, objects_of}
-use Rattle.qu_rows.specs.SeenRows.{version_seen, stamp_seen, base_key, fresh_key, held_on, versions_under, base_keys, fresh_keys, again_by, retry_on, current_on, method_on, version_on, kept_by, time_on, full_on, accepted_on, done_by, told_on, act_on, ask_on}
+use Rattle.qu_rows.specs.SeenRows.{version_seen, stamp_seen, base_key, fresh_key, held_on, versions_under, base_keys, fresh_keys, again_by, retry_on, current_on, method_on, version_on, kept_by, time_on, full_on, accepted_on, done_by, told_on, act_upon, ask_upon}
 use Rattle.qu_rows.proofs.Carried.{fresh_on-stamp}
 use Rattle.qu_rows.proofs.Accepting.{accepted_of, accepted_cons}
 use Rattle.qu_rows.proofs.Held.{is_held_by}
@@ -272,8 +272,8 @@ module _ (state : ReplicaState) (asked : Asked) where
   -- ---- the tables
 
   act_is : (parts : List (ObjectId × Method)) (objects : List ObjectId)
-      → act_on state asked parts (shown objects) ≡ decide_act state asked parts objects
-  unfolding act_on decide_act
+      → act_upon state asked parts (shown objects) ≡ decide_act state asked parts objects
+  unfolding act_upon decide_act
   act_is parts objects =
       ap (first_given (Waits []))
       (same_cons (row_unknown state asked) _ _ _ refl
@@ -288,8 +288,8 @@ module _ (state : ReplicaState) (asked : Asked) where
       (same_cons _ _ [] _ (done_is parts objects) refl))))))))))
 
   ask_is : (parts : List (ObjectId × Ask)) (objects : List ObjectId)
-      → ask_on state asked parts (shown objects) ≡ decide_ask state asked parts objects
-  unfolding ask_on decide_ask
+      → ask_upon state asked parts (shown objects) ≡ decide_ask state asked parts objects
+  unfolding ask_upon decide_ask
   ask_is parts objects =
       ap (first_given (Waits []))
       (same_cons (row_unknown state asked) _ _ _ refl
@@ -302,24 +302,24 @@ module _ (state : ReplicaState) (asked : Asked) where
 -- where the sets were read once for each part
 pub act_seen : {E : Type 0} (state : ReplicaState) (asked : Asked) (parts : List (ObjectId × Method))
     (seen : List Seen) (result : Result Decision E)
-    → IfOk result (λ decision. decision ≡ act_on state asked parts seen)
+    → IfOk result (λ decision. decision ≡ act_upon state asked parts seen)
     → seen ≡ map (λ (part : ObjectId × Method). seen_of state asked part.0) parts
     → IfOk result (λ decision. decision ≡ decide_act state asked parts (objects_of parts))
 act_seen state asked parts seen result told is =
-    IfOk-weaker result (λ (decision : Decision). decision ≡ act_on state asked parts seen)
+    IfOk-weaker result (λ (decision : Decision). decision ≡ act_upon state asked parts seen)
     (λ (decision : Decision). decision ≡ decide_act state asked parts (objects_of parts))
     (λ decision given. given
-    ∙ ap (act_on state asked parts) (is ∙ parts_seen (seen_of state asked) parts)
+    ∙ ap (act_upon state asked parts) (is ∙ parts_seen (seen_of state asked) parts)
     ∙ act_is state asked parts (objects_of parts)) told
 
 pub ask_seen : {E : Type 0} (state : ReplicaState) (asked : Asked) (parts : List (ObjectId × Ask))
     (seen : List Seen) (result : Result Decision E)
-    → IfOk result (λ decision. decision ≡ ask_on state asked parts seen)
+    → IfOk result (λ decision. decision ≡ ask_upon state asked parts seen)
     → seen ≡ map (λ (part : ObjectId × Ask). seen_of state asked part.0) parts
     → IfOk result (λ decision. decision ≡ decide_ask state asked parts (objects_of parts))
 ask_seen state asked parts seen result told is =
-    IfOk-weaker result (λ (decision : Decision). decision ≡ ask_on state asked parts seen)
+    IfOk-weaker result (λ (decision : Decision). decision ≡ ask_upon state asked parts seen)
     (λ (decision : Decision). decision ≡ decide_ask state asked parts (objects_of parts))
     (λ decision given. given
-    ∙ ap (ask_on state asked parts) (is ∙ parts_seen (seen_of state asked) parts)
+    ∙ ap (ask_upon state asked parts) (is ∙ parts_seen (seen_of state asked) parts)
     ∙ ask_is state asked parts (objects_of parts)) told

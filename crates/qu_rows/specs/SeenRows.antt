@@ -132,8 +132,8 @@ told_on state parts seen =
 
 -- ---- the tables
 
-unfoldable pub act_on : ReplicaState → Asked → List (ObjectId × Method) → List Seen → Decision
-act_on state asked parts seen = first_given (Waits []) (
+unfoldable pub act_upon : ReplicaState → Asked → List (ObjectId × Method) → List Seen → Decision
+act_upon state asked parts seen = first_given (Waits []) (
     row_unknown state asked
     ∷ row_thin state asked
     ∷ retry_on state asked parts seen
@@ -146,8 +146,8 @@ act_on state asked parts seen = first_given (Waits []) (
     ∷ done_by asked parts seen (versions_under state (base_keys seen))
     ∷ [])
 
-unfoldable pub ask_on : ReplicaState → Asked → List (ObjectId × Ask) → List Seen → Decision
-ask_on state asked parts seen = first_given (Waits []) (
+unfoldable pub ask_upon : ReplicaState → Asked → List (ObjectId × Ask) → List Seen → Decision
+ask_upon state asked parts seen = first_given (Waits []) (
     row_unknown state asked
     ∷ row_thin state asked
     ∷ current_on state seen

@@ -8,7 +8,7 @@ ghost use Rattle.qu_versions.specs.Versions.{version_at};
 ghost use Rattle.qu_rows.specs.Allowed.{MayDecide};
 ghost use Rattle.qu_rows.specs.Table.{has_no_room};
 ghost use Rattle.qu_rows.specs.Rows.{shown_of, seen_of, row_few, mend_asked, mending_on, keys_at, decision_by, decide_repair, row_unknown, decide_act, decide_ask, decision_on, objects_of};
-ghost use Rattle.qu_rows.specs.SeenRows.{versions_under, base_keys, current_on, method_on, version_on, act_on, ask_on};
+ghost use Rattle.qu_rows.specs.SeenRows.{versions_under, base_keys, current_on, method_on, version_on, act_upon, ask_upon};
 
 mod acting;
 mod bases;
@@ -124,11 +124,11 @@ impl<'a> Rows<'a> {
     }
 
     /// What it makes of an act on objects that its sets show so.
-    #[tactic(auto, unfolding(crate::specs::SeenRows::act_on, crate::specs::Table::first_given))]
+    #[tactic(auto, unfolding(crate::specs::SeenRows::act_upon, crate::specs::Table::first_given))]
     fn decide_act_on(&self, asked: &Asked, act: &Act, seen: &[Seen]) -> Result<Decision, NoMemory>
         requires known { row_unknown self.now asked.now ≡ None }
         requires one_each { length seen.now ≡ length act.now }
-        ensures { IfOk result (λ decision. decision ≡ act_on self.now asked.now act.now seen.now) }
+        ensures { IfOk result (λ decision. decision ≡ act_upon self.now asked.now act.now seen.now) }
     {
         if let Some(refusal) = self.row_thin(asked) {
             return Ok(refusal);
@@ -164,7 +164,7 @@ impl<'a> Rows<'a> {
     }
 
     /// What it makes of a query of objects that its sets show so.
-    #[tactic(auto, unfolding(crate::specs::SeenRows::ask_on, crate::specs::Table::first_given))]
+    #[tactic(auto, unfolding(crate::specs::SeenRows::ask_upon, crate::specs::Table::first_given))]
     fn decide_ask_on(
         &self,
         asked: &Asked,
@@ -173,7 +173,7 @@ impl<'a> Rows<'a> {
     ) -> Result<Decision, NoMemory>
         requires known { row_unknown self.now asked.now ≡ None }
         requires one_each { length seen.now ≡ length query.now }
-        ensures { IfOk result (λ decision. decision ≡ ask_on self.now asked.now query.now seen.now) }
+        ensures { IfOk result (λ decision. decision ≡ ask_upon self.now asked.now query.now seen.now) }
     {
         if let Some(refusal) = self.row_thin(asked) {
             return Ok(refusal);
