@@ -18,6 +18,3 @@ pub use mending::Mending;
 pub use remedy::Remedy;
 pub use rows::Rows;
 pub use seen::Seen;
-
-#[cfg(test)]
-mod tests;

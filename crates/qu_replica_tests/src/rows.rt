@@ -1,9 +1,11 @@
-use super::*;
+//! The table of requests to mend an object, row by row. Full histories and spent times are in no stored case.
+
 use kind_counter::Counter;
-use qu_base::{Bounds, ClientId, Digest, List, ObjectId, ReplicaId};
+use qu_base::{ClientId, Digest, List, ObjectId, ReplicaId};
 use qu_frames::Refusal;
-use qu_history::{HISTORY_LIMIT, History, Sealed, SetOf, Sets};
+use qu_history::{HISTORY_LIMIT, History};
 use qu_objects::{ObjState, Value};
+use qu_rows::{Mend, Mending, Remedy};
 use qu_stamp::{Candidate, Group, LAST_TIME, Stamp};
 use std::alloc::Global;
 use std::test::Fail;
@@ -224,77 +226,4 @@ fn a_full_history_is_told_last(rt: HostRuntime) -> Result<(), Fail> {
         (full - 1, true),
         &Seen::Adds(at(2000), None),
     )
-}
-
-/// The update of client 1 at replicas 0 to 2, that of client 2 at 3 and 4, and then the barrier, if there is one.
-fn torn(alloc: Global, replica: u8, barrier: Option<Candidate>) -> Result<History, Fail> {
-    let mut history = History::opening(alloc, OBJECT, ReplicaId(replica))?;
-    if replica < 5 {
-        let mut update = at(1);
-        update.stamp.client = ClientId(if replica < 3 { 1 } else { 2 });
-        history.add(update)?;
-    }
-    if let Some(barrier) = barrier {
-        history.add(barrier)?;
-    }
-    Ok(history)
-}
-
-/// The request with the histories of replicas 0 to 4.
-fn asked(alloc: Global, barrier: Option<Candidate>) -> Result<Mend, Fail> {
-    let mut entries = List::new(alloc);
-    for replica in 0..5 {
-        let history = torn(alloc, replica, barrier)?;
-        let macs = List::new(alloc);
-        entries.push(Sealed { history, macs })?;
-    }
-    let object = SetOf {
-        object: OBJECT,
-        entries,
-    };
-    let sets = Sets::new(List::one(alloc, object)?).ok_or("sets")?;
-    let bounds = Bounds::new(1).ok().ok_or("bounds")?;
-    if sets.entries(OBJECT) < bounds.q() {
-        return Err("no quorum".into());
-    }
-    Ok(Mend::of(&sets, Digest([2; 32]), OBJECT, ClientId(1), &bounds))
-}
-
-/// Wants that a replica adds the barrier, and then, if it has the version of what is copied, this copy.
-fn mends(
-    alloc: Global,
-    replica: u8,
-    first: &Mend,
-    second: &Mend,
-    (barrier, copy): (Candidate, Candidate),
-) -> Result<(), Fail> {
-    let before = torn(alloc, replica, None)?;
-    if outcome(alloc, first, &before, false)? != Seen::Adds(barrier, None) {
-        return Err("no barrier".into());
-    }
-    let after = torn(alloc, replica, Some(barrier))?;
-    let row = if replica < 3 {
-        Seen::Adds(copy, Some(7))
-    } else {
-        Seen::Waits
-    };
-    if outcome(alloc, second, &after, replica < 3)? != row {
-        return Err("no copy".into());
-    }
-    Ok(())
-}
-
-#[test]
-fn a_barrier_and_then_a_copy_mend_a_torn_object(rt: HostRuntime) -> Result<(), Fail> {
-    let alloc = rt.alloc();
-    let base = at(1).stamp;
-    let first = asked(alloc, None)?;
-    let second = asked(alloc, Some(candidate(2, true, base)))?;
-    assert!(rt; first.remedy.wanted().is_none());
-    assert_eq!(rt; second.remedy.wanted(), Some(base));
-    for replica in 0..6 {
-        let added = (candidate(2, true, base), upon(3, base));
-        mends(alloc, replica, &first, &second, added)?;
-    }
-    Ok(())
 }
