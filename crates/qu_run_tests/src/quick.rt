@@ -44,15 +44,6 @@ fn started(alloc: Global) -> Result<World, Fail> {
     Ok(World::start(alloc, setup)?)
 }
 
-/// The world after these events.
-fn followed(alloc: Global, entries: &[Entry]) -> Result<World, Fail> {
-    let mut world = started(alloc)?;
-    for entry in entries {
-        world.follow(entry.event.copy(alloc)?)?;
-    }
-    Ok(world)
-}
-
 /// The sets of the request with this number.
 fn sets_of<'a>(run: &'a DecodedTrace<'a>, letter: u64) -> Option<&'a Sets> {
     match run.frame(letter)? {
@@ -78,43 +69,73 @@ fn delivers(entry: &Entry, letter: u64) -> bool {
     matches!(entry.event, Event::Deliver(number) if number == letter)
 }
 
-/// Whether the replica is ready when the request reaches it.
-fn is_quick(
+/// The keys of the run.
+fn keys() -> Result<KeyRing, Fail> {
+    Ok(KeyRing::derive(7, &Bounds::new(1)?, 1))
+}
+
+/// Whether the replica is ready in the world, the event hands it its request, and all that is shown is right for it.
+fn is_handed(
+    keys: &KeyRing,
+    world: &World,
+    entry: &Entry,
+    replica: u8,
+    (sets, base): (&DigestedSets, &Candidate),
+) -> bool {
+    let me = ReplicaId(replica);
+    is_ready(world, me, base) == Some(true)
+        && delivers(entry, FIRST + u64::from(replica))
+        && sets.are_right(me, keys)
+}
+
+/// The world goes along the events from this one up to another.
+fn follow(
     alloc: Global,
     trace: &Trace,
-    replica: u8,
-    sets: &DigestedSets,
-    base: &Candidate,
-) -> Result<bool, Fail> {
-    let index = BEGIN + 1 + usize::from(replica);
-    let entry = trace.entries.get(index).ok_or("no such event")?;
-    let before = trace
-        .entries
-        .as_slice()
-        .get(..index)
-        .ok_or("too few events")?;
-    let world = followed(alloc, before)?;
-    let keys = KeyRing::derive(7, &Bounds::new(1)?, 1);
-    let ready = is_ready(&world, ReplicaId(replica), base).ok_or("no such replica")?;
-    Ok(
-        ready
-            && delivers(entry, FIRST + u64::from(replica))
-            && sets.are_right(ReplicaId(replica), &keys),
-    )
+    world: &mut World,
+    (from, to): (usize, usize),
+) -> Result<(), Fail> {
+    for index in from..to {
+        let entry = trace.entries.get(index).ok_or("no such event")?;
+        world.follow(entry.event.copy(alloc)?)?;
+    }
+    Ok(())
+}
+
+/// Each of the five is ready when the request reaches it.
+fn all_are_handed(
+    alloc: Global,
+    trace: &Trace,
+    keys: &KeyRing,
+    world: &mut World,
+    shown: (&DigestedSets, &Candidate),
+) -> Result<(), Fail> {
+    follow(alloc, trace, world, (0, BEGIN + 1))?;
+    for replica in 0..5 {
+        let index = BEGIN + 1 + usize::from(replica);
+        let entry = trace.entries.get(index).ok_or("no such event")?;
+        holds(is_handed(keys, world, entry, replica, shown), "it is ready")?;
+        follow(alloc, trace, world, (index, index + 1))?;
+    }
+    Ok(())
+}
+
+/// Each of the five is ready in a run in which these sets are requested.
+fn is_quick(alloc: Global, trace: &Trace, sets: &Sets) -> Result<(), Fail> {
+    let base = method_at(sets, COUNTER, &trace.setup.bounds).ok_or("the sets are not current")?;
+    let keys = keys()?;
+    let shown = DigestedSets::of(alloc, sets.copy(alloc)?)?;
+    all_are_handed(alloc, trace, &keys, &mut started(alloc)?, (&shown, &base))
+}
+
+fn is_quick_run(alloc: Global, trace: &Trace) -> Result<(), Fail> {
+    let run = DecodedTrace::of(alloc, trace)?;
+    is_quick(alloc, trace, sets_of(&run, FIRST).ok_or("no request")?)
 }
 
 #[test]
 fn the_preferred_replicas_are_ready(rt: HostRuntime) -> Result<(), Fail> {
-    let trace = trace(rt.alloc())?;
-    let run = DecodedTrace::of(rt.alloc(), &trace)?;
-    let sets = sets_of(&run, FIRST).ok_or("no request")?;
-    let base = method_at(sets, COUNTER, &trace.setup.bounds).ok_or("the sets are not current")?;
-    let sets = DigestedSets::of(rt.alloc(), sets.copy(rt.alloc())?)?;
-    for replica in 0..5 {
-        let quick = is_quick(rt.alloc(), &trace, replica, &sets, &base)?;
-        holds(quick, "the replica is ready")?;
-    }
-    Ok(())
+    is_quick_run(rt.alloc(), &trace(rt.alloc())?)
 }
 
 /// Whether the five letters of this event go to replicas 0 to 4.
