@@ -10,7 +10,7 @@ use super::reading::{
 use qu_base::{NoMemory, ObjectId, Outbytes, ReadFail};
 use qu_frames::{Frame, encode};
 use qu_history::{History, write_sets};
-use qu_objects::{write_act, write_answer, write_query, write_state};
+use qu_objects::{ObjState, write_act, write_answer, write_query, write_state};
 use qu_stamp::{write_candidate, write_stamp};
 use std::alloc::{AllocError, Global};
 
@@ -83,8 +83,17 @@ fn tell_frame(
     spelled: &mut Outbytes,
 ) -> Result<(), ReadFail> {
     let frame = one_frame(alloc, text)?;
-    put_frame(&frame, form)?;
-    Ok(spell_frame(alloc, &frame, spelled)?)
+    tell_read_frame(alloc, &frame, form, spelled)
+}
+
+fn tell_read_frame(
+    alloc: Global,
+    frame: &Frame,
+    form: &mut String,
+    spelled: &mut Outbytes,
+) -> Result<(), ReadFail> {
+    put_frame(frame, form)?;
+    Ok(spell_frame(alloc, frame, spelled)?)
 }
 
 fn spell_frame(alloc: Global, frame: &Frame, spelled: &mut Outbytes) -> Result<(), NoMemory> {
@@ -173,6 +182,14 @@ fn tell_state(
     spelled: &mut Outbytes,
 ) -> Result<(), ReadFail> {
     let state = one_state(alloc, text)?;
-    put_state(&state, form)?;
-    Ok(write_state(&state, spelled)?)
+    tell_read_state(&state, form, spelled)
+}
+
+fn tell_read_state(
+    state: &ObjState,
+    form: &mut String,
+    spelled: &mut Outbytes,
+) -> Result<(), ReadFail> {
+    put_state(state, form)?;
+    Ok(write_state(state, spelled)?)
 }

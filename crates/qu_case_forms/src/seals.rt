@@ -9,7 +9,7 @@ use super::no_answer::NoAnswer;
 use super::reading::{frame_to, one_act, one_frame, one_history, some_sets};
 use qu_base::{Bounds, ClientId, Cursor, Digest, List, NoMemory, ObjectId, Party, ReplicaId};
 use qu_class::method_at;
-use qu_frames::text_digest;
+use qu_frames::{Frame, text_digest};
 use qu_history::{Culled, Sets};
 use qu_objects::act_digest;
 use qu_seal::{KeyRing, digest, hmac};
@@ -147,6 +147,15 @@ pub fn signed_text(
     text: &[u8],
 ) -> Result<List<u8>, NoAnswer> {
     let frame = one_frame(alloc, text)?;
+    signed_frame(alloc, keys, to, &frame)
+}
+
+fn signed_frame(
+    alloc: Global,
+    keys: &KeyRing,
+    to: Party,
+    frame: &Frame,
+) -> Result<List<u8>, NoAnswer> {
     Ok(frame.signed(alloc, keys, to)?)
 }
 
@@ -170,8 +179,13 @@ pub fn received(
     out: &mut String,
 ) -> Result<(), NoAnswer> {
     let keys = ring(case)?;
-    match frame_to(alloc, &keys, case.party(1)?, text)? {
-        Some(frame) => Ok(put_frame(&frame, out)?),
+    let found = frame_to(alloc, &keys, case.party(1)?, text)?;
+    put_found(&found, out)
+}
+
+fn put_found(found: &Option<Frame>, out: &mut String) -> Result<(), NoAnswer> {
+    match found {
+        Some(frame) => Ok(put_frame(frame, out)?),
         None => Ok(out.push_str("ignored")?),
     }
 }
