@@ -5,8 +5,6 @@ mod actor;
 mod kept;
 mod lock;
 mod run_name;
-#[cfg(test)]
-mod tests;
 
 pub use actor::Actor;
 pub use kept::Kept;

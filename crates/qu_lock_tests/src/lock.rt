@@ -5,10 +5,10 @@ ghost use Rattle.qu_base.specs.declared.party.Party.TheVariants as party;
 ghost use Rattle.qu_replay.specs.Steps.{Asks, Replicates, IsTakenByReplica};
 ghost use Rattle.qu_replay.specs.Replays.{opening_actor};
 
-use crate::{ClientLock, ReplicaLock, RunName};
 use qu_base::{Bounds, ClientId, List, Party, ReplicaId};
 use qu_client::Client;
 use qu_frames::{Input, LetterName};
+use qu_lock::{ClientLock, ReplicaLock, RunName};
 use qu_objects::KindName;
 use qu_replica::Replica;
 use qu_seal::KeyRing;
