@@ -133,7 +133,8 @@ unfolding IsReplay RisesFrom
 brought_steps all me actor last low [] rise replay rises kept = tt
 brought_steps all me actor last low (step ∷ later) rise replay rises kept = (
   brought_input all me actor step.ticket step.input rise replay.0.can rises.1 kept.0,
-  brought_steps all me (actor_moved me actor step.input).actor last (step.ticket + 1) later rise replay.1 rises.2 kept.1,
+  brought_steps all me (actor_moved me actor step.input).actor last (step.ticket + 1) later rise replay.1 rises.2
+      kept.1,
 )
 
 brought_of : (all : Merged) (me : Party) (found end : Option Actor) (steps : List KeptStep)

@@ -141,8 +141,8 @@ module _ (trace : Trace) (is_run : IsRun trace) (have : ArePlain trace) (laws : 
           version = it.its;
           has = it.has;
           keeps = it.keeps;
-          decided = up_to_decided trace laws joint at (omega arith) object kept.base base_plain base_established it.first
-              it.accepted it.up_to;
+          decided = up_to_decided trace laws joint at (omega arith) object kept.base base_plain base_established
+              it.first it.accepted it.up_to;
           complete = kept.base;
           upon = it.up_to;
           established = base_established;
