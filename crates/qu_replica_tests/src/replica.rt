@@ -76,15 +76,22 @@ fn request(alloc: Global, keys: &KeyRing, number: u64, sets: Sets) -> Result<Lis
     Ok(frame.signed(alloc, keys, Party::Replica(ReplicaId(0)))?)
 }
 
-/// Whether the text is a reply that refuses, since the counter's history is full.
-fn tells_full(alloc: Global, text: &[u8]) -> bool {
-    matches!(
-        decode(alloc, text),
-        Ok(Frame::Reply {
-            verdict: Verdict::Refused(Refusal::HistoryFull(COUNTER)),
-            ..
-        })
-    )
+/// Whether the frame is a reply that refuses, since the counter's history is full.
+fn is_refusal(frame: &Frame) -> bool {
+    match frame {
+        Frame::Reply { verdict, .. } => {
+            matches!(verdict, Verdict::Refused(Refusal::HistoryFull(COUNTER)))
+        }
+        _ => false,
+    }
+}
+
+/// Whether the text is such a frame.
+fn tells_full(alloc: Global, text: &[u8]) -> Result<bool, Fail> {
+    match decode(alloc, text) {
+        Ok(frame) => Ok(is_refusal(&frame)),
+        Err(_) => Err("no frame".into()),
+    }
 }
 
 /// Whether the act with this number, upon this stamp, is refused, since the counter's history is full.
@@ -98,7 +105,7 @@ fn is_full(
     let text = request(alloc, keys, number, sets(alloc, keys, latest)?)?;
     let letters = replica.step(text.as_slice())?;
     let letter = letters.get(0).ok_or("nothing is sent")?;
-    Ok(tells_full(alloc, letter.text.as_slice()))
+    tells_full(alloc, letter.text.as_slice())
 }
 
 fn latest(replica: &Replica) -> Stamp {

@@ -22,7 +22,11 @@ fn is_told_as(alloc: Global, answer: &Answer, words: &str) -> Result<bool, Fail>
 
 #[test]
 fn items_are_joined(rt: HostRuntime) -> Result<(), Fail> {
-    let told = is_told_as(rt.alloc(), &two_items(rt.alloc())?, "18446744073709551615 + 0")?;
+    let told = is_told_as(
+        rt.alloc(),
+        &two_items(rt.alloc())?,
+        "18446744073709551615 + 0",
+    )?;
     holds(told, "two numbers")
 }
 
