@@ -23,9 +23,9 @@ LineFails (line_fails.Bad kind) meant = meant ≡ Err kind
 LineFails line_fails.NoMemory meant = Unit {0}
 
 -- what a call answered of a line, seen by `view`, is what was meant, unless memory ran out
-abbrev pub IsRead : {X Y : Type 0} → (X → Y) → Result X LineFail → Result Y BadKind → Type 0
-IsRead view (Ok x) meant = meant ≡ Ok (view x)
-IsRead view (Err fail) meant = LineFails fail meant
+abbrev pub IsReadAs : {X Y : Type 0} → (X → Y) → Result X LineFail → Result Y BadKind → Type 0
+IsReadAs view (Ok x) meant = meant ≡ Ok (view x)
+IsReadAs view (Err fail) meant = LineFails fail meant
 
 -- ---- of a script
 

@@ -17,22 +17,22 @@ use Rattle.qu_language.specs.Words.{next_of}
 
 -- ---- numbers of parties
 
-abbrev pub replica_numbered : ℕ → ℕ → Result ReplicaId BadKind
-replica_numbered bounds number =
+abbrev pub replica_by_number : ℕ → ℕ → Result ReplicaId BadKind
+replica_by_number bounds number =
     if nat_lt number (replicas bounds) then Ok (record { 0 = number }) else Err NoSuchActor
 
-abbrev pub client_numbered : ℕ → ℕ → Result ClientId BadKind
-client_numbered clients number =
+abbrev pub client_by_number : ℕ → ℕ → Result ClientId BadKind
+client_by_number clients number =
     if nat_le 1 number && nat_le number LAST_CLIENT
     then (if nat_le number clients then Ok (record { 0 = number }) else Err NoSuchActor) else Err OverLimit
 
 -- a replica, where so many may lie
 abbrev pub replica_rule : ℕ → List ℕ → Result ReplicaId BadKind
-replica_rule bounds word = then_good (number_rule word) (replica_numbered bounds)
+replica_rule bounds word = then_good (number_rule word) (replica_by_number bounds)
 
 -- a client, where there are so many
 abbrev pub client_rule : ℕ → List ℕ → Result ClientId BadKind
-client_rule clients word = then_good (number_rule word) (client_numbered clients)
+client_rule clients word = then_good (number_rule word) (client_by_number clients)
 
 -- ---- correct parties
 

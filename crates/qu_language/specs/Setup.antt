@@ -12,7 +12,7 @@ use Rattle.qu_trace.specs.Faulty.{is_replica}
 use Rattle.qu_language.specs.declared.bad.BadKind.{BadKind}
 use Rattle.qu_language.specs.declared.bad.BadKind.TheVariants.{OutOfOrder, UnknownWord, OverLimit}
 use Rattle.qu_language.specs.Meaning.{then_good}
-use Rattle.qu_language.specs.Parties.{replica_numbered, client_numbered}
+use Rattle.qu_language.specs.Parties.{replica_by_number, client_by_number}
 use Rattle.qu_language.specs.Rules.{number_rule}
 use Rattle.qu_language.specs.Words.{next_of, only_of}
 
@@ -35,15 +35,15 @@ kind_rule word =
     else (if bytes_eq word (codes "dir") then Ok Dir else Err UnknownWord))
 
 -- the number of the object behind so many
-abbrev pub next_object : ℕ → ℕ → Result ℕ BadKind
-next_object count number =
+abbrev pub object_in_turn : ℕ → ℕ → Result ℕ BadKind
+object_in_turn count number =
     if nat_eq number count then (if nat_lt number OBJECT_IDS then Ok number else Err OverLimit) else Err OutOfOrder
 
 -- `I KIND`, behind so many objects
 unfoldable pub object_line : ℕ → List (List ℕ) → Result KindName BadKind
 object_line count words =
     then_good (next_of words) (λ next.
-    then_good (then_good (number_rule next.0) (next_object count)) (λ number. only_of kind_rule next.1))
+    then_good (then_good (number_rule next.0) (object_in_turn count)) (λ number. only_of kind_rule next.1))
 
 -- ---- faulty parties
 
@@ -67,13 +67,13 @@ if_room setup who = if nat_lt (length setup.liars) setup.bounds then Ok who else
 abbrev pub faulty_replica : Setup → ℕ → Result Party BadKind
 faulty_replica setup number =
     if rises setup.liars number
-    then then_good (replica_numbered setup.bounds number) (λ me. if_room setup (party.Replica me)) else Err OutOfOrder
+    then then_good (replica_by_number setup.bounds number) (λ me. if_room setup (party.Replica me)) else Err OutOfOrder
 
 -- the next faulty client: by rising numbers
 abbrev pub faulty_client : Setup → ℕ → Result Party BadKind
 faulty_client setup number =
     if rises_in_clients setup.liars number
-    then then_good (client_numbered setup.clients number) (λ me. Ok (party.Client me)) else Err OutOfOrder
+    then then_good (client_by_number setup.clients number) (λ me. Ok (party.Client me)) else Err OutOfOrder
 
 abbrev pub faulty_replica_rule : Setup → List ℕ → Result Party BadKind
 faulty_replica_rule setup word = then_good (number_rule word) (faulty_replica setup)

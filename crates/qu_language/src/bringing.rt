@@ -1,7 +1,7 @@
 ghost use Rattle.std.specs.Prelude.{◌≡◌};
 ghost use Rattle.std.specs.Result.{result_map_both};
 ghost use Rattle.qu_language.specs.Bringing.{inject_rule, source_from, how_from, good_rule, fake_rule};
-ghost use Rattle.qu_language.specs.Meaning.{IsRead};
+ghost use Rattle.qu_language.specs.Meaning.{IsReadAs};
 
 use super::listed::read_replicas;
 use super::parties::{read_client, read_correct_replica, read_party, read_replica};
@@ -14,7 +14,7 @@ use std::alloc::Global;
 /// `replica R HEX` or `client C HEX`.
 #[tactic(auto, unfolding(crate::specs::Bringing::inject_rule))]
 pub fn read_inject(alloc: Global, setup: &Setup, words: &mut Words<'_>) -> Result<Line, LineFail>
-    ensures { IsRead (λ line. line) result (inject_rule setup.now words.old) }
+    ensures { IsReadAs (λ line. line) result (inject_rule setup.now words.old) }
 {
     let party = read_party(setup, words)?;
     let bytes = read_hex(alloc, words.next()?)?;
@@ -25,7 +25,7 @@ pub fn read_inject(alloc: Global, setup: &Setup, words: &mut Words<'_>) -> Resul
 /// `R C HOW` or `R C HOW for R R ..`.
 #[tactic(auto, unfolding(crate::specs::Bringing::fake_rule))]
 pub fn read_fake(alloc: Global, setup: &Setup, words: &mut Words<'_>) -> Result<Line, LineFail>
-    ensures { IsRead (λ line. line) result (fake_rule setup.now words.old) }
+    ensures { IsReadAs (λ line. line) result (fake_rule setup.now words.old) }
 {
     let replica = read_replica(&setup.bounds, words.next()?)?;
     let client = read_client(setup.clients, words.next()?)?;
@@ -67,7 +67,7 @@ fn read_good(
     bounds: &Bounds,
     words: &mut Words<'_>,
 ) -> Result<Option<List<ReplicaId>>, LineFail>
-    ensures { IsRead (λ good. good) result (good_rule bounds.now words.old) }
+    ensures { IsReadAs (λ good. good) result (good_rule bounds.now words.old) }
 {
     if words.is_empty() {
         return Ok(None);

@@ -1,6 +1,6 @@
 ghost use Rattle.std.specs.Prelude.{◌≡◌};
 ghost use Rattle.qu_language.specs.Event.{call_rule, deliver_rule, flow_rule, event_rule};
-ghost use Rattle.qu_language.specs.Meaning.{IsRead};
+ghost use Rattle.qu_language.specs.Meaning.{IsReadAs};
 
 use super::bringing::{read_fake, read_inject};
 use super::listed::read_numbers;
@@ -20,7 +20,7 @@ pub fn read_event(
     verb: &[u8],
     words: &mut Words<'_>,
 ) -> Result<Line, LineFail>
-    ensures { IsRead (λ line. line) result (event_rule setup.now verb.now words.old) }
+    ensures { IsReadAs (λ line. line) result (event_rule setup.now verb.now words.old) }
 {
     if verb == b"call".as_slice() {
         read_call(alloc, setup, words)
@@ -40,7 +40,7 @@ pub fn read_event(
 /// `C OP`, of a correct client.
 #[tactic(auto, unfolding(crate::specs::Event::call_rule))]
 fn read_call(alloc: Global, setup: &Setup, words: &mut Words<'_>) -> Result<Line, LineFail>
-    ensures { IsRead (λ line. line) result (call_rule setup.now words.old) }
+    ensures { IsReadAs (λ line. line) result (call_rule setup.now words.old) }
 {
     let client = read_correct_client(setup, words.next()?)?;
     let op = read_operation(alloc, setup.kinds.len(), words)?;

@@ -1,5 +1,5 @@
 ghost use Rattle.std.specs.Prelude.{◌≡◌};
-ghost use Rattle.qu_language.specs.Meaning.{IsRead};
+ghost use Rattle.qu_language.specs.Meaning.{IsReadAs};
 ghost use Rattle.qu_language.specs.Parties.{replica_rule};
 ghost use Rattle.qu_language.specs.Rules.{number_rule};
 ghost use Rattle.qu_language.specs.Words.{all_of, some_of};
@@ -13,7 +13,7 @@ use std::alloc::Global;
 /// Numbers, one for each word that is left, and one at least.
 #[tactic(auto, unfolding(crate::specs::Words::some_of))]
 pub fn read_numbers(alloc: Global, words: &mut Words<'_>) -> Result<List<u64>, LineFail>
-    ensures { IsRead (λ numbers. numbers) result (some_of number_rule words.old) }
+    ensures { IsReadAs (λ numbers. numbers) result (some_of number_rule words.old) }
 {
     if words.is_empty() {
         return Err(words.missing());
@@ -24,7 +24,7 @@ pub fn read_numbers(alloc: Global, words: &mut Words<'_>) -> Result<List<u64>, L
 /// Numbers, one for each word that is left.
 #[tactic(auto, using(crate::proofs::ListedFacts::listed_facts))]
 fn read_all_numbers(alloc: Global, words: &mut Words<'_>) -> Result<List<u64>, LineFail>
-    ensures { IsRead (λ numbers. numbers) result (all_of number_rule words.old) }
+    ensures { IsReadAs (λ numbers. numbers) result (all_of number_rule words.old) }
 {
     let mut numbers = List::new(alloc);
     'words: while !words.is_empty() {
@@ -40,7 +40,7 @@ pub fn read_replicas(
     bounds: &Bounds,
     words: &mut Words<'_>,
 ) -> Result<List<ReplicaId>, LineFail>
-    ensures { IsRead (λ replicas. replicas) result (some_of (replica_rule bounds.now) words.old) }
+    ensures { IsReadAs (λ replicas. replicas) result (some_of (replica_rule bounds.now) words.old) }
 {
     if words.is_empty() {
         return Err(words.missing());
@@ -55,7 +55,7 @@ fn read_all_replicas(
     bounds: &Bounds,
     words: &mut Words<'_>,
 ) -> Result<List<ReplicaId>, LineFail>
-    ensures { IsRead (λ replicas. replicas) result (all_of (replica_rule bounds.now) words.old) }
+    ensures { IsReadAs (λ replicas. replicas) result (all_of (replica_rule bounds.now) words.old) }
 {
     let mut replicas = List::new(alloc);
     'words: while !words.is_empty() {

@@ -2,7 +2,7 @@ ghost use Rattle.std.specs.Prelude.{◌≡◌, ◌≤◌, ◌<◌, IfOk, IsTrue}
 ghost use Rattle.std.specs.Result.{result_map_both};
 ghost use Rattle.qu_base.specs.declared.limits.TheConstants.{OBJECT_IDS};
 ghost use Rattle.qu_objects.specs.Parts.{is_sized_method, is_sized_ask};
-ghost use Rattle.qu_language.specs.Meaning.{IsRead};
+ghost use Rattle.qu_language.specs.Meaning.{IsReadAs};
 ghost use Rattle.qu_language.specs.Operation.{ask_verb_rule, verb_rule, part_rule, is_sized_part, op_by, op_rule};
 
 use super::rules::{read_content, read_name, read_number, read_object};
@@ -36,7 +36,7 @@ pub enum Part {
 /// An operation on one of so many objects: a verb, the object, and what the verb needs.
 #[tactic(auto, unfolding(crate::specs::Operation::op_rule))]
 pub fn read_operation(alloc: Global, objects: usize, words: &mut Words<'_>) -> Result<Op, LineFail>
-    ensures { IsRead (λ op. op) result (op_rule objects words.old) }
+    ensures { IsReadAs (λ op. op) result (op_rule objects words.old) }
 {
     let verb = read_verb(words.next_of_part()?)?;
     let object = read_object(objects, words.next_of_part()?)?;
@@ -87,7 +87,7 @@ fn read_ask_verb(word: &[u8]) -> Result<Verb, BadKind>
 
 /// What stands behind the object: `N`, `HEX`, `NAME`, `NAME N` or nothing, by the verb.
 fn read_part(alloc: Global, verb: Verb, words: &mut Words<'_>) -> Result<Part, LineFail>
-    ensures value { IsRead (λ part. (part, words.new)) result (part_rule verb words.old) }
+    ensures value { IsReadAs (λ part. (part, words.new)) result (part_rule verb words.old) }
     ensures sized { IfOk result (λ part. IsTrue (is_sized_part part)) }
 {
     Ok(match verb {

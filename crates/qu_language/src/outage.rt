@@ -1,5 +1,5 @@
 ghost use Rattle.qu_language.specs.Event.{outage_rule};
-ghost use Rattle.qu_language.specs.Meaning.{IsRead};
+ghost use Rattle.qu_language.specs.Meaning.{IsReadAs};
 
 use super::listed::read_replicas;
 use super::{BadKind, Line, LineFail, Words};
@@ -14,7 +14,7 @@ pub fn read_outage(
     verb: &[u8],
     words: &mut Words<'_>,
 ) -> Result<Line, LineFail>
-    ensures { IsRead (λ line. line) result (outage_rule setup.now verb.now words.old) }
+    ensures { IsReadAs (λ line. line) result (outage_rule setup.now verb.now words.old) }
 {
     if verb == b"hold".as_slice() {
         Ok(Line::Hold(read_replicas(alloc, &setup.bounds, words)?))

@@ -1,6 +1,6 @@
 ghost use Rattle.std.specs.Prelude.{◌≡◌};
 ghost use Rattle.std.specs.Result.{result_map_both};
-ghost use Rattle.qu_language.specs.Parties.{replica_numbered, client_numbered, replica_rule, client_rule, correct_replica_rule, correct_client_rule, party_from};
+ghost use Rattle.qu_language.specs.Parties.{replica_by_number, client_by_number, replica_rule, client_rule, correct_replica_rule, correct_client_rule, party_from};
 
 use super::rules::read_number;
 use super::{BadKind, Words};
@@ -8,8 +8,8 @@ use qu_base::{Bounds, ClientId, LAST_CLIENT, Party, ReplicaId};
 use qu_trace::Setup;
 
 /// The replica with this number, where so many may lie.
-pub fn replica_numbered(bounds: &Bounds, number: u64) -> Result<ReplicaId, BadKind>
-    ensures { result ≡ replica_numbered bounds.now number }
+pub fn replica_by_number(bounds: &Bounds, number: u64) -> Result<ReplicaId, BadKind>
+    ensures { result ≡ replica_by_number bounds.now number }
 {
     if number < u64::from(bounds.n()) {
         Ok(ReplicaId(number as u8))
@@ -19,8 +19,8 @@ pub fn replica_numbered(bounds: &Bounds, number: u64) -> Result<ReplicaId, BadKi
 }
 
 /// The client with this number, where there are so many.
-pub fn client_numbered(clients: u16, number: u64) -> Result<ClientId, BadKind>
-    ensures { result ≡ client_numbered clients number }
+pub fn client_by_number(clients: u16, number: u64) -> Result<ClientId, BadKind>
+    ensures { result ≡ client_by_number clients number }
 {
     if number < 1 || number > u64::from(LAST_CLIENT) {
         return Err(BadKind::OverLimit);
@@ -35,14 +35,14 @@ pub fn client_numbered(clients: u16, number: u64) -> Result<ClientId, BadKind>
 pub fn read_replica(bounds: &Bounds, word: &[u8]) -> Result<ReplicaId, BadKind>
     ensures { result ≡ replica_rule bounds.now word.now }
 {
-    replica_numbered(bounds, read_number(word)?)
+    replica_by_number(bounds, read_number(word)?)
 }
 
 /// A client, where there are so many.
 pub fn read_client(clients: u16, word: &[u8]) -> Result<ClientId, BadKind>
     ensures { result ≡ client_rule clients word.now }
 {
-    client_numbered(clients, read_number(word)?)
+    client_by_number(clients, read_number(word)?)
 }
 
 /// A correct replica.

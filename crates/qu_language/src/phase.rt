@@ -1,6 +1,6 @@
 ghost use Rattle.std.specs.Prelude.{◌≡◌, ◌≤◌, IfOk, codes};
 ghost use Rattle.qu_base.specs.declared.limits.TheConstants.{LAST_CLIENT, MOST_FAULTS};
-ghost use Rattle.qu_language.specs.Meaning.{IsRead};
+ghost use Rattle.qu_language.specs.Meaning.{IsReadAs};
 ghost use Rattle.qu_language.specs.Phase.{opening_script, with_kind, with_liar, with_line, object_said, faulty_said, event_said, is_opening_word, has_none, later_rule, body_rule, opening_line, said_rule, is_comment, comment_of, line_rule, whole_script, end_rule, AreFaults, IsGood};
 ghost use Rattle.qu_language.specs.Rules.{ranged_rule, number_rule};
 ghost use Rattle.qu_language.specs.Setup.{IsWithin};
@@ -37,7 +37,7 @@ impl Phase {
         words: &mut Words<'_>,
     ) -> Result<Phase, LineFail>
         requires { IsGood self }
-        ensures value { IsRead (λ phase. phase) result (line_rule self number words.old) }
+        ensures value { IsReadAs (λ phase. phase) result (line_rule self number words.old) }
         ensures good { IfOk result IsGood }
     {
         if words.is_empty() {
@@ -60,7 +60,7 @@ impl Phase {
         words: &mut Words<'_>,
     ) -> Result<Phase, LineFail>
         requires { IsGood self }
-        ensures value { IsRead (λ phase. phase) result (said_rule self number word.now words.old) }
+        ensures value { IsReadAs (λ phase. phase) result (said_rule self number word.now words.old) }
         ensures good { IfOk result IsGood }
     {
         match self {
@@ -195,7 +195,7 @@ fn read_body(
     words: &mut Words<'_>,
 ) -> Result<Script, LineFail>
     requires { IsWithin script.setup }
-    ensures value { IsRead (λ script. script) result (body_rule script number word.now words.old) }
+    ensures value { IsReadAs (λ script. script) result (body_rule script number word.now words.old) }
     ensures limits { IfOk result (λ script. IsWithin script.setup) }
 {
     if word == b"object".as_slice() {
@@ -217,7 +217,7 @@ fn read_later(
     words: &mut Words<'_>,
 ) -> Result<Script, LineFail>
     requires { IsWithin script.setup }
-    ensures value { IsRead (λ script. script) result (later_rule script number word.now words.old) }
+    ensures value { IsReadAs (λ script. script) result (later_rule script number word.now words.old) }
     ensures limits { IfOk result (λ script. IsWithin script.setup) }
 {
     if word == b"faulty".as_slice() {
@@ -238,7 +238,7 @@ fn add_line(
     words: &mut Words<'_>,
 ) -> Result<Script, LineFail>
     requires { IsWithin script.setup }
-    ensures value { IsRead (λ script. script) result (event_said script number word.now words.old) }
+    ensures value { IsReadAs (λ script. script) result (event_said script number word.now words.old) }
     ensures limits { IfOk result (λ script. IsWithin script.setup) }
 {
     let line = read_event(alloc, &script.setup, word, words)?;
@@ -256,7 +256,7 @@ fn with_line(mut script: Script, number: u64, line: Line) -> Result<Script, NoMe
 /// Objects come before faulty parties and events.
 fn read_object(mut script: Script, words: &mut Words<'_>) -> Result<Script, LineFail>
     requires { IsWithin script.setup }
-    ensures value { IsRead (λ script. script) result (object_said script words.old) }
+    ensures value { IsReadAs (λ script. script) result (object_said script words.old) }
     ensures limits { IfOk result (λ script. IsWithin script.setup) }
 {
     if !has_none(&script.setup.liars) || !has_none(&script.lines) {
@@ -270,7 +270,7 @@ fn read_object(mut script: Script, words: &mut Words<'_>) -> Result<Script, Line
 /// Faulty parties come before events.
 fn read_faulty(mut script: Script, words: &mut Words<'_>) -> Result<Script, LineFail>
     requires { IsWithin script.setup }
-    ensures value { IsRead (λ script. script) result (faulty_said script words.old) }
+    ensures value { IsReadAs (λ script. script) result (faulty_said script words.old) }
     ensures limits { IfOk result (λ script. IsWithin script.setup) }
 {
     if !has_none(&script.lines) {

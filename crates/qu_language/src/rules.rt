@@ -1,6 +1,6 @@
 ghost use Rattle.std.specs.Prelude.{◌≡◌, ◌≤◌, ◌<◌, length, IfOk, IsTrue, nat_le};
 ghost use Rattle.qu_base.specs.declared.limits.TheConstants.{CONTENT_LIMIT, NAME_LIMIT, OBJECT_IDS};
-ghost use Rattle.qu_language.specs.Meaning.{IsRead};
+ghost use Rattle.qu_language.specs.Meaning.{IsReadAs};
 ghost use Rattle.qu_language.specs.Rules.{number_rule, ranged_rule, at_most, hex_rule, content_rule, name_rule, object_rule};
 
 use super::{BadKind, LineFail};
@@ -48,7 +48,7 @@ pub fn read_object(objects: usize, word: &[u8]) -> Result<ObjectId, BadKind>
 
 /// Bytes by their hexadecimal digits.
 pub fn read_hex(alloc: Global, word: &[u8]) -> Result<List<u8>, LineFail>
-    ensures { IsRead (λ bytes. bytes) result (hex_rule word.now) }
+    ensures { IsReadAs (λ bytes. bytes) result (hex_rule word.now) }
 {
     match read_bytes(alloc, word)? {
         Some(bytes) => Ok(bytes),
@@ -58,7 +58,7 @@ pub fn read_hex(alloc: Global, word: &[u8]) -> Result<List<u8>, LineFail>
 
 /// At most `CONTENT_LIMIT` bytes by their hexadecimal digits.
 pub fn read_content(alloc: Global, word: &[u8]) -> Result<List<u8>, LineFail>
-    ensures value { IsRead (λ bytes. bytes) result (content_rule word.now) }
+    ensures value { IsReadAs (λ bytes. bytes) result (content_rule word.now) }
     ensures sized { IfOk result (λ bytes. IsTrue (nat_le (length bytes) CONTENT_LIMIT)) }
 {
     let bytes = read_hex(alloc, word)?;
@@ -67,7 +67,7 @@ pub fn read_content(alloc: Global, word: &[u8]) -> Result<List<u8>, LineFail>
 
 /// A name of at most `NAME_LIMIT` bytes.
 pub fn read_name(alloc: Global, word: &[u8]) -> Result<List<u8>, LineFail>
-    ensures value { IsRead (λ name. name) result (name_rule word.now) }
+    ensures value { IsReadAs (λ name. name) result (name_rule word.now) }
     ensures sized { IfOk result (λ name. IsTrue (nat_le (length name) NAME_LIMIT)) }
 {
     match read_name_bytes(alloc, word)? {

@@ -2,9 +2,9 @@ ghost use Rattle.std.specs.Prelude.{◌≡◌, ◌≤◌, ◌+◌, ◌<◌, ◌�
 ghost use Rattle.std.specs.List.{list_all};
 ghost use Rattle.qu_base.specs.declared.limits.TheConstants.{OBJECT_IDS};
 ghost use Rattle.qu_trace.specs.Faulty.{is_replica};
-ghost use Rattle.qu_language.specs.Setup.{IsWithin, kind_rule, next_object, object_line, party_number, rises, rises_in_clients, faulty_replica, faulty_client, faulty_line};
+ghost use Rattle.qu_language.specs.Setup.{IsWithin, kind_rule, object_in_turn, object_line, party_number, rises, rises_in_clients, faulty_replica, faulty_client, faulty_line};
 
-use super::parties::{client_numbered, replica_numbered};
+use super::parties::{client_by_number, replica_by_number};
 use super::rules::read_number;
 use super::{BadKind, Words};
 use qu_base::{OBJECT_IDS, Party};
@@ -18,15 +18,15 @@ pub fn read_object_line(count: usize, words: &mut Words<'_>) -> Result<KindName,
     ensures room { IfOk result (λ kind. count < OBJECT_IDS) }
 {
     let number = read_number(words.next()?)?;
-    next_object(count, number)?;
+    object_in_turn(count, number)?;
     let kind = read_kind(words.next()?)?;
     words.end()?;
     Ok(kind)
 }
 
 /// The number, where it is that of the object behind so many.
-fn next_object(count: usize, number: u64) -> Result<u64, BadKind>
-    ensures value { result ≡ next_object count number }
+fn object_in_turn(count: usize, number: u64) -> Result<u64, BadKind>
+    ensures value { result ≡ object_in_turn count number }
     ensures room { IfOk result (λ number. count < OBJECT_IDS) }
 {
     if number != count as u64 {
@@ -88,7 +88,7 @@ fn faulty_replica(setup: &Setup, number: u64) -> Result<Party, BadKind>
     if !rises(liars, number) {
         return Err(BadKind::OutOfOrder);
     }
-    let me = replica_numbered(&setup.bounds, number)?;
+    let me = replica_by_number(&setup.bounds, number)?;
     if liars.len() >= usize::from(setup.bounds.b()) {
         return Err(BadKind::OverLimit);
     }
@@ -105,7 +105,7 @@ fn faulty_client(setup: &Setup, number: u64) -> Result<Party, BadKind>
     if !rises_in_clients(setup.liars.as_slice(), number) {
         return Err(BadKind::OutOfOrder);
     }
-    let me = client_numbered(setup.clients, number)?;
+    let me = client_by_number(setup.clients, number)?;
     Ok(Party::Client(me))
 }
 

@@ -1,6 +1,6 @@
 ghost use Rattle.std.specs.Prelude.{◌≡◌};
 ghost use Rattle.qu_language.specs.Event.{ticks_rule, tick_rule, wake_rule, quiet_rule};
-ghost use Rattle.qu_language.specs.Meaning.{IsRead};
+ghost use Rattle.qu_language.specs.Meaning.{IsReadAs};
 
 use super::outage::read_outage;
 use super::parties::read_correct_client;
@@ -17,7 +17,7 @@ pub fn read_quiet(
     verb: &[u8],
     words: &mut Words<'_>,
 ) -> Result<Line, LineFail>
-    ensures { IsRead (λ line. line) result (quiet_rule setup.now verb.now words.old) }
+    ensures { IsReadAs (λ line. line) result (quiet_rule setup.now verb.now words.old) }
 {
     if verb == b"tick".as_slice() {
         Ok(read_tick(setup, words)?)
