@@ -175,6 +175,8 @@ def answer(command, words, text, names):
     data = text.encode()
     if command == "sim":
         return told(data, report_lines)
+    if (command, words) == ("spelled", "sim"):
+        return told(bytes_of(text, names), report_lines)
     if command == "qu-letters":
         return listed_words_told(data, words)
     if command in ("letters", "injected", "order"):

@@ -59,16 +59,17 @@ class Happening:
         """Makes the events of a line of a script."""
         words = words_of(line.encode())
         try:
-            needs = self.reader.read_event(words)
+            word = words.next()
+            needs = self.reader.read_event(word, words)
         except Unknown:
             raise NotKnown(f"no line for events: {line}") from None
-        if words[0] == "call":
+        if word == "call":
             self.make(self.world.invoke, *needs)
-        elif words[0] == "deliver":
+        elif word == "deliver":
             self.deliver(*needs)
-        elif words[0] == "tick":
+        elif word == "tick":
             self.tick(*needs)
-        elif words[0] == "wake":
+        elif word == "wake":
             self.tick(*needs, self.world.clients[needs[0]].rest)
         else:
             raise NotKnown(f"no line for events: {line}")

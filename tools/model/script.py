@@ -11,12 +11,13 @@ MOST_BYTES = 1 << 24
 MOST_FAULTS, LAST_CLIENT, MOST_OBJECTS = 3, 64, 64
 # The first word of each setup line that stands once, with the limits of its number.
 SETUP = (("bounds", 1, MOST_FAULTS), ("seed", 0, LAST_VALUE), ("clients", 1, LAST_CLIENT))
+SETUP_WORDS = ("bounds", "seed", "clients", "object", "faulty")
 # So many digits tell that a number is too large.
 MANY_DIGITS = 21
 
 
 class Unknown(Exception):
-    """A line has no known form."""
+    """A line cannot stand, for a reason of this kind."""
 
 
 class Line(NamedTuple):
@@ -27,181 +28,257 @@ class Line(NamedTuple):
     needs: tuple
 
 
-def need(condition):
+def need(condition, kind):
     if not condition:
-        raise Unknown
+        raise Unknown(kind)
 
 
-def number_of(word, low, high):
-    need(word.isascii() and word.isdigit())
+# ---- what a word has to be
+
+
+def number_of(word, low=0, high=LAST_VALUE):
+    need(word.isascii() and word.isdigit(), "bad number")
     value = int(word.lstrip("0")[:MANY_DIGITS] or 0)
-    need(low <= value <= high)
+    need(value <= LAST_VALUE, "bad number")
+    need(low <= value <= high, "over limit")
     return value
 
 
 def bytes_of(word):
     digits = "" if word == "-" else word
-    need(word and len(digits) % 2 == 0 and all(digit in string.hexdigits for digit in digits))
+    need(word and len(digits) % 2 == 0 and all(digit in string.hexdigits for digit in digits), "bad hex")
     return bytes.fromhex(digits)
 
 
 def content_of(word):
     """The bytes that an operation writes."""
     content = bytes_of(word)
-    need(len(content) <= MOST_CONTENT)
+    need(len(content) <= MOST_CONTENT, "over limit")
     return content
 
 
 def name_of(word):
     """A name: its characters, and bytes by two digits behind `%`."""
     plain, *coded = word.split("%")
-    need(word and all(len(piece) >= 2 and set(piece[:2]) <= set(string.hexdigits) for piece in coded))
+    good = all(len(piece) >= 2 and set(piece[:2]) <= set(string.hexdigits) for piece in coded)
+    need(word and good, "bad name")
     pieces = [plain, *(piece[2:] for piece in coded)]
-    need(set("".join(pieces).encode()) <= PLAIN_BYTES)
+    need(set("".join(pieces).encode()) <= PLAIN_BYTES, "bad name")
     name = plain.encode() + b"".join(bytes.fromhex(piece[:2]) + piece[2:].encode() for piece in coded)
-    need(len(name) <= MOST_NAME)
+    need(len(name) <= MOST_NAME, "over limit")
     return name
-
-
-def amount_of(word):
-    return number_of(word, 0, LAST_VALUE)
 
 
 # What each method and each question needs behind its object.
 ARGUMENTS = {
-    "add": (amount_of,), "take": (amount_of,), "put": (content_of,), "append": (content_of,),
-    "link": (name_of, amount_of), "unlink": (name_of,), "read": (), "cat": (), "find": (name_of,), "list": ()}
+    "add": (number_of,), "take": (number_of,), "put": (content_of,), "append": (content_of,),
+    "link": (name_of, number_of), "unlink": (name_of,), "read": (), "cat": (), "find": (name_of,), "list": ()}
+
+
+# ---- the words of a line
+
+
+class Words:
+    """The words of a line, each of which is looked at before the next one is."""
+
+    def __init__(self, line):
+        self.words = [word for word in line.split(b" ") if word]
+
+    def __bool__(self):
+        return bool(self.words)
+
+    def next(self):
+        need(self.words, "wrong count")
+        word = self.words.pop(0)
+        need(all(0x20 <= byte <= 0x7e for byte in word), "not ascii")
+        return word.decode("ascii")
+
+    def one_of(self, words):
+        word = self.next()
+        need(word in words, "unknown word")
+        return word
+
+    def of_part(self):
+        """The next word of a part of an operation."""
+        word = self.next()
+        need(word != "+", "wrong count")
+        return word
+
+    def each(self, read):
+        """What all words say that are left, one at least."""
+        said = [read(self.next())]
+        while self.words:
+            said.append(read(self.next()))
+        return said
+
+    def end(self):
+        if self.words:
+            self.next()
+            raise Unknown("wrong count")
 
 
 def words_of(line):
-    """The words of a line, which have exactly one space between them."""
-    need(all(0x20 <= byte <= 0x7e for byte in line))
-    return line.decode("ascii").split(" ")
+    """The words of a line of a script."""
+    return Words(line)
 
 
 class LineReader:
-    """Reads one line after another, each by what the setup lines before it say. Each call raises Unknown where the
-    words have no known form."""
+    """Reads one line after another, each by what the setup lines before it say. Each call raises Unknown, with the
+    kind, at the first word from the left that cannot stand."""
 
     def __init__(self):
-        self.numbers, self.bounds, self.kinds, self.faulty = {}, None, [], []
+        self.numbers, self.bounds, self.kinds, self.faulty, self.behind = {}, None, [], [], False
 
     def setup(self):
         numbers, faulty = self.numbers, frozenset(self.faulty)
         return Setup(self.bounds, numbers["seed"], numbers["clients"], tuple(self.kinds), faulty)
 
+    def expected(self):
+        """The setup line that has to stand next, or None where there is none."""
+        if len(self.numbers) < len(SETUP):
+            return SETUP[len(self.numbers)][0]
+        return None if self.kinds else "object"
+
+    def read_line(self, words):
+        """What a line behind the setup needs, as its first word and a tuple; None for other lines."""
+        if not words:
+            return None
+        first = words.next()
+        if first.startswith("#"):
+            while words:
+                words.next()
+            return None
+        expected = self.expected()
+        need(expected in (None, first), f"expected {expected}")
+        if first not in SETUP_WORDS:
+            needs = self.read_event(first, words)
+            self.behind = True
+            return first, needs
+        if expected in ("bounds", "seed", "clients"):
+            self.read_setup(words)
+        elif first == "object":
+            self.read_object(words)
+        else:
+            need(first == "faulty", "out of order")
+            self.read_faulty(words)
+        return None
+
     # ---- setup lines
 
     def read_setup(self, words):
-        """Reads the next of the first three lines."""
+        """Reads the number of the next of the first three lines."""
         word, low, high = SETUP[len(self.numbers)]
-        need(words[0] == word and len(words) == 2)
-        self.numbers[word] = number_of(words[1], low, high)
+        number = number_of(words.next(), low, high)
+        words.end()
+        self.numbers[word] = number
         if word == "bounds":
-            self.bounds = Bounds.of(self.numbers[word])
+            self.bounds = Bounds.of(number)
 
     def read_object(self, words):
-        """Reads a line that says of which kind the next object is."""
-        need(words[0] == "object" and len(words) == 3 and len(self.kinds) < MOST_OBJECTS)
-        number_of(words[1], len(self.kinds), len(self.kinds))
-        need(words[2] in (COUNTER, BLOB, DIR))
-        self.kinds.append(words[2])
+        """Reads of which kind the next object is."""
+        need(not self.faulty and not self.behind, "out of order")
+        number = number_of(words.next())
+        need(number == len(self.kinds), "out of order")
+        need(number < MOST_OBJECTS, "over limit")
+        kind = words.one_of((COUNTER, BLOB, DIR))
+        words.end()
+        self.kinds.append(kind)
 
     def read_faulty(self, words):
-        """Reads a line that lists a faulty party: replicas stand before clients, and both rise."""
-        need(len(words) == 2)
-        party = self.party(*words)
-        order = [(other.kind == "c", other.number) for other in [*self.faulty, party]]
-        need(order == sorted(set(order)))
+        """Reads which party is faulty: replicas stand before clients, and both rise."""
+        need(not self.behind, "out of order")
+        kind = words.one_of(("replica", "client"))[0]
+        others = [other for other in self.faulty if other.kind == kind]
+        need(kind == "c" or len(others) == len(self.faulty), "out of order")
+        word = words.next()
+        number = number_of(word)
+        need(all(other.number < number for other in others), "out of order")
+        party = self.replica(word) if kind == "r" else self.client(word)
+        need(kind == "c" or len(others) < self.bounds.faults, "over limit")
+        words.end()
         self.faulty.append(party)
-        need(sum(other.kind == "r" for other in self.faulty) <= self.bounds.faults)
 
     # ---- parties
 
-    def party(self, kind, number):
-        need(kind in ("replica", "client"))
-        return self.replica(number) if kind == "replica" else self.client(number)
+    def party(self, words):
+        kind = words.one_of(("replica", "client"))
+        return self.replica(words.next()) if kind == "replica" else self.client(words.next())
 
     def replica(self, word):
-        return Party("r", number_of(word, 0, self.bounds.replicas - 1))
+        number = number_of(word)
+        need(number < self.bounds.replicas, "no such actor")
+        return Party("r", number)
 
     def client(self, word):
-        return Party("c", number_of(word, 1, self.numbers["clients"]))
+        number = number_of(word, 1, LAST_CLIENT)
+        need(number <= self.numbers["clients"], "no such actor")
+        return Party("c", number)
 
     def correct(self, party):
         """The number of a party, which has to be a correct one."""
-        need(party not in self.faulty)
+        need(party not in self.faulty, "no such actor")
         return party.number
 
     # ---- lines that make events
 
-    def read_event(self, words):
+    def read_event(self, first, words):
         """What the first word of the line needs, as a tuple."""
         readers = {
             "call": self.read_call, "deliver": self.read_deliver, "flow": self.read_flow, "tick": self.read_tick,
             "wake": self.read_wake, "inject": self.read_inject, "hold": self.read_replicas, "free": self.read_replicas,
             "lose": self.read_lose, "fake": self.read_fake}
-        need(words[0] in readers)
-        return readers[words[0]](words[1:])
+        need(first in readers, "unknown word")
+        needs = readers[first](words)
+        words.end()
+        return needs
 
     def read_call(self, words):
         """A client, and the body of its operation."""
-        need(len(words) >= 3)
-        client, method, rest = self.correct(self.client(words[0])), words[1], words[3:]
-        need(method in ARGUMENTS and len(rest) == len(ARGUMENTS[method]))
-        known = number_of(words[2], 0, len(self.kinds) - 1)
-        arguments = tuple(read(word) for read, word in zip(ARGUMENTS[method], rest))
+        client, method = self.correct(self.client(words.next())), words.of_part()
+        need(method in ARGUMENTS, "unknown word")
+        known = number_of(words.of_part(), 0, MOST_OBJECTS - 1)
+        need(known < len(self.kinds), "no such object")
+        arguments = tuple(read(words.of_part()) for read in ARGUMENTS[method])
         return client, Body("query" if method in ASKS else "act", (Part(known, method, arguments),))
 
     def read_deliver(self, words):
         """The numbers of letters."""
-        need(words)
-        return ([number_of(word, 0, LAST_VALUE) for word in words],)
+        return (words.each(number_of),)
 
     def read_flow(self, words):
         """How many letters at most, if the line says it."""
-        need(len(words) <= 1)
-        return tuple(number_of(word, 0, LAST_VALUE) for word in words)
+        return (number_of(words.next()),) if words else ()
 
     def read_tick(self, words):
         """A client, and how many ticks, if the line says it."""
-        need(1 <= len(words) <= 2)
-        client = self.correct(self.client(words[0]))
-        return (client, *(number_of(word, 1, MOST_EVENTS) for word in words[1:]))
+        client = self.correct(self.client(words.next()))
+        return (client, number_of(words.next(), 1, MOST_EVENTS)) if words else (client,)
 
     def read_wake(self, words):
         """A client."""
-        need(len(words) == 1)
-        return (self.correct(self.client(words[0])),)
+        return (self.correct(self.client(words.next())),)
 
     def read_inject(self, words):
         """A party and bytes."""
-        need(len(words) == 3)
-        return self.party(words[0], words[1]), bytes_of(words[2])
+        return self.party(words), bytes_of(words.next())
 
     def read_replicas(self, words):
         """A set of replicas."""
-        need(words)
-        return ({self.replica(word) for word in words},)
+        return (set(words.each(self.replica)),)
 
-    def read_lose(self, words):
-        need(not words)
+    def read_lose(self, _words):
         return ()
 
     def read_fake(self, words):
         """The replica that lies and the client, by number; `show`, `echo` or `far`; the replica whose histories are
         shown, or None; and the replicas for which HMACs are right, or None for all."""
-        need(len(words) >= 3)
-        replica, client, how, rest = self.replica(words[0]), self.client(words[1]), words[2], words[3:]
-        shown = readers = None
-        if how in ("show", "echo"):
-            need(rest)
-            shown, rest = self.correct(self.replica(rest[0])), rest[1:]
-        else:
-            need(how == "far")
-        if rest:
-            need(rest[0] == "for" and len(rest) > 1)
-            readers = {self.replica(word).number for word in rest[1:]}
+        replica, client = self.replica(words.next()), self.client(words.next())
+        how = words.one_of(("show", "echo", "far"))
+        shown = None if how == "far" else self.correct(self.replica(words.next()))
+        readers = None
+        if words:
+            need(words.next() == "for", "wrong count")
+            readers = {party.number for party in words.each(self.replica)}
         return replica.number, client.number, how, shown, readers
 
 
@@ -214,8 +291,8 @@ class Script(NamedTuple):
 
 
 def read_script(data):
-    """The script of these bytes. Raises Refused with the first line that has no known form, where a setup line that is
-    missing at the end counts as one, and where there are too many bytes."""
+    """The script of these bytes. Raises Refused with the first line that cannot stand, and the kind; a setup line that
+    is missing at the end is told at the line behind the last."""
     if len(data) > MOST_BYTES:
         raise Refused("too long", 1)
     lines = data.split(b"\n")
@@ -224,17 +301,11 @@ def read_script(data):
     reader, events = LineReader(), []
     for number, line in enumerate(lines, 1):
         try:
-            words = words_of(line)
-            if number <= len(SETUP):
-                reader.read_setup(words)
-            elif not reader.kinds or (words[0] == "object" and not reader.faulty and not events):
-                reader.read_object(words)
-            elif words[0] == "faulty" and not events:
-                reader.read_faulty(words[1:])
-            else:
-                events.append(Line(number, words[0], reader.read_event(words)))
-        except Unknown:
-            raise Refused("unknown line", number) from None
-    if not reader.kinds:
-        raise Refused("unknown line", len(lines) + 1)
+            said = reader.read_line(words_of(line))
+        except Unknown as unknown:
+            raise Refused(str(unknown), number) from None
+        if said:
+            events.append(Line(number, *said))
+    if reader.expected():
+        raise Refused(f"expected {reader.expected()}", len(lines) + 1)
     return Script(reader.setup(), tuple(events), reader)

@@ -36,11 +36,23 @@ class Report:
     broken: dict = field(default_factory=dict)
 
 
+def said_lines(data):
+    """The lines of a script that say something, by their numbers and with one space between their words; and behind
+    them without end the line that is not there, which has no word."""
+    number = 0
+    for number, line in lines_of(data):
+        words = [word for word in line.split(" ") if word]
+        if words and not words[0].startswith("#"):
+            yield number, " ".join(words)
+    while True:
+        yield number + 1, ""
+
+
 def read_faulty(data, file):
     """The faulty parties that the first lines of a script name. Raises Malformed where its setup is none."""
-    lines = iter(lines_of(data))
-    for number, form in enumerate(SETUP, 1):
-        _, line = next(lines, (number, ""))
+    lines = said_lines(data)
+    for form in SETUP:
+        number, line = next(lines)
         if not re.fullmatch(form, line):
             raise Malformed(number, "unknown line", file)
     faulty = set()

@@ -121,7 +121,7 @@ class Command(unittest.TestCase):
 
     def test_a_refused_script(self):
         self.assertEqual((3, "", "line 6: busy\n"), run(BUSY, "sim"))
-        self.assertEqual((3, "", "line 4: unknown line\n"), run(BUSY.replace(b"counter", b"text"), "letters"))
+        self.assertEqual((3, "", "line 4: unknown word\n"), run(BUSY.replace(b"counter", b"text"), "letters"))
 
     def test_what_the_model_does_not_know(self):
         setup = READ[:READ.index(b"call")]

@@ -124,7 +124,7 @@ class Command(unittest.TestCase):
         other = os.path.join(TOOLS, "draw")
         for data, words, kind in (
                 (text_of(*SHORT, "hello"), [], "draw: line 6: unknown line\n"),
-                (text_of(*SHORT), ["--script", other], f"draw: {other}: line 1: unknown line\n"),
+                (text_of(*SHORT), ["--script", other], f"draw: {other}: line 2: unknown line\n"),
                 (text_of(*SHORT), ["--report", other], f"draw: {other}: line 1: unknown line\n")):
             self.assertEqual((3, "", kind), draw(data, *words))
 

@@ -226,8 +226,11 @@ class Points(unittest.TestCase):
         self.assertEqual({Party("replica", 5), Party("client", 2)}, named)
         kinds = [*SETUP, "object 1 blob", "object 02 dir", "faulty replica 4", "call 1 put 1 -"]
         self.assertEqual({Party("replica", 4)}, read_faulty(text_of(*kinds), "script"))
+        spoken = ["# who lies", "", *(f" {line.replace(' ', '  ')} " for line in SETUP), "#", "faulty  client 1"]
+        self.assertEqual({Party("client", 1)}, read_faulty(text_of(*spoken), "script"))
         self.assertEqual(set(), read_faulty(text_of(*SETUP, "object 1 text", "faulty replica 4"), "script"))
-        for number, lines in ((1, []), (2, ["bounds 1"]), (1, ["bounds 4", *SETUP[1:]]), (4, [*SETUP[:3], "flow"])):
+        for number, lines in ((1, []), (2, ["bounds 1"]), (1, ["bounds 4", *SETUP[1:]]), (4, [*SETUP[:3], "flow"]),
+                              (3, ["#", "bounds 1"])):
             with self.assertRaises(Malformed) as refused:
                 read_faulty(text_of(*lines), "script")
             self.assertIn(f"line {number}: unknown line", str(refused.exception))

@@ -1,5 +1,5 @@
 use super::program::{self, Program};
-use qu_case_forms::{Case, Named, NoAnswer, answer_bytes};
+use qu_case_forms::{Case, Named, NoAnswer, answer_bytes, bytes_of};
 use qu_case_orders::answer_order;
 use qu_case_runs::answer_run;
 use std::alloc::Global;
@@ -30,11 +30,24 @@ fn answer_here(
         "sim" => of_program(alloc, Program::Qu, "sim", case, out),
         "qu" => of_program(alloc, Program::Qu, case.words, case, out),
         "qu-letters" => of_program(alloc, Program::QuLetters, case.words, case, out),
+        "spelled" => of_bytes(alloc, names, case, out),
         "pieces" => program::pieces(alloc, case, out),
         "listed" | "letters" | "injected" => answer_run(alloc, names, case, out),
         "events" | "order" | "audit" | "ordered" => answer_order(alloc, names, case, out),
         _ => answer_bytes(alloc, names, case, out),
     }
+}
+
+/// What `qu` writes for a script that is given by its bytes.
+fn of_bytes(
+    alloc: Global,
+    names: &[Named],
+    case: &Case<'_>,
+    out: &mut String,
+) -> Result<(), NoAnswer> {
+    let script = bytes_of(alloc, names, case.lines)?;
+    program::write(alloc, Program::Qu, case.words, script.as_slice(), out)?;
+    Ok(())
 }
 
 fn of_program(

@@ -4,8 +4,8 @@ use Rattle.std.specs.Io.KnownBytes.{Consumes, IsAtEnd}
 use Rattle.std.proofs.lemmas.Bool.{cases_lt}
 use Rattle.qu_io.specs.Streams.{StreamView}
 use Rattle.qu_trace.specs.declared.trace.Trace.{Trace}
-use Rattle.qu_script.specs.declared.bad.Bad.{Bad}
-use Rattle.qu_script.specs.declared.limits.TheConstants.{SCRIPT_LIMIT}
+use Rattle.qu_language.specs.declared.bad.Bad.{Bad}
+use Rattle.qu_language.specs.declared.limits.TheConstants.{SCRIPT_LIMIT}
 use Rattle.qu_cli.specs.declared.command.Command.{Command}
 use Rattle.qu_cli.specs.declared.command.Command.TheVariants.{Sim, Events, Digests}
 use Rattle.qu_cli.specs.declared.output.Output.TheVariants.{Report}

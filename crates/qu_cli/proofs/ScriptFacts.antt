@@ -1,10 +1,10 @@
 -- A script of too many bytes is refused.
 use Rattle.std.proofs.Common.{◌≡◌, ℕ, ◌<◌, length, List, Err, refl}
 use Rattle.std.proofs.lemmas.Bool.{lt-ltb}
-use Rattle.qu_script.specs.declared.bad.Bad.{Bad}
-use Rattle.qu_script.specs.declared.bad.BadKind.TheVariants.{TooLong}
-use Rattle.qu_script.specs.declared.limits.TheConstants.{SCRIPT_LIMIT}
-use Rattle.qu_script.specs.Script.{script_of}
+use Rattle.qu_language.specs.declared.bad.Bad.{Bad}
+use Rattle.qu_language.specs.declared.bad.BadKind.TheVariants.{TooLong}
+use Rattle.qu_language.specs.declared.limits.TheConstants.{SCRIPT_LIMIT}
+use Rattle.qu_language.specs.Script.{script_of}
 use Rattle.qu_script.specs.Events.{sim_of}
 
 pub too_long : Bad

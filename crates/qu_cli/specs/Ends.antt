@@ -16,7 +16,7 @@ use Rattle.qu_claims.specs.Order.{IsPrintedOrder}
 use Rattle.qu_print.specs.Report.{report_of}
 use Rattle.qu_listing.specs.Digests.{digests_text}
 use Rattle.qu_listing.specs.Events.{events_text}
-use Rattle.qu_script.specs.declared.bad.Bad.{Bad}
+use Rattle.qu_language.specs.declared.bad.Bad.{Bad}
 use Rattle.qu_script.specs.Events.{sim_of}
 use Rattle.qu_cli.specs.declared.command.Command.{Command}
 use Rattle.qu_cli.specs.declared.command.Command.TheVariants.{Sim, Events, Digests}

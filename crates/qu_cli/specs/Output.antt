@@ -1,7 +1,7 @@
 -- What a command has to write, of its input.
 use Rattle.std.specs.Prelude.{◌≡◌, ℕ, List, Some, string_bytes}
 use Rattle.qu_io.specs.Streams.{StreamView}
-use Rattle.qu_script.specs.declared.bad.Bad.{Bad}
+use Rattle.qu_language.specs.declared.bad.Bad.{Bad}
 use Rattle.qu_cli.specs.declared.output.Output.{Output}
 use Rattle.qu_cli.specs.declared.output.Output.TheVariants.{Report, Refusal}
 use Rattle.qu_cli.specs.declared.output.NoOutput.{NoOutput}

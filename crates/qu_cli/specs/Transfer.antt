@@ -2,7 +2,7 @@
 use Rattle.std.specs.Prelude.{ℕ, ◌+◌, ◌<◌, ◌≤◌, List, length, take, ◌⊎◌}
 use Rattle.std.specs.Io.KnownBytes.{Consumes, Appends, IsAtEnd}
 use Rattle.qu_io.specs.Streams.{StreamView, Rose}
-use Rattle.qu_script.specs.declared.limits.TheConstants.{SCRIPT_LIMIT}
+use Rattle.qu_language.specs.declared.limits.TheConstants.{SCRIPT_LIMIT}
 
 -- a script was taken: all that the source had, or one byte more than a script may have
 pub record TakesScript (before now : StreamView) (script : List ℕ) : Type 0 where

@@ -1,6 +1,6 @@
 ghost use Rattle.std.specs.Prelude.{IfOk};
 ghost use Rattle.qu_world.specs.Run.{IsRun};
-ghost use Rattle.qu_script.specs.Script.{IsAsMeant};
+ghost use Rattle.qu_language.specs.Meaning.{IsAsMeant};
 ghost use Rattle.qu_script.specs.Events.{sim_of};
 ghost use Rattle.qu_cli.specs.Ends.{Reports, TellsRun};
 ghost use Rattle.qu_cli.specs.Output.{IsOutput};

@@ -21,15 +21,16 @@ use Rattle.qu_world.specs.State.{WorldState, opening_world, correct_client}
 use Rattle.qu_world.specs.Step.{world_step}
 use Rattle.qu_world.specs.Refusals.{refusal_of}
 use Rattle.qu_world.specs.Run.{trace_of}
-use Rattle.qu_script.specs.declared.bad.Bad.{Bad}
-use Rattle.qu_script.specs.declared.bad.BadKind.{BadKind}
-use Rattle.qu_script.specs.declared.bad.BadKind.TheVariants as kind
-use Rattle.qu_script.specs.declared.bad.ScriptFail.{ScriptFail}
-use Rattle.qu_script.specs.declared.line.Line.{Line}
-use Rattle.qu_script.specs.declared.line.Line.TheVariants.{Call, Deliver, Flow, Hold, Free, Lose, Tick, Wake, Inject, Fake}
-use Rattle.qu_script.specs.declared.line.Script.{Script}
+use Rattle.qu_language.specs.declared.bad.Bad.{Bad}
+use Rattle.qu_language.specs.declared.bad.BadKind.{BadKind}
+use Rattle.qu_language.specs.declared.bad.BadKind.TheVariants as kind
+use Rattle.qu_language.specs.declared.bad.ScriptFail.{ScriptFail}
+use Rattle.qu_language.specs.declared.line.Line.{Line}
+use Rattle.qu_language.specs.declared.line.Line.TheVariants.{Call, Deliver, Flow, Hold, Free, Lose, Tick, Wake, Inject, Fake}
+use Rattle.qu_language.specs.declared.line.Script.{Script}
 use Rattle.qu_script.specs.Fake.{fake_of}
-use Rattle.qu_script.specs.Script.{then_good, script_of, Fails}
+use Rattle.qu_language.specs.Meaning.{then_good, Fails}
+use Rattle.qu_language.specs.Script.{script_of}
 
 -- ---- where a script stands
 
@@ -60,11 +61,11 @@ letters_lost playing = playing_of playing.world
 -- that its setup does not have, and calls no faulty client, and a refusal is never want of memory
 abbrev pub kind_of : WorldFail → BadKind
 kind_of (fail.NoSuchLetter number) = kind.NoSuchLetter
-kind_of (fail.NoSuchActor party) = kind.UnknownLine
+kind_of (fail.NoSuchActor party) = kind.NoSuchActor
 kind_of fail.Busy = kind.Busy
 kind_of fail.TooManyEvents = kind.TooManyEvents
 kind_of fail.TooManyBytes = kind.TooManyBytes
-kind_of fail.NoMemory = kind.UnknownLine
+kind_of fail.NoMemory = kind.TooManyBytes
 
 abbrev pub unless_refused : ℕ → Option WorldFail → Playing → Result Playing Bad
 unless_refused number None playing = Ok playing

@@ -26,8 +26,8 @@ use Rattle.qu_adversary.specs.Sealing.{sealed_for}
 use Rattle.qu_adversary.specs.Replying.{reply_text}
 use Rattle.qu_world.specs.State.{WorldState, ring_of, history_at}
 use Rattle.qu_script.specs.declared.fake.LastRequest.{LastRequest}
-use Rattle.qu_script.specs.declared.line.How.{How}
-use Rattle.qu_script.specs.declared.line.How.TheVariants.{Show, Echo, Far}
+use Rattle.qu_language.specs.declared.line.How.{How}
+use Rattle.qu_language.specs.declared.line.How.TheVariants.{Show, Echo, Far}
 use Rattle.qu_script.specs.Letters.{last_sent}
 
 -- ---- the request that is answered

@@ -1,13 +1,3 @@
-pub mod Parties
-pub mod Setup
-pub mod Operations
-pub mod Grammar
-pub mod Injecting
-pub mod Holding
-pub mod Listed
-pub mod Objects
-pub mod Liars
-pub mod Script
 pub mod Letters
 pub mod Fake
 pub mod Events

@@ -6,12 +6,12 @@ ghost use Rattle.qu_adversary.specs.Sealing.{sealed_for};
 ghost use Rattle.qu_world.specs.State.{ring_of};
 ghost use Rattle.qu_script.specs.Fake.{last_request, last_reply, thin, shown_now, is_history_of, echoed, far_candidate, far_history, asked_in, told_of, all_replicas, reached, fake_reply_text, fake_of};
 
-use super::How;
 use super::letters::last_sent;
 use qu_adversary::{in_name_of, reply_of, sealed_for};
 use qu_base::{Bounds, ClientId, Digest, List, NoMemory, ObjectId, Party, ReadFail, ReplicaId};
 use qu_frames::{Frame, Refusal, Verdict, decode};
 use qu_history::{AddFail, History, Sealed, Sets};
+use qu_language::How;
 use qu_seal::KeyRing;
 use qu_stamp::{Candidate, Group, LAST_TIME, Stamp};
 use qu_world::World;

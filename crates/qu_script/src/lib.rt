@@ -1,28 +1,12 @@
-//! Scripts: the setup and the events of a run as lines of text.
+//! Runs of scripts: what their lines do in a world.
 #![tactic(auto)]
 
-mod bad;
-mod call;
-mod content;
 mod fake;
-mod holding;
-mod injecting;
 mod letters;
-mod liars;
-mod limits;
-mod line;
-mod objects;
-mod operation;
-mod parties;
 mod player;
 mod read;
 mod run;
-mod setup;
-mod ticking;
 
-pub use bad::{Bad, BadKind, ScriptFail};
-pub use limits::{MOST_TICKS, SCRIPT_LIMIT, limits_are_these};
-pub use line::{How, Line, Script};
+pub use qu_language::{Bad, BadKind, How, Line, MOST_TICKS, SCRIPT_LIMIT, Script, ScriptFail};
 pub use read::read_script;
 pub use run::play_script;
-pub use setup::SetupLine;

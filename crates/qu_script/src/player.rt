@@ -4,9 +4,9 @@ ghost use Rattle.qu_script.specs.Events.{opening_play, event_made, deliveries_ma
 ghost use Rattle.qu_script.specs.Player.{world_fail_at};
 
 use super::fake::fake;
-use super::{Bad, BadKind, Line, ScriptFail};
 use qu_base::{ClientId, List, NoMemory, Party, ReplicaId};
 use qu_flow::{Outage, find_waiting, next_letter};
+use qu_language::{Bad, BadKind, Line, ScriptFail};
 use qu_trace::{Event, Setup, Trace};
 use qu_world::{EVENT_LIMIT, World, WorldFail};
 use std::alloc::Global;
@@ -211,7 +211,7 @@ fn fail_of(line: u64, fail: WorldFail) -> ScriptFail
     let kind = match fail {
         WorldFail::NoSuchLetter(_) => BadKind::NoSuchLetter,
         // A script that was read names no party that its setup does not have, and calls no faulty client.
-        WorldFail::NoSuchActor(_) => BadKind::UnknownLine,
+        WorldFail::NoSuchActor(_) => BadKind::NoSuchActor,
         WorldFail::Busy => BadKind::Busy,
         WorldFail::TooManyEvents => BadKind::TooManyEvents,
         WorldFail::TooManyBytes => BadKind::TooManyBytes,

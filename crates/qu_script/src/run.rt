@@ -1,10 +1,10 @@
 ghost use Rattle.std.specs.Prelude.{◌≡◌, IfOk};
 ghost use Rattle.qu_world.specs.Run.{IsRun, IsSetup};
-ghost use Rattle.qu_script.specs.Script.{IsAsMeant};
+ghost use Rattle.qu_language.specs.Meaning.{IsAsMeant};
 ghost use Rattle.qu_script.specs.Events.{run_of};
 
 use super::player::Player;
-use super::{Script, ScriptFail};
+use qu_language::{Script, ScriptFail};
 use qu_trace::Trace;
 use std::alloc::Global;
 

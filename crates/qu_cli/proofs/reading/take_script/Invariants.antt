@@ -2,7 +2,7 @@
 use Rattle.std.proofs.Common.{◌≡◌, ◌+◌, ◌-◌, ◌≤◌, length}
 use Rattle.std.specs.Io.KnownBytes.{Consumes}
 use Rattle.qu_io.specs.Streams.{IsCalm}
-use Rattle.qu_script.specs.declared.limits.TheConstants.{SCRIPT_LIMIT}
+use Rattle.qu_language.specs.declared.limits.TheConstants.{SCRIPT_LIMIT}
 use Rattle.qu_cli.proofs.reading.take_script.Given as goal
 
 abbrev pub invariant-pieces : goal.invariant-pieces

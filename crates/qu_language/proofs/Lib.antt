@@ -1,0 +1,6 @@
+pub mod WordFacts
+pub mod ListedFacts
+pub mod CommentFacts
+pub mod LiarFacts
+pub mod PhaseFacts
+pub mod ScriptFacts

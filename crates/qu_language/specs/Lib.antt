@@ -1,0 +1,10 @@
+pub mod Meaning
+pub mod Words
+pub mod Rules
+pub mod Parties
+pub mod Operation
+pub mod Bringing
+pub mod Event
+pub mod Setup
+pub mod Phase
+pub mod Script

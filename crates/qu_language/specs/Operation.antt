@@ -1,0 +1,79 @@
+-- The operations that clients of a script begin: each has one part.
+use Rattle.std.specs.Prelude.{ℕ, Bool, List, [], ◌∷◌, Result, Ok, Err, if◌then◌else◌, codes}
+use Rattle.std.specs.Str.{bytes_eq}
+use Rattle.qu_base.specs.declared.party.ObjectId.{ObjectId}
+use Rattle.qu_objects.specs.declared.act.Method.TheVariants.{Add, Take, Put, Append, Link, Unlink}
+use Rattle.qu_objects.specs.declared.query.Ask.TheVariants.{Read, Cat, Find, All}
+use Rattle.qu_objects.specs.declared.op.Op.{Op}
+use Rattle.qu_objects.specs.declared.op.Op.TheVariants as op
+use Rattle.qu_objects.specs.Parts.{is_sized_method, is_sized_ask}
+use Rattle.qu_language.specs.declared.bad.BadKind.{BadKind}
+use Rattle.qu_language.specs.declared.bad.BadKind.TheVariants.{UnknownWord}
+use Rattle.qu_language.specs.declared.operation.Part.{Part}
+use Rattle.qu_language.specs.declared.operation.Part.TheVariants.{Does, Asks}
+use Rattle.qu_language.specs.declared.operation.Verb.{Verb}
+use Rattle.qu_language.specs.declared.operation.Verb.TheVariants as verb
+use Rattle.qu_language.specs.Meaning.{then_good}
+use Rattle.qu_language.specs.Rules.{number_rule, content_rule, name_rule, object_rule}
+use Rattle.qu_language.specs.Words.{next_of_part, end_of}
+
+-- ---- verbs
+
+-- the verb of a query
+unfoldable pub ask_verb_rule : List ℕ → Result Verb BadKind
+ask_verb_rule word =
+    if bytes_eq word (codes "read") then Ok verb.Read
+    else (if bytes_eq word (codes "cat") then Ok verb.Cat
+    else (if bytes_eq word (codes "find") then Ok verb.Find
+    else (if bytes_eq word (codes "list") then Ok verb.All else Err UnknownWord)))
+
+-- a verb, of an update or of a query
+unfoldable pub verb_rule : List ℕ → Result Verb BadKind
+verb_rule word =
+    if bytes_eq word (codes "add") then Ok verb.Add
+    else (if bytes_eq word (codes "take") then Ok verb.Take
+    else (if bytes_eq word (codes "put") then Ok verb.Put
+    else (if bytes_eq word (codes "append") then Ok verb.Append
+    else (if bytes_eq word (codes "link") then Ok verb.Link
+    else (if bytes_eq word (codes "unlink") then Ok verb.Unlink else ask_verb_rule word)))))
+
+-- ---- what stands behind the object
+
+-- the next word of a part by a rule, and the words behind it
+abbrev pub argument : {X : Type 0} → (List ℕ → Result X BadKind) → List (List ℕ) → Result (X × List (List ℕ)) BadKind
+argument rule words =
+    then_good (next_of_part words) (λ next. then_good (rule next.0) (λ said. Ok (said, next.1)))
+
+-- `N`, `HEX`, `NAME`, `NAME N` or nothing, by the verb, and the words behind it
+abbrev pub part_rule : Verb → List (List ℕ) → Result (Part × List (List ℕ)) BadKind
+part_rule verb.Add words = then_good (argument number_rule words) (λ more. Ok (Does (Add more.0), more.1))
+part_rule verb.Take words = then_good (argument number_rule words) (λ fewer. Ok (Does (Take fewer.0), fewer.1))
+part_rule verb.Put words = then_good (argument content_rule words) (λ content. Ok (Does (Put content.0), content.1))
+part_rule verb.Append words = then_good (argument content_rule words) (λ more. Ok (Does (Append more.0), more.1))
+part_rule verb.Link words =
+    then_good (argument name_rule words) (λ name.
+    then_good (argument number_rule name.1) (λ number. Ok (Does (Link name.0 number.0), number.1)))
+part_rule verb.Unlink words = then_good (argument name_rule words) (λ name. Ok (Does (Unlink name.0), name.1))
+part_rule verb.Read words = Ok (Asks Read, words)
+part_rule verb.Cat words = Ok (Asks Cat, words)
+part_rule verb.Find words = then_good (argument name_rule words) (λ name. Ok (Asks (Find name.0), name.1))
+part_rule verb.All words = Ok (Asks All, words)
+
+abbrev pub is_sized_part : Part → Bool
+is_sized_part (Does method) = is_sized_method method
+is_sized_part (Asks ask) = is_sized_ask ask
+
+-- ---- operations
+
+abbrev pub op_by : ObjectId → Part → Op
+op_by object (Does method) = op.Act ((object, method) ∷ [])
+op_by object (Asks ask) = op.Query ((object, ask) ∷ [])
+
+-- a verb, one of so many objects, and what the verb needs
+unfoldable pub op_rule : ℕ → List (List ℕ) → Result Op BadKind
+op_rule objects words =
+    then_good (next_of_part words) (λ first.
+    then_good (verb_rule first.0) (λ verb.
+    then_good (argument (object_rule objects) first.1) (λ object.
+    then_good (part_rule verb object.1) (λ part.
+    then_good (end_of part.1) (λ done. Ok (op_by object.0 part.0))))))
