@@ -1,0 +1,4 @@
+pub mod Numbers
+pub mod Own
+pub mod Putting
+pub mod Gathering
