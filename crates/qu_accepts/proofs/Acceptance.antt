@@ -265,7 +265,7 @@ adds state new client number round sent mac target accepted may enough made is_n
     let one : Accepted = record { object = target; candidate = made.candidate; state = made.version } in
     let is_one : HoldsAlike new (accept state one) =
     subst (λ (it : List Accepted). HoldsAlike new (accept_all state it)) made.alone is_new in
-    let may_one : MayAccept state one = subst (MayAcceptAll state) made.alone may in
+    let may_one : MayAccept state one = (subst (MayAcceptAll state) made.alone may).0 in
     record {
       client = client;
       number = number;
@@ -336,11 +336,8 @@ fields_move : (state : ReplicaState) (client : ClientId) (number round : ℕ) (s
     → HoldsAlike (replica_on_frame state (frame.Request client number round sets asks mac)).0 state
     ⊎ Accepts state (replica_on_frame state (frame.Request client number round sets asks mac)).0
     (frame.Request client number round sets asks mac)
-fields_move state client number round sets (body.Act []) mac parts formed = absurd (false≢true parts)
-fields_move state client number round sets (body.Act (part ∷ [])) mac parts formed =
-    act_moves state client number round sets mac part parts
-fields_move state client number round sets (body.Act (first ∷ second ∷ later)) mac parts formed =
-    absurd (false≢true parts)
+fields_move state client number round sets (body.Act parts) mac in_order formed =
+    act_moves state client number round sets mac parts in_order
 fields_move state client number round sets (body.Ask asks) mac parts formed =
     let asked : Asked = asked_at state client number sets (body.Ask asks) in
     let decision : Decision = decision_on state asked (body.Ask asks) in

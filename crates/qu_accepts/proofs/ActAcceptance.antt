@@ -2,6 +2,18 @@
 use Rattle.std.proofs.Common.{◌≡◌, ◌⊎◌, ℕ, zero, suc, ◌<◌, Bool, true, false, ◌||◌, cond, List, [], ◌∷◌, ◌++◌, length, Option, None, Some, inl, inr, refl, sym, subst, ap, ◌∙◌, arith}
 use Rattle.std.specs.Prelude.{slice_get, option_map, option_and_then, IsTrue}
 use Rattle.std.proofs.lemmas.Option.{none-some, same_Some}
+use Rattle.std.specs.List.{AllByRecursion}
+use Rattle.std.proofs.lemmas.Bool.{false≢true, eqb-true, eq-eqb}
+use Rattle.std.proofs.lemmas.List.{length-map}
+use Rattle.qu_kept.specs.Standing.{AreLower}
+use Rattle.qu_kept.proofs.EachObject.{objects_named, distinct_parts, values_are}
+use Rattle.qu_rows.proofs.CarriedEach.{AreBases, AreBefores, fresh_candidates, versions_made, accepted_each, versions_each, done_each}
+use Rattle.qu_rows.proofs.PassedRows.{base_of, before_of, passed_method, passed_version, passed_current}
+use Rattle.qu_replica.specs.State.{accepted_of, stored_all}
+use Rattle.qu_replica.proofs.States.AcceptingAll.{accept_all-is, accepted_grows, accepted_may, history_of}
+use Rattle.qu_claims.specs.Grounds.{stored_of}
+use Rattle.qu_claims.specs.Parts.{Names}
+use Rattle.qu_versions.specs.declared.stored.Stored.{Stored}
 use Rattle.qu_base.specs.declared.party.ClientId.{ClientId}
 use Rattle.qu_base.specs.declared.party.Digest.{Digest}
 use Rattle.qu_base.specs.declared.party.ObjectId.{ObjectId}
@@ -162,122 +174,148 @@ ask_accepts state asked parts objects =
 
 -- ---- the row that accepts
 
--- the version that an act of one part makes of this one, by the value after it
-abbrev version_by : Asked → ObjectId × Method → ObjState → Value → ObjState
-version_by asked part before value =
-    state_after (row_by asked.client asked.number (part ∷ []) (before.value ∷ [])) value [] before
-
--- an act of one part accepts one candidate, for which there are grounds
-record MakesOne (state : ReplicaState) (asked : Asked) (part : ObjectId × Method)
-    (accepted : List Accepted) : Type 0 where
-  candidate : Candidate
-  base : Candidate
-  grounds : IsGround state asked part.0 candidate base
-  before : ObjState
-  of_base : version_at part.0 base.stamp state.versions ≡ Some before
-  lower : IsLower asked.number (row_of asked.client before.kept)
-  value : Value
-  is_value : performed_values (part ∷ []) (before.value ∷ []) ≡ value ∷ []
-  alone : accepted ≡ record {
-    object = part.0;
-    candidate = candidate;
-    state = Some (version_by asked part before value);
-  } ∷ []
-
-pub no_wait : (lacks : Bool) (missing : List (ObjectId × Stamp))
-    → cond (lacks || false) (Some (Waits missing)) None ≡ None → lacks ≡ false
-no_wait true missing none = absurd (none-some (Waits missing) (sym none))
-no_wait false missing none = refl
-
 -- an act that no row refused or answered before is above what is kept of its client
 not_repeated : (standing : Standing) → repeated standing ≡ None → standing ≡ Fresh
 not_repeated Fresh none = refl
 not_repeated (Already answer) none = absurd (none-some _ (sym none))
 not_repeated (Spent object number) none = absurd (none-some _ (sym none))
 
-is_lower : (asked : Asked) (part : ObjectId × Method) (act : Digest) (before : ObjState) → asked.act ≡ Some act
-    → IsTrue (are_parts (part ∷ [])) → repeated (standing_in asked (part ∷ []) (before ∷ [])) ≡ None
-    → IsLower asked.number (row_of asked.client before.kept)
-is_lower asked part act before is_act parts none =
-    let stands : Option Digest → Standing =
-    λ found. elim found [
-      | None ↦ Fresh
-      | Some digest ↦ standing_of asked.client asked.number digest (part ∷ []) (before ∷ [])
-    ] in
-    ((fresh_where asked.client asked.number act (part ∷ []) (before ∷ []) parts refl).0
-    (sym (ap stands is_act) ∙ not_repeated _ none)).0
+each_lower : (client : ClientId) (number : ℕ) (before : ObjectId → ObjState) (objects : List ObjectId)
+    → AreLower client number (map before objects)
+    → AllByRecursion (λ object. IsLower number (row_of client (before object).kept)) objects
+each_lower client number before [] lower = tt
+each_lower client number before (object ∷ later) lower =
+    (lower.0, each_lower client number before later lower.1)
 
-makes_one : (state : ReplicaState) (asked : Asked) (part : ObjectId × Method) (base : Candidate)
-    (before : ObjState) (value : Value)
-    → method_base state asked part.0 ≡ Some base → base_version state asked part.0 ≡ Some before
-    → IsLower asked.number (row_of asked.client before.kept)
-    → performed_values (part ∷ []) (before.value ∷ []) ≡ value ∷ []
-    → is_below (latest_of (shown_of asked part.0)) (own_latest state part.0) ≡ false
-    → MakesOne state asked part
-    (accepted_in (first_given (Waits []) (row_done state asked (part ∷ []) (part.0 ∷ []) ∷ [])))
-unfolding first_given
-makes_one state asked part base before value is_base is_before lower is_value is_current =
-    let make : Candidate → Candidate =
-    λ it. record { stamp = fresh_stamp asked part.0; prior = it.stamp; group = [] } in
-    let stored : Candidate → Option ObjState = λ it. version_at part.0 it.stamp state.versions in
-    let is_fresh : fresh_act state asked part.0 ≡ Some (make base) = ap (option_map make) is_base in
-    record {
-      candidate = make base;
-      base = base;
-      grounds = record { method = is_base; prior = refl; group = refl; stamp = refl; current = is_current };
-      before = before;
-      of_base = sym (ap (option_and_then stored) is_base) ∙ is_before;
-      lower = lower;
-      value = value;
-      is_value = is_value;
-      alone = ap (λ (row : Option Decision). accepted_in (first_given (Waits []) (row ∷ [])))
-          (done_one state asked (part ∷ []) part.0 (make base) before (version_by asked part before value) _ is_fresh
-          is_before (performed_to asked.client asked.number (part ∷ []) (fresh_stamp asked part.0 ∷ []) before value
-          refl refl is_value) refl);
-    }
+module _ (state : ReplicaState) (asked : Asked) (parts : List (ObjectId × Method)) where
+  abbrev objects : List ObjectId
+  objects = objects_named parts
 
-done : (state : ReplicaState) (asked : Asked) (part : ObjectId × Method) (act : Digest) → asked.act ≡ Some act
-    → IsTrue (are_parts (part ∷ []))
-    → row_current state asked (part.0 ∷ []) ≡ None → row_method state asked (part.0 ∷ []) ≡ None
-    → row_version state asked (part.0 ∷ []) ≡ None → row_kept state asked (part ∷ []) (part.0 ∷ []) ≡ None
-    → MakesOne state asked part
-    (accepted_in (first_given (Waits []) (row_done state asked (part ∷ []) (part.0 ∷ []) ∷ [])))
-unfolding row_current row_method row_version row_kept
-done state asked part act is_act parts is_current is_method is_version is_new =
-    let base : (it : Candidate) × (method_base state asked part.0 ≡ Some it) =
-    some_of (method_base state asked part.0)
-    (no_first (λ it. NotMethod it (class_told state asked it)) _ part.0 is_method) in
-    let before : (it : ObjState) × (base_version state asked part.0 ≡ Some it) =
-    some_of (base_version state asked part.0) (no_wait _ _ is_version) in
-    let value : (it : Value) × (performed_values (part ∷ []) ((before.0).value ∷ []) ≡ it ∷ []) =
-    single (performed_values (part ∷ []) ((before.0).value ∷ [])) (values_one (part ∷ []) (before.0).value refl) in
-    let lower : IsLower asked.number (row_of asked.client (before.0).kept) =
-    is_lower asked part act before.0 is_act parts
-    (ap (λ (versions : List ObjState). repeated (standing_in asked (part ∷ []) versions))
-    (sym (versions_one state asked part.0 before.0 before.1)) ∙ is_new) in
-    makes_one state asked part base.0 before.0 value.0 base.1 before.1 lower value.1
-    (no_first (λ it. NotCurrent it (own_latest state it)) _ part.0 is_current)
+  abbrev bases : ObjectId → Candidate
+  bases = base_of state asked
 
-abbrev MakesAtMostOne : ReplicaState → Asked → ObjectId × Method → List Accepted → Type 0
-MakesAtMostOne state asked part accepted = (accepted ≡ []) ⊎ MakesOne state asked part accepted
+  abbrev befores : ObjectId → ObjState
+  befores = before_of state asked
 
-act_accepts : (state : ReplicaState) (asked : Asked) (part : ObjectId × Method) (act : Digest)
-    → asked.act ≡ Some act → IsTrue (are_parts (part ∷ []))
-    → MakesAtMostOne state asked part (accepted_in (decide_act state asked (part ∷ []) (part.0 ∷ [])))
-unfolding decide_act
-act_accepts state asked part act is_act parts =
-    let objects : List ObjectId = part.0 ∷ [] in
-    let most : List Accepted → Type 0 = λ accepted. MakesAtMostOne state asked part accepted in
-    past most _ _ (inl refl) (unknown state asked) (λ _.
-    past most _ _ (inl refl) (thin state asked) (λ _.
-    past most _ _ (inl refl) (retry state asked (part ∷ []) objects) (λ _.
-    past most _ _ (inl refl) (current state asked objects) (λ is_current.
-    past most _ _ (inl refl) (method state asked objects) (λ is_method.
-    past most _ _ (inl refl) (version state asked objects) (λ is_version.
-    past most _ _ (inl refl) (kept state asked (part ∷ []) objects) (λ is_new.
-    past most _ _ (inl refl) (time state asked objects) (λ _.
-    past most _ _ (inl refl) (full state asked objects)
-    (λ _. inr (done state asked part act is_act parts is_current is_method is_version is_new))))))))))
+  abbrev fresh : ObjectId → Candidate
+  fresh = fresh_candidates state asked bases befores
+
+  abbrev afters : ObjectId → ObjState
+  afters = versions_made state asked bases befores parts
+
+  -- an act accepts one candidate on each of its objects, for which there are grounds
+  record MakesAll (accepted : List Accepted) : Type 0 where
+    are_bases : AreBases state asked bases befores objects
+    are_befores : AreBefores state asked bases befores objects
+    current : AllByRecursion (λ object. is_below (latest_of (shown_of asked object)) (own_latest state object) ≡ false)
+        objects
+    lower : AllByRecursion (λ object. IsLower asked.number (row_of asked.client (befores object).kept)) objects
+    all : accepted ≡ accepted_each fresh afters objects
+
+  module _ (act : Digest) (is_act : asked.act ≡ Some act) (in_order : IsTrue (are_parts parts)) where
+    are_lower : AreBefores state asked bases befores objects → row_kept state asked parts objects ≡ None
+        → AllByRecursion (λ object. IsLower asked.number (row_of asked.client (befores object).kept)) objects
+    unfolding row_kept
+    are_lower are_befores none =
+        let stands : Option Digest → Standing =
+        λ found. elim found [
+          | None ↦ Fresh
+          | Some digest ↦ standing_of asked.client asked.number digest parts (map befores objects)
+        ] in
+        let is_new : standing_in asked parts (map befores objects) ≡ Fresh =
+        not_repeated _ (ap (λ (versions : List ObjState). repeated (standing_in asked parts versions))
+        (sym (versions_each state asked bases befores objects are_befores)) ∙ none) in
+        each_lower asked.client asked.number befores objects
+        ((fresh_where asked.client asked.number act parts (map befores objects) in_order
+        (length-map objects befores ∙ length-map parts (λ part. part.0))).0 (sym (ap stands is_act) ∙ is_new))
+
+    done : row_current state asked objects ≡ None → row_method state asked objects ≡ None
+        → row_version state asked objects ≡ None → row_kept state asked parts objects ≡ None
+        → MakesAll (accepted_in (first_given (Waits []) (row_done state asked parts objects ∷ [])))
+    unfolding first_given
+    done is_current is_method is_version is_new =
+        let are_bases : AreBases state asked bases befores objects = passed_method state asked objects is_method in
+        let are_befores : AreBefores state asked bases befores objects =
+        passed_version state asked objects is_version in
+        record {
+          are_bases = are_bases;
+          are_befores = are_befores;
+          current = passed_current state asked objects is_current;
+          lower = are_lower are_befores is_new;
+          all = ap (λ (row : Option Decision). accepted_in (first_given (Waits []) (row ∷ [])))
+              (done_each state asked bases befores parts (distinct_parts parts in_order) are_bases are_befores);
+        }
+
+    abbrev MakesAllOrNone : List Accepted → Type 0
+    MakesAllOrNone accepted = (accepted ≡ []) ⊎ MakesAll accepted
+
+    act_accepts : MakesAllOrNone (accepted_in (decide_act state asked parts objects))
+    unfolding decide_act
+    act_accepts =
+        past MakesAllOrNone _ _ (inl refl) (unknown state asked) (λ _.
+        past MakesAllOrNone _ _ (inl refl) (thin state asked) (λ _.
+        past MakesAllOrNone _ _ (inl refl) (retry state asked parts objects) (λ _.
+        past MakesAllOrNone _ _ (inl refl) (current state asked objects) (λ is_current.
+        past MakesAllOrNone _ _ (inl refl) (method state asked objects) (λ is_method.
+        past MakesAllOrNone _ _ (inl refl) (version state asked objects) (λ is_version.
+        past MakesAllOrNone _ _ (inl refl) (kept state asked parts objects) (λ is_new.
+        past MakesAllOrNone _ _ (inl refl) (time state asked objects) (λ _.
+        past MakesAllOrNone _ _ (inl refl) (full state asked objects)
+        (λ _. inr (done is_current is_method is_version is_new))))))))))
+
+-- ---- what is accepted of an object
+
+abbrev accepts : (ObjectId → Candidate) → (ObjectId → ObjState) → ObjectId → Accepted
+accepts candidates versions object =
+    record { object = object; candidate = candidates object; state = Some (versions object) }
+
+module _ (candidates : ObjectId → Candidate) (versions : ObjectId → ObjState) where
+  of_named : (parts : List (ObjectId × Method)) (object : ObjectId) → Names parts object
+      → accepted_of object (accepted_each candidates versions (objects_named parts))
+      ≡ Some (accepts candidates versions object)
+  of_named [] object names = absurd names
+  of_named (part ∷ later) object names = by ((part.0).0 == object.0) refl names (of_named later object)
+    where
+      by : (test : Bool) → ((part.0).0 == object.0) ≡ test → Names (part ∷ later) object
+          → (Names later object → accepted_of object (accepted_each candidates versions (objects_named later))
+          ≡ Some (accepts candidates versions object))
+          → cond test (Some (accepts candidates versions part.0))
+          (accepted_of object (accepted_each candidates versions (objects_named later)))
+          ≡ Some (accepts candidates versions object)
+      by true is names so_far =
+          ap (λ (number : ℕ). Some (accepts candidates versions (record { 0 = number }))) (eqb-true _ _ is)
+      by false is (inl same) so_far =
+          absurd (false≢true (sym is ∙ eq-eqb _ _ (ap (λ (it : ObjectId). it.0) same)))
+      by false is (inr named) so_far = so_far named
+
+  of_other : (parts : List (ObjectId × Method)) (object : ObjectId) → (Names parts object → ⊥)
+      → accepted_of object (accepted_each candidates versions (objects_named parts)) ≡ None
+  of_other [] object other = refl
+  of_other (part ∷ later) object other =
+      by ((part.0).0 == object.0) refl (of_other later object (λ named. other (inr named)))
+    where
+      by : (test : Bool) → ((part.0).0 == object.0) ≡ test
+          → accepted_of object (accepted_each candidates versions (objects_named later)) ≡ None
+          → cond test (Some (accepts candidates versions part.0))
+          (accepted_of object (accepted_each candidates versions (objects_named later))) ≡ None
+      by true is so_far = absurd (other (inl (ap (λ (number : ℕ). record { 0 = number }) (eqb-true _ _ is))))
+      by false is so_far = so_far
+
+  stored_each : (parts : List (ObjectId × Method)) → stored_all (accepted_each candidates versions (objects_named parts))
+      ≡ stored_of candidates versions parts
+  stored_each [] = refl
+  stored_each (part ∷ later) =
+      ap (λ (stored : List Stored). record {
+        object = part.0;
+        stamp = (candidates part.0).stamp;
+        state = versions part.0;
+      } ∷ stored) (stored_each later)
+
+each_named : (P : ObjectId → Type 0) (parts : List (ObjectId × Method)) → AllByRecursion P (objects_named parts)
+    → (object : ObjectId) → Names parts object → P object
+each_named P [] all object names = absurd names
+each_named P (part ∷ later) all object (inl same) = subst P same all.0
+each_named P (part ∷ later) all object (inr named) = each_named P later all.1 object named
 
 -- ---- the step
 
@@ -315,102 +353,104 @@ unfolding accept_all
 stays state new accepted is_new none =
     subst (λ (it : List Accepted). HoldsAlike new (accept_all state it)) none is_new
 
-performs : (state new : ReplicaState) (client : ClientId) (number : ℕ) (sent : List SetOf)
-    (part : ObjectId × Method) (accepted : List Accepted)
-    (made : MakesOne state (asked_at state client number sent (body.Act (part ∷ []))) part accepted)
-    → new.versions ≡ state.versions ++ (record {
-      object = part.0;
-      stamp = (made.candidate).stamp;
-      state = version_by (asked_at state client number sent (body.Act (part ∷ []))) part made.before made.value;
-    } ∷ [])
-    → Performs state new (asked_at state client number sent (body.Act (part ∷ []))) (part ∷ [])
-    (λ object. made.candidate)
-performs state new client number sent part accepted made stored =
-    let after : ObjState =
-    version_by (asked_at state client number sent (body.Act (part ∷ []))) part made.before made.value in
-    record {
-      bases = λ object. made.base;
-      grounds = λ object names. subst
-          (λ (it : ObjectId). IsGround state (asked_at state client number sent (body.Act (part ∷ []))) it
-          made.candidate
-          made.base) (one_named part object names) made.grounds;
-      versions = λ object. after;
-      performed = record {
-        befores = λ object. made.before;
-        of_bases = λ object names. subst
-            (λ (it : ObjectId). version_at it (made.base).stamp state.versions ≡ Some made.before)
-            (one_named part object names) made.of_base;
-        values = made.is_value;
-        lower = λ object names. made.lower;
-        afters = λ object names. subst
-            (λ (it : ObjectId). after ≡ state_after (row_by client number (part ∷ []) ((made.before).value ∷ []))
-            made.value (links_to_others it (made.candidate).stamp (part ∷ [])) made.before)
-            (one_named part object names)
-            (ap (λ (links : List Link). state_after
-            (row_by client number (part ∷ []) ((made.before).value ∷ [])) made.value links made.before)
-            (sym (no_others part (made.candidate).stamp)));
-      };
-      stored = stored;
-    }
+-- the candidates of an object once these are accepted
+own_after : (state new : ReplicaState) (accepted : List Accepted) → MayAcceptAll state accepted
+    → HoldsAlike new (accept_all state accepted) → (object : ObjectId)
+    → own_candidates new object
+    ≡ candidates_in (history_of state.histories object (accepted_of object accepted))
+own_after state new accepted may is_new object =
+    alike_candidates new (accept_all state accepted) is_new object
+    ∙ ap (λ (it : ReplicaState). own_candidates it object) (accept_all-is state accepted)
+    ∙ ap candidates_in (accepted_grows state object accepted state.histories may)
 
-moves : (state new : ReplicaState) (client : ClientId) (number round : ℕ) (sent : List SetOf) (mac : List ℕ)
-    (part : ObjectId × Method) (accepted : List Accepted)
-    → MayAcceptAll state accepted → MakesOne state (asked_at state client number sent (body.Act (part ∷ []))) part
-    accepted → HoldsAlike new (accept_all state accepted)
-    → Accepts state new (frame.Request client number round sent (body.Act (part ∷ [])) mac)
-unfolding accept_all
-moves state new client number round sent mac part accepted may made is_new =
-    let asked : Asked = asked_at state client number sent (body.Act (part ∷ [])) in
-    let after : ObjState = version_by asked part made.before made.value in
-    let one : Accepted = record { object = part.0; candidate = made.candidate; state = Some after } in
-    let is_one : HoldsAlike new (accept state one) =
-    subst (λ (it : List Accepted). HoldsAlike new (accept_all state it)) made.alone is_new in
-    let may_one : MayAccept state one = subst (MayAcceptAll state) made.alone may in
-    record {
-      client = client;
-      number = number;
-      round = round;
-      sent = sent;
-      sets = culled state.keys state.me sent;
-      culls = refl;
-      asks = body.Act (part ∷ []);
-      mac = mac;
-      is_request = refl;
-      candidates = λ object. made.candidate;
-      added = λ object names. subst
-          (λ (it : ObjectId). own_candidates new it ≡ own_candidates state it ++ made.candidate ∷ [])
-          (one_named part object names)
-          (alike_candidates new (accept state one) is_one part.0
-          ∙ candidates_after (part.0).0 made.candidate state.histories may_one.known);
-      others = λ other apart.
-          alike_candidates new (accept state one) is_one other ∙
-          ap candidates_in (other_history (part.0).0 other.0 made.candidate state.histories
-          (λ same. apart (inl (ap (λ (it : ℕ). record { 0 = it }) (sym same)))));
-      reasons = performs state new client number sent part accepted made
-          is_one.versions;
-    }
+module _ (state new : ReplicaState) (client : ClientId) (number : ℕ) (sent : List SetOf)
+    (parts : List (ObjectId × Method)) (accepted : List Accepted)
+    (made : MakesAll state (asked_at state client number sent (body.Act parts)) parts accepted)
+    (is_new : HoldsAlike new (accept_all state accepted)) (in_order : IsTrue (are_parts parts)) where
+  abbrev asked : Asked
+  asked = asked_at state client number sent (body.Act parts)
+
+  abbrev candidates : ObjectId → Candidate
+  candidates = fresh state asked parts
+
+  abbrev versions : ObjectId → ObjState
+  versions = afters state asked parts
+
+  performs : Performs state new asked parts candidates
+  performs = record {
+    bases = base_of state asked;
+    grounds = λ object names. record {
+      method = each_named _ parts made.are_bases object names;
+      prior = refl;
+      group = refl;
+      stamp = refl;
+      current = each_named _ parts made.current object names;
+    };
+    versions = versions;
+    performed = record {
+      befores = before_of state asked;
+      of_bases = λ object names.
+          sym (ap (option_and_then (λ (base : Candidate). version_at object base.stamp state.versions))
+          (each_named _ parts made.are_bases object names))
+          ∙ each_named _ parts made.are_befores object names;
+      values = values_are client number parts (fresh_stamp asked) (before_of state asked) (distinct_parts parts in_order);
+      lower = λ object names. each_named _ parts made.lower object names;
+      afters = λ object names. refl;
+    };
+    stored = is_new.versions ∙ ap (λ (it : ReplicaState). it.versions) (accept_all-is state accepted)
+        ∙ ap (λ (it : List Accepted). state.versions ++ stored_all it) made.all
+        ∙ ap (λ (it : List Stored). state.versions ++ it) (stored_each candidates versions parts);
+  }
+
+  moves : (round : ℕ) (mac : List ℕ) → MayAcceptAll state accepted
+      → Accepts state new (frame.Request client number round sent (body.Act parts) mac)
+  moves round mac may = record {
+    client = client;
+    number = number;
+    round = round;
+    sent = sent;
+    sets = culled state.keys state.me sent;
+    culls = refl;
+    asks = body.Act parts;
+    mac = mac;
+    is_request = refl;
+    candidates = candidates;
+    added = λ object names.
+        let one : Accepted = accepts candidates versions object in
+        let found : accepted_of object accepted ≡ Some one =
+        ap (accepted_of object) made.all ∙ of_named candidates versions parts object names in
+        own_after state new accepted may is_new object
+        ∙ ap (λ (it : Option Accepted). candidates_in (history_of state.histories object it)) found
+        ∙ candidates_after object.0 (candidates object) state.histories
+        (accepted_may state object accepted one may found).known;
+    others = λ object apart.
+        own_after state new accepted may is_new object
+        ∙ ap (λ (it : Option Accepted). candidates_in (history_of state.histories object it))
+        (ap (accepted_of object) made.all ∙ of_other candidates versions parts object apart);
+    reasons = performs;
+  }
 
 pub act_moves : (state : ReplicaState) (client : ClientId) (number round : ℕ) (sets : List SetOf) (mac : List ℕ)
-    (part : ObjectId × Method) → HasParts (frame.Request client number round sets (body.Act (part ∷ [])) mac)
-    → HoldsAlike (replica_on_frame state (frame.Request client number round sets (body.Act (part ∷ [])) mac)).0 state
-    ⊎ Accepts state (replica_on_frame state (frame.Request client number round sets (body.Act (part ∷ [])) mac)).0
-    (frame.Request client number round sets (body.Act (part ∷ [])) mac)
-act_moves state client number round sets mac part parts =
-    let asked : Asked = asked_at state client number sets (body.Act (part ∷ [])) in
-    let decision : Decision = decide_act state asked (part ∷ []) (part.0 ∷ []) in
+    (parts : List (ObjectId × Method)) → HasParts (frame.Request client number round sets (body.Act parts) mac)
+    → HoldsAlike (replica_on_frame state (frame.Request client number round sets (body.Act parts) mac)).0 state
+    ⊎ Accepts state (replica_on_frame state (frame.Request client number round sets (body.Act parts) mac)).0
+    (frame.Request client number round sets (body.Act parts) mac)
+act_moves state client number round sets mac parts in_order =
+    let asked : Asked = asked_at state client number sets (body.Act parts) in
+    let decision : Decision = decide_act state asked parts (objects_named parts) in
     let request : TakenRequest = record {
       client = client;
       number = number;
       round = round;
       sets = sets;
-      body = body.Act (part ∷ []);
+      body = body.Act parts;
       mac = mac;
     } in
     let new : ReplicaState = (carried_out state request decision).0 in
     let is_new : HoldsAlike new (accept_all state (accepted_in decision)) = carried state request decision in
-    elim (act_accepts state asked part (act_digest client number (part ∷ [])) refl parts) [
+    elim (act_accepts state asked parts (act_digest client number parts) refl in_order) [
       | inl none ↦ inl (stays state new (accepted_in decision) is_new none)
       | inr made ↦
-          inr (moves state new client number round sets mac part (accepted_in decision)
-          (may_accept state decision (decision_on-may state asked (body.Act (part ∷ [])) parts)) made is_new)
+          inr (moves state new client number sets parts (accepted_in decision) made is_new in_order round mac
+          (may_accept state decision (decision_on-may state asked (body.Act parts) in_order)))
     ]

@@ -42,7 +42,7 @@ made_each [] values fit = refl
 made_each (part ∷ parts) [] fit = absurd (omega arith)
 made_each (part ∷ parts) (value ∷ values) fit = grind (arith, made_each parts values)
 
-values_fit : (parts : List (ObjectId × Method)) (values : List Value) → length values ≡ length parts
+pub values_fit : (parts : List (ObjectId × Method)) (values : List Value) → length values ≡ length parts
     → length (performed_values parts values) ≡ length parts
 values_fit parts values fit =
     no_fewer (refusal_from 0 (outcomes parts values)) 0 (outcomes parts values) values refl

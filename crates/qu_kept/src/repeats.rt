@@ -22,7 +22,7 @@ pub enum Standing {
 }
 
 /// How the act of this client with this number and digest stands to versions of its objects, given in the order
-/// of its parts.
+/// of its parts. Where some are missing, what the others keep tells whether it was performed before.
 pub fn standing_of(
     alloc: Global,
     states: &[ObjState],
@@ -31,11 +31,12 @@ pub fn standing_of(
     number: u64,
     digest: &Digest,
 ) -> Result<Standing, NoMemory>
-    requires { length states.now ≡ length act.now }
     ensures value { IfOk result (λ standing. standing ≡ standing_of by number digest.now act.now states.now) }
-    ensures fresh { IfOk result (λ standing. standing ≡ Fresh ↔ AreLower by number states.now) }
-    ensures already { IfOk result (λ standing. is_already standing ≡ is_repeated by number digest.now states.now) }
-    ensures spent { (object : Object) (kept : ℕ)
+    ensures fresh { length states.now ≡ length act.now
+        → IfOk result (λ standing. standing ≡ Fresh ↔ AreLower by number states.now) }
+    ensures already { length states.now ≡ length act.now
+        → IfOk result (λ standing. is_already standing ≡ is_repeated by number digest.now states.now) }
+    ensures spent { length states.now ≡ length act.now → (object : Object) (kept : ℕ)
         → IfOk result (λ standing. standing ≡ Spent object kept → number ≤ kept) }
 {
     stands(alloc, states, act, by, number, digest)
@@ -50,7 +51,6 @@ fn stands(
     number: u64,
     digest: &Digest,
 ) -> Result<Standing, NoMemory>
-    requires { length states.now ≡ length act.now }
     ensures value { IfOk result (λ standing. standing ≡ standing_of by number digest.now act.now states.now) }
     ensures in_order { IsTrue (are_parts act.now) }
 {

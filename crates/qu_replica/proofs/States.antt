@@ -1,5 +1,6 @@
 -- What a step makes of a replica's state.
 pub mod Accepting
+pub mod AcceptingAll
 pub mod Alike
 pub mod Gains
 pub mod Growth

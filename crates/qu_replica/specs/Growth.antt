@@ -1,5 +1,6 @@
 -- How the state of a replica may follow another.
-use Rattle.std.specs.Prelude.{◌≡◌, ◌<◌, ◌≤◌, List, ◌++◌, length, IfSome}
+use Rattle.std.specs.Prelude.{◌≡◌, ◌<◌, ◌≤◌, List, ◌++◌, length}
+use Rattle.std.specs.List.{AllByRecursion}
 use Rattle.qu_base.specs.declared.party.ObjectId.{ObjectId}
 use Rattle.qu_stamp.specs.declared.candidate.Candidate.{Candidate}
 use Rattle.qu_history.specs.History.{ObjectHistory}
@@ -10,10 +11,10 @@ use Rattle.qu_rows.specs.State.{ReplicaState, AreHistories, own_candidates}
 use Rattle.qu_replica.specs.State.{with_gain}
 use Rattle.qu_waiting.specs.Slots.{with_turn, AreSlots}
 
--- what a replica's state may gain: the history of an object that it has stays its own, a list holds all versions, and
--- each request waits in the slot of its client
+-- what a replica's state may gain: histories of objects that it has, so that they stay its own, versions that a list
+-- holds, and requests that wait, each in the slot of its client
 pub record MayGain (state : ReplicaState) (gain : Gain) : Type 0 where
-  pub known : IfSome gain.history (λ (history : ObjectHistory). (history.object).0 < length state.histories)
+  pub known : AllByRecursion (λ (history : ObjectHistory). (history.object).0 < length state.histories) gain.histories
   pub own : AreHistories (with_gain state gain)
   pub slots : AreSlots (with_turn gain.turn state.waiting)
   pub room : length ((state.versions ++ gain.found) ++ gain.versions) ≤ MOST_VERSIONS

@@ -1,5 +1,6 @@
 -- How what a replica holds changes, and how it begins.
-use Rattle.std.specs.Prelude.{ℕ, zero, suc, ◌+◌, List, [], ◌∷◌, ◌++◌, set, replicate, Option, None, Some, unwrap_or}
+use Rattle.std.specs.Prelude.{ℕ, zero, suc, ◌+◌, ◌==◌, List, [], ◌∷◌, ◌++◌, set, replicate, find, Option, None, Some, unwrap_or}
+use Rattle.std.specs.List.{flat_map}
 use Rattle.qu_base.specs.declared.limits.TheConstants.{LAST_CLIENT}
 use Rattle.qu_base.specs.declared.party.ObjectId.{ObjectId}
 use Rattle.qu_base.specs.declared.party.ReplicaId.{ReplicaId}
@@ -29,11 +30,22 @@ abbrev pub stored_if : ObjectId → Stamp → Option ObjState → List Stored
 stored_if object stamp None = []
 stored_if object stamp (Some version) = record { object = object; stamp = stamp; state = version } ∷ []
 
+abbrev pub stored_of : Accepted → List Stored
+stored_of accepted = stored_if accepted.object accepted.candidate.stamp accepted.state
+
+-- the versions of what is accepted
+abbrev pub stored_all : List Accepted → List Stored
+stored_all accepted = flat_map stored_of accepted
+
+-- what is accepted of an object
+abbrev pub accepted_of : ObjectId → List Accepted → Option Accepted
+accepted_of object accepted = find (λ one. (one.object).0 == object.0) accepted
+
 -- a candidate is accepted, with its version where it has one that is not stored yet
 abbrev pub accept : ReplicaState → Accepted → ReplicaState
 accept state accepted = record state {
   histories = with_candidate (accepted.object).0 accepted.candidate state.histories;
-  versions = state.versions ++ stored_if accepted.object accepted.candidate.stamp accepted.state;
+  versions = state.versions ++ stored_of accepted;
 }
 
 unfoldable pub accept_all : ReplicaState → List Accepted → ReplicaState
@@ -42,14 +54,15 @@ accept_all state (accepted ∷ later) = accept_all (accept state accepted) later
 
 -- ---- what a step makes of the state
 
-abbrev pub with_history : Option ObjectHistory → List ObjectHistory → List ObjectHistory
-with_history None histories = histories
-with_history (Some history) histories = set histories (history.object).0 history
+-- each of those that grew in the place of that of its object
+abbrev pub with_histories : List ObjectHistory → List ObjectHistory → List ObjectHistory
+with_histories [] histories = histories
+with_histories (grown ∷ later) histories = with_histories later (set histories (grown.object).0 grown)
 
 -- the state with what it gains
 abbrev pub with_gain : ReplicaState → Gain → ReplicaState
 with_gain state gain = record state {
-  histories = with_history gain.history state.histories;
+  histories = with_histories gain.histories state.histories;
   versions = (state.versions ++ gain.found) ++ gain.versions;
   waiting = with_turn gain.turn state.waiting;
   fetching = unwrap_or gain.fetching state.fetching;

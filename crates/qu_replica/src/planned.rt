@@ -10,8 +10,8 @@ use std::alloc::Global;
 /// What a replica's state gains by a step, as whole parts that are only moved in.
 #[derive(Debug, Drop)]
 pub struct Gain {
-    /// The history of an object, with the candidates that are accepted.
-    pub history: Option<History>,
+    /// The histories of the objects of which candidates are accepted, with these candidates.
+    pub histories: List<History>,
     /// A version that was fetched, which is stored behind the others, with its room.
     pub found: Prepared,
     /// The versions of what is accepted, which are stored behind it, with their room.
@@ -25,14 +25,14 @@ pub struct Gain {
 impl Gain {
     /// Nothing.
     pub(crate) fn nothing(alloc: Global) -> Gain
-        ensures history { result.history ≡ None }
+        ensures histories { result.histories ≡ [] }
         ensures found { result.found ≡ [] }
         ensures versions { result.versions ≡ [] }
         ensures turn { result.turn ≡ None }
         ensures fetching { result.fetching ≡ None }
     {
         Gain {
-            history: None,
+            histories: List::new(alloc),
             found: Prepared::none(alloc),
             versions: Prepared::none(alloc),
             turn: None,
@@ -40,12 +40,12 @@ impl Gain {
         }
     }
 
-    /// This gain with a history, and with these versions of what is accepted.
-    pub(crate) fn with_accepted(self, history: History, versions: Prepared) -> Gain
-        ensures { result ≡ record self { history = Some history; versions = versions } }
+    /// This gain with these histories, and with these versions of what is accepted.
+    pub(crate) fn with_accepted(self, histories: List<History>, versions: Prepared) -> Gain
+        ensures { result ≡ record self { histories = histories; versions = versions } }
     {
         Gain {
-            history: Some(history),
+            histories,
             found: self.found,
             versions,
             turn: self.turn,
@@ -58,7 +58,7 @@ impl Gain {
         ensures { result ≡ record self { turn = Some (record { client = client; next = next }) } }
     {
         Gain {
-            history: self.history,
+            histories: self.histories,
             found: self.found,
             versions: self.versions,
             turn: Some(Turn { client, next }),
@@ -71,7 +71,7 @@ impl Gain {
         ensures { result ≡ record self { fetching = Some fetching } }
     {
         Gain {
-            history: self.history,
+            histories: self.histories,
             found: self.found,
             versions: self.versions,
             turn: self.turn,

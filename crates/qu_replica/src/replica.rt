@@ -7,7 +7,7 @@ ghost use Rattle.qu_rows.specs.State.{AreHistories, without_waiting, one_more};
 ghost use Rattle.qu_versions.specs.Versions.{version_at};
 ghost use Rattle.qu_rows.specs.Rows.{asked_at, unknown_in, unknown_refused, decision_on};
 ghost use Rattle.qu_rows.specs.Allowed.{MayDecide};
-ghost use Rattle.qu_replica.specs.State.{replica_at_start, with_gain};
+ghost use Rattle.qu_replica.specs.State.{replica_at_start, with_histories, with_gain};
 ghost use Rattle.qu_history.specs.Culling.{culled};
 ghost use Rattle.qu_history.specs.Text.{sets_digest};
 ghost use Rattle.qu_frames.specs.Signing.{before_mac};
@@ -209,23 +209,20 @@ impl Replica {
         letters
     }
 
-    /// Puts the history in the place of that of its object, the versions after the others, and what waits and is
+    /// Puts each history in the place of that of its object, the versions after the others, and what waits and is
     /// fetched in the place of what did.
     fn take(&mut self, gain: Gain)
         requires { MayGain self.old gain }
         ensures { self.new ≡ with_gain self.old gain }
     {
         let Gain {
-            history,
+            histories,
             found,
             versions,
             turn,
             fetching,
         } = gain;
-        if let Some(history) = history {
-            let place = usize::from(history.object().0);
-            self.histories[place] = history;
-        }
+        put_histories(&mut self.histories, histories);
         self.versions.put_prepared(found);
         self.versions.put_prepared(versions);
         if let Some(turn) = turn {
@@ -306,6 +303,17 @@ impl Replica {
     {
         let asked = Asked::new(self.alloc, reading, sets, set)?;
         rows.decide(&asked, reading.body())
+    }
+}
+
+/// Puts each history in the place of that of its object.
+fn put_histories(histories: &mut Vec<History>, grown: List<History>)
+    requires known { AllByRecursion (λ history. (history.object).0 < length histories.old.items) grown }
+    ensures { histories.new.items ≡ with_histories grown histories.old.items }
+{
+    for history in grown.into_vec() {
+        let place = usize::from(history.object().0);
+        histories[place] = history;
     }
 }
 

@@ -1,23 +1,24 @@
 ghost use Rattle.std.specs.Prelude.{◌≡◌, IfOk};
-ghost use Rattle.qu_replica.specs.State.{stored_if};
+ghost use Rattle.qu_replica.specs.State.{stored_all};
 
 use qu_base::NoMemory;
 use qu_rows::Accepted;
 use qu_versions::{Prepared, Stored};
 use std::alloc::Global;
 
-/// What is stored of an accepted candidate, with its room: its version, if it has one.
-pub(crate) fn stored(alloc: Global, accepted: &Accepted) -> Result<Prepared, NoMemory>
-    ensures { IfOk result (λ versions. versions
-        ≡ stored_if accepted.now.object accepted.now.candidate.stamp accepted.now.state) }
+/// What is stored of accepted candidates, with its room: the version of each that has one.
+pub(crate) fn stored(alloc: Global, accepted: &[Accepted]) -> Result<Prepared, NoMemory>
+    ensures { IfOk result (λ versions. versions ≡ stored_all accepted.now) }
 {
-    let Some(state) = &accepted.state else {
-        return Ok(Prepared::none(alloc));
-    };
-    let stored = Stored {
-        object: accepted.object,
-        stamp: accepted.candidate.stamp,
-        state: state.copy(alloc)?,
-    };
-    Prepared::one(alloc, stored)
+    let mut versions = Prepared::none(alloc);
+    for one in accepted {
+        if let Some(state) = &one.state {
+            versions.push(Stored {
+                object: one.object,
+                stamp: one.candidate.stamp,
+                state: state.copy(alloc)?,
+            })?;
+        }
+    }
+    Ok(versions)
 }

@@ -1,6 +1,7 @@
--- What a replica decides upon a request with one part, it may accept.
-use Rattle.std.proofs.Common.{◌≡◌, ℕ, zero, suc, ◌+◌, ◌<◌, ◌≤◌, Bool, true, false, cond, IsTrue, List, [], ◌∷◌, length, Option, None, Some, inl, inr, refl, sym, subst, ap, ◌∙◌, arith}
+-- What a replica decides upon a request, it may accept.
+use Rattle.std.proofs.Common.{◌≡◌, ℕ, zero, suc, ◌+◌, ◌<◌, ◌≤◌, Bool, true, false, cond, IsTrue, List, [], ◌∷◌, ◌++◌, length, Option, None, Some, inl, inr, refl, sym, subst, ap, ◌∙◌, arith}
 use Rattle.std.specs.Prelude.{◌==◌, nat_le, find, option_map, slice_get}
+use Rattle.std.specs.List.{AllByRecursion}
 use Rattle.std.proofs.lemmas.Bool.{false≢true, leb-false, ltb-false, cases_Bool, cases_lt, eqb-true}
 use Rattle.std.proofs.lemmas.Option.{none-some, same_Some}
 use Rattle.qu_base.specs.declared.party.ObjectId.{ObjectId}
@@ -19,6 +20,7 @@ use Rattle.qu_objects.specs.declared.act.Method.{Method}
 use Rattle.qu_objects.specs.declared.query.Ask.{Ask}
 use Rattle.qu_objects.specs.declared.state.ObjState.{ObjState}
 use Rattle.qu_kept.specs.declared.repeats.Standing.{Standing}
+use Rattle.qu_kept.proofs.EachObject.{AreDistinct, distinct_parts}
 use Rattle.qu_kept.specs.declared.repeats.Standing.TheVariants as standing
 use Rattle.qu_frames.specs.declared.frame.Body.{Body}
 use Rattle.qu_frames.specs.declared.frame.Body.TheVariants as body
@@ -35,12 +37,14 @@ use Rattle.qu_rows.specs.declared.mending.Mending.TheVariants.{Mends, Holds, Ref
 use Rattle.qu_rows.specs.declared.mending.Mending.TheVariants as mending
 use Rattle.qu_rows.specs.Causes.{MakesCandidate, HasCause}
 use Rattle.qu_rows.proofs.Decided.{decided_has_cause}
+use Rattle.qu_rows.specs.declared.decision.Accepted.{Accepted}
 use Rattle.qu_rows.specs.declared.decision.Decision.{Decision}
 use Rattle.qu_rows.specs.declared.decision.Decision.TheVariants.{Answers, Waits}
 use Rattle.qu_rows.specs.State.{ReplicaState, own_candidates, own_latest}
-use Rattle.qu_rows.specs.Rows.{Asked, refuse, method_base, shown_of, fresh_stamp, fresh_act, accepted_by, done_again, repeated, row_unknown, row_thin, row_retry, row_current, row_method, row_version, row_kept, row_time, row_full, row_done, row_told, row_few, mend_asked, wanted_version, mending_on, decision_by, decide_act, decide_ask, decide_repair, decision_on}
-use Rattle.qu_rows.specs.Table.{first_given}
+use Rattle.qu_rows.specs.Rows.{Asked, refuse, refuse_first, objects_of, method_base, shown_of, fresh_stamp, fresh_act, accepted_by, done_again, repeated, row_unknown, row_thin, row_retry, row_current, row_method, row_version, row_kept, row_time, row_full, row_done, row_told, row_few, mend_asked, wanted_version, mending_on, decision_by, decide_act, decide_ask, decide_repair, decision_on}
+use Rattle.qu_rows.specs.Table.{first_given, has_no_room}
 use Rattle.qu_rows.specs.Allowed.{MayAccept, MayAcceptAll, MayDecide, has_parts}
+use Rattle.qu_rows.proofs.Accepting.{accepted_of, accepted_cons, accepted_none, accepted_empty}
 
 -- a row that may be carried out, so that what follows it is to be shown
 abbrev MayGive : ReplicaState → Option Decision → Type 0
@@ -205,16 +209,71 @@ may_accept_fresh state asked object known current in_time room fresh made versio
       in_time = in_time_of (latest_of (shown_of asked object)) fresh.stamp next (leb-false _ _ in_time);
     }
 
-may_accept_made : (state : ReplicaState) (asked : Asked) (object : ObjectId) (versions : List ObjState)
-    (made : Option Candidate) → fresh_act state asked object ≡ made
-    → ((fresh : Candidate) → fresh_act state asked object ≡ Some fresh → (version : ObjState)
+-- what is accepted is of other objects than this one
+abbrev AreApart : ObjectId → List Accepted → Type 0
+AreApart object accepted = AllByRecursion (λ other. other.object ≡ object → ⊥) accepted
+
+made_apart : (this object : ObjectId) (version : ObjState) (made : Option Candidate) (later : List Accepted)
+    → (object ≡ this → ⊥) → AreApart this later → AreApart this (accepted_of object made version ++ later)
+made_apart this object version None later other so_far = so_far
+made_apart this object version (Some fresh) later other so_far = (other, so_far)
+
+-- an act on other objects makes it accept candidates of other objects
+accepted_apart : (state : ReplicaState) (asked : Asked) (this : ObjectId) (objects : List ObjectId)
+    (versions : List ObjState) → AllByRecursion (λ object. object ≡ this → ⊥) objects
+    → AreApart this (accepted_by state asked objects versions)
+accepted_apart state asked this [] versions others =
+    subst (AreApart this) (sym (accepted_empty state asked versions)) tt
+accepted_apart state asked this (object ∷ objects) [] others =
+    subst (AreApart this) (sym (accepted_none state asked (object ∷ objects))) tt
+accepted_apart state asked this (object ∷ objects) (version ∷ versions) others =
+    subst (AreApart this)
+    (sym (accepted_cons state asked object version (fresh_act state asked object) objects versions refl))
+    (made_apart this object version (fresh_act state asked object) (accepted_by state asked objects versions) others.0
+    (accepted_apart state asked this objects versions others.1))
+
+made_each : (state : ReplicaState) (object : ObjectId) (version : ObjState) (made : Option Candidate)
+    (later : List Accepted)
+    → ((fresh : Candidate) → made ≡ Some fresh
     → MayAccept state (record { object = object; candidate = fresh; state = Some version }))
-    → MayAcceptAll state (accepted_by state asked (object ∷ []) versions)
-unfolding accepted_by
-may_accept_made state asked object [] made is_made may = tt
-may_accept_made state asked object (version ∷ versions) None is_made may = rw (is_made, MayAcceptAll) tt
-may_accept_made state asked object (version ∷ versions) (Some fresh) is_made may =
-    rw (is_made, MayAcceptAll) (may fresh is_made version)
+    → AreApart object later → MayAcceptAll state later
+    → MayAcceptAll state (accepted_of object made version ++ later)
+made_each state object version None later may apart so_far = so_far
+made_each state object version (Some fresh) later may apart so_far = (may fresh refl, apart, so_far)
+
+-- what an act makes may be accepted
+accepted_may : (state : ReplicaState) (asked : Asked) (objects : List ObjectId) (versions : List ObjState)
+    → AreDistinct objects
+    → find (λ (set : SetOf). nat_le (length state.histories) (set.object).0) asked.sets ≡ None
+    → AllByRecursion (λ object. is_below (latest_of (shown_of asked object)) (own_latest state object) ≡ false) objects
+    → AllByRecursion (λ object. nat_le LAST_TIME (latest_of (shown_of asked object)).time ≡ false) objects
+    → AllByRecursion (λ object. has_no_room (own_candidates state object) ≡ false) objects
+    → MayAcceptAll state (accepted_by state asked objects versions)
+accepted_may state asked [] versions apart known current in_time room =
+    subst (MayAcceptAll state) (sym (accepted_empty state asked versions)) tt
+accepted_may state asked (object ∷ objects) [] apart known current in_time room =
+    subst (MayAcceptAll state) (sym (accepted_none state asked (object ∷ objects))) tt
+accepted_may state asked (object ∷ objects) (version ∷ versions) apart known current in_time room =
+    subst (MayAcceptAll state)
+    (sym (accepted_cons state asked object version (fresh_act state asked object) objects versions refl))
+    (made_each state object version (fresh_act state asked object) (accepted_by state asked objects versions)
+    (λ fresh made. may_accept_fresh state asked object known current.0 in_time.0 room.0 fresh made version)
+    (accepted_apart state asked object objects versions apart.0)
+    (accepted_may state asked objects versions apart.1 known current.1 in_time.1 room.1))
+
+-- where none is refused, none is bad
+pub none_refused : (bad : ObjectId → Bool) (why : ObjectId → Refusal) (objects : List ObjectId)
+    → refuse_first bad why objects ≡ None → AllByRecursion (λ object. bad object ≡ false) objects
+none_refused bad why [] none = tt
+none_refused bad why (object ∷ objects) none =
+    by_test (bad object) refl none (none_refused bad why objects)
+  where
+    by_test : (test : Bool) → bad object ≡ test
+        → option_map (λ (it : ObjectId). refuse (why it)) (cond test (Some object) (find bad objects)) ≡ None
+        → (refuse_first bad why objects ≡ None → AllByRecursion (λ it. bad it ≡ false) objects)
+        → (bad object ≡ false) × AllByRecursion (λ it. bad it ≡ false) objects
+    by_test true is refused so_far = absurd (none-some (refuse (why object)) (sym refused))
+    by_test false is passed so_far = (is, so_far passed)
 
 pub no_first : (why : ObjectId → Refusal) (bad : Bool) (object : ObjectId)
     → option_map (λ (it : ObjectId). refuse (why it)) (cond bad (Some object) None) ≡ None → bad ≡ false
@@ -226,47 +285,46 @@ no_unknown : (state : ReplicaState) (asked : Asked) → row_unknown state asked 
 unfolding row_unknown
 no_unknown state asked none = unmapped (λ (set : SetOf). refuse (UnknownObject set.object)) _ none
 
-done : (state : ReplicaState) (asked : Asked) (part : ObjectId × Method) (object : ObjectId)
-    → row_unknown state asked ≡ None → row_current state asked (object ∷ []) ≡ None
-    → row_time state asked (object ∷ []) ≡ None → row_full state asked (object ∷ []) ≡ None
-    → MayGive state (row_done state asked (part ∷ []) (object ∷ []))
+done : (state : ReplicaState) (asked : Asked) (parts : List (ObjectId × Method)) (objects : List ObjectId)
+    → AreDistinct objects → row_unknown state asked ≡ None → row_current state asked objects ≡ None
+    → row_time state asked objects ≡ None → row_full state asked objects ≡ None
+    → MayGive state (row_done state asked parts objects)
 unfolding row_current row_time row_full row_done
-done state asked part object unknown current time full decision given =
+done state asked parts objects apart unknown current time full decision given =
     subst (MayDecide state) (same_Some _ decision given)
-    (may_accept_made state asked object _ _ refl
-    (may_accept_fresh state asked object (no_unknown state asked unknown)
-    (no_first (λ it. NotCurrent it (own_latest state it)) _ object current) (no_first TimeSpent _ object time)
-    (no_first HistoryFull _ object full)))
+    (accepted_may state asked objects _ apart (no_unknown state asked unknown)
+    (none_refused _ (λ it. NotCurrent it (own_latest state it)) objects current)
+    (none_refused _ TimeSpent objects time) (none_refused _ HistoryFull objects full))
 
 nothing : (state : ReplicaState) → MayDecide state (first_given (Waits []) [])
 unfolding first_given
 nothing state = tt
 
-may_act : (state : ReplicaState) (asked : Asked) (part : ObjectId × Method) (object : ObjectId)
-    → MayDecide state (decide_act state asked (part ∷ []) (object ∷ []))
+may_act : (state : ReplicaState) (asked : Asked) (parts : List (ObjectId × Method)) (objects : List ObjectId)
+    → AreDistinct objects → MayDecide state (decide_act state asked parts objects)
 unfolding decide_act
-may_act state asked part object =
+may_act state asked parts objects apart =
     past state _ _ (unknown state asked) (λ known.
     past state _ _ (thin state asked) (λ _.
-    past state _ _ (retry state asked (part ∷ []) (object ∷ [])) (λ _.
-    past state _ _ (current state asked (object ∷ [])) (λ is_current.
-    past state _ _ (method state asked (object ∷ [])) (λ _.
-    past state _ _ (version state asked (object ∷ [])) (λ _.
-    past state _ _ (kept state asked (part ∷ []) (object ∷ [])) (λ _.
-    past state _ _ (time state asked (object ∷ [])) (λ in_time.
-    past state _ _ (full state asked (object ∷ [])) (λ room.
-    past state _ _ (done state asked part object known is_current in_time room) (λ _. nothing state))))))))))
+    past state _ _ (retry state asked parts objects) (λ _.
+    past state _ _ (current state asked objects) (λ is_current.
+    past state _ _ (method state asked objects) (λ _.
+    past state _ _ (version state asked objects) (λ _.
+    past state _ _ (kept state asked parts objects) (λ _.
+    past state _ _ (time state asked objects) (λ in_time.
+    past state _ _ (full state asked objects) (λ room.
+    past state _ _ (done state asked parts objects apart known is_current in_time room) (λ _. nothing state))))))))))
 
-may_ask : (state : ReplicaState) (asked : Asked) (part : ObjectId × Ask) (object : ObjectId)
-    → MayDecide state (decide_ask state asked (part ∷ []) (object ∷ []))
+may_ask : (state : ReplicaState) (asked : Asked) (parts : List (ObjectId × Ask)) (objects : List ObjectId)
+    → MayDecide state (decide_ask state asked parts objects)
 unfolding decide_ask
-may_ask state asked part object =
+may_ask state asked parts objects =
     past state _ _ (unknown state asked) (λ _.
     past state _ _ (thin state asked) (λ _.
-    past state _ _ (current state asked (object ∷ [])) (λ _.
-    past state _ _ (method state asked (object ∷ [])) (λ _.
-    past state _ _ (version state asked (object ∷ [])) (λ _.
-    past state _ _ (told-may state asked (part ∷ []) (object ∷ [])) (λ _. nothing state))))))
+    past state _ _ (current state asked objects) (λ _.
+    past state _ _ (method state asked objects) (λ _.
+    past state _ _ (version state asked objects) (λ _.
+    past state _ _ (told-may state asked parts objects) (λ _. nothing state))))))
 
 refused_if : (state : ReplicaState) (why : Refusal) (test : Bool)
     → MayGive state (cond test (Some (refuse why)) None)
@@ -318,12 +376,16 @@ made_in_time mend (Fresh barrier prior) candidate made =
 caused_may : (state : ReplicaState) (target : ObjectId) (mend : Mend) (version : Option ObjState) (made : Mending)
     → target.0 < length state.histories → HasCause mend (own_candidates state target) version made
     → MayDecide state (decision_by target mend.remedy made)
-caused_may state target mend version (Mends candidate stored) known cause = record {
-  known = known;
-  later = (cause.1).above;
-  room = (cause.1).room;
-  in_time = made_in_time mend mend.remedy candidate cause.0;
-}
+caused_may state target mend version (Mends candidate stored) known cause = (
+  record {
+    known = known;
+    later = (cause.1).above;
+    room = (cause.1).room;
+    in_time = made_in_time mend mend.remedy candidate cause.0;
+  },
+  tt,
+  tt,
+)
 caused_may state target mend version (Holds stamp) known cause = tt
 caused_may state target mend version (Refuses why) known cause = tt
 caused_may state target mend version mending.Waits known cause = tt
@@ -349,10 +411,6 @@ may_repair state asked target =
 
 pub decision_on-may : (state : ReplicaState) (asked : Asked) (asks : Body) → IsTrue (has_parts asks)
     → MayDecide state (decision_on state asked asks)
-decision_on-may state asked (body.Act []) parts = absurd (false≢true parts)
-decision_on-may state asked (body.Act (part ∷ [])) parts = may_act state asked part part.0
-decision_on-may state asked (body.Act (first ∷ second ∷ later)) parts = absurd (false≢true parts)
-decision_on-may state asked (body.Ask []) parts = absurd (false≢true parts)
-decision_on-may state asked (body.Ask (part ∷ [])) parts = may_ask state asked part part.0
-decision_on-may state asked (body.Ask (first ∷ second ∷ later)) parts = absurd (false≢true parts)
-decision_on-may state asked (body.Mend target) parts = may_repair state asked target
+decision_on-may state asked (body.Act parts) are = may_act state asked parts (objects_of parts) (distinct_parts parts are)
+decision_on-may state asked (body.Ask parts) are = may_ask state asked parts (objects_of parts)
+decision_on-may state asked (body.Mend target) are = may_repair state asked target

@@ -7,10 +7,11 @@ use Rattle.qu_stamp.specs.declared.limits.TheConstants.{LAST_TIME}
 use Rattle.qu_stamp.specs.declared.candidate.Candidate.{Candidate}
 use Rattle.qu_stamp.proofs.Order.{is_below_by_time}
 use Rattle.qu_history.specs.History.{ObjectHistory, latest, holds}
-use Rattle.qu_history.specs.Sets.{latest_of}
 use Rattle.qu_history.proofs.Stamps.{not_below_latest}
 use Rattle.qu_rows.specs.State.{ReplicaState, candidates_in, own_candidates}
-use Rattle.qu_rows.specs.Rows.{Asked, method_base, shown_of, fresh_stamp, is_held}
+use Rattle.qu_rows.specs.declared.seen.Seen.{Seen}
+use Rattle.qu_rows.specs.Rows.{Asked}
+use Rattle.qu_rows.specs.SeenRows.{stamp_seen, held_on}
 use Rattle.qu_rows.specs.State.{AreHistories}
 use Rattle.qu_rows.proofs.Own.{own_history}
 
@@ -35,15 +36,15 @@ own_in_time state object held own is_held =
           (own_history state object.0 history own is_history).in_time holds_it
     ] refl is_held
 
-fresh_not_held : (state : ReplicaState) (asked : Asked) (object : ObjectId) (base : Candidate)
-    → AreHistories state → LAST_TIME ≤ (latest_of (shown_of asked object)).time
-    → holds (record { stamp = fresh_stamp asked object; prior = base.stamp; group = [] }) (own_candidates state object) ≡ false
-fresh_not_held state asked object base own spent =
-    let fresh : Candidate = record { stamp = fresh_stamp asked object; prior = base.stamp; group = [] } in
-    elim (cases_Bool (holds fresh (own_candidates state object))) [
+fresh_not_held : (state : ReplicaState) (asked : Asked) (one : Seen) (base : Candidate)
+    → AreHistories state → LAST_TIME ≤ one.latest.time
+    → holds (record { stamp = stamp_seen asked one; prior = base.stamp; group = [] }) (own_candidates state one.object)
+    ≡ false
+fresh_not_held state asked one base own spent =
+    let fresh : Candidate = record { stamp = stamp_seen asked one; prior = base.stamp; group = [] } in
+    elim (cases_Bool (holds fresh (own_candidates state one.object))) [
       | inl is_held ↦
-          let in_time : (latest_of (shown_of asked object)).time + 1 ≤ LAST_TIME =
-          own_in_time state object fresh own is_held in
+          let in_time : one.latest.time + 1 ≤ LAST_TIME = own_in_time state one.object fresh own is_held in
           absurd (omega arith)
       | inr not_held ↦ not_held
     ]
@@ -53,16 +54,16 @@ is_held_by state object None = false
 is_held_by state object (Some fresh) = holds fresh (own_candidates state object)
 
 -- so a replica holds no fresh candidate of an object whose time is spent
-pub spent_not_held : (state : ReplicaState) (asked : Asked) (object : ObjectId) → AreHistories state
-    → LAST_TIME ≤ (latest_of (shown_of asked object)).time → is_held state asked object ≡ false
-unfolding is_held
-spent_not_held state asked object own spent =
-    elim (method_base state asked object) as (λ (base : Option Candidate). is_held_by state object
+pub spent_not_held : (state : ReplicaState) (asked : Asked) (one : Seen) → AreHistories state
+    → LAST_TIME ≤ one.latest.time → held_on state asked one ≡ false
+unfolding held_on
+spent_not_held state asked one own spent =
+    elim (one.method) as (λ (base : Option Candidate). is_held_by state one.object
     (option_map (λ (it : Candidate). let fresh : Candidate = record {
-      stamp = fresh_stamp asked object;
+      stamp = stamp_seen asked one;
       prior = it.stamp;
       group = [];
     } in fresh) base) ≡ false) [
       | None ↦ refl
-      | Some base ↦ fresh_not_held state asked object base own spent
+      | Some base ↦ fresh_not_held state asked one base own spent
     ]

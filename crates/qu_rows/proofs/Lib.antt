@@ -4,5 +4,12 @@ pub mod Own
 pub mod Allowed
 pub mod Held
 pub mod Carried
+pub mod CarriedEach
+pub mod PassedRows
 pub mod Decoded
 pub mod CulledRequests
+pub mod Shown
+pub mod Accepting
+pub mod SeenRows
+pub mod Making
+pub mod Keeping

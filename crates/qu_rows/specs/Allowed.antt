@@ -1,5 +1,6 @@
 -- What a replica may accept, and so decide.
 use Rattle.std.specs.Prelude.{◌≡◌, Bool, true, ◌<◌, ◌≤◌, List, [], ◌∷◌, length, IsTrue}
+use Rattle.std.specs.List.{AllByRecursion}
 use Rattle.qu_stamp.specs.declared.limits.TheConstants.{LAST_TIME}
 use Rattle.qu_stamp.specs.Stamp.{is_below}
 use Rattle.qu_history.specs.declared.limits.TheConstants.{HISTORY_LIMIT}
@@ -20,11 +21,13 @@ pub record MayAccept (state : ReplicaState) (accepted : Accepted) : Type 0 where
   pub room : length (own_candidates state accepted.object) < HISTORY_LIMIT
   pub in_time : accepted.candidate.stamp.time ≤ LAST_TIME
 
--- at most one candidate is accepted, as each operation has one part
+-- candidates of different objects, each of which it may accept
 abbrev pub MayAcceptAll : ReplicaState → List Accepted → Type 0
 MayAcceptAll state [] = Unit {0}
-MayAcceptAll state (accepted ∷ []) = MayAccept state accepted
-MayAcceptAll state (first ∷ second ∷ later) = ⊥
+MayAcceptAll state (accepted ∷ later) =
+    MayAccept state accepted
+    × AllByRecursion (λ other. other.object ≡ accepted.object → ⊥) later
+    × MayAcceptAll state later
 
 abbrev pub MayDecide : ReplicaState → Decision → Type 0
 MayDecide state (Answers verdict accepted) = MayAcceptAll state accepted

@@ -6,4 +6,5 @@ pub mod Causes
 pub mod Waiting
 pub mod State
 pub mod Rows
+pub mod SeenRows
 pub mod Allowed

@@ -1,5 +1,5 @@
 ghost use Rattle.qu_base.specs.Bounds.{quorum};
-ghost use Rattle.std.specs.Prelude.{◌≡◌, ◌≤◌, ◌++◌, [], ◌∷◌, length, slice_get, None, IfOk, IsSome, IfNone, IsTrue};
+ghost use Rattle.std.specs.Prelude.{◌≡◌, ◌≤◌, [], ◌++◌, length, map, slice_get, None, IfOk, IfNone, IsTrue};
 ghost use Rattle.std.specs.Option.{option_copied, option_or};
 ghost use Rattle.qu_history.specs.History.{latest};
 ghost use Rattle.qu_objects.specs.Parts.{are_parts};
@@ -7,9 +7,13 @@ ghost use Rattle.qu_rows.specs.State.{AreHistories, are_own, own_latest, one_mor
 ghost use Rattle.qu_versions.specs.Versions.{version_at};
 ghost use Rattle.qu_rows.specs.Allowed.{MayDecide};
 ghost use Rattle.qu_rows.specs.Table.{has_no_room};
-ghost use Rattle.qu_rows.specs.Rows.{shown_of, seen_of, row_few, mend_asked, mending_on, keys_at, decision_by, decide_repair, base_version, row_unknown, row_current, row_method, row_version, decide_act, decide_ask, decision_on, objects_of};
+ghost use Rattle.qu_rows.specs.Rows.{shown_of, seen_of, row_few, mend_asked, mending_on, keys_at, decision_by, decide_repair, row_unknown, decide_act, decide_ask, decision_on, objects_of};
+ghost use Rattle.qu_rows.specs.SeenRows.{versions_under, base_keys, current_on, method_on, version_on, act_on, ask_on};
 
 mod acting;
+mod bases;
+mod making;
+mod retrying;
 
 use crate::asked::Asked;
 use crate::decision::{Accepted, Decision, refuse};
@@ -18,6 +22,8 @@ use crate::mending::Mending;
 use crate::remedy::Remedy;
 use crate::seen::Seen;
 use crate::versions::version_of;
+use acting::{row_kept, row_method, row_time};
+use making::row_done;
 use qu_base::{List, NoMemory, ObjectId, ReplicaId};
 use qu_frames::{Body, Refusal, Verdict};
 use qu_history::{HISTORY_LIMIT, History};
@@ -113,44 +119,37 @@ impl<'a> Rows<'a> {
             ≡ decide_act self.now asked.now act.now (objects_of act.now)) }
         ensures parts { IsTrue (are_parts act.now) }
     {
-        match act.parts().as_slice() {
-            [(object, _)] => self.decide_act_on(asked, act, *object),
-            _ => unreachable!(),
-        }
+        let seen = self.seen(asked, act.parts().as_slice())?;
+        self.decide_act_on(asked, act, seen.as_slice())
     }
 
-    /// What it makes of an act on one object.
-    #[tactic(auto, unfolding(crate::specs::Rows::decide_act, crate::specs::Table::first_given))]
-    fn decide_act_on(
-        &self,
-        asked: &Asked,
-        act: &Act,
-        object: ObjectId,
-    ) -> Result<Decision, NoMemory>
+    /// What it makes of an act on objects that its sets show so.
+    #[tactic(auto, unfolding(crate::specs::SeenRows::act_on, crate::specs::Table::first_given))]
+    fn decide_act_on(&self, asked: &Asked, act: &Act, seen: &[Seen]) -> Result<Decision, NoMemory>
         requires known { row_unknown self.now asked.now ≡ None }
-        requires one_part { length act.now ≡ 1 }
-        ensures { IfOk result (λ decision. decision ≡ decide_act self.now asked.now act.now (object ∷ [])) }
+        requires one_each { length seen.now ≡ length act.now }
+        ensures { IfOk result (λ decision. decision ≡ act_on self.now asked.now act.now seen.now) }
     {
         if let Some(refusal) = self.row_thin(asked) {
             return Ok(refusal);
         }
-        let seen = self.seen(asked, object);
-        if let Some(kept) = self.row_retry(asked, act, &seen)? {
+        if let Some(kept) = self.row_retry(asked, act, seen)? {
             return Ok(kept);
         }
-        if let Some(decision) = self.rows_of_base(asked, &seen)? {
+        if let Some(decision) = self.rows_of_base(seen)? {
             return Ok(decision);
         }
-        if let Some(kept) = self.row_kept(asked, act, &seen)? {
+        let before = self.base_versions(seen)?;
+        if let Some(kept) = row_kept(self.alloc, asked, act, before.as_slice())? {
             return Ok(kept);
         }
-        if let Some(refusal) = self.row_time(asked, &seen) {
+        if let Some(refusal) = row_time(self.alloc, seen) {
             return Ok(refusal);
         }
-        if let Some(refusal) = self.row_full(asked, object) {
+        if let Some(refusal) = self.row_full(seen) {
             return Ok(refusal);
         }
-        self.row_done(asked, act, &seen)
+        row_done(self.alloc, asked, act, seen, before.as_slice())
     }
 
     /// What it makes of a query.
@@ -160,32 +159,29 @@ impl<'a> Rows<'a> {
             ≡ decide_ask self.now asked.now query.now (objects_of query.now)) }
         ensures parts { IsTrue (are_parts query.now) }
     {
-        match query.parts().as_slice() {
-            [(object, _)] => self.decide_ask_on(asked, query, *object),
-            _ => unreachable!(),
-        }
+        let seen = self.seen(asked, query.parts().as_slice())?;
+        self.decide_ask_on(asked, query, seen.as_slice())
     }
 
-    /// What it makes of a query of one object.
-    #[tactic(auto, unfolding(crate::specs::Rows::decide_ask, crate::specs::Table::first_given))]
+    /// What it makes of a query of objects that its sets show so.
+    #[tactic(auto, unfolding(crate::specs::SeenRows::ask_on, crate::specs::Table::first_given))]
     fn decide_ask_on(
         &self,
         asked: &Asked,
         query: &Query,
-        object: ObjectId,
+        seen: &[Seen],
     ) -> Result<Decision, NoMemory>
         requires known { row_unknown self.now asked.now ≡ None }
-        requires one_part { length query.now ≡ 1 }
-        ensures { IfOk result (λ decision. decision ≡ decide_ask self.now asked.now query.now (object ∷ [])) }
+        requires one_each { length seen.now ≡ length query.now }
+        ensures { IfOk result (λ decision. decision ≡ ask_on self.now asked.now query.now seen.now) }
     {
         if let Some(refusal) = self.row_thin(asked) {
             return Ok(refusal);
         }
-        let seen = self.seen(asked, object);
-        if let Some(decision) = self.rows_of_base(asked, &seen)? {
+        if let Some(decision) = self.rows_of_base(seen)? {
             return Ok(decision);
         }
-        self.row_told(asked, query, &seen)
+        self.row_told(query, seen)
     }
 
     /// What it makes of a request to mend an object.
@@ -242,28 +238,31 @@ impl<'a> Rows<'a> {
         Ok((mend.remedy, mend.decide(self.alloc, own, version)?))
     }
 
-    /// The rows that look for a version upon which an operation on the object may rest.
-    fn rows_of_base(&self, asked: &Asked, seen: &Seen) -> Result<Option<Decision>, NoMemory>
-        requires { seen.now ≡ seen_of self.now asked.now seen.now.object }
-        ensures version { IfOk result (λ row. IfNone row (IsSome (base_version self.now asked.now seen.now.object))) }
-        ensures value { IfOk result (λ row. row ≡ option_or (row_current self.now asked.now (seen.now.object ∷ []))
-            (option_or (row_method self.now asked.now (seen.now.object ∷ []))
-            (row_version self.now asked.now (seen.now.object ∷ [])))) }
+    /// The rows that look for the versions upon which an operation on these objects may rest.
+    fn rows_of_base(&self, seen: &[Seen]) -> Result<Option<Decision>, NoMemory>
+        ensures versions { IfOk result (λ row. IfNone row
+            (length (versions_under self.now (base_keys seen.now)) ≡ length seen.now)) }
+        ensures value { IfOk result (λ row. row ≡ option_or (current_on self.now seen.now)
+            (option_or (method_on seen.now) (version_on self.now seen.now))) }
     {
-        let refused = self
-            .row_current(asked, seen)
-            .or(self.row_method(asked, seen));
+        let refused = self.row_current(seen).or(row_method(self.alloc, seen));
         match refused {
             Some(refusal) => Ok(Some(refusal)),
-            None => self.row_version(asked, seen),
+            None => self.row_version(seen),
         }
     }
 
-    /// What the request's sets show of the object.
-    fn seen(&self, asked: &Asked, object: ObjectId) -> Seen
-        ensures { result ≡ seen_of self.now asked.now object }
+    /// What the request's sets show of the objects of these parts.
+    fn seen<X>(&self, asked: &Asked, parts: &[(ObjectId, X)]) -> Result<List<Seen>, NoMemory>
+        ensures value { IfOk result (λ seen. seen
+            ≡ map (λ part. seen_of self.now asked.now part.0) parts.now) }
+        ensures one_each { IfOk result (λ seen. length seen ≡ length parts.now) }
     {
-        Seen::of(asked.sets, object, &self.keys.bounds())
+        let mut seen = List::new(self.alloc);
+        for (object, _) in parts {
+            seen.push(Seen::of(asked.sets, *object, &self.keys.bounds()))?;
+        }
+        Ok(seen)
     }
 
     /// The replica's history of an object, None exactly where it does not have the object.

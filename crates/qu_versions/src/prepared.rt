@@ -1,4 +1,4 @@
-ghost use Rattle.std.specs.Prelude.{◌≡◌, ◌≤◌, [], ◌∷◌, length, IfOk};
+ghost use Rattle.std.specs.Prelude.{◌≡◌, ◌≤◌, [], ◌∷◌, ◌++◌, length, IfOk, OnOk, OnErr};
 ghost use Rattle.qu_versions.specs.declared.limits.TheConstants.{MOST_VERSIONS};
 
 use super::Stored;
@@ -7,7 +7,7 @@ use std::alloc::Global;
 use std::collections::LinkedList;
 use std::marker::Model;
 
-/// Versions with the room that a store takes to hold them: at most one, which a step that is planned will store.
+/// Versions with the room that a store takes to hold them, which a step that is planned will store.
 #[derive(Debug, Drop)]
 pub struct Prepared {
     versions: LinkedList<Stored>,
@@ -39,6 +39,15 @@ impl Prepared {
         let mut versions = LinkedList::new(alloc);
         versions.push_back(stored)?;
         Ok(Prepared { versions })
+    }
+
+    /// One version more behind the others, with its room. Without memory nothing changes.
+    pub fn push(&mut self, stored: Stored) -> Result<(), NoMemory>
+        ensures value { OnOk result (self.new ≡ self.old ++ stored ∷ []) }
+        ensures err { OnErr result (self.new ≡ self.old) }
+    {
+        self.versions.push_back(stored)?;
+        Ok(())
     }
 
     /// How many versions there are.

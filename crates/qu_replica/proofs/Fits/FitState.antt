@@ -25,6 +25,7 @@ use Rattle.qu_versions.specs.declared.stored.Stored.{Stored}
 use Rattle.qu_rows.specs.State.{ReplicaState, candidates_in}
 use Rattle.qu_replica.specs.State.{with_candidate, stored_if, accept, accept_all, opening_histories, replica_at_start}
 use Rattle.qu_rows.specs.Allowed.{MayAccept, MayAcceptAll}
+use Rattle.qu_replica.proofs.States.AcceptingAll.{all_after}
 use Rattle.qu_versions.specs.Versions.{opening_store}
 use Rattle.qu_fitting.proofs.FitValues.{fresh_fits}
 use Rattle.qu_fitting.specs.Fits.{VersionFits, VersionsFit, SlotFits, StateFits}
@@ -145,8 +146,9 @@ pub accept_all-fits : (state : ReplicaState) (accepted : List Accepted) → Stat
     → MayAcceptAll state accepted → AcceptAllFit accepted → StateFits (accept_all state accepted)
 unfolding accept_all
 accept_all-fits state [] fits may made = fits
-accept_all-fits state (accepted ∷ []) fits may made = accept-fits state accepted fits may made.0
-accept_all-fits state (first ∷ second ∷ later) fits may made = absurd may
+accept_all-fits state (first ∷ later) fits may made =
+    accept_all-fits (accept state first) later (accept-fits state first fits may.0 made.0)
+    (all_after state first later may.1 may.2) made.1
 
 -- ---- the beginning
 

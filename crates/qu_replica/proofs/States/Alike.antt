@@ -113,8 +113,7 @@ module _ (one other : ReplicaState) (me : one.me ≡ other.me) (keys : one.keys 
 
   pub accept_all_alike : (accepted : List Accepted) → MayAcceptAll one accepted → MayAcceptAll other accepted
   accept_all_alike [] may = tt
-  accept_all_alike (accepted ∷ []) may = accept_alike accepted may
-  accept_all_alike (first ∷ second ∷ later) may = may
+  accept_all_alike (first ∷ later) may = (accept_alike first may.0, may.1, accept_all_alike later may.2)
 
   pub may_alike : (decision : Decision) → MayDecide one decision → MayDecide other decision
   may_alike (Answers verdict accepted) may = accept_all_alike accepted may

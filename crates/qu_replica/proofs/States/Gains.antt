@@ -1,9 +1,11 @@
 -- What a replica's state is with what it gains.
-use Rattle.std.proofs.Common.{◌≡◌, ℕ, ◌<◌, ◌≤◌, Bool, true, false, cond, List, [], ◌∷◌, ◌++◌, length, set, get_or, Option, None, Some, refl, sym, subst, ap, ◌∙◌, arith}
+use Rattle.std.proofs.Common.{◌≡◌, ◌<◌, ◌≤◌, Bool, true, false, cond, List, [], ◌∷◌, ◌++◌, length, Option, None, Some, refl, sym, subst, ap, ◌∙◌}
 use Rattle.std.specs.Prelude.{slice_get, IfSome, unwrap_or}
+use Rattle.std.specs.List.{AllByRecursion}
 use Rattle.std.proofs.lemmas.List.{append-nil}
 use Rattle.qu_base.specs.declared.party.ClientId.{ClientId}
 use Rattle.qu_base.specs.declared.party.ObjectId.{ObjectId}
+use Rattle.qu_base.specs.declared.party.ReplicaId.{ReplicaId}
 use Rattle.qu_stamp.specs.declared.stamp.Stamp.{Stamp}
 use Rattle.qu_history.specs.History.{ObjectHistory}
 use Rattle.qu_versions.specs.declared.limits.TheConstants.{MOST_VERSIONS}
@@ -12,117 +14,86 @@ use Rattle.qu_versions.specs.Versions.{has_version, with_version}
 use Rattle.qu_rows.specs.declared.decision.Accepted.{Accepted}
 use Rattle.qu_rows.specs.Waiting.{Waiting, Running}
 use Rattle.qu_rows.specs.State.{ReplicaState, AreHistories, are_own}
-use Rattle.qu_rows.specs.Allowed.{MayAccept}
+use Rattle.qu_rows.specs.Allowed.{MayAcceptAll}
 use Rattle.qu_replica.specs.declared.planned.Gain.{Gain}
 use Rattle.qu_waiting.specs.declared.next.Turn.{Turn}
 use Rattle.qu_waiting.specs.declared.next.Next.TheVariants.{Nothing, Lacks}
-use Rattle.qu_replica.specs.State.{with_candidate, stored_if, accept, accept_all, with_history, with_gain}
+use Rattle.qu_replica.specs.State.{stored_all, accept_all, with_histories, with_gain}
 use Rattle.qu_waiting.specs.Slots.{next_slot, with_turn, with_slot, with_fetches, without_fetch, first_waiting, without_request, AreSlots, TurnFits}
 use Rattle.qu_replica.specs.Growth.{MayGain}
 use Rattle.qu_replica.specs.Step.{answers_needed, with_waiting, with_found}
-use Rattle.qu_replica.proofs.States.Accepting.{put_history, grown_place}
-use Rattle.qu_replica.proofs.States.Own.{accept-histories}
+use Rattle.qu_replica.proofs.States.AcceptingAll.{with_candidates, accept_all-is, accept_all-histories}
+use Rattle.qu_replica.proofs.States.Growth.{accept_all-me}
 use Rattle.qu_waiting.proofs.SlotLaws.{turned, in_its_slot, set_over}
 
 -- ---- no history more
 
-pub gain_keeps : (state : ReplicaState) (gain : Gain) → gain.history ≡ None → AreHistories state
+pub gain_keeps : (state : ReplicaState) (gain : Gain) → gain.histories ≡ [] → AreHistories state
     → AreSlots state.waiting → TurnFits state.waiting gain.turn
     → length ((state.versions ++ gain.found) ++ gain.versions) ≤ MOST_VERSIONS → MayGain state gain
 gain_keeps state gain none own slots turn room = record {
-  known = subst (λ (it : Option ObjectHistory). IfSome it
-      (λ (history : ObjectHistory). (history.object).0 < length state.histories)) (sym none) tt;
-  own = subst (λ (it : Option ObjectHistory). are_own state.me 0 (with_history it state.histories) ≡ true) (sym none)
+  known = subst (λ (it : List ObjectHistory). AllByRecursion
+      (λ (history : ObjectHistory). (history.object).0 < length state.histories) it) (sym none) tt;
+  own = subst (λ (it : List ObjectHistory). are_own state.me 0 (with_histories it state.histories) ≡ true) (sym none)
       own;
   slots = turned state.waiting gain.turn slots turn;
   room = room;
 }
 
-pub gain_is_nothing : (state : ReplicaState) (gain : Gain) → gain.history ≡ None → gain.found ≡ []
+pub gain_is_nothing : (state : ReplicaState) (gain : Gain) → gain.histories ≡ [] → gain.found ≡ []
     → gain.versions ≡ [] → gain.turn ≡ None → gain.fetching ≡ None → with_gain state gain ≡ state
-gain_is_nothing state gain history found versions turn fetching =
+gain_is_nothing state gain histories found versions turn fetching =
     let kept : (state.versions ++ gain.found) ++ gain.versions ≡ state.versions =
     ap (λ (more : List Stored). (state.versions ++ gain.found) ++ more) versions
     ∙ append-nil (state.versions ++ gain.found)
     ∙ ap (λ (more : List Stored). state.versions ++ more) found ∙ append-nil state.versions in
     λ i. record state {
-      histories = with_history (history i) state.histories;
+      histories = with_histories (histories i) state.histories;
       versions = kept i;
       waiting = with_turn (turn i) state.waiting;
       fetching = unwrap_or (fetching i) state.fetching;
     }
 
--- ---- a candidate that is accepted
+-- ---- candidates that are accepted
 
-pub accepts_none : (state : ReplicaState) (accepted : List Accepted) → length accepted < 1
-    → state ≡ accept_all state accepted
-unfolding accept_all
-accepts_none state [] few = refl
-accepts_none state (first ∷ later) few = absurd (omega (arith, few))
+module _ (state : ReplicaState) (accepted : List Accepted) (base : Gain) (grown : List ObjectHistory)
+    (versions : List Stored) (is_grown : with_histories grown state.histories ≡ (accept_all state accepted).histories)
+    (is_stored : versions ≡ stored_all accepted) where
+  pub gain_is_accepted : base.histories ≡ [] → base.versions ≡ []
+      → with_gain state (record base { histories = grown; versions = versions })
+      ≡ accept_all (with_gain state base) accepted
+  gain_is_accepted none empty =
+      let histories : with_histories grown state.histories
+      ≡ with_candidates accepted (with_histories base.histories state.histories) =
+      is_grown ∙ ap (λ (it : ReplicaState). it.histories) (accept_all-is state accepted)
+      ∙ ap (λ (it : List ObjectHistory). with_candidates accepted (with_histories it state.histories)) (sym none) in
+      let before : List Stored = state.versions ++ base.found in
+      let after : List Stored = stored_all accepted in
+      let all : before ++ versions ≡ (before ++ base.versions) ++ after =
+      ap (λ (more : List Stored). before ++ more) is_stored
+      ∙ ap (λ (them : List Stored). them ++ after) (sym (append-nil before))
+      ∙ ap (λ (more : List Stored). (before ++ more) ++ after) (sym empty) in
+      (λ i. record state {
+        histories = histories i;
+        versions = all i;
+        waiting = with_turn base.turn state.waiting;
+        fetching = unwrap_or base.fetching state.fetching;
+      })
+      ∙ sym (accept_all-is (with_gain state base) accepted)
 
-pub only_one : (accepted : List Accepted) (one : Accepted) → 1 ≤ length accepted → length accepted < 2
-    → one ≡ get_or accepted 0 one → accepted ≡ one ∷ []
-only_one [] one least most is = absurd (omega (arith, least))
-only_one (first ∷ []) one least most is = ap (λ (it : Accepted). it ∷ []) (sym is)
-only_one (first ∷ second ∷ later) one least most is = absurd (omega (arith, most))
-
-pub accepts_one : (state : ReplicaState) (accepted : List Accepted) (one : Accepted) → accepted ≡ one ∷ []
-    → accept_all state accepted ≡ accept state one
-unfolding accept_all
-accepts_one state accepted one alone = ap (accept_all state) alone
-
-pub gain_is_accepted : (state : ReplicaState) (accepted : Accepted) (base : Gain) (history : ObjectHistory)
-    (versions : List Stored) → AreHistories state → MayAccept state accepted
-    → slice_get (with_candidate (accepted.object).0 accepted.candidate state.histories) (accepted.object).0 ≡ Some
-    history
-    → versions ≡ stored_if accepted.object accepted.candidate.stamp accepted.state → base.history ≡ None
-    → base.versions ≡ []
-    → with_gain state (record base { history = Some history; versions = versions })
-    ≡ accept (with_gain state base) accepted
-gain_is_accepted state accepted base history versions own may found stored none empty =
-    let place : (history.object).0 ≡ (accepted.object).0 = grown_place state accepted history own may found in
-    let put : set state.histories (history.object).0 history
-    ≡ with_candidate (accepted.object).0 accepted.candidate state.histories =
-    ap (λ (at : ℕ). set state.histories at history) place
-    ∙ put_history (accepted.object).0 accepted.candidate state.histories history found in
-    let histories : set state.histories (history.object).0 history
-    ≡ with_candidate (accepted.object).0 accepted.candidate (with_history base.history state.histories) =
-    put ∙ ap (λ (it : Option ObjectHistory). with_candidate (accepted.object).0 accepted.candidate
-    (with_history it state.histories)) (sym none) in
-    let before : List Stored = state.versions ++ base.found in
-    let after : List Stored = stored_if accepted.object accepted.candidate.stamp accepted.state in
-    let all : before ++ versions ≡ (before ++ base.versions) ++ after =
-    ap (λ (more : List Stored). before ++ more) stored
-    ∙ ap (λ (them : List Stored). them ++ after) (sym (append-nil before))
-    ∙ ap (λ (more : List Stored). (before ++ more) ++ after) (sym empty) in
-    λ i. record state {
-      histories = histories i;
-      versions = all i;
-      waiting = with_turn base.turn state.waiting;
-      fetching = unwrap_or base.fetching state.fetching;
-    }
-
-pub gain_may : (state : ReplicaState) (accepted : Accepted) (base : Gain) (history : ObjectHistory)
-    (versions : List Stored) → AreHistories state → MayAccept state accepted
-    → slice_get (with_candidate (accepted.object).0 accepted.candidate state.histories) (accepted.object).0 ≡ Some
-    history
-    → versions ≡ stored_if accepted.object accepted.candidate.stamp accepted.state → base.history ≡ None
-    → base.versions ≡ [] → AreSlots state.waiting → TurnFits state.waiting base.turn
-    → length ((state.versions ++ base.found) ++ versions) ≤ MOST_VERSIONS
-    → MayGain state (record base { history = Some history; versions = versions })
-gain_may state accepted base history versions own may found stored none empty slots turn room =
-    let place : (history.object).0 ≡ (accepted.object).0 = grown_place state accepted history own may found in
-    let put : set state.histories (history.object).0 history
-    ≡ with_candidate (accepted.object).0 accepted.candidate state.histories =
-    ap (λ (at : ℕ). set state.histories at history) place
-    ∙ put_history (accepted.object).0 accepted.candidate state.histories history found in
-    record {
-      known = subst (λ (at : ℕ). at < length state.histories) (sym place) may.known;
-      own = subst (λ (them : List ObjectHistory). are_own state.me 0 them ≡ true) (sym put)
-          (accept-histories state accepted own may);
-      slots = turned state.waiting base.turn slots turn;
-      room = room;
-    }
+  pub gain_may : AreHistories state → MayAcceptAll state accepted
+      → AllByRecursion (λ (history : ObjectHistory). (history.object).0 < length state.histories) grown
+      → AreSlots state.waiting → TurnFits state.waiting base.turn
+      → length ((state.versions ++ base.found) ++ versions) ≤ MOST_VERSIONS
+      → MayGain state (record base { histories = grown; versions = versions })
+  gain_may own may known slots turn room = record {
+    known = known;
+    own = subst (λ (them : List ObjectHistory). are_own state.me 0 them ≡ true) (sym is_grown)
+        (subst (λ (me : ReplicaId). are_own me 0 (accept_all state accepted).histories ≡ true)
+        (accept_all-me state accepted) (accept_all-histories state accepted own may));
+    slots = turned state.waiting base.turn slots turn;
+    room = room;
+  }
 
 -- ---- a request that waits
 
@@ -151,7 +122,7 @@ stored_behind state stored held =
 -- what is gained where a version is found, before a request is handled
 abbrev pub found_gain : Bool → Stored → Gain
 found_gain held stored = record {
-  history = None;
+  histories = [];
   found = cond held [] (stored ∷ []);
   versions = [];
   turn = None;

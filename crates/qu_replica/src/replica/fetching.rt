@@ -69,7 +69,7 @@ impl Replica {
         fetching: &[Running],
         missing: &[(ObjectId, Stamp)],
     ) -> Result<Planned, NoMemory>
-        requires history { gain.history ≡ None }
+        requires histories { gain.histories ≡ [] }
         ensures gain { IfOk result (λ planned. planned.gain ≡ record gain {
           fetching = Some (with_fetches (self.now.keys.bounds + 1) missing.now fetching.now);
         }) }
@@ -316,7 +316,7 @@ fn unless_held(held: bool, found: &Stored) -> Option<&Stored>
 /// What a state gains by a version that is found, where none is held under its key.
 fn gain_found(alloc: Global, found: Stored, held: bool) -> Result<Gain, NoMemory>
     ensures { IfOk result (λ gain. gain ≡ record {
-      history = None;
+      histories = [];
       found = if held then [] else found ∷ [];
       versions = [];
       turn = None;
@@ -329,7 +329,7 @@ fn gain_found(alloc: Global, found: Stored, held: bool) -> Result<Gain, NoMemory
         Prepared::one(alloc, found)?
     };
     Ok(Gain {
-        history: None,
+        histories: List::new(alloc),
         found,
         versions: Prepared::none(alloc),
         turn: None,

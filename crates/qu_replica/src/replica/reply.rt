@@ -1,6 +1,8 @@
-ghost use Rattle.std.specs.Prelude.{◌≡◌, ◌≤◌, [], ◌∷◌, ◌++◌, length, map, slice_get, None, IfOk, OnOk};
+ghost use Rattle.std.specs.Prelude.{◌≡◌, ◌<◌, ◌≤◌, [], ◌∷◌, ◌++◌, length, map, slice_get, Some, IfOk, OnOk};
+ghost use Rattle.std.specs.List.{AllByRecursion};
+ghost use Rattle.std.specs.Option.{option_copied};
 ghost use Rattle.qu_history.specs.Sealing.{sealed_by};
-ghost use Rattle.qu_replica.specs.State.{accept, accept_all, with_gain};
+ghost use Rattle.qu_replica.specs.State.{accept, accept_all, accepted_of, with_histories, with_gain};
 ghost use Rattle.qu_replica.specs.Step.{shown, named, reply};
 ghost use Rattle.qu_versions.specs.declared.limits.TheConstants.{MOST_VERSIONS};
 ghost use Rattle.qu_rows.specs.Allowed.{MayAccept, MayAcceptAll};
@@ -25,7 +27,7 @@ impl Replica {
         verdict: Verdict,
         accepted: &[Accepted],
     ) -> Result<Planned, NoMemory>
-        requires history { gain.history ≡ None }
+        requires histories { gain.histories ≡ [] }
         requires versions { gain.versions ≡ [] }
         requires turn { TurnFits self.now.waiting gain.turn }
         requires may { MayAcceptAll self.now accepted.now }
@@ -42,9 +44,9 @@ impl Replica {
         })
     }
 
-    /// What the state gains with at most one candidate that is accepted, and its version.
+    /// What the state gains with the candidates that are accepted, and their versions.
     fn accepted(&self, gain: Gain, accepted: &[Accepted]) -> Result<Gain, NoMemory>
-        requires history { gain.history ≡ None }
+        requires histories { gain.histories ≡ [] }
         requires versions { gain.versions ≡ [] }
         requires turn { TurnFits self.now.waiting gain.turn }
         requires may { MayAcceptAll self.now accepted.now }
@@ -52,19 +54,25 @@ impl Replica {
             ≡ accept_all (with_gain self.now gain) accepted.now) }
         ensures may { IfOk result (MayGain self.now) }
     {
-        match accepted {
-            [] => {
-                self.check_room(&gain)?;
-                Ok(gain)
-            }
-            [accepted] => {
-                let history = self.grown(accepted)?;
-                let gain = gain.with_accepted(history, versions::stored(self.alloc, accepted)?);
-                self.check_room(&gain)?;
-                Ok(gain)
-            }
-            _ => unreachable!(),
+        let histories = self.grown_each(accepted)?;
+        let gain = gain.with_accepted(histories, versions::stored(self.alloc, accepted)?);
+        self.check_room(&gain)?;
+        Ok(gain)
+    }
+
+    /// The histories of the objects of accepted candidates, each with its candidate.
+    fn grown_each(&self, accepted: &[Accepted]) -> Result<List<History>, NoMemory>
+        requires { MayAcceptAll self.now accepted.now }
+        ensures histories { IfOk result (λ grown. with_histories grown self.now.histories
+            ≡ (accept_all self.now accepted.now).histories) }
+        ensures known { IfOk result (AllByRecursion
+            (λ history. (history.object).0 < length self.now.histories)) }
+    {
+        let mut grown = List::new(self.alloc);
+        for one in accepted {
+            grown.push(self.grown(one)?)?;
         }
+        Ok(grown)
     }
 
     /// Whether there is a place for the versions that are gained. More than a list holds take more memory than there
@@ -151,7 +159,6 @@ impl Replica {
     }
 
     /// The history of an object as it stands once these candidates are accepted.
-    #[tactic(auto, unfolding(crate::specs::State::accept_all))]
     fn history_after(
         &self,
         object: ObjectId,
@@ -160,10 +167,9 @@ impl Replica {
         requires { MayAcceptAll self.now accepted.now }
         ensures { IfOk result (λ history. history ≡ slice_get (accept_all self.now accepted.now).histories object.0) }
     {
-        match accepted {
-            [] => self.history_copy(object),
-            [accepted] => self.history_with(object, accepted),
-            _ => unreachable!(),
+        match accepted_of(accepted, object) {
+            Some(accepted) => Ok(Some(self.grown(accepted)?)),
+            None => self.history_copy(object),
         }
     }
 
@@ -174,23 +180,6 @@ impl Replica {
         match self.history(object) {
             Some(history) => Ok(Some(history.copy(self.alloc)?)),
             None => Ok(None),
-        }
-    }
-
-    /// The history of an object as it stands once this candidate is accepted.
-    #[tactic(auto, using(crate::proofs::States::Accepting::other_history))]
-    fn history_with(
-        &self,
-        object: ObjectId,
-        accepted: &Accepted,
-    ) -> Result<Option<History>, NoMemory>
-        requires { MayAccept self.now accepted.now }
-        ensures { IfOk result (λ history. history ≡ slice_get (accept self.now accepted.now).histories object.0) }
-    {
-        if object == accepted.object {
-            Ok(Some(self.grown(accepted)?))
-        } else {
-            self.history_copy(object)
         }
     }
 
@@ -208,4 +197,11 @@ impl Replica {
             Err(AddFail::NotLater(_) | AddFail::HistoryFull) => unreachable!(),
         }
     }
+}
+
+/// What is accepted of an object, where anything is.
+fn accepted_of(accepted: &[Accepted], object: ObjectId) -> Option<&Accepted>
+    ensures { option_copied result ≡ accepted_of object accepted.now }
+{
+    accepted.iter().find(|one| one.object == object)
 }

@@ -1,5 +1,6 @@
 -- A request is decided upon as the replica holds it.
-use Rattle.std.proofs.Common.{rules, ◌≡◌, [], ◌∷◌, List, Some, sym, ap, ◌∙◌}
+use Rattle.qu_rows.specs.Allowed.{MayAcceptAll, MayDecide}
+use Rattle.std.proofs.Common.{rules, ◌≡◌, [], ◌∷◌, List, Some, sym, subst, ap, ◌∙◌}
 use Rattle.std.proofs.lemmas.Result.{IfOk-weaker}
 use Rattle.qu_base.specs.declared.party.Party.TheVariants as party
 use Rattle.qu_frames.specs.Reading.{own_mac, request_with}
@@ -13,7 +14,7 @@ use Rattle.qu_replica.specs.declared.planned.Planned.{Planned}
 use Rattle.qu_replica.specs.State.{accept_all, with_gain}
 use Rattle.qu_replica.specs.Growth.{HoldsAlike}
 use Rattle.qu_replica.specs.Step.{reply, carried_out, replica_step, with_waiting, fetches_of}
-use Rattle.qu_replica.proofs.States.Alike.{rows_alike, named_alike, decided_so}
+use Rattle.qu_replica.proofs.States.Alike.{rows_alike, named_alike, may_alike, decided_so}
 use Rattle.qu_replica.proofs.States.Gains.{gain_is_nothing}
 use Rattle.qu_replica.proofs.States.Stepped.{step_of_frame}
 use Rattle.qu_replica.proofs.replica.Replica.plan_read.Goals as goal
@@ -37,7 +38,7 @@ returns-in-Answers-clause-state c =
     ∙ decided_so c.rows.result state request c.in_ok-named.field-0.decision alike c.in_ok-named.ensures.decision in
     let none = c.nothing-gain.ensures in
     let nothing : with_gain state c.nothing-gain.result ≡ state =
-    gain_is_nothing state c.nothing-gain.result none.history none.found none.versions none.turn none.fetching in
+    gain_is_nothing state c.nothing-gain.result none.histories none.found none.versions none.turn none.fetching in
     let answers : carried_out state request c.in_ok-named.field-0.decision
     ≡ carried_out state request (Answers c.in-Answers.verdict c.in-Answers.accepted) =
     ap (carried_out state request) c.in-Answers.is in
@@ -105,3 +106,12 @@ returns-in-Waits-clause-letters c =
     (λ (planned : Planned). planned.letters ≡ (replica_step state c.args.text.now).1)
     (λ planned so. so ∙ ap (λ (it : ReplicaState × List Letter). it.1) (sym is))
     c.plan_waiting.ensures.letters
+
+pub plan_answer-requires-clause-may : goal.plan_answer-requires-clause-may
+plan_answer-requires-clause-may c =
+    let state : ReplicaState = c.args.self.now in
+    let alike : HoldsAlike c.rows.result state = rows_alike c.rows.result state c.rows.ensures.value in
+    subst (MayAcceptAll state) (sym c.as_slice.ensures)
+    (subst (MayDecide state) c.in-Answers.is
+    (may_alike c.rows.result state alike.me alike.keys alike.histories c.in_ok-named.field-0.decision
+    c.in_ok-named.ensures.may))

@@ -16,6 +16,6 @@ returns-clause-may c =
     let gain : Gain = record c.in_ok-gain.field-0.gain {
       turn = Some (record { client = c.client-client.result; next = Waits c.in_ok-waiting.waiting });
     } in
-    let none : gain.history ≡ _ = search rules in
+    let none : gain.histories ≡ _ = search rules in
     subst (MayGain c.args.self.now) (sym c.with_turn.ensures)
     (gain_keeps c.args.self.now gain none own slots of_client c.in_ok-gain.ensures.room)

@@ -1,5 +1,6 @@
 -- The request that is woken is decided upon with the version that was found.
-use Rattle.std.proofs.Common.{rules, ◌≡◌, ◌+◌, List, [], ◌∷◌, None, Some, refl, sym, subst, ap, ◌∙◌}
+use Rattle.qu_rows.specs.Allowed.{MayAcceptAll, MayDecide}
+use Rattle.std.proofs.Common.{rules, ◌≡◌, ◌+◌, List, [], ◌∷◌, Some, refl, sym, subst, ap, ◌∙◌}
 use Rattle.std.specs.Option.{option_copied}
 use Rattle.std.proofs.lemmas.Result.{IfOk-weaker}
 use Rattle.qu_base.specs.declared.party.ClientId.{ClientId}
@@ -15,7 +16,7 @@ use Rattle.qu_replica.specs.State.{accept_all, with_gain}
 use Rattle.qu_waiting.specs.Slots.{with_fetches, AreSlots}
 use Rattle.qu_replica.specs.Growth.{HoldsAlike, MayGain}
 use Rattle.qu_replica.specs.Step.{reply, with_found, with_waiting, carried_out, decided, fetches_of}
-use Rattle.qu_replica.proofs.States.Alike.{rows_found, named_alike, decided_so, answer_alike}
+use Rattle.qu_replica.proofs.States.Alike.{rows_found, named_alike, may_alike, decided_so, answer_alike}
 use Rattle.qu_replica.proofs.States.Gains.{found_gain, turn_for, gain_is_found, gain_waits_again, turn_again, gain_keeps}
 use Rattle.qu_replica.proofs.replica.Replica.plan_woken.Goals as goal
 
@@ -175,10 +176,22 @@ returns-in_ok-gain-in-Waits-clause-may c =
     ∙ ap (λ (it : ClientId). record c.in_ok-gain-in-Waits.field-0.gain {
       turn = Some (record { client = it; next = Lacks c.in-Waits.missing });
     }) client in
-    let none : gain.history ≡ None =
-    ap (λ (it : Gain). it.history) c.in_ok-gain-in-Waits.ensures.gain
-    ∙ ap (λ (it : Gain). it.history) c.in_ok-gain.ensures in
+    let none : gain.histories ≡ [] =
+    ap (λ (it : Gain). it.histories) c.in_ok-gain-in-Waits.ensures.gain
+    ∙ ap (λ (it : Gain). it.histories) c.in_ok-gain.ensures in
     subst (MayGain state) (sym is_gain)
     (gain_keeps state gain none own slots
     (turn_again state found c.args.held c.args.fetching c.requires.held c.requires.fetching c.args.waiting.now slots
     c.requires.lowest c.in-Waits.missing) c.in_ok-gain-in-Waits.ensures.room)
+
+pub plan_answer-requires-clause-may : goal.plan_answer-requires-clause-may
+plan_answer-requires-clause-may c =
+    let state : ReplicaState = c.args.self.now in
+    let found = c.args.found in
+    let alike : HoldsAlike c.rows.result (with_found state found.object found.stamp found.state) =
+    rows_found c.rows.result state found (option_copied c.unless_held-more.result) c.args.held c.rows.ensures.value
+    c.requires.held c.unless_held-more.ensures in
+    subst (MayAcceptAll state) (sym c.as_slice.ensures)
+    (subst (MayDecide state) c.in-Answers.is
+    (may_alike c.rows.result state alike.me alike.keys alike.histories c.in_ok-named.field-0.decision
+    c.in_ok-named.ensures.may))

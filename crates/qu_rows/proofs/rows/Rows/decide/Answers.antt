@@ -1,4 +1,4 @@
--- What a request with one part is decided, the replica may accept.
+-- What a request of parts is decided, the replica may accept.
 use Rattle.std.proofs.Common.{◌≡◌, refl, subst, sym}
 use Rattle.std.proofs.lemmas.Result.{IfOk-weaker}
 use Rattle.qu_frames.specs.declared.frame.Body.TheVariants as body

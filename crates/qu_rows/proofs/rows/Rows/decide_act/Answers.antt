@@ -1,0 +1,14 @@
+-- The sets were read once for each object.
+use Rattle.std.proofs.Common.{List, map, ap, ◌∙◌}
+use Rattle.qu_base.specs.declared.party.ObjectId.{ObjectId}
+use Rattle.qu_objects.specs.declared.act.Method.{Method}
+use Rattle.qu_rows.specs.Rows.{seen_of}
+use Rattle.qu_rows.proofs.SeenRows.{act_seen}
+use Rattle.qu_rows.proofs.rows.Rows.decide_act.Goals as goal
+
+pub returns-clause-value : goal.returns-clause-value
+returns-clause-value c =
+    act_seen c.args.self.now c.args.asked.now c.args.act.now _ c.decide_act_on.result c.decide_act_on.ensures
+    (c.as_slice-2.ensures ∙ c.in_ok-seen.ensures.value
+    ∙ ap (λ (parts : List (ObjectId × Method)). map (λ part. seen_of c.args.self.now c.args.asked.now part.0) parts)
+    (c.as_slice.ensures ∙ c.parts.ensures.parts))

@@ -1,0 +1,108 @@
+ghost use Rattle.std.specs.Prelude.{◌≡◌, IfOk, IsSome, IfSome, Some, IsTrue, ◌↔◌};
+ghost use Rattle.qu_rows.specs.Rows.{done_again};
+ghost use Rattle.qu_rows.specs.SeenRows.{fresh_seen, held_on, held_keys, again_by, retry_on};
+
+use super::Rows;
+use super::acting::standing_in;
+use super::making::fresh_candidate;
+use crate::asked::Asked;
+use crate::decision::Decision;
+use crate::seen::Seen;
+use qu_base::{List, NoMemory, ObjectId};
+use qu_frames::Verdict;
+use qu_kept::Standing;
+use qu_objects::{Act, ObjState};
+use qu_stamp::{Candidate, LAST_TIME, Stamp};
+use std::alloc::Global;
+
+// The row of an act that was performed before under these very stamps.
+impl<'a> Rows<'a> {
+    /// Tells the kept answer where the replica holds all candidates of the act already.
+    #[tactic(auto, unfolding(crate::specs::SeenRows::retry_on))]
+    pub(super) fn row_retry(
+        &self,
+        asked: &Asked,
+        act: &Act,
+        seen: &[Seen],
+    ) -> Result<Option<Decision>, NoMemory>
+        ensures { IfOk result (λ row. row ≡ retry_on self.now asked.now act.now seen.now) }
+    {
+        let held = self.held_keys(asked, seen)?;
+        match held {
+            Some(stamps) => {
+                let versions = self.versions_under(stamps.as_slice())?;
+                again(self.alloc, asked, act, stamps, versions.as_slice())
+            }
+            None => Ok(None),
+        }
+    }
+
+    /// The stamps of the candidates that the act makes, where the replica holds them all.
+    #[tactic(auto, using(crate::proofs::Keeping::keeping))]
+    fn held_keys(
+        &self,
+        asked: &Asked,
+        seen: &[Seen],
+    ) -> Result<Option<List<(ObjectId, Stamp)>>, NoMemory>
+        ensures { IfOk result (λ held. held ≡ held_keys self.now asked.now seen.now) }
+    {
+        let mut keys = List::new(self.alloc);
+        for one in seen {
+            match self.held_fresh(asked, one) {
+                Some(fresh) => keys.push((one.object, fresh.stamp))?,
+                None => return Ok(None),
+            }
+        }
+        Ok(Some(keys))
+    }
+
+    /// The candidate that the act makes on an object, where the replica holds it.
+    #[tactic(auto, using(crate::proofs::Held::spent_not_held), unfolding(crate::specs::SeenRows::held_on))]
+    fn held_fresh(&self, asked: &Asked, one: &Seen) -> Option<Candidate>
+        ensures held { IsSome result ↔ IsTrue (held_on self.now asked.now one.now) }
+        ensures value { IfSome result (λ fresh. fresh_seen asked.now one.now ≡ Some fresh) }
+    {
+        let history = self.history(one.object)?;
+        if LAST_TIME <= one.latest.time {
+            return None;
+        }
+        let fresh = fresh_candidate(asked, one)?;
+        if history.holds(&fresh) {
+            Some(fresh)
+        } else {
+            None
+        }
+    }
+}
+
+/// The decision upon a retry, by the stamps of its candidates and what their versions keep.
+#[tactic(auto, unfolding(crate::specs::SeenRows::again_by))]
+fn again(
+    alloc: Global,
+    asked: &Asked,
+    act: &Act,
+    stamps: List<(ObjectId, Stamp)>,
+    versions: &[ObjState],
+) -> Result<Option<Decision>, NoMemory>
+    ensures { IfOk result (λ row. row ≡ again_by asked.now act.now stamps versions.now) }
+{
+    let standing = standing_in(alloc, asked, act, versions)?;
+    Ok(done_again(alloc, stamps, standing))
+}
+
+/// The decision upon a retry that stands so.
+fn done_again(
+    alloc: Global,
+    stamps: List<(ObjectId, Stamp)>,
+    standing: Standing,
+) -> Option<Decision>
+    ensures { result ≡ done_again stamps standing }
+{
+    match standing {
+        Standing::Already(answer) => Some(Decision::Answers {
+            verdict: Verdict::Done { stamps, answer },
+            accepted: List::new(alloc),
+        }),
+        Standing::Fresh | Standing::Spent { .. } => None,
+    }
+}
