@@ -85,7 +85,8 @@ fn start_replicas<N: RunName>(
         length started.items ≡ length (correct_replicas setup.now (replicas setup.now.bounds))) }
 {
     let mut started = Vec::new(alloc);
-    for me in &correct_replicas(alloc, setup)? {
+    let correct = correct_replicas(alloc, setup)?;
+    for me in &correct {
         let replica = Replica::start(alloc, *me, keys, setup.kinds.as_slice())?;
         started.push(Kept::<Replica, N>::new(alloc, *me, replica))?;
     }
@@ -103,7 +104,8 @@ fn start_clients<N: RunName>(
     ensures { IfOk result (λ started. length started.items ≡ length (correct_clients setup.now setup.now.clients)) }
 {
     let mut started = Vec::new(alloc);
-    for me in &correct_clients(alloc, setup)? {
+    let correct = correct_clients(alloc, setup)?;
+    for me in &correct {
         let client = Client::start(alloc, *me, keys, setup.seed);
         started.push(Kept::<Client, N>::new(alloc, *me, client))?;
     }
