@@ -294,7 +294,10 @@ pub gathered_live : (setup : Setup) (calls : List (ClientId × Op)) (held : List
     → IsLive setup calls (record { setup = setup; entries = entries })
 gathered_live setup calls held others merged entries limits callable own replicas_stand clients_stand ended kept told =
     let gathered : IsGathered setup calls held others = record {
-      own = own; replicas_stand = replicas_stand; clients_stand = clients_stand; ended = ended;
+      own = own;
+      replicas_stand = replicas_stand;
+      clients_stand = clients_stand;
+      ended = ended;
     } in
     let fact : (me : Party) → IsHeld setup me (own_steps me (all_steps held others)) =
     λ me. all_held setup calls held others me gathered in

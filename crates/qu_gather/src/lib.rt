@@ -4,7 +4,6 @@
 mod correct;
 mod ending;
 mod held;
-
 mod torn;
 
 pub use correct::{correct_clients, correct_replicas};

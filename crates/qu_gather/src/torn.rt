@@ -6,9 +6,11 @@ use qu_replay::KeptStep;
 #[derive(Debug, Drop)]
 pub enum Torn {
     /// Behind the lock of one actor stands another one.
-    Moved { lock: Party, held: Party },
-    /// A step that an actor kept and the one that was filed, of which one is absent, or differs; or a step that took
-    /// what was not sent to its actor, and the one that is named to have sent it.
+    Moved {
+        lock: Party,
+        held: Party,
+    },
+    /// An actor kept a step on what was not sent to it before; beside it the filed step that its letter names.
     Steps {
         kept: Option<KeptStep>,
         filed: Option<Filed>,

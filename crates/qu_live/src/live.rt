@@ -50,5 +50,6 @@ fn run_as<N: RunName + Send + Sync, R: Threads + Wait + Sync, G: Gate>(
     let actors = Actors::<N>::start(alloc, &setup)?;
     let actors = run_rounds(rt, alloc, &post, calls, gate, actors)?;
     let Actors { replicas, clients } = actors;
-    gather(alloc, setup, calls, replicas, clients)
+    let journal = post.into_inner().into_journal();
+    gather(alloc, setup, calls, replicas, clients, journal)
 }

@@ -92,12 +92,7 @@ fn next_input<N: RunName, R: Wait>(
 }
 
 /// Draws tickets until one is above those of the actor's steps and of the letter that it takes.
-fn draw<A: Actor, N: RunName, R: Wait>(
-    rt: &R,
-    post: &Post,
-    kept: &Kept<A, N>,
-    input: &Input,
-) -> u64
+fn draw<A: Actor, N: RunName, R: Wait>(rt: &R, post: &Post, kept: &Kept<A, N>, input: &Input) -> u64
     ensures later { first_free_ticket 0 kept.now.1 ≤ result }
     ensures after { IsAfterLetter result input.now }
 {

@@ -90,13 +90,22 @@ fn is_ordered<R: Threads + Wait + Sync>(
     let actors = actors.as_slice();
     let [held, first] = [held, first].map(|number| Party::Replica(ReplicaId(number)));
     holds(gate.missed() == 0, "the held replica waits for the other")?;
-    holds(is_first(actors, first, held), "the run is in the order of the gate")?;
+    holds(
+        is_first(actors, first, held),
+        "the run is in the order of the gate",
+    )?;
     for number in 0..6 {
         let who = Party::Replica(ReplicaId(number));
-        holds(gate.passes(who) == count_of(actors, who), "each step passed the gate")?;
+        holds(
+            gate.passes(who) == count_of(actors, who),
+            "each step passed the gate",
+        )?;
     }
     let client = Party::Client(ClientId(1));
-    holds(gate.passes(client) == count_of(actors, client), "each step passed the gate")
+    holds(
+        gate.passes(client) == count_of(actors, client),
+        "each step passed the gate",
+    )
 }
 
 #[test]
@@ -104,7 +113,10 @@ fn live_both_at_once(rt: HostRuntime) -> Result<(), Fail> {
     let gate = BothFirst::new();
     let trace = one_client(&rt, rt.alloc(), &gate)?;
     holds(!trace.entries.is_empty(), "there are events")?;
-    holds(gate.missed() == 0, "both replicas are at the gate at one time")
+    holds(
+        gate.missed() == 0,
+        "both replicas are at the gate at one time",
+    )
 }
 
 #[test]
