@@ -1,8 +1,14 @@
-//! What the threads of a run have in common.
+//! Runs whose replicas and clients take their steps on threads.
 #![tactic(auto)]
 
+mod actors;
 mod gate;
+mod live;
+mod rounds;
+mod stepping;
 #[cfg(test)]
 mod tests;
+mod turns;
 
 pub use gate::{Gate, OpenGate};
+pub use live::run_live;

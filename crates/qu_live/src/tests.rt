@@ -1,6 +1,7 @@
 //! Two actors on threads, which wait for each other at a gate and find their letters at one post.
 
 mod gates;
+mod runs;
 
 use crate::{Gate, OpenGate};
 use gates::{InTurn, Together};

@@ -5,7 +5,7 @@ ghost use Rattle.qu_post.specs.PostState.{empty_post, with_letter_taken, with_st
 
 use super::Filed;
 use crate::bags::{Bag, are_empty, empty_bags, put_letters, take_oldest};
-use qu_base::{Bounds, NoMemory, Party};
+use qu_base::{Bounds, List, NoMemory, Party};
 use qu_frames::{Letter, LetterName};
 use std::alloc::Global;
 use std::marker::Model;
@@ -60,6 +60,14 @@ impl PostState {
         ensures { result.now ≡ self.now.journal }
     {
         self.journal.as_slice()
+    }
+
+    /// The steps that were filed, in the order in which they were.
+    pub fn into_journal(self) -> List<Filed>
+        ensures { result ≡ self.journal }
+    {
+        let PostState { journal, .. } = self;
+        List::from(journal)
     }
 
     /// Takes the oldest letter from an actor's bag, and counts a step under way. None exactly where the bag is empty

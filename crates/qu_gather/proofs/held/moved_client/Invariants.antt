@@ -1,0 +1,7 @@
+-- the clients so far are those that are named
+use Rattle.std.proofs.Common.{◌≡◌, map, take}
+use Rattle.qu_gather.specs.Gathered.{client_name}
+use Rattle.qu_gather.proofs.held.moved_client.Given as goal
+
+abbrev pub invariant-loop-place : goal.invariant-loop-place
+invariant-loop-place g l = take l.place (map client_name l.held) ≡ take l.place l.names

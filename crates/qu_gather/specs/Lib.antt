@@ -1,0 +1,4 @@
+pub mod Live
+pub mod Correct
+pub mod Gathered
+pub mod Torn

@@ -1,0 +1,38 @@
+-- What is promised of a run on threads.
+use Rattle.std.specs.Prelude.{List, false, ◌≡◌, ◌≤◌, None, IfSome}
+use Rattle.std.specs.List.{AllByRecursion}
+use Rattle.qu_base.specs.declared.party.ClientId.{ClientId}
+use Rattle.qu_base.specs.declared.party.Party.TheVariants as party
+use Rattle.qu_objects.specs.declared.op.Op.{Op}
+use Rattle.qu_client.specs.declared.state.ClientState.{ClientState}
+use Rattle.qu_trace.specs.declared.trace.Entry.{Entry}
+use Rattle.qu_trace.specs.declared.trace.Setup.{Setup}
+use Rattle.qu_trace.specs.declared.trace.Trace.{Trace}
+use Rattle.qu_trace.specs.Faulty.{is_faulty}
+use Rattle.qu_world.specs.State.{correct_client}
+use Rattle.qu_world.specs.Run.{IsRun, run, events_of}
+use Rattle.qu_replay.specs.Operations.{invoked_by, IsNotInjected}
+use Rattle.qu_lock.specs.Calls.{calls_by}
+
+-- a client of the setup that is not faulty
+pub record IsCorrectClient (setup : Setup) (me : ClientId) : Type 0 where
+  pub first : 1 ≤ me.0
+  pub last : me.0 ≤ setup.clients
+  pub correct : is_faulty setup (party.Client me) ≡ false
+
+-- each call is of a correct client
+abbrev pub AreCallsOf : Setup → List (ClientId × Op) → Type 0
+AreCallsOf setup calls = AllByRecursion (λ (call : ClientId × Op). IsCorrectClient setup call.0) calls
+
+-- a trace is that of a run of this setup in which clients were called for these operations
+pub record IsLive (setup : Setup) (calls : List (ClientId × Op)) (trace : Trace) : Type 0 where
+  pub is_run : IsRun trace
+  pub setup_is : trace.setup ≡ setup
+  -- it has invocations, deliveries and ticks alone
+  pub no_injection : AllByRecursion (λ (entry : Entry). IsNotInjected entry.event) trace.entries
+  -- each client began the operations that it was called for, in their order
+  pub invoked : (me : ClientId) → invoked_by me trace.entries ≡ calls_by me calls
+  -- in the end no operation of a correct client is under way
+  pub idle : (me : ClientId)
+      → IfSome (correct_client (run trace.setup (events_of trace.entries)) me)
+      (λ (state : ClientState). state.work ≡ None)

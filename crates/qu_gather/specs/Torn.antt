@@ -1,0 +1,1 @@
+-- Why what actors kept is no run.

@@ -1,0 +1,120 @@
+ghost use Rattle.std.specs.Prelude.{◌≡◌, ◌++◌, List, length, map, IfOk, OnOk, IsTrue, MatchOption, ◌↔◌};
+ghost use Rattle.std.specs.List.{flat_map};
+ghost use Rattle.qu_base.specs.declared.party.Party.{Party as AParty};
+ghost use Rattle.qu_trace.specs.Faulty.{is_same};
+ghost use Rattle.qu_replay.specs.declared.kept_step.KeptStep.{KeptStep as AStep};
+ghost use Rattle.qu_gather.specs.Gathered.{HasEnded, HaveEnded, replica_name, client_name, steps_of_replica, steps_of_client, ReplicasStand, ClientsStand};
+
+use qu_base::{ClientId, List, NoMemory, Party, ReplicaId};
+use qu_client::Client;
+use qu_lock::{Kept, RunName};
+use qu_objects::Op;
+use qu_replay::KeptStep;
+use qu_replica::Replica;
+
+/// Whether each of these clients began all its calls, and none is under way, where these are the calls of the run.
+pub fn have_ended<N: RunName>(calls: &[(ClientId, Op)], held: &[Kept<Client, N>]) -> bool
+    requires { calls.now ≡ N.calls }
+    ensures { IsTrue result → HaveEnded N.calls held.now }
+{
+    for kept in held {
+        if !has_ended(calls, kept) {
+            return false;
+        }
+    }
+    true
+}
+
+/// Whether a client began all its calls, and none is under way.
+fn has_ended<N: RunName>(calls: &[(ClientId, Op)], kept: &Kept<Client, N>) -> bool
+    requires { calls.now ≡ N.calls }
+    ensures { IsTrue result → HasEnded N.calls kept.now }
+{
+    !kept.actor().busy() && kept.next_call(calls).is_none()
+}
+
+/// The first of these replicas that is another one than the one that is named, with both names.
+pub fn moved_replica<N: RunName>(
+    names: &[ReplicaId],
+    held: &[Kept<Replica, N>],
+) -> Option<(Party, Party)>
+    requires { length names.now ≡ length held.now }
+    ensures { MatchOption result (map replica_name held.now ≡ names.now) (λ moved. Unit {0}) }
+{
+    for (place, kept) in held.iter().enumerate() {
+        let lock = Party::Replica(names[place]);
+        if !is_same(kept.party(), lock) {
+            return Some((lock, kept.party()));
+        }
+    }
+    None
+}
+
+/// The first of these clients that is another one than the one that is named, with both names.
+pub fn moved_client<N: RunName>(
+    names: &[ClientId],
+    held: &[Kept<Client, N>],
+) -> Option<(Party, Party)>
+    requires { length names.now ≡ length held.now }
+    ensures { MatchOption result (map client_name held.now ≡ names.now) (λ moved. Unit {0}) }
+{
+    for (place, kept) in held.iter().enumerate() {
+        let lock = Party::Client(names[place]);
+        if !is_same(kept.party(), lock) {
+            return Some((lock, kept.party()));
+        }
+    }
+    None
+}
+
+fn is_same(one: Party, other: Party) -> bool
+    ensures { result ≡ is_same one other }
+{
+    one == other
+}
+
+/// Puts the steps of these replicas behind others, each with the name of its replica.
+pub fn put_replicas<N: RunName>(
+    steps: &mut List<(Party, KeptStep)>,
+    held: Vec<Kept<Replica, N>>,
+) -> Result<(), NoMemory>
+    ensures steps { OnOk result (steps.new ≡ steps.old ++ flat_map steps_of_replica held.items) }
+    ensures stand { OnOk result (ReplicasStand N.setup held.items) }
+{
+    for kept in held {
+        let me = kept.party();
+        let (_replica, own) = kept.into_parts();
+        put_steps(steps, me, own)?;
+    }
+    Ok(())
+}
+
+/// Puts the steps of these clients behind others, each with the name of its client.
+pub fn put_clients<N: RunName>(
+    steps: &mut List<(Party, KeptStep)>,
+    held: Vec<Kept<Client, N>>,
+) -> Result<(), NoMemory>
+    ensures steps { OnOk result (steps.new ≡ steps.old ++ flat_map steps_of_client held.items) }
+    ensures stand { OnOk result (ClientsStand N.setup N.calls held.items) }
+{
+    for kept in held {
+        let me = kept.party();
+        let (_client, own) = kept.into_parts();
+        put_steps(steps, me, own)?;
+    }
+    Ok(())
+}
+
+/// Puts the steps of an actor behind others, each with its name.
+fn put_steps(
+    steps: &mut List<(Party, KeptStep)>,
+    me: Party,
+    own: List<KeptStep>,
+) -> Result<(), NoMemory>
+    ensures { OnOk result (steps.new ≡ steps.old ++ map (λ (step : AStep). (me, step)) own) }
+{
+    for step in own.into_vec() {
+        steps.push((me, step))?;
+    }
+    Ok(())
+}

@@ -1,0 +1,12 @@
+//! What the actors of a run on threads kept, gathered into one run.
+#![tactic(auto)]
+
+mod correct;
+mod ending;
+mod held;
+mod torn;
+
+pub use correct::{correct_clients, correct_replicas};
+pub use ending::gather;
+pub use held::have_ended;
+pub use torn::{LiveFail, Torn};

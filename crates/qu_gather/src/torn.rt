@@ -1,0 +1,36 @@
+use qu_base::{NoMemory, Party};
+use qu_post::Filed;
+use qu_replay::KeptStep;
+
+/// What does not fit of what the threads of a run left behind.
+#[derive(Debug, Drop)]
+pub enum Torn {
+    /// Behind the lock of one actor stands another one.
+    Moved {
+        lock: Party,
+        held: Party,
+    },
+    /// An actor kept a step on what was not sent to it before; beside it the filed step that its letter names.
+    Steps {
+        kept: Option<KeptStep>,
+        filed: Option<Filed>,
+    },
+}
+
+/// Why a run on threads gives no trace.
+#[derive(Debug, Drop)]
+pub enum LiveFail {
+    Torn(Torn),
+    NoMemory,
+}
+
+impl From<NoMemory> for LiveFail {
+    ghost use Rattle.std.specs.Prelude.{◌≡◌};
+    ghost use Rattle.qu_gather.specs.declared.torn.LiveFail.TheVariants as fail;
+
+    ghost from_gives = { λ error given. given ≡ fail.NoMemory };
+
+    fn from(_error: NoMemory) -> LiveFail {
+        LiveFail::NoMemory
+    }
+}
