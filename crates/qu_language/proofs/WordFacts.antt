@@ -3,7 +3,7 @@ use Rattle.std.proofs.Common.{◌≡◌, ℕ, ◌+◌, ◌<◌, ◌≤◌, List,
 use Rattle.std.specs.Borrow.{Bor}
 use Rattle.std.proofs.lemmas.Bool.Decides.{nat_tests}
 use Rattle.std.proofs.lemmas.List.{drop_more, at_drop_all, get_or-map, length-map}
-use Rattle.qu_notation.proofs.NumberFacts.{texts}
+use Rattle.qu_notation.proofs.TextFacts.{texts}
 use Rattle.qu_language.specs.Words.{is_nil}
 
 -- one word is left at least

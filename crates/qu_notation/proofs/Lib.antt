@@ -1,3 +1,2 @@
 pub mod TextFacts
-pub mod NumberFacts
 pub mod NameFacts

@@ -4,7 +4,7 @@ use Rattle.std.specs.Borrow.{Bor}
 use Rattle.std.specs.Option.{option_map, option_and_then}
 use Rattle.std.proofs.lemmas.List.{at_drop_more, at_drop_all, get_or-map, length-map}
 use Rattle.qu_notation.specs.Names.{coded_bytes, coded_pieces}
-use Rattle.qu_notation.proofs.NumberFacts.{texts}
+use Rattle.qu_notation.proofs.TextFacts.{texts}
 
 coded_pieces-cons : (piece : List ℕ) (pieces : List (List ℕ))
     → coded_pieces (piece ∷ pieces) ≡ option_and_then

@@ -1,7 +1,8 @@
--- Facts on lines and numbers.
-use Rattle.std.proofs.Common.{◌≡◌, ◌==◌, not, ℕ, suc, one-add, add-one, ◌+◌, ◌-◌, ◌*◌, ◌^◌, ◌<◌, ◌≤◌, Bool, true, false, cond, ◌&&◌, nat_lt, List, [], ◌∷◌, length, get_or, take, drop, Option, None, Some, refl, sym, ap, ◌∙◌, arith, position, length-drop}
+-- Facts on lines, words and numbers.
+use Rattle.std.proofs.Common.{◌≡◌, ◌==◌, not, ℕ, suc, one-add, add-one, ◌+◌, ◌-◌, ◌*◌, ◌^◌, ◌<◌, ◌≤◌, Bool, true, false, cond, ◌&&◌, nat_lt, List, [], ◌∷◌, length, get_or, take, drop, Option, None, Some, map, refl, sym, ap, ◌∙◌, arith, position, length-drop}
 use Rattle.std.specs.List.{prefix_len, onto_first}
 use Rattle.std.specs.Char.{is_ascii_digit, digit_value}
+use Rattle.std.specs.Borrow.{Bor}
 use Rattle.std.specs.Option.{option_and_then}
 use Rattle.std.specs.Str.{all_ascii_digits}
 use Rattle.std.specs.Str.Parse.{digits_value_after}
@@ -10,6 +11,9 @@ use Rattle.std.proofs.lemmas.Bool.Decides.{nat_tests}
 use Rattle.qu_notation.specs.Text.{lines_of}
 use Rattle.qu_notation.specs.Numbers.{number_of}
 use Rattle.qu_notation.specs.Digits.{with_digit}
+
+abbrev pub texts : List (Bor (List ℕ)) → List (List ℕ)
+texts words = map (λ word. word.now) words
 
 -- the number that digits write when they follow those of n
 unfoldable pub number_rest : ℕ → List ℕ → Option ℕ

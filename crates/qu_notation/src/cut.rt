@@ -31,7 +31,7 @@ pub fn cut_words(alloc: Global, line: &[u8]) -> Result<Vec<&[u8]>, AllocError>
 }
 
 /// The first of some words, and the others. `None` where there is no word.
-pub fn next_word<'a>(words: &'a [&'a [u8]]) -> Option<(&'a [u8], &'a [&'a [u8]])>
+pub(crate) fn next_word<'a>(words: &'a [&'a [u8]]) -> Option<(&'a [u8], &'a [&'a [u8]])>
     ensures { MatchOption result (map (λ word. word.now) words.now ≡ [])
         (λ next. map (λ word. word.now) words.now
         ≡ next.0.now ∷ map (λ word. word.now) next.1.now) }

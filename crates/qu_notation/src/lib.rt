@@ -5,12 +5,10 @@ mod bytes;
 mod cut;
 mod names;
 mod number;
-mod numbers;
 mod reading_names;
 
 pub use bytes::{put_bytes_text, read_bytes};
-pub use cut::{cut_line, cut_words, next_word};
+pub use cut::{cut_line, cut_words};
 pub use names::{put_entries_text, put_name_text};
 pub use number::read_number;
-pub use numbers::{read_number_below, read_number_in, read_numbers, read_only_number};
 pub use reading_names::read_name;

@@ -1,6 +1,6 @@
 -- The bytes so far, and those of the pieces that are left.
 use Rattle.std.proofs.Common.{◌≡◌, drop}
-use Rattle.qu_notation.proofs.NumberFacts.{texts}
+use Rattle.qu_notation.proofs.TextFacts.{texts}
 use Rattle.qu_notation.proofs.NameFacts.{pieces_with}
 use Rattle.qu_notation.proofs.reading_names.read_pieces.Given as goal
 
