@@ -2,8 +2,8 @@
 use Rattle.qu_gather.proofs.Putting.{client_put, client_stands}
 use Rattle.qu_gather.proofs.held.put_clients.Goals as goal
 
-pub loop-kept-preserved : goal.loop-kept-preserved
-loop-kept-preserved g c = record {
+pub loop-kept-preserved-in_ok-put_steps : goal.loop-kept-preserved-in_ok-put_steps
+loop-kept-preserved-in_ok-put_steps g c = record {
   steps =
       client_put c.args.steps.now c.loop-kept.steps c.put_steps.new.steps c.loop-kept.yielded c.in-Some.kept
       c.into_parts-client.result c.party-me.result c.loop-kept.invariant.steps c.party-me.ensures
