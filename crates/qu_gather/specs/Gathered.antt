@@ -1,5 +1,5 @@
 -- What the actors of a run on threads hold in the end: each its state and the steps that it kept.
-use Rattle.std.specs.Prelude.{ℕ, List, ◌++◌, ◌≡◌, map, length, None}
+use Rattle.std.specs.Prelude.{List, ◌++◌, ◌≡◌, map, length, None}
 use Rattle.std.specs.List.{flat_map, AllByRecursion}
 use Rattle.qu_base.specs.declared.party.ClientId.{ClientId}
 use Rattle.qu_base.specs.declared.party.ReplicaId.{ReplicaId}

@@ -4,7 +4,7 @@ use Rattle.std.proofs.lemmas.List.{get_or_default}
 use Rattle.qu_base.specs.declared.party.Party.TheVariants as party
 use Rattle.qu_base.specs.declared.party.ReplicaId.{ReplicaId}
 use Rattle.qu_objects.specs.declared.kind.KindName.{KindName}
-use Rattle.qu_replica.specs.State.{replica_at_start}
+use Rattle.qu_fitting.specs.Holding.{replica_at_start}
 use Rattle.qu_trace.specs.declared.trace.Setup.{Setup}
 use Rattle.qu_replay.specs.Steps.{Replicates}
 use Rattle.qu_replay.specs.Replays.{opening_actor}
