@@ -37,7 +37,6 @@ use Rattle.qu_kept.proofs.StandingLaws.{fresh_where}
 use Rattle.qu_frames.specs.declared.frame.Body.TheVariants as body
 use Rattle.qu_frames.specs.declared.frame.Frame.TheVariants as frame
 use Rattle.qu_frames.specs.declared.verdict.Refusal.{Refusal}
-use Rattle.qu_frames.specs.declared.verdict.Refusal.TheVariants.{NotCurrent, NotMethod}
 use Rattle.qu_frames.specs.declared.verdict.Refusal.TheVariants as refusal
 use Rattle.qu_frames.specs.declared.verdict.Verdict.TheVariants.{Done}
 use Rattle.qu_frames.specs.declared.verdict.Verdict.TheVariants as verdict
