@@ -1,7 +1,7 @@
 -- What a plan that changes the operation under way makes of a client that has one.
 use Rattle.std.proofs.Common.{◌≡◌, ℕ, List, [], Option, Some, option_map, ap}
 use Rattle.rand_pcg.specs.Lcg.{Lcg}
-use Rattle.qu_client.specs.declared.kept.Kept.{Kept}
+use Rattle.qu_question.specs.declared.kept.Kept.{Kept}
 use Rattle.qu_client.specs.declared.planned.Turn.TheVariants.{Counts, Rests, Passes}
 use Rattle.qu_client.specs.declared.work.Counted.{Counted}
 use Rattle.qu_client.specs.declared.work.Phase.{Phase}

@@ -1,6 +1,6 @@
 -- What a planned step makes of a client's state.
 use Rattle.std.specs.Prelude.{List, [], Option, None, Some, option_map}
-use Rattle.qu_client.specs.declared.kept.Kept.{Kept}
+use Rattle.qu_question.specs.declared.kept.Kept.{Kept}
 use Rattle.qu_client.specs.declared.planned.Planned.{Planned}
 use Rattle.qu_client.specs.declared.planned.Turn.{Turn}
 use Rattle.qu_client.specs.declared.planned.Turn.TheVariants.{Stays, Ends, Begins, Counts, Rests, Passes}

@@ -26,7 +26,8 @@ use Rattle.qu_client.specs.declared.work.Counted.{Counted}
 use Rattle.qu_client.specs.declared.work.Phase.{Phase}
 use Rattle.qu_client.specs.declared.work.Phase.TheVariants.{Asking, Resting}
 use Rattle.qu_client.specs.declared.work.Work.{Work}
-use Rattle.qu_client.specs.State.{ClientState, Stepped, keep_all, unmarked}
+use Rattle.qu_client.specs.State.{ClientState, Stepped}
+use Rattle.qu_question.specs.Kept.{keep_all, unmarked}
 use Rattle.qu_client.specs.Leaving.{after_replies}
 use Rattle.qu_client.specs.Rounds.{is_asked, whom_asked, begin_round, asks_others}
 

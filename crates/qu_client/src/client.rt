@@ -4,15 +4,15 @@ ghost use Rattle.qu_client.specs.State.{client_at_start};
 ghost use Rattle.qu_client.specs.Steps.{client_invoke, client_step, client_on_frame, client_tick, next_number, rest_of};
 ghost use Rattle.qu_client.specs.Plans.{after_turn, planned_state, planned_step};
 
-use super::kept::{keep_all, unmarked};
 use super::rounds::begin_round;
 use super::steps::counted_in;
 use super::ticks::ticked_in;
-use super::{ClientState, Counted, Kept, Moved, Phase, Planned, Turn, Work};
+use super::{ClientState, Counted, Moved, Phase, Planned, Turn, Work};
 use qu_base::{ClientId, List, NoMemory, Party};
 use qu_frames::{Frame, Letter, receive};
 use qu_objects::Op;
 use qu_pick::Backoff;
+use qu_question::{Kept, keep_all, unmarked};
 use qu_seal::KeyRing;
 use std::alloc::Global;
 use std::marker::Model;

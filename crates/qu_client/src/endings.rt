@@ -5,10 +5,11 @@ ghost use Rattle.qu_client.specs.Plans.{planned_step};
 
 use super::leaving::after_replies;
 use super::rounds::begin_round;
-use super::{ClientState, Counted, Kept, Planned, Turn, Work};
+use super::{ClientState, Counted, Planned, Turn, Work};
 use qu_base::{List, NoMemory};
 use qu_frames::{LAST_ROUND, Refusal, Verdict};
 use qu_objects::Outcome;
+use qu_question::Kept;
 use std::alloc::Global;
 
 /// A round that ended without an answer leaves out what its replies name.

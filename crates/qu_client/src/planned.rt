@@ -1,10 +1,11 @@
 ghost use Rattle.std.specs.Prelude.{◌≡◌, [], None, Some, IfOk};
 
-use super::{Counted, Kept, Phase, Work};
+use super::{Counted, Phase, Work};
 use qu_base::{List, NoMemory};
 use qu_frames::Letter;
 use qu_objects::Outcome;
 use qu_pick::Backoff;
+use qu_question::Kept;
 use std::alloc::Global;
 
 /// What a step made: letters to send, and the end of the operation if it ended.

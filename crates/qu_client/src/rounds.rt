@@ -2,13 +2,12 @@ ghost use Rattle.std.specs.Prelude.{◌≡◌, IfOk, Some};
 ghost use Rattle.qu_client.specs.Rounds.{begins, begin_round, asks_others};
 ghost use Rattle.qu_client.specs.Plans.{planned_step};
 
-use super::kept::marked_shown;
 use super::letters::requests;
-use super::question::question_of;
-use super::sets::{first_object, operation_objects};
-use super::{ClientState, Kept, Moved, Phase, Planned, Turn, Whom, Work};
+use super::whom::first_object;
+use super::{ClientState, Moved, Phase, Planned, Turn, Whom, Work};
 use qu_base::{List, NoMemory};
 use qu_objects::Op;
+use qu_question::{Kept, marked_shown, operation_objects, question_of};
 use std::alloc::Global;
 
 /// A round of an operation begins, upon the operation's objects and what is kept.

@@ -1,12 +1,13 @@
 ghost use Rattle.std.specs.Prelude.{◌≡◌, IfOk};
 
-use super::sets::first_object;
+use super::Whom;
 use super::verdicts::has_replied;
-use super::{Question, Shared, Whom};
+use super::whom::first_object;
 use qu_base::{List, NoMemory, ObjectId, ReplicaId};
 use qu_frames::{Body, Verdict};
 use qu_history::Sets;
 use qu_objects::Op;
+use qu_question::{Question, Shared};
 use std::alloc::Global;
 
 /// A verdict that counts: the first one of its replica in the round.

@@ -33,11 +33,12 @@ use Rattle.qu_accepts.proofs.Grounds.{IsBase, is_base}
 use Rattle.qu_client.specs.declared.whom.Whom.{Whom}
 use Rattle.qu_client.specs.declared.whom.Whom.TheVariants.{Preferred}
 use Rattle.qu_client.specs.declared.work.Work.{Work}
-use Rattle.qu_client.specs.declared.question.Question.{Question}
+use Rattle.qu_question.specs.declared.question.Question.{Question}
 use Rattle.qu_client.specs.declared.state.ClientState.{ClientState}
-use Rattle.qu_client.specs.Question.{operation_objects, set_of, are_full, are_current, asked_upon}
+use Rattle.qu_question.specs.Question.{operation_objects, set_of, are_full, are_current, asked_upon}
 use Rattle.qu_client.specs.Rounds.{is_asked, requests_from, work_asking, begins}
-use Rattle.qu_client.specs.State.{Stepped, unmarked}
+use Rattle.qu_client.specs.State.{Stepped}
+use Rattle.qu_question.specs.Kept.{unmarked}
 use Rattle.qu_client.specs.Steps.{client_invoke, next_number}
 use Rattle.qu_claims.specs.Quick.{first_sets, asked_first}
 use Rattle.qu_quick.proofs.DoneRows.{entries_here}

@@ -19,7 +19,7 @@ use Rattle.qu_client.specs.declared.work.Work.{Work}
 use Rattle.qu_client.specs.Steps.{client_invoke, client_step, client_tick}
 use Rattle.qu_client.specs.Sound.{NumbersWithin}
 use Rattle.qu_client.proofs.Cases.{OfEach, step_cases, tick_cases, invoke_cases}
-use Rattle.qu_client.specs.declared.kept.Kept.{Kept}
+use Rattle.qu_question.specs.declared.kept.Kept.{Kept}
 use Rattle.qu_client.proofs.Laws.{NumbersWithin-opening, NumbersWithin-step, NumbersWithin-tick, NumbersWithin-invoke, client_step-me, client_tick-me, client_invoke-me}
 use Rattle.qu_trace.specs.Faulty.{is_same, is_faulty}
 use Rattle.qu_trace.specs.declared.trace.Setup.{Setup}

@@ -17,7 +17,8 @@ use Rattle.qu_client.specs.declared.state.ClientState.{ClientState}
 use Rattle.qu_client.specs.State.{Stepped}
 use Rattle.qu_client.specs.declared.work.Counted.{Counted}
 use Rattle.qu_client.specs.declared.work.Work.{Work}
-use Rattle.qu_client.specs.State.{client_at_start, keep_all}
+use Rattle.qu_client.specs.State.{client_at_start}
+use Rattle.qu_question.specs.Kept.{keep_all}
 use Rattle.qu_client.specs.Steps.{is_asking, counts, client_on_frame, client_on_received, client_step, client_invoke, client_tick, next_round, ends_round, with_verdict}
 use Rattle.qu_client.specs.Sound.{IsSound}
 use Rattle.qu_rounds.proofs.Ticking.{clock_cases}

@@ -28,21 +28,23 @@ use Rattle.qu_fitting.specs.Holding.{accept_all}
 use Rattle.qu_rows.specs.Rows.{asked_at, decision_on}
 use Rattle.qu_replica.specs.Step.{shown, answer_frame, reply, carried_out, learned, handled, if_handled, replica_step}
 use Rattle.qu_replica.specs.Step as replica
-use Rattle.qu_client.specs.declared.kept.Kept.{Kept}
-use Rattle.qu_client.specs.declared.kept.Mark.TheVariants.{Unshown}
+use Rattle.qu_question.specs.declared.kept.Kept.{Kept}
+use Rattle.qu_question.specs.declared.kept.Mark.TheVariants.{Unshown}
 use Rattle.qu_client.specs.declared.work.Work.{Work}
 use Rattle.qu_client.specs.declared.state.ClientState.{ClientState}
 use Rattle.qu_client.specs.State.{Stepped}
-use Rattle.qu_client.specs.State.{client_at_start, is_older, same_source, keep, keep_all}
+use Rattle.qu_client.specs.State.{client_at_start}
+use Rattle.qu_question.specs.Kept.{is_older, same_source, keep, keep_all}
 use Rattle.qu_client.specs.declared.whom.Whom.{Whom}
 use Rattle.qu_client.specs.declared.whom.Whom.TheVariants.{Others}
-use Rattle.qu_client.specs.State.{unmarked}
-use Rattle.qu_client.specs.Question.{operation_objects}
-use Rattle.qu_client.specs.Rounds.{request_of, whom_asked, marked_shown, first_object, asking_all, begins, requests}
-use Rattle.qu_client.proofs.Trimmed.{each_of_sets}
+use Rattle.qu_question.specs.Kept.{unmarked}
+use Rattle.qu_question.specs.Question.{operation_objects}
+use Rattle.qu_client.specs.Rounds.{request_of, whom_asked, first_object, asking_all, begins, requests}
+use Rattle.qu_question.specs.Marking.{marked_shown}
+use Rattle.qu_question.proofs.Trimmed.{each_of_sets}
 use Rattle.qu_client.proofs.Sent.{each_letter}
 use Rattle.qu_client.specs.Steps.{client_step, client_invoke, client_tick, next_number}
-use Rattle.qu_client.proofs.Marks.{each_remarked, unmarked-remarked, shown_in-remarked}
+use Rattle.qu_question.proofs.Marks.{each_remarked, unmarked-remarked, shown_in-remarked}
 use Rattle.qu_client.proofs.Cases.{IsRound, OfEach, IsOfHistories, step_cases, tick_cases, invoke_cases}
 use Rattle.qu_claims.specs.Carried.{Carries}
 use Rattle.qu_shown.specs.Views.{EachEntry}

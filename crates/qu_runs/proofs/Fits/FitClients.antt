@@ -21,15 +21,17 @@ use Rattle.qu_frames.specs.Decoding.{decoded}
 use Rattle.qu_frames.specs.declared.frame.Body.{Body}
 use Rattle.qu_client.specs.declared.whom.Whom.TheVariants.{Others}
 use Rattle.qu_client.specs.declared.whom.Whom.{Whom}
-use Rattle.qu_client.specs.declared.kept.Kept.{Kept}
-use Rattle.qu_client.specs.declared.kept.Mark.TheVariants.{Unshown}
+use Rattle.qu_question.specs.declared.kept.Kept.{Kept}
+use Rattle.qu_question.specs.declared.kept.Mark.TheVariants.{Unshown}
 use Rattle.qu_client.specs.declared.state.ClientState.{ClientState}
 use Rattle.qu_client.specs.State.{Stepped}
 use Rattle.qu_client.specs.declared.work.Work.{Work}
-use Rattle.qu_client.specs.State.{client_at_start, is_older, same_source, keep, keep_all, unmarked}
+use Rattle.qu_client.specs.State.{client_at_start}
+use Rattle.qu_question.specs.Kept.{is_older, same_source, keep, keep_all, unmarked}
 use Rattle.qu_client.specs.Steps.{client_step, client_invoke, next_number, client_tick, with_verdict}
 use Rattle.qu_client.specs.Sound.{NumbersWithin, IsSoundWork, IsSound}
-use Rattle.qu_client.specs.Rounds.{request_of, requests, whom_asked, marked_shown, first_object, asking_all}
+use Rattle.qu_client.specs.Rounds.{request_of, requests, whom_asked, first_object, asking_all}
+use Rattle.qu_question.specs.Marking.{marked_shown}
 use Rattle.qu_client.proofs.Sent.{each_letter}
 use Rattle.qu_client.proofs.Cases.{step_cases, invoke_cases, IsRound, OfEach, IsOfHistories, tick_cases}
 use Rattle.qu_history.specs.declared.sets.SetOf.{SetOf}
@@ -44,7 +46,7 @@ use Rattle.qu_frames.specs.Signing.{signature, with_mac}
 use Rattle.qu_seal.specs.Keys.{Ring}
 use Rattle.qu_frames.proofs.Signed.{brought_is_decoded, signed_is_spelled}
 use Rattle.qu_base.specs.declared.party.Party.TheVariants as party
-use Rattle.qu_client.proofs.Marks.{each_remarked, unmarked-remarked, shown_in-remarked}
+use Rattle.qu_question.proofs.Marks.{each_remarked, unmarked-remarked, shown_in-remarked}
 
 -- ---- what a reply shows
 

@@ -26,18 +26,18 @@ use Rattle.qu_frames.specs.declared.frame.Body.{Body}
 use Rattle.qu_frames.specs.declared.frame.Body.TheVariants as body
 use Rattle.qu_frames.specs.Formats.{body_form, request_frame, kind_form, frame_form}
 use Rattle.qu_frames.specs.Formats as forms
-use Rattle.qu_client.specs.declared.kept.Kept.{Kept}
+use Rattle.qu_question.specs.declared.kept.Kept.{Kept}
 use Rattle.qu_client.specs.declared.work.Work.{Work}
-use Rattle.qu_client.specs.State.{is_left_out, kept_of}
-use Rattle.qu_client.specs.Question.{operation_objects, entries_from, set_of, sets_of, target_of}
+use Rattle.qu_question.specs.Kept.{is_left_out, kept_of}
+use Rattle.qu_question.specs.Question.{operation_objects, entries_from, set_of, sets_of, target_of}
 use Rattle.qu_client.specs.Sound.{IsFor}
 use Rattle.qu_client.proofs.Cases.{IsRound}
 use Rattle.qu_client.specs.Rounds.{request_of}
 use Rattle.qu_runs.specs.Plain.{HasOpParts}
 use Rattle.qu_objects.proofs.Text.{method_fits, ask_fits}
 use Rattle.qu_fitting.proofs.FitRequests.{blank_sized}
-use Rattle.qu_client.proofs.Trimmed.{trimmed-fits}
-use Rattle.qu_client.proofs.Targets.{target_such}
+use Rattle.qu_question.proofs.Trimmed.{trimmed-fits}
+use Rattle.qu_question.proofs.Targets.{target_such}
 
 -- ---- the entries of an object, replica by replica
 
