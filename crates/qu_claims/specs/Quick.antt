@@ -28,7 +28,8 @@ use Rattle.qu_frames.specs.declared.frame.Frame.TheVariants as frame
 use Rattle.qu_frames.specs.declared.frame.Letter.{Letter}
 use Rattle.qu_rows.specs.State.{ReplicaState, own_candidates, own_latest}
 use Rattle.qu_client.specs.declared.state.ClientState.{ClientState}
-use Rattle.qu_question.specs.Question.{operation_objects, sets_of}
+use Rattle.qu_question.specs.Named.{operation_objects}
+use Rattle.qu_question.specs.Question.{sets_of}
 use Rattle.qu_client.specs.declared.whom.Whom.TheVariants.{Preferred}
 use Rattle.qu_client.specs.Rounds.{is_asked, first_object}
 use Rattle.qu_question.specs.Kept.{unmarked}

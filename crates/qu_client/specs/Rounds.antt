@@ -18,7 +18,9 @@ use Rattle.qu_client.specs.declared.work.Phase.{Phase}
 use Rattle.qu_client.specs.declared.work.Phase.TheVariants.{Asking, Resting}
 use Rattle.qu_client.specs.declared.work.Work.{Work}
 use Rattle.qu_client.specs.State.{ClientState, Stepped}
-use Rattle.qu_question.specs.Question.{Question, operation_objects, lowest_of, question_of}
+use Rattle.qu_question.specs.Named.{operation_objects}
+use Rattle.qu_question.specs.declared.question.Question.{Question}
+use Rattle.qu_question.specs.Question.{lowest_of, question_of}
 use Rattle.qu_question.specs.Marking.{marked_shown}
 
 -- ---- letters
@@ -72,6 +74,7 @@ work_asking op number round question = record {
   number = number;
   round = round;
   phase = Asking question.all;
+  named = question.named;
   sets = question.sets;
   body = question.body;
   replies = [];
@@ -89,11 +92,10 @@ begins state work = record {
   ended = None;
 }
 
--- a round of an operation begins, upon the operation's objects and what is kept
-abbrev pub begin_round : ClientState → Op → ℕ → ℕ → Stepped
-begin_round state op number round =
-    begins state
-    (work_asking op number round (question_of state.keys.bounds op round state.kept (operation_objects op)))
+-- a round of an operation begins, upon the objects that are named so far and what is kept
+abbrev pub begin_round : ClientState → Op → ℕ → ℕ → List ObjectId → Stepped
+begin_round state op number round named =
+    begins state (work_asking op number round (question_of state.keys.bounds op round state.kept named))
 
 -- the round in which all are asked, where the preferred ones were
 abbrev pub asking_all : Work → Work

@@ -5,6 +5,7 @@ mod client;
 mod endings;
 mod leaving;
 mod letters;
+mod needed;
 mod planned;
 mod rounds;
 mod state;

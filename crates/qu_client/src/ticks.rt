@@ -42,7 +42,8 @@ fn rest_ticked(
 {
     if ticks <= 1 {
         let kept = copies(alloc, state.kept.as_slice())?;
-        return next_round(alloc, state, kept, work);
+        let named = work.named.copy(alloc)?;
+        return next_round(alloc, state, kept, named, work);
     }
     let phase = Phase::Resting { ticks: ticks - 1 };
     Ok(Planned::turned(alloc, Turn::Passes(phase)))

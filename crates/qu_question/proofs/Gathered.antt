@@ -1,17 +1,20 @@
 -- The sets of a round are built replica by replica and object by object.
 use Rattle.std.proofs.Common.{◌≡◌, ℕ, zero, suc, ◌+◌, ◌-◌, ◌<◌, ◌≤◌, eqb, true, ◌&&◌, IsTrue, not, List, [], ◌∷◌, map, length, Option, None, Some, refl, sym, inl, inr, ap, subst, ◌∙◌, ◌++◌, append_assoc, append-nil, take, arith}
-use Rattle.std.proofs.lemmas.List.{take_all}
+use Rattle.std.specs.Prelude.{nat_lt, nat_le}
+use Rattle.std.proofs.lemmas.List.{take_all, length-map}
 use Rattle.std.proofs.lemmas.Bool.{cases_Bool, and_from, and_parts, false≢true, eq-eqb, eqb-true, le-leb, lt-ltb}
-use Rattle.qu_base.specs.declared.limits.TheConstants.{REPLICA_IDS}
+use Rattle.qu_base.specs.declared.limits.TheConstants.{OBJECT_IDS, REPLICA_IDS}
 use Rattle.qu_base.specs.declared.party.ObjectId.{ObjectId}
 use Rattle.qu_base.specs.Bounds.{replicas}
+use Rattle.qu_history.specs.declared.limits.TheConstants.{OBJECTS_LIMIT}
 use Rattle.qu_history.specs.declared.sets.SetOf.{SetOf}
 use Rattle.qu_history.specs.declared.sealed.Sealed.{Sealed}
 use Rattle.qu_history.specs.Sets.{histories, are_entries, are_sets_from, are_sets}
 use Rattle.qu_objects.specs.Parts.{are_parts}
 use Rattle.qu_question.specs.declared.kept.Kept.{Kept}
 use Rattle.qu_question.specs.Kept.{is_left_out, kept_of}
-use Rattle.qu_question.specs.Question.{are_objects, entries_from, set_of}
+use Rattle.qu_question.specs.Named.{are_objects_from, are_objects}
+use Rattle.qu_question.specs.Question.{entries_from, set_of}
 
 -- so many are left of a number below another
 pub left_after : (n at : ℕ) → at < n → n - at ≡ suc (n - (at + 1))
@@ -120,24 +123,39 @@ are_entries-from (suc count) object replica least kept at_least within =
     (λ other most. are_entries-from count object (replica + 1) other kept most (omega arith))
     (kept_of object replica kept) refl
 
+-- what is kept of objects that rise from this number on
+are_sets_kept_from : (bounds : ℕ) (kept : List Kept) (least : ℕ) (objects : List ObjectId)
+    → are_objects_from least objects ≡ true → replicas bounds ≤ REPLICA_IDS
+    → are_sets_from least (map (λ object. set_of bounds kept object) objects) ≡ true
+unfolding are_objects_from are_sets_from
+are_sets_kept_from bounds kept least [] rising few = refl
+are_sets_kept_from bounds kept least (object ∷ later) rising few =
+    let parts = and_parts (nat_le least object.0 && nat_lt object.0 OBJECT_IDS) (are_objects_from (object.0 + 1) later)
+    rising in
+    let entries : are_entries object 0 (histories (entries_from object 0 (replicas bounds) kept)) ≡ true =
+    are_entries-from (replicas bounds) object 0 0 kept (omega arith) (omega arith) in
+    and_from _ _ (and_from _ _ parts.0 entries) (are_sets_kept_from bounds kept (object.0 + 1) later parts.1 few)
+
 -- what is kept of these objects makes sets
 pub are_sets_kept : (bounds : ℕ) (kept : List Kept) (objects : List ObjectId) → IsTrue (are_objects objects)
     → replicas bounds ≤ REPLICA_IDS → are_sets (map (λ object. set_of bounds kept object) objects) ≡ true
-unfolding are_sets are_sets_from
-are_sets_kept bounds kept [] ordered few = absurd (false≢true ordered)
-are_sets_kept bounds kept (object ∷ []) ordered few =
-    let entries : are_entries object 0 (histories (entries_from object 0 (replicas bounds) kept)) ≡ true =
-    are_entries-from (replicas bounds) object 0 0 kept (omega arith) (omega arith) in
-    and_from _ _ refl
-    (and_from _ _ (and_from _ _ (and_from _ _ (le-leb 0 object.0 (omega arith)) ordered) entries) refl)
-are_sets_kept bounds kept (first ∷ second ∷ objects) ordered few = absurd (false≢true ordered)
+unfolding are_sets are_objects
+are_sets_kept bounds kept objects ordered few =
+    let size : length (map (λ object. set_of bounds kept object) objects) ≡ length objects =
+    length-map objects (λ object. set_of bounds kept object) in
+    let counted = and_parts (nat_lt 0 (length objects) && nat_le (length objects) OBJECTS_LIMIT)
+    (are_objects_from 0 objects) ordered in
+    and_from _ _ (ap (λ (it : ℕ). nat_lt 0 it && nat_le it OBJECTS_LIMIT) size ∙ counted.0)
+    (are_sets_kept_from bounds kept 0 objects counted.1 few)
 
 -- the objects of an operation's parts
 pub are_objects_of_parts : {X : Type 0} (parts : List (ObjectId × X)) → IsTrue (are_parts parts)
     → IsTrue (are_objects (map (λ part. part.0) parts))
-are_objects_of_parts [] ordered = ordered
-are_objects_of_parts (part ∷ []) ordered = ordered
-are_objects_of_parts (first ∷ second ∷ parts) ordered = ordered
+unfolding are_objects are_objects_from
+are_objects_of_parts [] ordered = absurd (false≢true ordered)
+are_objects_of_parts (part ∷ []) ordered =
+    and_from _ _ refl (and_from _ _ (and_from _ _ (le-leb 0 (part.0).0 (omega arith)) ordered) refl)
+are_objects_of_parts (first ∷ second ∷ parts) ordered = absurd (false≢true ordered)
 
 -- so they are never refused
 pub are_sets_made : (bounds : ℕ) (kept : List Kept) (sets : List SetOf) (objects : List ObjectId) (index : ℕ)

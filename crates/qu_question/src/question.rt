@@ -1,9 +1,11 @@
-ghost use Rattle.std.specs.Prelude.{◌≡◌, IfOk, IsTrue};
+ghost use Rattle.std.specs.Prelude.{◌≡◌, IfOk};
 ghost use Rattle.qu_frames.specs.Body.{body_of};
-ghost use Rattle.qu_question.specs.Question.{are_objects, is_torn, awaits_copy, first_of_class, target_of, asked_upon, question_of, lowest_of};
+ghost use Rattle.qu_question.specs.Question.{is_torn, awaits_copy, first_of_class, target_of, asked_upon, question_of, lowest_of};
 
-use super::Kept;
-use super::sets::{are_current, are_full, lowest_of, operation_objects, sets_of};
+use super::named::operation_objects;
+use super::needed::named_for;
+use super::sets::{are_current, are_full, lowest_of};
+use super::{Kept, Named};
 use qu_base::{Bounds, NoMemory, ObjectId};
 use qu_class::{Class, classify};
 use qu_frames::Body;
@@ -14,26 +16,27 @@ use std::alloc::Global;
 /// What is asked in a round.
 #[derive(Debug, Drop)]
 pub struct Question {
+    /// The objects that are named, of which the sets are.
+    pub named: Named,
     pub sets: Sets,
     pub body: Body,
     /// Whether all replicas are asked, and not the preferred ones alone.
     pub all: bool,
 }
 
-/// The building of a round of an operation upon the objects that are named in it.
+/// The building of a round of an operation in which these objects are named so far.
 pub fn question_of(
     alloc: Global,
     bounds: Bounds,
     op: &Op,
     round: u8,
     kept: &[Kept],
-    objects: &[ObjectId],
+    named: Named,
 ) -> Result<Question, NoMemory>
-    requires { IsTrue (are_objects objects.now) }
-    ensures { IfOk result (λ question. question ≡ question_of bounds op.now round kept.now objects.now) }
+    ensures { IfOk result (λ question. question ≡ question_of bounds op.now round kept.now named) }
 {
-    let sets = sets_of(alloc, bounds, round, kept, objects)?;
-    asked_upon(alloc, bounds, op, objects, sets)
+    let (named, sets) = named_for(alloc, bounds, round, kept, named)?;
+    asked_upon(alloc, bounds, op, named, sets)
 }
 
 /// What is asked upon these sets.
@@ -41,20 +44,21 @@ fn asked_upon(
     alloc: Global,
     bounds: Bounds,
     op: &Op,
-    objects: &[ObjectId],
+    named: Named,
     sets: Sets,
 ) -> Result<Question, NoMemory>
-    ensures { IfOk result (λ question. question ≡ asked_upon bounds op.now objects.now sets) }
+    ensures { IfOk result (λ question. question ≡ asked_upon bounds op.now named sets) }
 {
     if !are_full(bounds, &sets) {
-        return operation(alloc, op, sets, true);
+        return operation(alloc, op, named, sets, true);
     }
     let own = operation_objects(alloc, op)?;
     if are_current(bounds, &sets, own.as_slice()) {
-        return operation(alloc, op, sets, false);
+        return operation(alloc, op, named, sets, false);
     }
-    let target = target_of(bounds, &sets, objects);
+    let target = target_of(bounds, &sets, named.objects());
     Ok(Question {
+        named,
         sets,
         body: Body::Mend(target),
         all: true,
@@ -62,11 +66,23 @@ fn asked_upon(
 }
 
 /// The operation itself is asked.
-fn operation(alloc: Global, op: &Op, sets: Sets, all: bool) -> Result<Question, NoMemory>
-    ensures { IfOk result (λ question. question ≡ record { sets = sets; body = body_of op.now; all = all }) }
+fn operation(
+    alloc: Global,
+    op: &Op,
+    named: Named,
+    sets: Sets,
+    all: bool,
+) -> Result<Question, NoMemory>
+    ensures { IfOk result
+        (λ question. question ≡ record { named = named; sets = sets; body = body_of op.now; all = all }) }
 {
     let body = Body::of(alloc, op)?;
-    Ok(Question { sets, body, all })
+    Ok(Question {
+        named,
+        sets,
+        body,
+        all,
+    })
 }
 
 /// The object to be mended: the lowest that is neither METHOD nor COPY, and where there is none the lowest of class

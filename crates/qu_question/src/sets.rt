@@ -1,12 +1,12 @@
-ghost use Rattle.std.specs.Prelude.{◌≡◌, IfOk, IsTrue, map};
-ghost use Rattle.qu_question.specs.Question.{operation_objects, are_objects, lowest_of, entries_from, whole_sets, sets_of, are_full, are_current};
+ghost use Rattle.std.specs.Prelude.{◌≡◌, IfOk, IsTrue};
+ghost use Rattle.qu_question.specs.Named.{are_objects};
+ghost use Rattle.qu_question.specs.Question.{lowest_of, entries_from, whole_sets, sets_of, are_full, are_current};
 
 use super::Kept;
 use super::kept::kept_of;
 use qu_base::{Bounds, List, NoMemory, ObjectId};
 use qu_class::method_at;
 use qu_history::{Sealed, SetOf, Sets};
-use qu_objects::Op;
 use std::alloc::Global;
 
 /// The sets of a round upon these objects: in rounds 1, 3 and so on they are trimmed.
@@ -68,29 +68,6 @@ pub fn are_current(bounds: Bounds, sets: &Sets, objects: &[ObjectId]) -> bool
     objects
         .iter()
         .all(|object| method_at(sets, *object, &bounds).is_some())
-}
-
-/// The objects that an operation names, in rising order.
-#[tactic(auto, using(crate::proofs::Gathered::are_objects_of_parts))]
-pub fn operation_objects(alloc: Global, op: &Op) -> Result<List<ObjectId>, NoMemory>
-    ensures value { IfOk result (λ objects. objects ≡ operation_objects op.now) }
-    ensures in_order { IfOk result (λ objects. IsTrue (are_objects objects)) }
-{
-    match op {
-        Op::Act(act) => objects_in(alloc, act.parts().as_slice()),
-        Op::Query(query) => objects_in(alloc, query.parts().as_slice()),
-    }
-}
-
-/// The objects of these parts.
-fn objects_in<T>(alloc: Global, parts: &[(ObjectId, T)]) -> Result<List<ObjectId>, NoMemory>
-    ensures { IfOk result (λ objects. objects ≡ map (λ part. part.0) parts.now) }
-{
-    let mut objects = List::new(alloc);
-    for part in parts {
-        objects.push(part.0)?;
-    }
-    Ok(objects)
 }
 
 /// The lowest of some objects, which rise.

@@ -146,7 +146,7 @@ balances_each me state =
         counts = λ kept work replica number round verdict culled held is counting.
             let one = working state work is in omega (arith, none, one);
         ends = λ kept work end held is. let some = an_end me state.work end in omega (arith, some);
-        rests = λ kept work held is more. let one = working state work is in omega (arith, none, one);
+        rests = λ kept work named held is _ more. let one = working state work is in omega (arith, none, one);
         ticks = λ work ticks is. let one = working state work is in omega (arith, none, one);
       };
       begins = λ kept work held next. let one = working state next.last next.is in omega (arith, none, one);

@@ -260,7 +260,7 @@ over_answered : (trace : Trace) (before : ℕ) (me : ClientId) (state : ClientSt
     → StepAnswered trace before me (ends_round state work)
 over_answered trace before me state work =
     ended_cases state work (StepAnswered trace before me) (λ left same spent. tt)
-    (λ left same more. All-nil (WasAnswered trace before me work.number work.round))
+    (λ left named same named_more more. All-nil (WasAnswered trace before me work.number work.round))
     (λ left begun same more round. fresh_answered trace before me begun round.fresh)
 
 -- what a text makes of them

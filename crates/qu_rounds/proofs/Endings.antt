@@ -177,7 +177,8 @@ CompletesNot answer stepped = stepped.ended ≡ Some (outcome.Done answer) → �
 over_completes_not : (state : ClientState) (work : Work) (answer : Answer) → CompletesNot answer (ends_round state work)
 over_completes_not state work answer =
     ended_cases state work (CompletesNot answer) (λ left same spent. gave_up answer)
-    (λ left same more. none-some (outcome.Done answer)) (λ left begun same more round. none-some (outcome.Done answer))
+    (λ left named same named_more more. none-some (outcome.Done answer))
+    (λ left begun same more round. none-some (outcome.Done answer))
 
 next_completes_not : (state : ClientState) (work : Work) (answer : Answer) → CompletesNot answer (next_round state work)
 next_completes_not state work answer =

@@ -233,8 +233,9 @@ module _ (Sent : Letter → Type 0) (state : ClientState) (sound : IsSound state
         None up_to (under_way work is);
     ends = λ kept work end _ is fits.
         quiet Sent state.me (record state { kept = kept; work = None }) (Some end) up_to tt;
-    rests = λ kept work _ is more fits.
-        quiet Sent state.me (rests (record state { kept = kept }) work).state None up_to (under_way work is);
+    rests = λ kept work named _ is _ more fits.
+        quiet Sent state.me (rests (record state { kept = kept }) (record work { named = named })).state None up_to
+        (under_way work is);
     ticks = λ work ticks is fits.
         quiet Sent state.me (record state { work = Some (record work { phase = Resting ticks }) }) None up_to
         (under_way work is);
