@@ -7,7 +7,7 @@ use Rattle.qu_objects.specs.declared.act.Method.{Method}
 use Rattle.qu_objects.specs.Parts.{are_parts}
 use Rattle.qu_kept.proofs.EachObject.{objects_named}
 use Rattle.qu_claims.specs.Parts.{Names}
-use Rattle.qu_replies.specs.Replies.{IsFirst}
+use Rattle.qu_replies.specs.Replies.{HoldsOfFirst}
 
 module _ {X Y : Type 0} (make : X → Y) where
   pub each_made : (P : Y → Type 0) (items : List X) → AllByRecursion (λ item. P (make item)) items
@@ -20,12 +20,12 @@ module _ {X Y : Type 0} (make : X → Y) where
   each_of_made P [] all = tt
   each_of_made P (item ∷ later) all = (all.0, each_of_made P later all.1)
 
-  pub first_made : (P : Y → Type 0) (items : List X) → IsFirst (λ item. P (make item)) items → IsFirst P (map make items)
+  pub first_made : (P : Y → Type 0) (items : List X) → HoldsOfFirst (λ item. P (make item)) items → HoldsOfFirst P (map make items)
   first_made P [] first = first
   first_made P (item ∷ later) first = first
 
-  pub first_of_made : (P : Y → Type 0) (items : List X) → IsFirst P (map make items)
-      → IsFirst (λ item. P (make item)) items
+  pub first_of_made : (P : Y → Type 0) (items : List X) → HoldsOfFirst P (map make items)
+      → HoldsOfFirst (λ item. P (make item)) items
   first_of_made P [] first = first
   first_of_made P (item ∷ later) first = first
 
@@ -38,17 +38,17 @@ module _ {X Y : Type 0} (make : X → Y) where
 
 -- what all have, and the first one too, gives a third of the first
 pub first_also : {X : Type 0} (P Q R : X → Type 0) (items : List X) → ((item : X) → P item → Q item → R item)
-    → AllByRecursion P items → IsFirst Q items → IsFirst R items
+    → AllByRecursion P items → HoldsOfFirst Q items → HoldsOfFirst R items
 first_also P Q R [] also all first = absurd first
 first_also P Q R (item ∷ later) also all first = also item all.0 first
 
-pub first_weaker : {X : Type 0} (P Q : X → Type 0) → ((item : X) → P item → Q item) → (items : List X) → IsFirst P items
-    → IsFirst Q items
+pub first_weaker : {X : Type 0} (P Q : X → Type 0) → ((item : X) → P item → Q item) → (items : List X) → HoldsOfFirst P items
+    → HoldsOfFirst Q items
 first_weaker P Q weaker [] first = first
 first_weaker P Q weaker (item ∷ later) first = weaker item first
 
 pub all_first : (P : ObjectId → Type 0) (parts : List (ObjectId × Method)) → IsTrue (are_parts parts)
-    → AllByRecursion P (objects_named parts) → IsFirst P (objects_named parts)
+    → AllByRecursion P (objects_named parts) → HoldsOfFirst P (objects_named parts)
 all_first P [] in_order all = absurd (false≢true in_order)
 all_first P (part ∷ later) in_order all = all.0
 

@@ -18,7 +18,7 @@ use Rattle.qu_kept.specs.declared.repeats.Standing.TheVariants.{Already}
 use Rattle.qu_kept.specs.Rows.{client_of, row_of}
 use Rattle.qu_kept.specs.Standing.{is_of_act, is_repeated, told_again, told_by_first, first_spent, is_already, standing_of}
 use Rattle.qu_kept.proofs.StandingLaws.{already_where}
-use Rattle.qu_replies.specs.Replies.{Keeps, IsFirst}
+use Rattle.qu_replies.specs.Replies.{Keeps, HoldsOfFirst}
 
 -- the row that is found is the client's
 of_client : (client : ClientId) (rows : List KeptRow) (row : KeptRow) → row_of client rows ≡ Some row
@@ -85,7 +85,7 @@ module _ (client : ClientId) (number : ℕ) (act : Digest) where
       subst (λ (it : Answer). Keeps client number act it version) same (kept_with version is row found)
 
   first_kept : (versions : List ObjState) (answer : Answer) → is_repeated client number act versions ≡ true
-      → told_by_first client versions ≡ Already answer → IsFirst (Keeps client number act answer) versions
+      → told_by_first client versions ≡ Already answer → HoldsOfFirst (Keeps client number act answer) versions
   first_kept [] answer repeated told = absurd cc
   first_kept (version ∷ later) answer repeated told =
       told_from version answer (row_of client version.kept) refl
@@ -95,7 +95,7 @@ module _ (client : ClientId) (number : ℕ) (act : Digest) where
   pub kept_where : (parts : List (ObjectId × Method)) (versions : List ObjState) (answer : Answer)
       → IsTrue (are_parts parts) → length versions ≡ length parts
       → standing_of client number act parts versions ≡ Already answer
-      → AllByRecursion IsKept versions × IsFirst (Keeps client number act answer) versions
+      → AllByRecursion IsKept versions × HoldsOfFirst (Keeps client number act answer) versions
   kept_where parts versions answer in_order fit already =
       let repeated : is_repeated client number act versions ≡ true =
       sym (already_where client number act parts versions in_order fit) ∙ ap is_already already in

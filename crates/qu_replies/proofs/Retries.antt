@@ -54,7 +54,7 @@ use Rattle.qu_claims.specs.Grounds.{stored_of}
 use Rattle.qu_claims.specs.Parts.{Names}
 use Rattle.qu_accepts.proofs.ActAcceptance.{MakesAll, makes_all, fresh, afters, stored_each, added_to}
 use Rattle.qu_accepts.proofs.Performed.{named_stored}
-use Rattle.qu_replies.specs.Replies.{Keeps, IsFirst, HasDone, TellsDone, HasKept, TellsAlready, IsOfUpdate}
+use Rattle.qu_replies.specs.Replies.{Keeps, HoldsOfFirst, HasDone, TellsDone, HasKept, TellsAlready, IsOfUpdate}
 use Rattle.qu_replies.proofs.EachOf.{each_made, each_of_made, first_made, first_of_made, found_each, first_also}
 use Rattle.qu_replies.proofs.KeptActs.{kept_where}
 use Rattle.qu_replies.proofs.QueryReplies.{Gives, unknown, act_cases, version_of_base, told_objects}
@@ -98,7 +98,7 @@ pub told_done : (state : ReplicaState) (client : ClientId) (number : ℕ) (act :
     (stamp : ObjectId → Stamp) (answer : Answer)
     → AllByRecursion (λ object. (kept : Answer) × HasDone state client number act kept (object, stamp object))
     (objects_named parts)
-    → IsFirst (λ object. HasDone state client number act answer (object, stamp object)) (objects_named parts)
+    → HoldsOfFirst (λ object. HasDone state client number act answer (object, stamp object)) (objects_named parts)
     → TellsDone state client number act parts (with_stamps stamp (objects_named parts)) answer
 told_done state client number act parts stamp answer each first =
     let objects : List ObjectId = objects_named parts in

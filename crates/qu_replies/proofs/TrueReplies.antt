@@ -54,7 +54,7 @@ use Rattle.qu_claims.specs.Grounds.{stored_of}
 use Rattle.qu_claims.specs.Parts.{Names}
 use Rattle.qu_accepts.proofs.ActAcceptance.{MakesAll, makes_all, fresh, afters, stored_each, added_to}
 use Rattle.qu_accepts.proofs.Performed.{named_stored}
-use Rattle.qu_replies.specs.Replies.{Keeps, IsFirst, HasDone, TellsDone, HasKept, TellsAlready, IsOfUpdate}
+use Rattle.qu_replies.specs.Replies.{Keeps, HoldsOfFirst, HasDone, TellsDone, HasKept, TellsAlready, IsOfUpdate}
 use Rattle.qu_replies.proofs.EachOf.{each_of_made, first_of_made, first_also, all_first, all_named}
 use Rattle.qu_replies.proofs.KeptActs.{kept_where}
 use Rattle.qu_replies.proofs.Retries.{AddsWhatIsFound, HasVersions, ActTells, told_done, many, stands_so, retry_tells}

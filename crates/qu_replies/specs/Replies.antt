@@ -36,9 +36,9 @@ Keeps client number act answer version =
     row_of client version.kept ≡ Some (record { client = client; number = number; act = act; answer = answer })
 
 -- the first of a list is such
-abbrev pub IsFirst : {X : Type 0} → (X → Type 0) → List X → Type 0
-IsFirst P [] = ⊥
-IsFirst P (first ∷ later) = P first
+abbrev pub HoldsOfFirst : {X : Type 0} → (X → Type 0) → List X → Type 0
+HoldsOfFirst P [] = ⊥
+HoldsOfFirst P (first ∷ later) = P first
 
 -- on an object of an update, whose digest is `act`, a replica has the candidate with the stamp that it tells, and
 -- the version of it, which keeps the update with the answer
@@ -59,7 +59,7 @@ pub record TellsDone (new : ReplicaState) (client : ClientId) (number : ℕ) (ac
     (parts : List (ObjectId × Method)) (stamps : List (ObjectId × Stamp)) (answer : Answer) : Type 0 where
   pub of_parts : map (λ (it : ObjectId × Stamp). it.0) stamps ≡ map (λ (part : ObjectId × Method). part.0) parts
   pub each : All (λ (told : ObjectId × Stamp). (kept : Answer) × HasDone new client number act kept told) stamps
-  pub first : IsFirst (HasDone new client number act answer) stamps
+  pub first : HoldsOfFirst (HasDone new client number act answer) stamps
 
 -- on an object of an update, a replica has the version of a base that a quorum holds in the sets, and it keeps the
 -- update with the answer
@@ -77,7 +77,7 @@ pub record TellsAlready (state : ReplicaState) (client : ClientId) (number : ℕ
     (parts : List (ObjectId × Method)) (answer : Answer) : Type 0 where
   pub each : All (λ (part : ObjectId × Method).
       (kept : Answer) × HasKept state client number act sets kept part.0) parts
-  pub first : IsFirst (λ (part : ObjectId × Method). HasKept state client number act sets answer part.0) parts
+  pub first : HoldsOfFirst (λ (part : ObjectId × Method). HasKept state client number act sets answer part.0) parts
 
 -- what is told of an update alone: that it is done, now or before
 abbrev pub IsOfUpdate : Verdict → Type 0

@@ -5,7 +5,7 @@ use Rattle.std.specs.List.{AllZip}
 use Rattle.std.proofs.lemmas.List.Elements.{All-nil, All-cons, All-head, All-tail, Contains-get_or}
 use Rattle.qu_base.specs.declared.party.ObjectId.{ObjectId}
 use Rattle.qu_claims.specs.Parts.{Names}
-use Rattle.qu_replies.specs.Replies.{IsFirst}
+use Rattle.qu_replies.specs.Replies.{HoldsOfFirst}
 
 -- the objects of a list
 abbrev pub objects_in : {X : Type 0} → List (ObjectId × X) → List ObjectId
@@ -85,7 +85,7 @@ pub record Named {X Y : Type 0} (from : List (ObjectId × X)) (to : List (Object
 
 -- the first element, which has what the first of the list has
 pub first_having : {X Y : Type 0} (P : ObjectId × X → Type 0) (from : List (ObjectId × X)) (to : List (ObjectId × Y))
-    → objects_in from ≡ objects_in to → 1 ≤ length to → IsFirst P from → (named : Named from to) × P named.told
+    → objects_in from ≡ objects_in to → 1 ≤ length to → HoldsOfFirst P from → (named : Named from to) × P named.told
 first_having P from [] same some first = absurd (omega arith)
 first_having P [] (second ∷ to) same some first = absurd first
 first_having P (one ∷ from) (second ∷ to) same some first = (

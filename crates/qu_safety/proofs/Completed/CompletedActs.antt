@@ -39,7 +39,7 @@ use Rattle.qu_claims.specs.Accepted.{accepts}
 use Rattle.qu_claims.specs.RunSetting.{setting}
 use Rattle.qu_claims.specs.Times.{world_after}
 use Rattle.qu_runs.proofs.Worlds.Settings.{acceptors_are, acceptors_counted}
-use Rattle.qu_replies.specs.Replies.{IsFirst, HasDone, TellsDone, HasKept, TellsAlready, IsReplyTo, culled_in}
+use Rattle.qu_replies.specs.Replies.{HoldsOfFirst, HasDone, TellsDone, HasKept, TellsAlready, IsReplyTo, culled_in}
 use Rattle.qu_replies.proofs.EachOf.{first_weaker}
 use Rattle.qu_claims.specs.Quorums.{PartOfQuorum}
 use Rattle.qu_runs.specs.Plain.{ArePlain}
@@ -324,7 +324,7 @@ module _ (trace : Trace) (is_run : IsRun trace) (have : ArePlain trace) (clients
   kept_by_reply : (at : ℕ) → at < length trace.entries → (replica round : ℕ)
       → IsReplyTo trace at replica operation.client operation.number round (verdict.Already answer)
       → (1 ≤ length parts) × All (λ (part : ObjectId × Method). Kept at part.0) parts
-      × IsFirst (λ (part : ObjectId × Method). KeptWith answer at part.0) parts
+      × HoldsOfFirst (λ (part : ObjectId × Method). KeptWith answer at part.0) parts
   kept_by_reply at below replica round reply =
       let client : ClientId = operation.client in
       let number : ℕ = operation.number in

@@ -27,7 +27,7 @@ use Rattle.qu_claims.specs.RunSetting.{setting}
 use Rattle.qu_client.specs.Sound.{IsFor}
 use Rattle.qu_rounds.specs.Invocations.{IsRequestOf}
 use Rattle.qu_rounds.proofs.Requesting.{op_for}
-use Rattle.qu_replies.specs.Replies.{IsFirst, Keeps, IsOfUpdate, IsReplyTo}
+use Rattle.qu_replies.specs.Replies.{HoldsOfFirst, Keeps, IsOfUpdate, IsReplyTo}
 use Rattle.qu_claims.specs.Quorums.{ActOfQuorum}
 use Rattle.qu_claims.specs.Updates.{IsOf}
 use Rattle.qu_claims.specs.Values.{HasVersion}
@@ -93,7 +93,7 @@ pub record HasAll (trace : Trace) (operation : OpRecord) (parts : List (ObjectId
   pub of_parts : objects_in stamps ≡ objects_in parts
   pub each : All (λ (told : ObjectId × Stamp). (kept : Answer)
       × HasPart trace operation parts kept time replica told) stamps
-  pub first : IsFirst (HasPart trace operation parts answer time replica) stamps
+  pub first : HoldsOfFirst (HasPart trace operation parts answer time replica) stamps
 
 same_acts : (first second : List (ObjectId × Method)) → op.Act first ≡ op.Act second → first ≡ second
 same_acts first second same = cc
