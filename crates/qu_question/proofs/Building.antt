@@ -9,7 +9,8 @@ use Rattle.qu_history.specs.declared.sets.SetOf.{SetOf}
 use Rattle.qu_history.specs.History.{ObjectHistory}
 use Rattle.qu_history.specs.Sets.{entries_of, object_candidate, if_method, method_at}
 use Rattle.qu_class.specs.declared.class.Class.TheVariants.{Method}
-use Rattle.qu_class.specs.Class.{is_latest, is_full, class_of}
+use Rattle.qu_class.specs.declared.class.Class.{Class}
+use Rattle.qu_class.specs.Class.{is_latest, is_full, class_of, with_members, class_in}
 use Rattle.qu_class.specs.Repairable.{object_base}
 use Rattle.qu_question.specs.declared.kept.Kept.{Kept}
 use Rattle.qu_question.specs.Named.{with_named}
@@ -77,12 +78,14 @@ module _ (bounds : ℕ) (entries : List ObjectHistory) (candidate : Candidate) w
 
 pub one_current : (bounds : ℕ) (sets : List SetOf) (object : ObjectId) (candidate : Candidate)
     → method_at bounds (entries_of object sets) ≡ Some candidate → needed_in bounds sets (object ∷ []) ≡ None
+unfolding class_in with_members
 one_current bounds sets object candidate method =
     elim (cases_Bool (are_full bounds sets)) [
       | inl full ↦
-          ap (λ test. cond test (need_of (class_of bounds (entries_of object sets))) None) full
-          ∙ ap need_of (class_at_method bounds (entries_of object sets) candidate method)
-      | inr thin ↦ ap (λ test. cond test (need_of (class_of bounds (entries_of object sets))) None) thin
+          ap (λ test. cond test (need_of (class_in bounds sets object)) None) full
+          ∙ ap (λ (class : Class). need_of (with_members bounds sets class))
+          (class_at_method bounds (entries_of object sets) candidate method)
+      | inr thin ↦ ap (λ test. cond test (need_of (class_in bounds sets object)) None) thin
     ]
 
 -- ---- how the building goes on

@@ -12,7 +12,7 @@ use Rattle.qu_history.specs.Sets.{entries_of, method_at}
 use Rattle.qu_history.specs.Trimming.{trimmed}
 use Rattle.qu_class.specs.declared.class.Class.{Class}
 use Rattle.qu_class.specs.declared.class.Class.TheVariants as class
-use Rattle.qu_class.specs.Class.{class_of}
+use Rattle.qu_class.specs.Class.{class_in}
 use Rattle.qu_objects.specs.declared.op.Op.{Op}
 use Rattle.qu_frames.specs.declared.frame.Body.TheVariants as body
 use Rattle.qu_frames.specs.Body.{body_of}
@@ -60,6 +60,7 @@ are_current bounds sets objects = list_all (λ object. is_some (method_at bounds
 
 -- the object that has to be shown before such a class can be told
 abbrev pub need_of : Class → Option ObjectId
+need_of (class.Needs object) = Some object
 need_of _ = None
 
 -- the lower one, where there are two
@@ -71,7 +72,7 @@ lower_of (Some object) (Some other) = if nat_lt other.0 object.0 then Some other
 -- the lowest object that the class of one of these needs
 abbrev pub lowest_needed : ℕ → List SetOf → List ObjectId → Option ObjectId
 lowest_needed bounds sets objects =
-    fold (λ lowest object. lower_of lowest (need_of (class_of bounds (entries_of object sets)))) None objects
+    fold (λ lowest object. lower_of lowest (need_of (class_in bounds sets object))) None objects
 
 -- the object that has to be named too; none is looked for where an object has less than a quorum of entries
 abbrev pub needed_in : ℕ → List SetOf → List ObjectId → Option ObjectId
@@ -105,7 +106,7 @@ awaits_copy _ = false
 
 -- the lowest of the objects whose class in the sets is such a one
 abbrev pub first_of_class : (Class → Bool) → ℕ → List SetOf → List ObjectId → Option ObjectId
-first_of_class test bounds sets objects = find (λ object. test (class_of bounds (entries_of object sets))) objects
+first_of_class test bounds sets objects = find (λ object. test (class_in bounds sets object)) objects
 
 -- the object to be mended: the lowest that is neither METHOD nor COPY, and where there is none the lowest of class
 -- COPY. Where all are METHOD there is nothing to mend

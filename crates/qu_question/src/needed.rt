@@ -71,10 +71,13 @@ fn lowest_needed(bounds: Bounds, sets: &Sets, objects: &[ObjectId]) -> Option<Ob
 }
 
 /// The object that has to be shown before such a class can be told.
-fn need_of(_class: &Class) -> Option<ObjectId>
-    ensures { result ≡ need_of _class.now }
+fn need_of(class: &Class) -> Option<ObjectId>
+    ensures { result ≡ need_of class.now }
 {
-    None
+    match class {
+        Class::Needs(object) => Some(*object),
+        _ => None,
+    }
 }
 
 /// The lower one, where there are two.
