@@ -62,7 +62,10 @@ fn one_replica_more_than_lie_has_to_say_so(rt: HostRuntime) -> Result<(), Fail> 
     let mut client = started(rt.alloc())?;
     say(rt.alloc(), &mut client, 1, [9, 4, 7, 9, 4])?;
     let objects = [ObjectId(0), ObjectId(4), ObjectId(9)];
-    holds(are_named(&client, 2, &objects), "those that two replicas name")
+    holds(
+        are_named(&client, 2, &objects),
+        "those that two replicas name",
+    )
 }
 
 /// Six more objects are named in three rounds.
@@ -86,7 +89,10 @@ fn first_eight_but(last: u16) -> [ObjectId; 8] {
 fn the_lower_one_is_named_first(rt: HostRuntime) -> Result<(), Fail> {
     let mut client = seven_named(rt.alloc())?;
     say(rt.alloc(), &mut client, 4, [30, 20, 30, 20, 30])?;
-    holds(are_named(&client, 5, &first_eight_but(20)), "eight with the lower one")?;
+    holds(
+        are_named(&client, 5, &first_eight_but(20)),
+        "eight with the lower one",
+    )?;
     say(rt.alloc(), &mut client, 5, [7, 7, 7, 7, 7])?;
     holds(are_named(&client, 6, &first_eight_but(20)), "no ninth one")
 }

@@ -12,7 +12,9 @@ use std::alloc::Global;
 use std::test::Fail;
 
 const COPIED: ObjectId = ObjectId(0);
+
 const GROUPED: ObjectId = ObjectId(1);
+
 const ABSENT: ObjectId = ObjectId(8);
 
 /// The keys of six replicas and one client.
@@ -112,7 +114,10 @@ fn mends(question: &Question, object: ObjectId) -> bool {
 fn a_ninth_object_is_not_named(rt: HostRuntime) -> Result<(), Fail> {
     let question = asked(rt.alloc(), 8)?;
     holds(question.named.objects().len() == 8, "eight objects")?;
-    holds(mends(&question, GROUPED), "it counts as BARRIER, before a copy")
+    holds(
+        mends(&question, GROUPED),
+        "it counts as BARRIER, before a copy",
+    )
 }
 
 #[test]
@@ -120,5 +125,8 @@ fn an_eighth_object_is_named(rt: HostRuntime) -> Result<(), Fail> {
     let question = asked(rt.alloc(), 7)?;
     let objects = question.named.objects();
     holds(objects.len() == 8 && objects[7] == ABSENT, "the absent one")?;
-    holds(!mends(&question, GROUPED) && question.all, "all are asked to show it")
+    holds(
+        !mends(&question, GROUPED) && question.all,
+        "all are asked to show it",
+    )
 }
