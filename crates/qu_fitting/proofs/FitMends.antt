@@ -68,7 +68,7 @@ module _ (state : ReplicaState) (asked : Asked) (fits : StateFits state) (asks :
   why_fits (NotCurrent on stamp) cause =
       subst (λ (it : ObjectId). verdict_form.Fits (Refused (NotCurrent it stamp))) (sym cause.0)
       (current_fits object within stamp (subst (λ (it : Stamp). stamp_form.Fits it) (sym cause.1)
-      (own_fits state asked fits asks object within)))
+      (own_fits state asked fits asks object)))
   why_fits (Sound on) cause =
       subst (λ (it : ObjectId). verdict_form.Fits (Refused (Sound it))) (sym cause.0) (sound_fits object within)
   why_fits (TimeSpent on) cause =
@@ -133,5 +133,5 @@ module _ (state : ReplicaState) (asked : Asked) (fits : StateFits state) (asks :
   pub mend_decision-fits : DecisionFits (decide_repair state asked object)
   unfolding decide_repair
   mend_decision-fits =
-      past _ _ (unknown state asked fits asks object within) (λ _.
-      past _ _ (thin state asked fits asks object within) (λ _. past _ _ few (λ _. past _ _ mended (λ _. no_row))))
+      past _ _ (unknown state asked fits asks) (λ _.
+      past _ _ (thin state asked fits asks) (λ _. past _ _ few (λ _. past _ _ mended (λ _. no_row))))

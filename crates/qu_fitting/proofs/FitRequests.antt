@@ -1,5 +1,5 @@
 -- The fields of a request that fits its format fit theirs, and what is decided upon it fits.
-use Rattle.std.proofs.Common.{◌≡◌, ℕ, ◌-◌, ◌^◌, ◌≤◌, List, [], ◌∷◌, length, Some, refl, subst, arith, ◌<◌}
+use Rattle.std.proofs.Common.{◌≡◌, ℕ, ◌-◌, ◌^◌, ◌≤◌, List, length, Some, refl, subst, arith, ◌<◌}
 use Rattle.std.proofs.lemmas.Option.{same_Some}
 use Rattle.qu_frames.specs.declared.limits.TheConstants.{LAST_ROUND}
 use Rattle.qu_base.specs.declared.limits.TheConstants.{REPLICA_IDS, LAST_CLIENT}
@@ -12,8 +12,8 @@ use Rattle.qu_history.specs.declared.sets.SetOf.{SetOf}
 use Rattle.qu_history.specs.Formats.{sets_form}
 use Rattle.qu_history.specs.Text.{sets_digest}
 use Rattle.qu_history.specs.Culling.{culled}
-use Rattle.qu_objects.specs.Digesting.{act_digest}
-use Rattle.qu_objects.specs.Formats.{act_form, query_form}
+use Rattle.qu_objects.specs.Digesting.{act_digest, MethodFits}
+use Rattle.qu_objects.specs.Formats.{is_one_of, method_form, ask_form, act_form, query_form}
 use Rattle.qu_frames.specs.declared.frame.Body.{Body}
 use Rattle.qu_frames.specs.declared.frame.Body.TheVariants as body
 use Rattle.qu_frames.specs.declared.frame.Frame.{Frame}
@@ -28,7 +28,10 @@ use Rattle.qu_rows.specs.Rows.{Asked, act_asked, asked_at, decision_on}
 use Rattle.qu_fitting.specs.Fits.{StateFits}
 use Rattle.qu_fitting.proofs.FitCulled.{culled-fits}
 use Rattle.qu_fitting.proofs.FitValues.{method_numbers}
-use Rattle.qu_fitting.proofs.FitDecisions.{AskedFits, DecisionFits, act_decision-fits, ask_decision-fits}
+use Rattle.qu_fitting.proofs.FitDecisions.{AskedFits, DecisionFits}
+use Rattle.qu_fitting.proofs.FitOperations.{act_decision-fits, ask_decision-fits}
+use Rattle.qu_fitting.proofs.PassedRows.{each_weaker}
+use Rattle.qu_fitting.proofs.RisingObjects.{parts_rise, each_part}
 use Rattle.qu_fitting.proofs.FitMends.{mend_decision-fits}
 use Rattle.qu_fitting.proofs.FitVersions.{act_sized}
 use Rattle.qu_base.specs.declared.party.ReplicaId.{ReplicaId}
@@ -97,15 +100,15 @@ decision-fits state client number round sets asks fits request =
   where
     decided : (asks : Body) (asked : Asked) → AskedFits asked → (body_form (objects_in_sets sets)).Fits asks
         → DecisionFits (decision_on state asked asks)
-    decided (body.Act []) asked asked_fits within = absurd (omega (arith, ((within.1).0).0))
-    decided (body.Act (part ∷ [])) asked asked_fits within =
-        act_decision-fits state asked fits asked_fits part.0 (((((((within.1).1).1).0).0).0).0).1 part.1
-        (method_numbers part.1 ((((within.1).1).1).0).1)
-    decided (body.Act (first ∷ second ∷ later)) asked asked_fits within = absurd (omega (arith, ((within.1).0).1))
-    decided (body.Ask []) asked asked_fits within = absurd (omega (arith, ((within.1).0).0))
-    decided (body.Ask (part ∷ [])) asked asked_fits within =
-        ask_decision-fits state asked fits asked_fits part.0 (((((((within.1).1).1).0).0).0).0).1 part
-    decided (body.Ask (first ∷ second ∷ later)) asked asked_fits within = absurd (omega (arith, ((within.1).0).1))
+    decided (body.Act parts) asked asked_fits within =
+        act_decision-fits state asked fits asked_fits parts
+        (parts_rise method_form (is_one_of (objects_in_sets sets)) parts within.1)
+        (each_weaker (λ part. method_form.Fits part.1) (λ part. MethodFits part.1) parts
+        (λ part fit. method_numbers part.1 fit)
+        (each_part method_form (is_one_of (objects_in_sets sets)) parts within.1))
+    decided (body.Ask query) asked asked_fits within =
+        ask_decision-fits state asked fits asked_fits query
+        (parts_rise ask_form (is_one_of (objects_in_sets sets)) query within.1)
     decided (body.Mend target) asked asked_fits within =
         mend_decision-fits state asked fits asked_fits target ((within.1).0).1
 
