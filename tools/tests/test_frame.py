@@ -17,7 +17,8 @@ from model.listed_frames import listed_frame, listed_party, listed_stamp
 from model.player import run_of
 from model.reading import decode
 from model.report import answer_words, byte_lines, item_words, listing_words, operation_words
-from model.values import NO_DIGEST, OPENING, Fetched, Items, Party, Reply, Request
+from model.values import (
+    DIR, NO_DIGEST, OPENING, TOO_LONG, Body, Fetched, Items, KeptRow, Part, Party, RefusedPart, Reply, Request, State)
 
 TOP = os.path.dirname(TOOLS)
 EXAMPLES = os.path.join(TOP, "examples")
@@ -172,6 +173,15 @@ class Made(unittest.TestCase):
                 if words is not None:
                     self.assertEqual(letter.text.hex(), maker.make(Words(words)).hex(), (name, words))
             self.assertLessEqual(left, most_left, name)
+
+    def test_a_version(self):
+        words = ("replica 5 to replica 4: fetched object 2 at opening, dir etc=7,a%20b=1, kept 3.4 put 1 68 with 1, "
+                 "kept 1.1 link 2 etc 7 with too long at 0, link 1 at opening")
+        acts = (Body("act", (Part(2, "link", (b"etc", 7)),)), Body("act", (Part(1, "put", (b"h",)),)))
+        rows = ((1, KeptRow(1, act_digest(1, 1, acts[0]), RefusedPart(0, TOO_LONG))),
+                (3, KeptRow(4, act_digest(3, 4, acts[1]), Items((1,)))))
+        state = State(DIR, ((b"a b", 1), (b"etc", 7)), rows, ((1, OPENING),))
+        self.assertEqual(Fetched(5, 2, OPENING, state), decode(made(words)))
 
     def test_the_requests_of_the_faulty_client(self):
         world = run_of_example("faulty-client")
