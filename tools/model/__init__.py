@@ -7,5 +7,5 @@ never by what a crate does or prints. `told_frames`, `told_bytes`, `listed_frame
 
 `values`, `writing`, `reading` and `keys` have what is sent; `kinds` what objects do; `classes`, `replica` and `client`
 what parties do; `world`, `audit` and `points` what a run is; `script` and `player` make the run of a script, and
-`report` writes it.
+`report` writes it. tools/frame makes frames with its keys and its bytes.
 """

@@ -7,7 +7,7 @@ from model.happening import Happening, NotKnown
 from model.judge import verdict_on
 from model.listing import ListedWorld
 from model.player import run_of
-from model.report import letter_lines, premises_line, report_lines
+from model.report import byte_lines, letter_lines, premises_line, report_lines
 from model.told_bytes import FORMS, change_lines, exact_lines, told_digest, told_text
 from model.values import Party
 from model.world import Refused
@@ -124,9 +124,8 @@ def points_told(world):
 
 def listed_words_told(data, words):
     """What qu-letters writes for a script, and its status."""
-    if words not in ("", "digests"):
-        return "usage: qu-letters [digests]\nstatus 2"
-    return told(data, letter_lines if words else ListedWorld.lines)
+    lines = {"": ListedWorld.lines, "digests": letter_lines, "bytes": byte_lines}.get(words)
+    return told(data, lines) if lines else "usage: qu-letters [digests]\nstatus 2"
 
 
 def events_told(command, words, text, names):

@@ -78,10 +78,20 @@ def report_lines(world):
         f"end calls {len(names)} done {len(world.ends) - given_up} gaveup {given_up} open {len(still_open)}"]
 
 
+def route_lines(world, text_of):
+    """Of each letter its number, event, sender, receiver and length, and what `text_of` tells of its bytes."""
+    return [f"{number} {event} {letter.sender} {letter.receiver} {len(letter.text)} {text_of(letter.text)}"
+            for number, (event, letter) in enumerate(world.letters, 1)]
+
+
 def letter_lines(world):
-    """Of each letter its number, event, sender, receiver, length and digest."""
-    return [f"{number} {event} {letter.sender} {letter.receiver} {len(letter.text)} "
-            f"{hashlib.sha256(letter.text).hexdigest()}" for number, (event, letter) in enumerate(world.letters, 1)]
+    """The letters by their digests."""
+    return route_lines(world, lambda text: hashlib.sha256(text).hexdigest())
+
+
+def byte_lines(world):
+    """The letters by their bytes."""
+    return route_lines(world, content_words)
 
 
 def point_lines(world):

@@ -91,7 +91,8 @@ class Command(unittest.TestCase):
 
     def test_lines_of_a_script(self):
         for word, first, count in (
-                ("sim", "bounds b 1 n 6 q 5 r 3", 5), ("letters", "1 1 c1 r0 54 ", 6), ("order", "", 0)):
+                ("sim", "bounds b 1 n 6 q 5 r 3", 5), ("letters", "1 1 c1 r0 54 ", 6), ("order", "", 0),
+                ("bytes", "1 1 c1 r0 54 01010001000000000000000101010000000201000001", 6)):
             status, written, told = run(READ, word)
             self.assertEqual((0, ""), (status, told))
             self.assertTrue(written.startswith(first), written)

@@ -1,5 +1,6 @@
 -- What an event stores with the candidates that it makes a replica accept: their versions.
 use Rattle.std.proofs.Common.{◌≡◌, ℕ, ◌+◌, ◌<◌, ◌≤◌, true, false, List, length, Some, inl, inr, refl, sym, ap, subst, ◌∙◌, arith, Option, not, None, ◌++◌, is_some}
+use Rattle.std.specs.List.{AllByRecursion}
 use Rattle.std.proofs.lemmas.Bool.{false≢true}
 use Rattle.qu_base.specs.declared.party.ObjectId.{ObjectId}
 use Rattle.qu_stamp.specs.declared.candidate.Candidate.{Candidate}

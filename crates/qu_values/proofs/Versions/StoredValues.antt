@@ -21,6 +21,7 @@ use Rattle.qu_runs.specs.Plain.{ArePlain}
 use Rattle.qu_claims.specs.Truth.{IsVersionOf}
 use Rattle.qu_values.proofs.Versions.BegunVersions.{Stores, IsVersioned}
 use Rattle.std.proofs.Common.{zero, suc, add-one, [], ◌∷◌}
+use Rattle.std.specs.List.{AllByRecursion}
 use Rattle.std.proofs.lemmas.Bool.{cases_eq, cases_Bool, and_parts}
 use Rattle.std.proofs.lemmas.Option.{same_Some, none-some}
 use Rattle.qu_base.specs.declared.party.ReplicaId.{ReplicaId}
