@@ -11,7 +11,7 @@ use Rattle.qu_history.specs.History.{ObjectHistory}
 use Rattle.qu_history.specs.Sets.{order_of, latest_of, object_candidate, if_method, method_at}
 use Rattle.qu_history.proofs.Method.{order_of_most}
 use Rattle.qu_class.specs.declared.class.Class.{Class}
-use Rattle.qu_class.specs.declared.class.Class.TheVariants.{Method, InlineMethod, Copy, InlineBarrier, Barrier}
+use Rattle.qu_class.specs.declared.class.Class.TheVariants.{Method, InlineMethod, Copy, InlineBarrier, Barrier, Needs}
 use Rattle.qu_class.specs.Repairable.{barrier_candidate, object_base}
 use Rattle.qu_class.specs.Class.{is_latest, is_full, barrier_class, class_of}
 use Rattle.qu_class.specs.Rows.{AreWellFormed, MayBeRepaired, IsGreatestOfKind, IsLatestOfKind, NoneIsLatest, IsClassOf}
@@ -218,6 +218,7 @@ method_in (InlineMethod candidate) = None
 method_in Copy = None
 method_in (InlineBarrier candidate) = None
 method_in (Barrier prior) = None
+method_in (Needs object) = None
 
 pub method_of_class : (bounds : ℕ) (entries : List ObjectHistory) → AreWellFormed bounds entries
     → method_at bounds entries ≡ method_in (class_of bounds entries)
@@ -243,6 +244,8 @@ method_of_class bounds entries formed =
         found_is ∙ none (InlineBarrier candidate) is refl found found_is ∙ ap method_in (sym is)
     by_class (Barrier prior) is found found_is =
         found_is ∙ none (Barrier prior) is refl found found_is ∙ ap method_in (sym is)
+    by_class (Needs object) is found found_is =
+        found_is ∙ none (Needs object) is refl found found_is ∙ ap method_in (sym is)
 
 -- ---- a copy
 
@@ -279,36 +282,3 @@ copy_has_quorum bounds entries is =
     by_tests true true copy = absurd (cc)
     by_tests true false copy = absurd (cc)
     by_tests false full copy = copy_of_barrier bounds entries base.stamp (barrier_candidate bounds entries) copy
-
--- ---- a barrier
-
-upon_prior : (bounds : ℕ) (entries : List ObjectHistory) (base prior : Stamp) (found : Option Candidate)
-    → barrier_class bounds entries base found ≡ Barrier prior → prior ≡ base
-unfolding barrier_class
-upon_prior bounds entries base prior None is = cc
-upon_prior bounds entries base prior (Some barrier) is =
-    by_tests (is_latest entries barrier) (is_full bounds entries barrier) is
-  where
-    by_tests : (latest full : Bool)
-        → cond (latest && full) Copy (cond latest (InlineBarrier barrier) (Barrier base)) ≡ Barrier prior → prior ≡ base
-    by_tests true true is = absurd (cc)
-    by_tests true false is = absurd (cc)
-    by_tests false full is = cc
-
--- it rests upon the object candidate
-pub prior_of_barrier : (bounds : ℕ) (entries : List ObjectHistory) (prior : Stamp)
-    → class_of bounds entries ≡ Barrier prior → prior ≡ (object_base bounds entries).stamp
-unfolding class_of
-prior_of_barrier bounds entries prior is =
-    by_tests (is_latest entries (object_base bounds entries)) (is_full bounds entries (object_base bounds entries)) is
-  where
-    by_tests : (latest full : Bool)
-        → cond (latest && full) (Method (object_base bounds entries))
-        (cond latest (InlineMethod (object_base bounds entries))
-        (barrier_class bounds entries (object_base bounds entries).stamp (barrier_candidate bounds entries)))
-        ≡ Barrier prior
-        → prior ≡ (object_base bounds entries).stamp
-    by_tests true true is = absurd (cc)
-    by_tests true false is = absurd (cc)
-    by_tests false full is =
-        upon_prior bounds entries (object_base bounds entries).stamp prior (barrier_candidate bounds entries) is
