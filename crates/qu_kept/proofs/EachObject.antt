@@ -84,7 +84,7 @@ module _ (client : ClientId) (number : ℕ) (parts : List (ObjectId × Method)) 
   version_after object = state_after (row_by client number parts values_before) (value_after object)
       (links_to_others object (stamp object) parts) (before object)
 
-  values_are-before : (some : List (ObjectId × Method)) → values_of (map before (objects_named some))
+  pub values_are-before : (some : List (ObjectId × Method)) → values_of (map before (objects_named some))
       ≡ map (λ (part : ObjectId × Method). (before part.0).value) some
   values_are-before [] = refl
   values_are-before (part ∷ later) =

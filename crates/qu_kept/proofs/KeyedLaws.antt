@@ -134,7 +134,7 @@ all_append : {X : Type 0} (P : X → Type 0) (front back : List X) → AllByRecu
 all_append P [] back all others = others
 all_append P (item ∷ front) back all others = (all.0, all_append P front back all.1 others)
 
-all_both : {X : Type 0} (P Q R : X → Type 0) → ((item : X) → P item → Q item → R item) → (items : List X)
+pub all_both : {X : Type 0} (P Q R : X → Type 0) → ((item : X) → P item → Q item → R item) → (items : List X)
     → AllByRecursion P items → AllByRecursion Q items → AllByRecursion R items
 all_both P Q R means [] all others = tt
 all_both P Q R means (item ∷ items) all others =

@@ -36,7 +36,7 @@ no_fewer None at made before is fit = unrefused at made (sym is) ∙ sym fit
     unrefused at (Changed value item ∷ later) none = ap suc (unrefused (at + 1) later none)
     unrefused at (Refused why ∷ later) none = absurd cc
 
-made_each : (parts : List (ObjectId × Method)) (values : List Value) → length values ≡ length parts
+pub made_each : (parts : List (ObjectId × Method)) (values : List Value) → length values ≡ length parts
     → length (outcomes parts values) ≡ length parts
 made_each [] values fit = refl
 made_each (part ∷ parts) [] fit = absurd (omega arith)
