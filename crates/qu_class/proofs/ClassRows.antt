@@ -13,7 +13,7 @@ use Rattle.qu_history.proofs.Method.{order_of_most}
 use Rattle.qu_class.specs.declared.class.Class.{Class}
 use Rattle.qu_class.specs.declared.class.Class.TheVariants.{Method, InlineMethod, Copy, InlineBarrier, Barrier, Needs}
 use Rattle.qu_class.specs.Repairable.{barrier_candidate, object_base}
-use Rattle.qu_class.specs.Class.{is_latest, is_full, barrier_class, class_of}
+use Rattle.qu_class.specs.Class.{method_of, is_latest, is_full, barrier_class, class_of}
 use Rattle.qu_class.specs.Rows.{AreWellFormed, MayBeRepaired, IsGreatestOfKind, IsLatestOfKind, NoneIsLatest, IsClassOf}
 use Rattle.qu_class.proofs.OfKind.{plain_is_object_candidate, greatest_of_kind_is, greatest_of_kind_tells, none_of_kind, stamp_at_latest, greatest_at_latest, base_is, base_is_greatest}
 
@@ -211,41 +211,56 @@ module _ (bounds : ℕ) (entries : List ObjectHistory) (formed : AreWellFormed b
         (enough_of_method (object_candidate bounds entries) candidate is) candidate is,
   )
 
--- the candidate of class METHOD, if that is the class
-abbrev pub method_in : Class → Option Candidate
-method_in (Method candidate) = Some candidate
-method_in (InlineMethod candidate) = None
-method_in Copy = None
-method_in (InlineBarrier candidate) = None
-method_in (Barrier prior) = None
-method_in (Needs object) = None
-
 pub method_of_class : (bounds : ℕ) (entries : List ObjectHistory) → AreWellFormed bounds entries
-    → method_at bounds entries ≡ method_in (class_of bounds entries)
+    → method_at bounds entries ≡ method_of (class_of bounds entries)
 method_of_class bounds entries formed =
     by_class (class_of bounds entries) refl (method_at bounds entries) refl
   where
-    none : (class : Class) → class_of bounds entries ≡ class → method_in class ≡ None → (found : Option Candidate)
+    none : (class : Class) → class_of bounds entries ≡ class → method_of class ≡ None → (found : Option Candidate)
         → method_at bounds entries ≡ found → found ≡ None
     none class is absent None found_is = refl
     none class is absent (Some candidate) found_is =
         let other : class_of bounds entries ≡ Method candidate =
         (method_is bounds entries formed candidate).1 found_is in
-        absurd (none-some candidate (sym absent ∙ ap method_in (sym is ∙ other)))
+        absurd (none-some candidate (sym absent ∙ ap method_of (sym is ∙ other)))
 
     by_class : (class : Class) → class_of bounds entries ≡ class → (found : Option Candidate)
-        → method_at bounds entries ≡ found → method_at bounds entries ≡ method_in (class_of bounds entries)
+        → method_at bounds entries ≡ found → method_at bounds entries ≡ method_of (class_of bounds entries)
     by_class (Method candidate) is found found_is =
-        (method_is bounds entries formed candidate).0 is ∙ ap method_in (sym is)
+        (method_is bounds entries formed candidate).0 is ∙ ap method_of (sym is)
     by_class (InlineMethod candidate) is found found_is =
-        found_is ∙ none (InlineMethod candidate) is refl found found_is ∙ ap method_in (sym is)
-    by_class Copy is found found_is = found_is ∙ none Copy is refl found found_is ∙ ap method_in (sym is)
+        found_is ∙ none (InlineMethod candidate) is refl found found_is ∙ ap method_of (sym is)
+    by_class Copy is found found_is = found_is ∙ none Copy is refl found found_is ∙ ap method_of (sym is)
     by_class (InlineBarrier candidate) is found found_is =
-        found_is ∙ none (InlineBarrier candidate) is refl found found_is ∙ ap method_in (sym is)
+        found_is ∙ none (InlineBarrier candidate) is refl found found_is ∙ ap method_of (sym is)
     by_class (Barrier prior) is found found_is =
-        found_is ∙ none (Barrier prior) is refl found found_is ∙ ap method_in (sym is)
+        found_is ∙ none (Barrier prior) is refl found found_is ∙ ap method_of (sym is)
     by_class (Needs object) is found found_is =
-        found_is ∙ none (Needs object) is refl found found_is ∙ ap method_in (sym is)
+        found_is ∙ none (Needs object) is refl found found_is ∙ ap method_of (sym is)
+
+-- where the class tells what is of class METHOD
+abbrev pub HasMethod : ℕ → List ObjectHistory → Class → Type 0
+HasMethod bounds entries class =
+    (candidate : Candidate) → (class ≡ Method candidate) ↔ (method_at bounds entries ≡ Some candidate)
+
+module _ (bounds : ℕ) (entries : List ObjectHistory) where
+  none_else : (class : Class) → HasMethod bounds entries class → ((candidate : Candidate) → class ≡ Method candidate
+      → ⊥)
+      → None ≡ method_at bounds entries
+  none_else class has other =
+      elim (method_at bounds entries) as (λ (found : Option Candidate). method_at bounds entries ≡ found
+      → None ≡ found) [
+        | None ↦ λ _. refl
+        | Some candidate ↦ λ found. absurd (other candidate ((has candidate).1 found))
+      ] refl
+
+  pub method_told : (class : Class) → HasMethod bounds entries class → method_of class ≡ method_at bounds entries
+  method_told (Method candidate) has = sym ((has candidate).0 refl)
+  method_told (InlineMethod candidate) has = none_else (InlineMethod candidate) has (λ it is. absurd cc)
+  method_told Copy has = none_else Copy has (λ it is. absurd cc)
+  method_told (InlineBarrier candidate) has = none_else (InlineBarrier candidate) has (λ it is. absurd cc)
+  method_told (Barrier prior) has = none_else (Barrier prior) has (λ it is. absurd cc)
+  method_told (Needs object) has = none_else (Needs object) has (λ it is. absurd cc)
 
 -- ---- a copy
 

@@ -15,6 +15,11 @@ use Rattle.qu_class.specs.declared.class.Class.{Class}
 use Rattle.qu_class.specs.declared.class.Class.TheVariants.{Method, InlineMethod, Copy, InlineBarrier, Barrier, Needs}
 use Rattle.qu_class.specs.Repairable.{barrier_candidate, object_base}
 
+-- the candidate of class METHOD
+abbrev pub method_of : Class → Option Candidate
+method_of (Method candidate) = Some candidate
+method_of _ = None
+
 -- no stamp is above that of the candidate
 abbrev pub is_latest : List ObjectHistory → Candidate → Bool
 is_latest entries candidate = same_stamp candidate.stamp (latest_of entries)
