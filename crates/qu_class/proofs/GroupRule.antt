@@ -275,6 +275,30 @@ module _ (bounds : ℕ) (sets : List SetOf) where
     tells_by (Barrier prior) tells group = inl tells
     tells_by (Needs member) tells group = absurd tells
 
+    -- what no group is asked for tells of the object's own histories
+    abbrev pub OwnTells : Class → Type 0
+    OwnTells (Method candidate) = IsClassOf bounds entries (Method candidate)
+    OwnTells (InlineMethod candidate) = IsClassOf bounds entries (InlineMethod candidate)
+    OwnTells Copy = IsClassOf bounds entries Copy
+    OwnTells (InlineBarrier candidate) = IsClassOf bounds entries (InlineBarrier candidate)
+    OwnTells (Barrier prior) = Unit {0}
+    OwnTells (Needs member) = Unit {0}
+
+    own_by : (class : Class) → IsClassOf bounds entries class → OwnTells (with_members bounds sets class)
+    unfolding with_members
+    own_by (Method base) tells = tells
+    own_by (InlineMethod base) tells =
+        inline_by OwnTells base (λ absent first. tt) (λ none agree. tells) (λ none differ. tt)
+    own_by Copy tells = tells
+    own_by (InlineBarrier barrier) tells = tells
+    own_by (Barrier prior) tells = tt
+    own_by (Needs member) tells = tt
+
+    pub own_tells : AreWellFormed bounds entries → quorum bounds ≤ length entries
+        → OwnTells (class_in bounds sets object)
+    unfolding class_in
+    own_tells formed enough = own_by (class_of bounds entries) (class_tells bounds entries formed enough)
+
     -- what the class says is so
     pub class_in_tells : AreWellFormed bounds entries → quorum bounds ≤ length entries
         → HasGroup (class_of bounds entries) → IsClassIn bounds sets object (class_in bounds sets object)

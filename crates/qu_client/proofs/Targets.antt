@@ -6,8 +6,7 @@ use Rattle.std.specs.Option.{option_or}
 use Rattle.std.proofs.lemmas.Bool.{cond_both}
 use Rattle.qu_base.specs.declared.party.ObjectId.{ObjectId}
 use Rattle.qu_history.specs.declared.sets.SetOf.{SetOf}
-use Rattle.qu_history.specs.Sets.{entries_of}
-use Rattle.qu_class.specs.Class.{class_of}
+use Rattle.qu_class.specs.Class.{class_in}
 use Rattle.qu_client.specs.Question.{lowest_of, is_torn, awaits_copy, first_of_class, target_of}
 
 found_such : (P : ObjectId → Type 0) (test : ObjectId → Bool) (objects : List ObjectId) → AllByRecursion P objects
@@ -28,5 +27,5 @@ pub target_such : (P : ObjectId → Type 0) (bounds : ℕ) (sets : List SetOf) (
     → AllByRecursion P objects → P (lowest_of objects) → P (target_of bounds sets objects)
 target_such P bounds sets objects each lowest =
     or_such P (first_of_class is_torn bounds sets objects) (first_of_class awaits_copy bounds sets objects)
-    (lowest_of objects) (found_such P (λ object. is_torn (class_of bounds (entries_of object sets))) objects each)
-    (found_such P (λ object. awaits_copy (class_of bounds (entries_of object sets))) objects each) lowest
+    (lowest_of objects) (found_such P (λ object. is_torn (class_in bounds sets object)) objects each)
+    (found_such P (λ object. awaits_copy (class_in bounds sets object)) objects each) lowest

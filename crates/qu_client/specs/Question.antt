@@ -12,7 +12,7 @@ use Rattle.qu_history.specs.Sets.{entries_of, method_at}
 use Rattle.qu_history.specs.Trimming.{trimmed}
 use Rattle.qu_class.specs.declared.class.Class.{Class}
 use Rattle.qu_class.specs.declared.class.Class.TheVariants as class
-use Rattle.qu_class.specs.Class.{class_of}
+use Rattle.qu_class.specs.Class.{class_in}
 use Rattle.qu_objects.specs.declared.op.Op.{Op}
 use Rattle.qu_objects.specs.declared.op.Op.TheVariants as op
 use Rattle.qu_frames.specs.declared.frame.Body.TheVariants as body
@@ -79,7 +79,7 @@ awaits_copy _ = false
 
 -- the lowest of the objects whose class in the sets is such a one
 abbrev pub first_of_class : (Class → Bool) → ℕ → List SetOf → List ObjectId → Option ObjectId
-first_of_class test bounds sets objects = find (λ object. test (class_of bounds (entries_of object sets))) objects
+first_of_class test bounds sets objects = find (λ object. test (class_in bounds sets object)) objects
 
 -- the object to be mended: the lowest that is neither METHOD nor COPY, and where there is none the lowest of class
 -- COPY. Where all are METHOD there is nothing to mend
