@@ -10,7 +10,9 @@ use std::alloc::Global;
 use std::test::Fail;
 
 const LOW: ObjectId = ObjectId(3);
+
 const OWN: ObjectId = ObjectId(5);
+
 const HIGH: ObjectId = ObjectId(8);
 
 fn stamp(time: u64, barrier: bool) -> Stamp {
@@ -55,13 +57,13 @@ fn put(
     sets: &mut List<SetOf>,
     object: ObjectId,
     count: u8,
-    candidate: Candidate,
+    candidate: &Candidate,
 ) -> Result<(), Fail> {
     let mut entries = List::new(alloc);
     for replica in 0..5 {
         let mut history = History::opening(alloc, object, ReplicaId(replica))?;
         if replica < count {
-            history.add(candidate)?;
+            history.add(*candidate)?;
         }
         let macs = List::new(alloc);
         entries.push(Sealed { history, macs })?;
@@ -80,11 +82,11 @@ fn class_with(
 ) -> Result<Class, Fail> {
     let mut sets = List::new(alloc);
     if let Some(candidate) = low {
-        put(alloc, &mut sets, LOW, 3, candidate)?;
+        put(alloc, &mut sets, LOW, 3, &candidate)?;
     }
-    put(alloc, &mut sets, OWN, count, joint())?;
+    put(alloc, &mut sets, OWN, count, &joint())?;
     if let Some(candidate) = high {
-        put(alloc, &mut sets, HIGH, 3, candidate)?;
+        put(alloc, &mut sets, HIGH, 3, &candidate)?;
     }
     let sets = Sets::new(sets).ok_or("no sets")?;
     Ok(classify(&sets, OWN, &Bounds::new(1)?))

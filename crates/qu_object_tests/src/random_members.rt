@@ -117,7 +117,7 @@ fn greatest(sets: &Sets, object: ObjectId, barrier: bool, least: u8) -> Option<C
     for entry in sets.find(object) {
         for held in entry.history.candidates() {
             let passes = held.stamp.barrier == barrier && sets.count(object, held) >= least;
-            if passes && is_above(held, best) {
+            if passes && is_above(held, &best) {
                 best = Some(*held);
             }
         }
@@ -125,7 +125,7 @@ fn greatest(sets: &Sets, object: ObjectId, barrier: bool, least: u8) -> Option<C
     best
 }
 
-fn is_above(held: &Candidate, best: Option<Candidate>) -> bool {
+fn is_above(held: &Candidate, best: &Option<Candidate>) -> bool {
     match best {
         Some(best) => best.is_before(held),
         None => true,

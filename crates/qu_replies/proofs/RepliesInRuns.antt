@@ -1,5 +1,5 @@
 -- What the replies of a run say is true of the replicas that sent them.
-use Rattle.std.proofs.Common.{◌≡◌, ℕ, ◌<◌, ◌≤◌, true, List, [], ◌∷◌, length, IsTrue, inl, refl, sym, subst, ap, ◌∙◌, arith, None, Some}
+use Rattle.std.proofs.Common.{◌≡◌, ℕ, ◌<◌, ◌≤◌, true, List, [], ◌∷◌, length, IsTrue, refl, sym, subst, ap, ◌∙◌, arith, None, Some}
 use Rattle.std.proofs.lemmas.Bool.{false≢true}
 use Rattle.qu_base.specs.declared.party.ClientId.{ClientId}
 use Rattle.qu_base.specs.declared.party.ObjectId.{ObjectId}
@@ -30,7 +30,6 @@ use Rattle.qu_accepts.proofs.Handled.{handled_upon}
 use Rattle.qu_claims.specs.Handled.{IsHandled}
 use Rattle.qu_replies.specs.Replies.{culled_in, HasDone, TellsDone, TellsAlready, TellsQuery, IsOfUpdate, IsReplyTo}
 use Rattle.qu_runs.specs.Plain.{ArePlain}
-use Rattle.qu_claims.specs.Parts.{Names}
 use Rattle.qu_replies.proofs.QueryReplies.{told_is_true, query_is_no_update, mend_is_not_told, mend_is_no_update}
 use Rattle.qu_replies.proofs.EachOf.{first_weaker}
 use Rattle.qu_replies.proofs.Retries.{AddsWhatIsFound, HasVersions}

@@ -1,8 +1,7 @@
 -- What a replica that tells Done again says is true of it: what the act would make is held.
-use Rattle.std.proofs.Common.{◌≡◌, ℕ, Bool, true, false, ◌&&◌, cond, List, [], ◌∷◌, ◌++◌, length, map, Option, None, Some, IsTrue, refl, sym, subst, ap, ◌∙◌, inl, inr}
+use Rattle.std.proofs.Common.{◌≡◌, ℕ, Bool, true, false, cond, List, [], ◌∷◌, length, map, Option, None, Some, IsTrue, refl, sym, subst, ap, ◌∙◌}
 use Rattle.std.specs.Prelude.{option_map, unwrap_or}
-use Rattle.std.specs.Option.{option_or}
-use Rattle.std.specs.List.{AllByRecursion, list_all, filter_map, cons_option}
+use Rattle.std.specs.List.{AllByRecursion, list_all}
 use Rattle.std.proofs.lemmas.Bool.{and_parts, false≢true}
 use Rattle.std.proofs.lemmas.List.{length-map}
 use Rattle.std.proofs.lemmas.List.Elements.{All-from_recursion}
@@ -13,51 +12,33 @@ use Rattle.qu_base.specs.declared.party.ObjectId.{ObjectId}
 use Rattle.qu_stamp.specs.declared.stamp.Stamp.{Stamp}
 use Rattle.qu_stamp.specs.declared.candidate.Candidate.{Candidate}
 use Rattle.qu_stamp.specs.Candidate.{opening}
-use Rattle.qu_history.specs.declared.sets.SetOf.{SetOf}
 use Rattle.qu_history.specs.History.{holds}
-use Rattle.qu_history.proofs.Rising.{holds_pushed}
 use Rattle.qu_objects.specs.declared.act.Method.{Method}
 use Rattle.qu_objects.specs.declared.answer.Answer.{Answer}
-use Rattle.qu_objects.specs.declared.kind.Value.{Value}
-use Rattle.qu_objects.specs.declared.state.KeptRow.{KeptRow}
 use Rattle.qu_objects.specs.declared.state.ObjState.{ObjState}
-use Rattle.qu_objects.specs.Digesting.{act_digest}
 use Rattle.qu_objects.specs.Parts.{are_parts}
-use Rattle.qu_objects.specs.Performing.{performed_answer}
 use Rattle.qu_kept.specs.declared.repeats.Standing.{Standing}
 use Rattle.qu_kept.specs.declared.repeats.Standing.TheVariants.{Fresh, Already, Spent}
-use Rattle.qu_kept.specs.Performing.{values_of, row_by}
-use Rattle.qu_kept.specs.Rows.{client_of}
 use Rattle.qu_kept.specs.Standing.{standing_of}
-use Rattle.qu_kept.proofs.EachObject.{objects_named, distinct_parts, values_are-before, values_before}
-use Rattle.qu_kept.proofs.KeyedLaws.{own_item, all_both}
-use Rattle.qu_frames.specs.declared.frame.Body.TheVariants as body
-use Rattle.qu_frames.specs.declared.verdict.Verdict.{Verdict}
+use Rattle.qu_kept.proofs.EachObject.{objects_named}
+use Rattle.qu_kept.proofs.KeyedLaws.{all_both}
 use Rattle.qu_frames.specs.declared.verdict.Verdict.TheVariants as verdict
 use Rattle.qu_versions.specs.declared.stored.Stored.{Stored}
 use Rattle.qu_versions.specs.Versions.{version_at}
-use Rattle.qu_versions.proofs.Lookup.{version_at-append, append_grows}
 use Rattle.qu_rows.specs.declared.decision.Accepted.{Accepted}
 use Rattle.qu_rows.specs.declared.decision.Decision.{Decision}
 use Rattle.qu_rows.specs.declared.decision.Decision.TheVariants.{Answers, Waits}
-use Rattle.qu_rows.specs.Allowed.{MayAcceptAll, MayDecide}
+use Rattle.qu_rows.specs.Allowed.{MayAcceptAll}
 use Rattle.qu_rows.specs.State.{ReplicaState, own_candidates}
-use Rattle.qu_rows.specs.Rows.{asked_of, Asked, method_base, base_version, base_versions, fresh_stamp, fresh_act, fresh_stamps, fresh_versions, is_held, standing_in, done_again, repeated, row_unknown, row_retry, row_current, row_method, row_version, row_kept, row_done, decide_act, decision_on}
-use Rattle.qu_rows.specs.Table.{first_given}
-use Rattle.qu_rows.proofs.Allowed.{decision_on-may}
+use Rattle.qu_rows.specs.Rows.{Asked, method_base, fresh_stamp, fresh_stamps, fresh_versions, is_held, standing_in, done_again, row_retry}
 use Rattle.qu_rows.proofs.Held.{is_held_by}
 use Rattle.qu_fitting.specs.Holding.{stored_all, accept_all}
-use Rattle.qu_fitting.proofs.AcceptingAll.{accept_all-is}
-use Rattle.qu_fitting.proofs.CarriedEach.{fresh_upon, with_stamps, accepted_each, AreBases, AreBefores, done_each, fresh_each, versions_each}
-use Rattle.qu_fitting.proofs.PassedRows.{base_of, before_of, passed_method, passed_version}
-use Rattle.qu_claims.specs.Grounds.{stored_of}
-use Rattle.qu_claims.specs.Parts.{Names}
-use Rattle.qu_accepts.proofs.ActAcceptance.{MakesAll, makes_all, fresh, afters, stored_each, added_to}
-use Rattle.qu_accepts.proofs.Performed.{named_stored}
-use Rattle.qu_replies.specs.Replies.{Keeps, HoldsOfFirst, HasDone, TellsDone, HasKept, TellsAlready, IsOfUpdate}
+use Rattle.qu_fitting.proofs.CarriedEach.{fresh_upon, with_stamps, AreBases, fresh_each}
+use Rattle.qu_fitting.proofs.PassedRows.{base_of, before_of}
+use Rattle.qu_replies.specs.Replies.{Keeps, HoldsOfFirst, HasDone, TellsDone, TellsAlready}
 use Rattle.qu_replies.proofs.EachOf.{each_made, each_of_made, first_made, first_of_made, found_each, first_also}
 use Rattle.qu_replies.proofs.KeptActs.{kept_where}
-use Rattle.qu_replies.proofs.QueryReplies.{Gives, unknown, act_cases, version_of_base, told_objects}
+use Rattle.qu_replies.proofs.QueryReplies.{Gives, told_objects}
 
 -- each version that is added under a stamp where one was found before is that one
 abbrev pub AddsWhatIsFound : ReplicaState → List Accepted → Type 0

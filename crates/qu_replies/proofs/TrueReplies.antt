@@ -1,10 +1,7 @@
 -- What a verdict says is true of the replica that gives it.
-use Rattle.std.proofs.Common.{◌≡◌, ℕ, Bool, true, false, ◌&&◌, cond, List, [], ◌∷◌, ◌++◌, length, map, Option, None, Some, IsTrue, refl, sym, subst, ap, ◌∙◌, inl, inr}
-use Rattle.std.specs.Prelude.{option_map, unwrap_or}
+use Rattle.std.proofs.Common.{◌≡◌, ℕ, List, [], ◌∷◌, ◌++◌, map, Option, None, Some, IsTrue, refl, sym, subst, ap, ◌∙◌, inl, inr}
 use Rattle.std.specs.Option.{option_or}
-use Rattle.std.specs.List.{AllByRecursion, list_all, filter_map, cons_option}
-use Rattle.std.proofs.lemmas.Bool.{and_parts, false≢true}
-use Rattle.std.proofs.lemmas.List.{length-map}
+use Rattle.std.specs.List.{AllByRecursion}
 use Rattle.std.proofs.lemmas.List.Elements.{All-from_recursion}
 use Rattle.std.proofs.lemmas.Option.{none-some, same_Some}
 use Rattle.qu_base.specs.declared.party.ClientId.{ClientId}
@@ -12,13 +9,11 @@ use Rattle.qu_base.specs.declared.party.Digest.{Digest}
 use Rattle.qu_base.specs.declared.party.ObjectId.{ObjectId}
 use Rattle.qu_stamp.specs.declared.stamp.Stamp.{Stamp}
 use Rattle.qu_stamp.specs.declared.candidate.Candidate.{Candidate}
-use Rattle.qu_stamp.specs.Candidate.{opening}
 use Rattle.qu_history.specs.declared.sets.SetOf.{SetOf}
 use Rattle.qu_history.specs.History.{holds}
 use Rattle.qu_history.proofs.Rising.{holds_pushed}
 use Rattle.qu_objects.specs.declared.act.Method.{Method}
 use Rattle.qu_objects.specs.declared.answer.Answer.{Answer}
-use Rattle.qu_objects.specs.declared.kind.Value.{Value}
 use Rattle.qu_objects.specs.declared.state.KeptRow.{KeptRow}
 use Rattle.qu_objects.specs.declared.state.ObjState.{ObjState}
 use Rattle.qu_objects.specs.Digesting.{act_digest}
@@ -42,23 +37,22 @@ use Rattle.qu_rows.specs.declared.decision.Decision.{Decision}
 use Rattle.qu_rows.specs.declared.decision.Decision.TheVariants.{Answers, Waits}
 use Rattle.qu_rows.specs.Allowed.{MayAcceptAll, MayDecide}
 use Rattle.qu_rows.specs.State.{ReplicaState, own_candidates}
-use Rattle.qu_rows.specs.Rows.{asked_of, Asked, method_base, base_version, base_versions, fresh_stamp, fresh_act, fresh_stamps, fresh_versions, is_held, standing_in, done_again, repeated, row_unknown, row_retry, row_current, row_method, row_version, row_kept, row_done, decide_act, decision_on}
+use Rattle.qu_rows.specs.Rows.{asked_of, Asked, method_base, base_version, fresh_stamp, standing_in, repeated, row_unknown, row_current, row_method, row_version, row_kept, row_done, decide_act, decision_on}
 use Rattle.qu_rows.specs.Table.{first_given}
 use Rattle.qu_rows.proofs.Allowed.{decision_on-may}
-use Rattle.qu_rows.proofs.Held.{is_held_by}
-use Rattle.qu_fitting.specs.Holding.{stored_all, accept_all}
+use Rattle.qu_fitting.specs.Holding.{accept_all}
 use Rattle.qu_fitting.proofs.AcceptingAll.{accept_all-is}
-use Rattle.qu_fitting.proofs.CarriedEach.{fresh_upon, with_stamps, accepted_each, AreBases, AreBefores, done_each, fresh_each, versions_each}
+use Rattle.qu_fitting.proofs.CarriedEach.{with_stamps, accepted_each, AreBases, AreBefores, done_each, versions_each}
 use Rattle.qu_fitting.proofs.PassedRows.{base_of, before_of, passed_method, passed_version}
 use Rattle.qu_claims.specs.Grounds.{stored_of}
 use Rattle.qu_claims.specs.Parts.{Names}
 use Rattle.qu_accepts.proofs.ActAcceptance.{MakesAll, makes_all, fresh, afters, stored_each, added_to}
 use Rattle.qu_accepts.proofs.Performed.{named_stored}
-use Rattle.qu_replies.specs.Replies.{Keeps, HoldsOfFirst, HasDone, TellsDone, HasKept, TellsAlready, IsOfUpdate}
+use Rattle.qu_replies.specs.Replies.{Keeps, HasDone, TellsDone, HasKept, TellsAlready, IsOfUpdate}
 use Rattle.qu_replies.proofs.EachOf.{each_of_made, first_of_made, first_also, all_first, all_named}
 use Rattle.qu_replies.proofs.KeptActs.{kept_where}
 use Rattle.qu_replies.proofs.Retries.{AddsWhatIsFound, HasVersions, ActTells, told_done, many, stands_so, retry_tells}
-use Rattle.qu_replies.proofs.QueryReplies.{Gives, unknown, act_cases, version_of_base, told_objects}
+use Rattle.qu_replies.proofs.QueryReplies.{Gives, unknown, act_cases, version_of_base}
 
 -- ---- an act that was performed before
 
