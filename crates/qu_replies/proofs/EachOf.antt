@@ -20,7 +20,8 @@ module _ {X Y : Type 0} (make : X → Y) where
   each_of_made P [] all = tt
   each_of_made P (item ∷ later) all = (all.0, each_of_made P later all.1)
 
-  pub first_made : (P : Y → Type 0) (items : List X) → HoldsOfFirst (λ item. P (make item)) items → HoldsOfFirst P (map make items)
+  pub first_made : (P : Y → Type 0) (items : List X) → HoldsOfFirst (λ item. P (make item)) items
+      → HoldsOfFirst P (map make items)
   first_made P [] first = first
   first_made P (item ∷ later) first = first
 
@@ -42,8 +43,8 @@ pub first_also : {X : Type 0} (P Q R : X → Type 0) (items : List X) → ((item
 first_also P Q R [] also all first = absurd first
 first_also P Q R (item ∷ later) also all first = also item all.0 first
 
-pub first_weaker : {X : Type 0} (P Q : X → Type 0) → ((item : X) → P item → Q item) → (items : List X) → HoldsOfFirst P items
-    → HoldsOfFirst Q items
+pub first_weaker : {X : Type 0} (P Q : X → Type 0) → ((item : X) → P item → Q item) → (items : List X)
+    → HoldsOfFirst P items → HoldsOfFirst Q items
 first_weaker P Q weaker [] first = first
 first_weaker P Q weaker (item ∷ later) first = weaker item first
 
@@ -55,4 +56,5 @@ all_first P (part ∷ later) in_order all = all.0
 pub all_named : (P : ObjectId → Type 0) (parts : List (ObjectId × Method))
     → ((object : ObjectId) → Names parts object → P object) → AllByRecursion P (objects_named parts)
 all_named P [] gives = tt
-all_named P (part ∷ later) gives = (gives part.0 (inl refl), all_named P later (λ object names. gives object (inr names)))
+all_named P (part ∷ later) gives =
+    (gives part.0 (inl refl), all_named P later (λ object names. gives object (inr names)))

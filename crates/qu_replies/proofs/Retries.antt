@@ -75,8 +75,8 @@ TellsIfDone state asked act parts (Waits missing) = Unit {0}
 -- ---- an act whose objects all have some candidate of it
 
 -- a replica has the act's candidates, with versions that keep it, that of the first object with the answer
-pub told_done : (state : ReplicaState) (client : ClientId) (number : ℕ) (act : Digest) (parts : List (ObjectId × Method))
-    (stamp : ObjectId → Stamp) (answer : Answer)
+pub told_done : (state : ReplicaState) (client : ClientId) (number : ℕ) (act : Digest)
+    (parts : List (ObjectId × Method)) (stamp : ObjectId → Stamp) (answer : Answer)
     → AllByRecursion (λ object. (kept : Answer) × HasDone state client number act kept (object, stamp object))
     (objects_named parts)
     → HoldsOfFirst (λ object. HasDone state client number act answer (object, stamp object)) (objects_named parts)

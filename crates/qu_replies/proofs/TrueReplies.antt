@@ -108,7 +108,8 @@ module _ (state : ReplicaState) (asked : Asked) (parts : List (ObjectId × Metho
                 (λ object is kept. (kept.0, kept_on object kept.0 is kept.1)) objects based
                 (each_of_made (before_of state asked) Keeps-some objects keeps.0)));
             first = first_of_made object_of (HasKept state asked.client asked.number act asked.sets answer) parts
-                (first_also IsBased (λ object. Keeps asked.client asked.number act answer (before_of state asked object))
+                (first_also IsBased
+                (λ object. Keeps asked.client asked.number act answer (before_of state asked object))
                 (HasKept state asked.client asked.number act asked.sets answer) objects
                 (λ object is kept. kept_on object answer is kept) based
                 (first_of_made (before_of state asked) (Keeps asked.client asked.number act answer) objects keeps.1));
@@ -130,7 +131,8 @@ module _ (state : ReplicaState) (asked : Asked) (parts : List (ObjectId × Metho
           decision
           (sym (ap (λ (versions : List ObjState). repeated (standing_in asked parts versions))
           (versions_each state asked (base_of state asked) (before_of state asked) objects befores)
-          ∙ ap repeated (stands_so state asked parts in_order act is_act (map (before_of state asked) objects))) ∙ given)
+          ∙ ap repeated (stands_so state asked parts in_order act is_act (map (before_of state asked) objects)))
+          ∙ given)
 
 -- ---- an act that is performed
 

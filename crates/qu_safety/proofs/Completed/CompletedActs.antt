@@ -396,7 +396,8 @@ module _ (trace : Trace) (is_run : IsRun trace) (have : ArePlain trace) (clients
       All-weaker (λ (part : ObjectId × Method). Kept at part.0)
       (λ (part : ObjectId × Method). Kept (reply - 1) part.0)
       (λ part it. (it.0, kept_later at (reply - 1) (omega arith) it.0 part.0 it.1)) parts all.1 in
-      let having = first_having (λ (part : ObjectId × Method). KeptWith answer (reply - 1) part.0) parts parts refl all.0
+      let having = first_having (λ (part : ObjectId × Method). KeptWith answer (reply - 1) part.0) parts parts refl
+      all.0
       (first_weaker (λ (part : ObjectId × Method). KeptWith answer at part.0)
       (λ (part : ObjectId × Method). KeptWith answer (reply - 1) part.0)
       (λ part it. kept_later at (reply - 1) (omega arith) answer part.0 it) parts all.2) in
