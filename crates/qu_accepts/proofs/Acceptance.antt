@@ -40,12 +40,14 @@ use Rattle.qu_rows.specs.declared.remedy.Remedy.{Remedy}
 use Rattle.qu_rows.specs.declared.remedy.Remedy.TheVariants.{Shown, Fresh}
 use Rattle.qu_class.specs.declared.class.Class.{Class}
 use Rattle.qu_class.specs.declared.class.Class.TheVariants as class
-use Rattle.qu_rows.specs.Remedy.{remedy_by, remedy_of, fresh_repair as fresh_candidate, wanted_by}
+use Rattle.qu_rows.specs.Remedy.{copy_by, remedy_by, remedy_of, fresh_repair as fresh_candidate, wanted_by}
 use Rattle.qu_rows.specs.Causes.{MakesCandidate, AddsVersion, HasCause}
-use Rattle.qu_class.specs.Rows.{AreWellFormed, IsLatestOfKind, IsClassOf}
+use Rattle.qu_class.specs.Rows.{AreWellFormed, IsLatestOfKind}
+use Rattle.qu_class.specs.Plan.{lowest_other}
 use Rattle.qu_base.specs.Bounds.{quorum, repair}
-use Rattle.qu_class.specs.Class.{class_of}
-use Rattle.qu_class.proofs.ClassRows.{class_tells, prior_of_barrier}
+use Rattle.qu_class.specs.Class.{class_in}
+use Rattle.qu_class.proofs.GroupRule.{OwnTells, own_tells}
+use Rattle.qu_class.proofs.BaseOfClass.{barrier_has_base}
 use Rattle.qu_rows.proofs.Decided.{decided_has_cause}
 use Rattle.qu_accepts.proofs.ActAcceptance.{accepted_in, AcceptsNothing, unknown, thin, version, full, past, ask_accepts, carried, may_accept, candidates_after, stays, act_moves, alike_candidates}
 use Rattle.qu_replica.specs.Growth.{HoldsAlike}
@@ -149,12 +151,24 @@ module _ (state : ReplicaState) (asked : Asked) (target : ObjectId) where
     unfolding wanted_by
     wanted_copied prior = refl
 
+    -- a copy is made where its plan needs no other object
+    copied_by : (candidate : Candidate) (stored : Option ObjState) (other : Option ObjectId) (latest : Candidate)
+        → IsLatestOfKind bounds entries true latest → quorum bounds ≤ order_of latest entries
+        → MakesCandidate mend (copy_by (object_base bounds entries).stamp other) candidate
+        → AddsVersion (copy_by (object_base bounds entries).stamp other)
+        (wanted_version state target (copy_by (object_base bounds entries).stamp other)) stored
+        → IsRemedy state asked target candidate stored
+    copied_by candidate stored None latest of_kind full makes has =
+        copied candidate latest (wanted_version state target (Fresh false (object_base bounds entries).stamp)) stored
+        makes.0 of_kind full (sym (wanted_copied (object_base bounds entries).stamp)) has.0 has.1
+    copied_by candidate stored (Some other) latest of_kind full makes has = absurd makes
+
     -- what the class makes of the object
-    remedy_is : (class : Class) → class_of bounds entries ≡ class → IsClassOf bounds entries class
-        → (candidate : Candidate)
-        (stored : Option ObjState) → MakesCandidate mend (remedy_by (object_base bounds entries).stamp class) candidate
-        → AddsVersion (remedy_by (object_base bounds entries).stamp class)
-        (wanted_version state target (remedy_by (object_base bounds entries).stamp class)) stored
+    remedy_is : (class : Class) → class_in bounds asked.sets target ≡ class → OwnTells bounds asked.sets target class
+        → (candidate : Candidate) (stored : Option ObjState)
+        → MakesCandidate mend (remedy_by target (object_base bounds entries) class) candidate
+        → AddsVersion (remedy_by target (object_base bounds entries) class)
+        (wanted_version state target (remedy_by target (object_base bounds entries) class)) stored
         → IsRemedy state asked target candidate stored
     unfolding remedy_by
     remedy_is (class.Method base) is tells candidate stored never has = absurd never
@@ -163,18 +177,19 @@ module _ (state : ReplicaState) (asked : Asked) (target : ObjectId) where
         (sym (wanted_plain shown (((tells.0).greatest).repairable).kind))
         (has.0 (((tells.0).greatest).repairable).kind) has.1
     remedy_is class.Copy is tells candidate stored makes has =
-        copied candidate tells.0 (wanted_version state target (Fresh false (object_base bounds entries).stamp)) stored
-        makes.0
-        tells.1 tells.2 (sym (wanted_copied (object_base bounds entries).stamp)) has.0 has.1
+        copied_by candidate stored (lowest_other target (object_base bounds entries).group) tells.0 tells.1 tells.2
+        makes has
     remedy_is (class.InlineBarrier shown) is tells candidate stored makes has =
         subst (IsRemedy state asked target candidate) (sym has.1)
         (IsRemedy.inline_barrier (shown_kind true candidate shown makes.0 tells.0)
         (found_so true candidate shown makes.0 tells.0))
     remedy_is (class.Barrier prior) is tells candidate stored makes has =
-        let upon : prior ≡ (object_base bounds entries).stamp = prior_of_barrier bounds entries prior is in
+        let upon : prior ≡ (object_base bounds entries).stamp =
+        barrier_has_base bounds asked.sets target prior (sym is) in
         subst (IsRemedy state asked target candidate) (sym has)
         (IsRemedy.barrier (is_fresh_kind true prior candidate makes.0)
         (is_made true candidate (makes.0 ∙ ap (fresh_candidate mend true) upon)))
+    remedy_is (class.Needs member) is tells candidate stored never has = absurd never
 
 -- what a replica adds to mend an object
 record AddsOne (state : ReplicaState) (asked : Asked) (target : ObjectId) (accepted : List Accepted) : Type 0 where
@@ -206,8 +221,8 @@ mended state asked target no_act formed enough (mending.Mends candidate version)
         version = version;
         current = (cause.1).current;
         above = (cause.1).above;
-        remedy = remedy_is state asked target no_act (class_of state.keys.bounds (shown_of asked target)) refl
-            (class_tells state.keys.bounds (shown_of asked target) formed enough) candidate version cause.0 cause.2;
+        remedy = remedy_is state asked target no_act (class_in state.keys.bounds asked.sets target) refl
+            (own_tells state.keys.bounds asked.sets target formed enough) candidate version cause.0 cause.2;
         alone = refl;
       },
     )

@@ -186,20 +186,20 @@ module _ (state : ReplicaState) (asked : Asked) (parts : List (ObjectId × Metho
   abbrev befores : ObjectId → ObjState
   befores = before_of state asked
 
-  abbrev fresh : ObjectId → Candidate
+  abbrev pub fresh : ObjectId → Candidate
   fresh = fresh_candidates state asked bases befores
 
-  abbrev afters : ObjectId → ObjState
+  abbrev pub afters : ObjectId → ObjState
   afters = versions_made state asked bases befores parts
 
   -- an act accepts one candidate on each of its objects, for which there are grounds
-  record MakesAll (accepted : List Accepted) : Type 0 where
-    are_bases : AreBases state asked bases befores objects
-    are_befores : AreBefores state asked bases befores objects
-    current : AllByRecursion (λ object. is_below (latest_of (shown_of asked object)) (own_latest state object) ≡ false)
-        objects
-    lower : AllByRecursion (λ object. IsLower asked.number (row_of asked.client (befores object).kept)) objects
-    all : accepted ≡ accepted_each fresh afters objects
+  pub record MakesAll (accepted : List Accepted) : Type 0 where
+    pub are_bases : AreBases state asked bases befores objects
+    pub are_befores : AreBefores state asked bases befores objects
+    pub current : AllByRecursion (λ object. is_below (latest_of (shown_of asked object)) (own_latest state object)
+        ≡ false) objects
+    pub lower : AllByRecursion (λ object. IsLower asked.number (row_of asked.client (befores object).kept)) objects
+    pub all : accepted ≡ accepted_each fresh afters objects
 
   module _ (act : Digest) (is_act : asked.act ≡ Some act) (in_order : IsTrue (are_parts parts)) where
     are_lower : AreBefores state asked bases befores objects → row_kept state asked parts objects ≡ None
@@ -218,22 +218,31 @@ module _ (state : ReplicaState) (asked : Asked) (parts : List (ObjectId × Metho
         ((fresh_where asked.client asked.number act parts (map befores objects) in_order
         (length-map objects befores ∙ length-map parts (λ part. part.0))).0 (sym (ap stands is_act) ∙ is_new))
 
+    pub makes_all : row_current state asked objects ≡ None → row_method state asked objects ≡ None
+        → row_version state asked objects ≡ None → row_kept state asked parts objects ≡ None
+        → MakesAll (accepted_each fresh afters objects)
+    makes_all is_current is_method is_version is_new =
+        let are_befores : AreBefores state asked bases befores objects =
+        passed_version state asked objects is_version in
+        record {
+          are_bases = passed_method state asked objects is_method;
+          are_befores = are_befores;
+          current = passed_current state asked objects is_current;
+          lower = are_lower are_befores is_new;
+          all = refl;
+        }
+
     done : row_current state asked objects ≡ None → row_method state asked objects ≡ None
         → row_version state asked objects ≡ None → row_kept state asked parts objects ≡ None
         → MakesAll (accepted_in (first_given (Waits []) (row_done state asked parts objects ∷ [])))
     unfolding first_given
     done is_current is_method is_version is_new =
-        let are_bases : AreBases state asked bases befores objects = passed_method state asked objects is_method in
-        let are_befores : AreBefores state asked bases befores objects =
-        passed_version state asked objects is_version in
-        record {
-          are_bases = are_bases;
-          are_befores = are_befores;
-          current = passed_current state asked objects is_current;
-          lower = are_lower are_befores is_new;
-          all = ap (λ (row : Option Decision). accepted_in (first_given (Waits []) (row ∷ [])))
-              (done_each state asked bases befores parts (distinct_parts parts in_order) are_bases are_befores);
-        }
+        let made : MakesAll (accepted_each fresh afters objects) =
+        makes_all is_current is_method is_version is_new in
+        subst MakesAll
+        (sym (ap (λ (row : Option Decision). accepted_in (first_given (Waits []) (row ∷ [])))
+        (done_each state asked bases befores parts (distinct_parts parts in_order) made.are_bases made.are_befores)))
+        made
 
     abbrev MakesAllOrNone : List Accepted → Type 0
     MakesAllOrNone accepted = (accepted ≡ []) ⊎ MakesAll accepted
@@ -290,7 +299,7 @@ module _ (candidates : ObjectId → Candidate) (versions : ObjectId → ObjState
       by true is so_far = absurd (other (inl (ap (λ (number : ℕ). record { 0 = number }) (eqb-true _ _ is))))
       by false is so_far = so_far
 
-  stored_each : (parts : List (ObjectId × Method)) → stored_all (accepted_each candidates versions (objects_named parts))
+  pub stored_each : (parts : List (ObjectId × Method)) → stored_all (accepted_each candidates versions (objects_named parts))
       ≡ stored_of candidates versions parts
   stored_each [] = refl
   stored_each (part ∷ later) =
@@ -352,20 +361,16 @@ own_after state new accepted may is_new object =
     ∙ ap (λ (it : ReplicaState). own_candidates it object) (accept_all-is state accepted)
     ∙ ap candidates_in (accepted_grows state object accepted state.histories may)
 
-module _ (state new : ReplicaState) (client : ClientId) (number : ℕ) (sent : List SetOf)
-    (parts : List (ObjectId × Method)) (accepted : List Accepted)
-    (made : MakesAll state (asked_at state client number sent (body.Act parts)) parts accepted)
-    (is_new : HoldsAlike new (accept_all state accepted)) (in_order : IsTrue (are_parts parts)) where
-  abbrev asked : Asked
-  asked = asked_at state client number sent (body.Act parts)
-
+module _ (state new : ReplicaState) (asked : Asked) (parts : List (ObjectId × Method)) (accepted : List Accepted)
+    (made : MakesAll state asked parts accepted) (is_new : HoldsAlike new (accept_all state accepted))
+    (in_order : IsTrue (are_parts parts)) where
   abbrev candidates : ObjectId → Candidate
   candidates = fresh state asked parts
 
   abbrev versions : ObjectId → ObjState
   versions = afters state asked parts
 
-  performs : Performs state new asked parts candidates
+  performs : Performs state new asked parts (fresh state asked parts)
   performs = record {
     bases = base_of state asked;
     grounds = λ object names. record {
@@ -382,7 +387,8 @@ module _ (state new : ReplicaState) (client : ClientId) (number : ℕ) (sent : L
           sym (ap (option_and_then (λ (base : Candidate). version_at object base.stamp state.versions))
           (each_named _ parts made.are_bases object names))
           ∙ each_named _ parts made.are_befores object names;
-      values = values_are client number parts (fresh_stamp asked) (before_of state asked) (distinct_parts parts in_order);
+      values = values_are asked.client asked.number parts (fresh_stamp asked) (before_of state asked)
+          (distinct_parts parts in_order);
       lower = λ object names. each_named _ parts made.lower object names;
       afters = λ object names. refl;
     };
@@ -391,33 +397,47 @@ module _ (state new : ReplicaState) (client : ClientId) (number : ℕ) (sent : L
         ∙ ap (λ (it : List Stored). state.versions ++ it) (stored_each candidates versions parts);
   }
 
-  moves : (round : ℕ) (mac : List ℕ) → MayAcceptAll state accepted
-      → Accepts state new (frame.Request client number round sent (body.Act parts) mac)
-  moves round mac may = record {
-    client = client;
-    number = number;
-    round = round;
-    sent = sent;
-    sets = culled state.keys state.me sent;
-    culls = refl;
-    asks = body.Act parts;
-    mac = mac;
-    is_request = refl;
-    candidates = candidates;
-    added = λ object names.
-        let one : Accepted = accepts candidates versions object in
-        let found : accepted_of object accepted ≡ Some one =
-        ap (accepted_of object) made.all ∙ of_named candidates versions parts object names in
-        own_after state new accepted may is_new object
-        ∙ ap (λ (it : Option Accepted). candidates_in (history_of state.histories object it)) found
-        ∙ candidates_after object.0 (candidates object) state.histories
-        (accepted_may state object accepted one may found).known;
-    others = λ object apart.
-        own_after state new accepted may is_new object
-        ∙ ap (λ (it : Option Accepted). candidates_in (history_of state.histories object it))
-        (ap (accepted_of object) made.all ∙ of_other candidates versions parts object apart);
-    reasons = performs;
-  }
+  -- each of its objects has the fresh candidate behind the others, and no other object has one more
+  pub added_to : MayAcceptAll state accepted → (object : ObjectId) → Names parts object
+      → own_candidates new object ≡ own_candidates state object ++ fresh state asked parts object ∷ []
+  added_to may object names =
+      let one : Accepted = accepts candidates versions object in
+      let found : accepted_of object accepted ≡ Some one =
+      ap (accepted_of object) made.all ∙ of_named candidates versions parts object names in
+      own_after state new accepted may is_new object
+      ∙ ap (λ (it : Option Accepted). candidates_in (history_of state.histories object it)) found
+      ∙ candidates_after object.0 (candidates object) state.histories
+      (accepted_may state object accepted one may found).known
+
+  none_added : MayAcceptAll state accepted → (object : ObjectId) → (Names parts object → ⊥)
+      → own_candidates new object ≡ own_candidates state object
+  none_added may object apart =
+      own_after state new accepted may is_new object
+      ∙ ap (λ (it : Option Accepted). candidates_in (history_of state.histories object it))
+      (ap (accepted_of object) made.all ∙ of_other candidates versions parts object apart)
+
+moves : (state new : ReplicaState) (client : ClientId) (number round : ℕ) (sent : List SetOf) (mac : List ℕ)
+    (parts : List (ObjectId × Method)) (accepted : List Accepted)
+    → MakesAll state (asked_at state client number sent (body.Act parts)) parts accepted
+    → HoldsAlike new (accept_all state accepted) → IsTrue (are_parts parts) → MayAcceptAll state accepted
+    → Accepts state new (frame.Request client number round sent (body.Act parts) mac)
+moves state new client number round sent mac parts accepted made is_new in_order may =
+    let asked : Asked = asked_at state client number sent (body.Act parts) in
+    record {
+      client = client;
+      number = number;
+      round = round;
+      sent = sent;
+      sets = culled state.keys state.me sent;
+      culls = refl;
+      asks = body.Act parts;
+      mac = mac;
+      is_request = refl;
+      candidates = fresh state asked parts;
+      added = added_to state new asked parts accepted made is_new in_order may;
+      others = none_added state new asked parts accepted made is_new in_order may;
+      reasons = performs state new asked parts accepted made is_new in_order;
+    }
 
 pub act_moves : (state : ReplicaState) (client : ClientId) (number round : ℕ) (sets : List SetOf) (mac : List ℕ)
     (parts : List (ObjectId × Method)) → HasParts (frame.Request client number round sets (body.Act parts) mac)
@@ -440,6 +460,6 @@ act_moves state client number round sets mac parts in_order =
     elim (act_accepts state asked parts (act_digest client number parts) refl in_order) [
       | inl none ↦ inl (stays state new (accepted_in decision) is_new none)
       | inr made ↦
-          inr (moves state new client number sets parts (accepted_in decision) made is_new in_order round mac
+          inr (moves state new client number round sets mac parts (accepted_in decision) made is_new in_order
           (may_accept state decision (decision_on-may state asked (body.Act parts) in_order)))
     ]

@@ -109,7 +109,7 @@ module _ (candidates : ObjectId → Candidate) (versions : ObjectId → ObjState
       (and_from _ _ (eq-eqb (part.0).0 (part.0).0 refl) (same_stamp-self (candidates part.0).stamp))
 
   -- the version of each candidate of the parts is found
-  named_stored : (parts : List (ObjectId × Method)) (object : ObjectId) → Names parts object
+  pub named_stored : (parts : List (ObjectId × Method)) (object : ObjectId) → Names parts object
       → version_at object (candidates object).stamp (stored parts) ≡ Some (versions object)
   unfolding version_at
   named_stored [] object names = absurd names

@@ -11,9 +11,9 @@ use Rattle.qu_history.specs.History.{ObjectHistory}
 use Rattle.qu_history.specs.Sets.{order_of, latest_of, object_candidate, if_method, method_at}
 use Rattle.qu_history.proofs.Method.{order_of_most}
 use Rattle.qu_class.specs.declared.class.Class.{Class}
-use Rattle.qu_class.specs.declared.class.Class.TheVariants.{Method, InlineMethod, Copy, InlineBarrier, Barrier}
+use Rattle.qu_class.specs.declared.class.Class.TheVariants.{Method, InlineMethod, Copy, InlineBarrier, Barrier, Needs}
 use Rattle.qu_class.specs.Repairable.{barrier_candidate, object_base}
-use Rattle.qu_class.specs.Class.{is_latest, is_full, barrier_class, class_of}
+use Rattle.qu_class.specs.Class.{method_of, is_latest, is_full, barrier_class, class_of}
 use Rattle.qu_class.specs.Rows.{AreWellFormed, MayBeRepaired, IsGreatestOfKind, IsLatestOfKind, NoneIsLatest, IsClassOf}
 use Rattle.qu_class.proofs.OfKind.{plain_is_object_candidate, greatest_of_kind_is, greatest_of_kind_tells, none_of_kind, stamp_at_latest, greatest_at_latest, base_is, base_is_greatest}
 
@@ -211,38 +211,56 @@ module _ (bounds : ℕ) (entries : List ObjectHistory) (formed : AreWellFormed b
         (enough_of_method (object_candidate bounds entries) candidate is) candidate is,
   )
 
--- the candidate of class METHOD, if that is the class
-abbrev pub method_in : Class → Option Candidate
-method_in (Method candidate) = Some candidate
-method_in (InlineMethod candidate) = None
-method_in Copy = None
-method_in (InlineBarrier candidate) = None
-method_in (Barrier prior) = None
-
 pub method_of_class : (bounds : ℕ) (entries : List ObjectHistory) → AreWellFormed bounds entries
-    → method_at bounds entries ≡ method_in (class_of bounds entries)
+    → method_at bounds entries ≡ method_of (class_of bounds entries)
 method_of_class bounds entries formed =
     by_class (class_of bounds entries) refl (method_at bounds entries) refl
   where
-    none : (class : Class) → class_of bounds entries ≡ class → method_in class ≡ None → (found : Option Candidate)
+    none : (class : Class) → class_of bounds entries ≡ class → method_of class ≡ None → (found : Option Candidate)
         → method_at bounds entries ≡ found → found ≡ None
     none class is absent None found_is = refl
     none class is absent (Some candidate) found_is =
         let other : class_of bounds entries ≡ Method candidate =
         (method_is bounds entries formed candidate).1 found_is in
-        absurd (none-some candidate (sym absent ∙ ap method_in (sym is ∙ other)))
+        absurd (none-some candidate (sym absent ∙ ap method_of (sym is ∙ other)))
 
     by_class : (class : Class) → class_of bounds entries ≡ class → (found : Option Candidate)
-        → method_at bounds entries ≡ found → method_at bounds entries ≡ method_in (class_of bounds entries)
+        → method_at bounds entries ≡ found → method_at bounds entries ≡ method_of (class_of bounds entries)
     by_class (Method candidate) is found found_is =
-        (method_is bounds entries formed candidate).0 is ∙ ap method_in (sym is)
+        (method_is bounds entries formed candidate).0 is ∙ ap method_of (sym is)
     by_class (InlineMethod candidate) is found found_is =
-        found_is ∙ none (InlineMethod candidate) is refl found found_is ∙ ap method_in (sym is)
-    by_class Copy is found found_is = found_is ∙ none Copy is refl found found_is ∙ ap method_in (sym is)
+        found_is ∙ none (InlineMethod candidate) is refl found found_is ∙ ap method_of (sym is)
+    by_class Copy is found found_is = found_is ∙ none Copy is refl found found_is ∙ ap method_of (sym is)
     by_class (InlineBarrier candidate) is found found_is =
-        found_is ∙ none (InlineBarrier candidate) is refl found found_is ∙ ap method_in (sym is)
+        found_is ∙ none (InlineBarrier candidate) is refl found found_is ∙ ap method_of (sym is)
     by_class (Barrier prior) is found found_is =
-        found_is ∙ none (Barrier prior) is refl found found_is ∙ ap method_in (sym is)
+        found_is ∙ none (Barrier prior) is refl found found_is ∙ ap method_of (sym is)
+    by_class (Needs object) is found found_is =
+        found_is ∙ none (Needs object) is refl found found_is ∙ ap method_of (sym is)
+
+-- where the class tells what is of class METHOD
+abbrev pub HasMethod : ℕ → List ObjectHistory → Class → Type 0
+HasMethod bounds entries class =
+    (candidate : Candidate) → (class ≡ Method candidate) ↔ (method_at bounds entries ≡ Some candidate)
+
+module _ (bounds : ℕ) (entries : List ObjectHistory) where
+  none_else : (class : Class) → HasMethod bounds entries class → ((candidate : Candidate) → class ≡ Method candidate
+      → ⊥)
+      → None ≡ method_at bounds entries
+  none_else class has other =
+      elim (method_at bounds entries) as (λ (found : Option Candidate). method_at bounds entries ≡ found
+      → None ≡ found) [
+        | None ↦ λ _. refl
+        | Some candidate ↦ λ found. absurd (other candidate ((has candidate).1 found))
+      ] refl
+
+  pub method_told : (class : Class) → HasMethod bounds entries class → method_of class ≡ method_at bounds entries
+  method_told (Method candidate) has = sym ((has candidate).0 refl)
+  method_told (InlineMethod candidate) has = none_else (InlineMethod candidate) has (λ it is. absurd cc)
+  method_told Copy has = none_else Copy has (λ it is. absurd cc)
+  method_told (InlineBarrier candidate) has = none_else (InlineBarrier candidate) has (λ it is. absurd cc)
+  method_told (Barrier prior) has = none_else (Barrier prior) has (λ it is. absurd cc)
+  method_told (Needs object) has = none_else (Needs object) has (λ it is. absurd cc)
 
 -- ---- a copy
 
@@ -279,36 +297,3 @@ copy_has_quorum bounds entries is =
     by_tests true true copy = absurd (cc)
     by_tests true false copy = absurd (cc)
     by_tests false full copy = copy_of_barrier bounds entries base.stamp (barrier_candidate bounds entries) copy
-
--- ---- a barrier
-
-upon_prior : (bounds : ℕ) (entries : List ObjectHistory) (base prior : Stamp) (found : Option Candidate)
-    → barrier_class bounds entries base found ≡ Barrier prior → prior ≡ base
-unfolding barrier_class
-upon_prior bounds entries base prior None is = cc
-upon_prior bounds entries base prior (Some barrier) is =
-    by_tests (is_latest entries barrier) (is_full bounds entries barrier) is
-  where
-    by_tests : (latest full : Bool)
-        → cond (latest && full) Copy (cond latest (InlineBarrier barrier) (Barrier base)) ≡ Barrier prior → prior ≡ base
-    by_tests true true is = absurd (cc)
-    by_tests true false is = absurd (cc)
-    by_tests false full is = cc
-
--- it rests upon the object candidate
-pub prior_of_barrier : (bounds : ℕ) (entries : List ObjectHistory) (prior : Stamp)
-    → class_of bounds entries ≡ Barrier prior → prior ≡ (object_base bounds entries).stamp
-unfolding class_of
-prior_of_barrier bounds entries prior is =
-    by_tests (is_latest entries (object_base bounds entries)) (is_full bounds entries (object_base bounds entries)) is
-  where
-    by_tests : (latest full : Bool)
-        → cond (latest && full) (Method (object_base bounds entries))
-        (cond latest (InlineMethod (object_base bounds entries))
-        (barrier_class bounds entries (object_base bounds entries).stamp (barrier_candidate bounds entries)))
-        ≡ Barrier prior
-        → prior ≡ (object_base bounds entries).stamp
-    by_tests true true is = absurd (cc)
-    by_tests true false is = absurd (cc)
-    by_tests false full is =
-        upon_prior bounds entries (object_base bounds entries).stamp prior (barrier_candidate bounds entries) is

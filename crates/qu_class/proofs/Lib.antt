@@ -1,3 +1,6 @@
 pub mod OfKind
 pub mod ClassRows
 pub mod OneClass
+pub mod GroupRule
+pub mod Plans
+pub mod BaseOfClass

@@ -9,7 +9,7 @@ use Rattle.qu_stamp.proofs.Order.{is_below-self, equal_by_same_stamp}
 use Rattle.qu_history.specs.History.{ObjectHistory}
 use Rattle.qu_history.specs.Sets.{order_of, latest_of}
 use Rattle.qu_class.specs.declared.class.Class.{Class}
-use Rattle.qu_class.specs.declared.class.Class.TheVariants.{Method, InlineMethod, Copy, InlineBarrier, Barrier}
+use Rattle.qu_class.specs.declared.class.Class.TheVariants.{Method, InlineMethod, Copy, InlineBarrier, Barrier, Needs}
 use Rattle.qu_class.specs.Repairable.{barrier_candidate, object_base}
 use Rattle.qu_class.specs.Class.{is_latest, is_full, barrier_class, class_of}
 use Rattle.qu_class.specs.Rows.{AreWellFormed, IsGreatestOfKind, IsLatestOfKind, NoneIsLatest, IsClassOf}
@@ -123,3 +123,4 @@ module _ (bounds : ℕ) (entries : List ObjectHistory) (formed : AreWellFormed b
       ∙ no_barrier tells.3 (barrier_candidate bounds entries) refl
       ∙ ap (λ (it : Candidate). Barrier it.stamp) (base_found tells.0 tells.1)
       ∙ ap Barrier tells.2
+  class_is (Needs object) tells = absurd tells

@@ -1,11 +1,12 @@
 ghost use Rattle.std.specs.Prelude.{◌≡◌, ◌≤◌, ◌↔◌, length, Some};
 ghost use Rattle.qu_base.specs.Bounds.{quorum};
 ghost use Rattle.qu_history.specs.Sets.{entries_of, method_at};
-ghost use Rattle.qu_class.specs.Class.{is_latest, is_full, barrier_class, class_of};
+ghost use Rattle.qu_class.specs.Class.{is_full, barrier_class, class_of, class_in};
 ghost use Rattle.qu_class.specs.Repairable.{barrier_candidate};
-ghost use Rattle.qu_class.specs.Rows.{AreWellFormed, IsClassOf};
+ghost use Rattle.qu_class.specs.Rows.{AreWellFormed, IsClassIn};
 
-use super::repairable::{greatest_of_kind, object_base};
+use super::members::with_members;
+use super::repairable::{greatest_of_kind, is_latest, object_base};
 use qu_base::{Bounds, ObjectId};
 use qu_history::Sets;
 use qu_stamp::{Candidate, Stamp};
@@ -15,7 +16,8 @@ use qu_stamp::{Candidate, Stamp};
 pub enum Class {
     /// A quorum holds this candidate, and none is later: an operation may rest upon it.
     Method(Candidate),
-    /// None is later than this candidate, and so many hold it that it may be repaired: it is added as it is.
+    /// None is later than this candidate, and so many hold it that it may be repaired: it is added as it is, together
+    /// with the other members of its group.
     InlineMethod(Candidate),
     /// A quorum holds the latest candidate, a barrier: the object candidate may be copied above it.
     Copy,
@@ -23,18 +25,22 @@ pub enum Class {
     InlineBarrier(Candidate),
     /// What is latest cannot be repaired: a barrier has to be set above it, which rests upon this stamp.
     Barrier { prior: Stamp },
+    /// What is latest may be repaired together with its group alone, and the sets do not have this object of it, the
+    /// lowest such.
+    Needs(ObjectId),
 }
 
-/// The class of an object by the histories of the sets. Of fewer than a quorum of histories it tells nothing, but that
-/// the object is not of class METHOD.
+/// The class of an object by the histories of the sets. Of fewer than a quorum of its histories it tells nothing, but
+/// that the object is not of class METHOD.
 pub fn classify(sets: &Sets, object: ObjectId, bounds: &Bounds) -> Class
-    ensures value { result ≡ class_of bounds.now (entries_of object sets.now) }
+    ensures value { result ≡ class_in bounds.now sets.now object }
     ensures method { (candidate : Candidate) → (result ≡ Class.Method candidate)
         ↔ (method_at bounds.now (entries_of object sets.now) ≡ Some candidate) }
     ensures tells { quorum bounds.now ≤ length (entries_of object sets.now)
-        → IsClassOf bounds.now (entries_of object sets.now) result }
+        → IsClassIn bounds.now sets.now object result }
 {
-    class_of(sets, object, bounds)
+    let class = class_of(sets, object, bounds);
+    with_members(sets, bounds, class)
 }
 
 /// The candidate upon which an operation on the object may rest: that of class METHOD.
@@ -44,12 +50,15 @@ pub fn method_at(sets: &Sets, object: ObjectId, bounds: &Bounds) -> Option<Candi
 {
     match class_of(sets, object, bounds) {
         Class::Method(candidate) => Some(candidate),
-        Class::InlineMethod(_) | Class::Copy | Class::InlineBarrier(_) | Class::Barrier { .. } =>
-            None,
+        Class::InlineMethod(_)
+        | Class::Copy
+        | Class::InlineBarrier(_)
+        | Class::Barrier { .. }
+        | Class::Needs(_) => None,
     }
 }
 
-/// The first class that fits.
+/// The first class that fits, by the histories of the object alone.
 #[tactic(auto, unfolding(crate::specs::Class::class_of))]
 fn class_of(sets: &Sets, object: ObjectId, bounds: &Bounds) -> Class
     ensures value { result ≡ class_of bounds.now (entries_of object sets.now) }
@@ -82,14 +91,6 @@ fn barrier_class(sets: &Sets, object: ObjectId, bounds: &Bounds, prior: Stamp) -
         }
         _ => Class::Barrier { prior },
     }
-}
-
-/// Whether the candidate has the latest stamp, the opening one where there are no histories.
-#[tactic(auto, unfolding(qu_stamp::specs::Stamp::same_stamp), using(qu_history::proofs::Method::latest_of_none))]
-fn is_latest(sets: &Sets, object: ObjectId, candidate: &Candidate) -> bool
-    ensures { result ≡ is_latest (entries_of object sets.now) candidate.now }
-{
-    candidate.stamp == sets.latest(object).unwrap_or(Stamp::opening())
 }
 
 /// Whether a quorum holds the candidate.

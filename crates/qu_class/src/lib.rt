@@ -2,9 +2,10 @@
 #![tactic(auto)]
 
 mod class;
+mod members;
 mod plan;
 mod repairable;
 
 pub use class::{Class, classify, method_at};
-pub use plan::{CopyPlan, evidence, plan_copy};
+pub use plan::{CopyPlan, PlanFail, evidence, lowest_other, plan_copy};
 pub use repairable::object_base;

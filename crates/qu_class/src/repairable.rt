@@ -2,12 +2,13 @@ ghost use Rattle.std.specs.Prelude.{◌≡◌, ◌≤◌, All, IsTrue, filter, l
 ghost use Rattle.qu_base.specs.Bounds.{quorum};
 ghost use Rattle.qu_history.specs.History.{is_history};
 ghost use Rattle.qu_history.specs.Sets.{entries_of, greatest};
+ghost use Rattle.qu_class.specs.Class.{is_latest};
 ghost use Rattle.qu_class.specs.Repairable.{is_shown_of_kind, greatest_of_kind, object_base};
 ghost use Rattle.qu_class.specs.Rows.{AreWellFormed, IsGreatestOfKind};
 
 use qu_base::{Bounds, ObjectId};
 use qu_history::{History, Sets, greater_found};
-use qu_stamp::Candidate;
+use qu_stamp::{Candidate, Stamp};
 
 /// The object candidate: the greatest candidate without barrier of an order that may be repaired. Each history holds
 /// the opening one.
@@ -18,6 +19,14 @@ pub fn object_base(sets: &Sets, object: ObjectId, bounds: &Bounds) -> Candidate
     ensures formed { AreWellFormed bounds.now (entries_of object sets.now) }
 {
     greatest_of_kind(sets, object, false, bounds.r()).unwrap_or(Candidate::opening())
+}
+
+/// Whether the candidate has the latest stamp, the opening one where there are no histories.
+#[tactic(auto, unfolding(qu_stamp::specs::Stamp::same_stamp), using(qu_history::proofs::Method::latest_of_none))]
+pub(super) fn is_latest(sets: &Sets, object: ObjectId, candidate: &Candidate) -> bool
+    ensures { result ≡ is_latest (entries_of object sets.now) candidate.now }
+{
+    candidate.stamp == sets.latest(object).unwrap_or(Stamp::opening())
 }
 
 /// The greatest candidate, of those with a barrier or of those without, that at least so many of the histories hold.

@@ -22,35 +22,44 @@ use Rattle.qu_frames.specs.declared.limits.TheConstants.{LAST_ROUND}
 use Rattle.qu_frames.specs.declared.verdict.Verdict.{Verdict}
 use Rattle.qu_frames.specs.Body.{body_of}
 use Rattle.qu_frames.specs.Signing.{brought}
-use Rattle.qu_client.specs.declared.kept.Kept.{Kept}
+use Rattle.qu_question.specs.declared.kept.Kept.{Kept}
 use Rattle.qu_client.specs.declared.whom.Whom.{Whom}
 use Rattle.qu_client.specs.declared.whom.Whom.TheVariants.{Others}
 use Rattle.qu_client.specs.declared.work.Counted.{Counted}
 use Rattle.qu_client.specs.declared.work.Phase.{Phase}
 use Rattle.qu_client.specs.declared.work.Phase.TheVariants.{Asking, Resting}
 use Rattle.qu_client.specs.declared.work.Work.{Work}
-use Rattle.qu_client.specs.State.{ClientState, Stepped, keep_all, unmarked}
+use Rattle.qu_client.specs.State.{ClientState, Stepped}
+use Rattle.qu_question.specs.Kept.{keep_all, unmarked}
 use Rattle.qu_client.specs.Leaving.{after_replies}
-use Rattle.qu_client.specs.Question.{Question, operation_objects, sets_of, are_full, are_current, target_of, question_of}
-use Rattle.qu_client.specs.Rounds.{first_object, whom_asked, marked_shown, requests, work_asking, begins, begin_round, asking_all, asks_others}
+use Rattle.qu_client.specs.Needed.{named_after}
+use Rattle.qu_question.specs.Named.{operation_objects}
+use Rattle.qu_question.specs.declared.question.Question.{Question}
+use Rattle.qu_question.specs.Question.{sets_of, are_full, are_current, target_of, named_for, question_of}
+use Rattle.qu_client.specs.Rounds.{first_object, whom_asked, requests, work_asking, begins, begin_round, asking_all, asks_others}
+use Rattle.qu_question.specs.Marking.{marked_shown}
 use Rattle.qu_client.specs.Steps.{stays, ends, fitting, identical_verdicts, next_round, is_rest_due, rests, ends_round, is_agreed, agreed, counts, with_verdict, counted_in, client_on_frame, client_on_received, client_step, ticked_in, ticked, client_tick, next_number, client_invoke}
 use Rattle.qu_client.specs.Sound.{IsSoundWork, IsSound, IsFor}
-use Rattle.qu_client.proofs.Marks.{IsRemarked, shown_in-remarked, after_replies-remarked}
+use Rattle.qu_question.proofs.Marks.{IsRemarked, shown_in-remarked}
+use Rattle.qu_question.proofs.Naming.{AreMore, and_more}
+use Rattle.qu_question.proofs.Building.{named_for-more}
+use Rattle.qu_client.proofs.Ended.{after_replies-remarked, named_after-more}
 
 cond_by : {A : Type 0} (P : A → Type 0) (b : Bool) (x y : A) → P x → P y → P (cond b x y)
 cond_by P b x y first second = cond_both b x y P (λ _. first) (λ _. second)
 
 -- ---- a round that begins
 
--- a round of an operation, as it begins upon what is kept
-pub record IsRound (bounds : ℕ) (kept : List Kept) (op : Op) (number round : ℕ) (work : Work) : Type 0 where
+-- a round of an operation, as it begins upon what is kept, where these objects were named before
+pub record IsRound (bounds : ℕ) (kept : List Kept) (op : Op) (number round : ℕ) (before : List ObjectId) (work : Work)
+    : Type 0 where
   pub op_is : work.op ≡ op
   pub number_is : work.number ≡ number
   pub round_is : work.round ≡ round
-  pub sets_are : work.sets ≡ sets_of bounds round kept (operation_objects op)
+  pub names : AreMore before work.named
+  pub sets_are : work.sets ≡ sets_of bounds round kept work.named
   pub asks : IsFor op work.body
-  pub mends : (target : ObjectId) → work.body ≡ body.Mend target
-      → target ≡ target_of bounds work.sets (operation_objects op)
+  pub mends : (target : ObjectId) → work.body ≡ body.Mend target → target ≡ target_of bounds work.sets work.named
   pub fresh : work.replies ≡ []
 
 not_mend : (op : Op) (target : ObjectId) (other : ObjectId) → body_of op ≡ body.Mend target → target ≡ other
@@ -60,67 +69,95 @@ not_mend (op.Query parts) target other is = cc
 same_target : (one target : ObjectId) → body.Mend one ≡ body.Mend target → target ≡ one
 same_target one target is = cc
 
-module _ (bounds : ℕ) (kept : List Kept) (op : Op) (number round : ℕ) where
+module _ (bounds : ℕ) (kept : List Kept) (op : Op) (number round : ℕ) (before : List ObjectId) where
+  abbrev all_named : List ObjectId
+  all_named = named_for bounds round kept before
+
   abbrev sets : List SetOf
-  sets = sets_of bounds round kept (operation_objects op)
+  sets = sets_of bounds round kept all_named
 
   abbrev IsRoundOf : Question → Type 0
-  IsRoundOf question = IsRound bounds kept op number round (work_asking op number round question)
+  IsRoundOf question = IsRound bounds kept op number round before (work_asking op number round question)
 
   round_of : (asked : Body) (all : Bool) → IsFor op asked
-      → ((target : ObjectId) → asked ≡ body.Mend target → target ≡ target_of bounds sets (operation_objects op))
-      → IsRoundOf (record { sets = sets; body = asked; all = all })
+      → ((target : ObjectId) → asked ≡ body.Mend target → target ≡ target_of bounds sets all_named)
+      → IsRoundOf (record { named = all_named; sets = sets; body = asked; all = all })
   round_of asked all asks mends = record {
     op_is = refl;
     number_is = refl;
     round_is = refl;
+    names = named_for-more bounds round kept before;
     sets_are = refl;
     asks = asks;
     mends = mends;
     fresh = refl;
   }
 
-  pub is_round : IsRoundOf (question_of bounds op round kept (operation_objects op))
+  pub is_round : IsRoundOf (question_of bounds op round kept before)
   is_round =
-      let target : ObjectId = target_of bounds sets (operation_objects op) in
+      let target : ObjectId = target_of bounds sets all_named in
       cond_by IsRoundOf (not (are_full bounds sets)) _ _
       (round_of (body_of op) true (inl refl) (λ other is. not_mend op other target is))
       (cond_by IsRoundOf (are_current bounds sets (operation_objects op)) _ _
       (round_of (body_of op) false (inl refl) (λ other is. not_mend op other target is))
       (round_of (body.Mend target) true (inr tt) (λ other is. same_target target other is)))
 
-pub begin_cases : (state : ClientState) (op : Op) (number round : ℕ) (P : Stepped → Type 0)
-    → ((work : Work) → IsRound state.keys.bounds state.kept op number round work → P (begins state work))
-    → P (begin_round state op number round)
-begin_cases state op number round P each = each _ (is_round state.keys.bounds state.kept op number round)
+pub begin_cases : (state : ClientState) (op : Op) (number round : ℕ) (named : List ObjectId) (P : Stepped → Type 0)
+    → ((work : Work) → IsRound state.keys.bounds state.kept op number round named work → P (begins state work))
+    → P (begin_round state op number round named)
+begin_cases state op number round named P each =
+    each _ (is_round state.keys.bounds state.kept op number round named)
+
+-- where fewer were named before that
+round_from : (bounds : ℕ) (kept : List Kept) (op : Op) (number round : ℕ) (before named : List ObjectId) (work : Work)
+    → AreMore before named → IsRound bounds kept op number round named work
+    → IsRound bounds kept op number round before work
+round_from bounds kept op number round before named work more is = record {
+  op_is = is.op_is;
+  number_is = is.number_is;
+  round_is = is.round_is;
+  names = and_more more is.names;
+  sets_are = is.sets_are;
+  asks = is.asks;
+  mends = is.mends;
+  fresh = is.fresh;
+}
 
 pub next_cases : (state : ClientState) (work : Work) (P : Stepped → Type 0)
     → (LAST_ROUND ≤ work.round → P (ends state outcome.GaveUp))
     → ((begun : Work) → work.round < LAST_ROUND
-    → IsRound state.keys.bounds state.kept work.op work.number (work.round + 1) begun → P (begins state begun))
+    → IsRound state.keys.bounds state.kept work.op work.number (work.round + 1) work.named begun
+    → P (begins state begun))
     → P (next_round state work)
 next_cases state work P stops each =
     cond_both (leb LAST_ROUND work.round) _ _ P (λ spent. stops (leb-true _ _ spent))
-    (λ more. begin_cases state work.op work.number (work.round + 1) P (λ begun. each begun (leb-false _ _ more)))
+    (λ more.
+    begin_cases state work.op work.number (work.round + 1) work.named P (λ begun. each begun (leb-false _ _ more)))
 
 -- ---- a round that ends
 
--- other marks, and then a rest, the next round or the end
+-- other marks and more that is named, and then a rest, the next round or the end
 pub ended_cases : (state : ClientState) (work : Work) (P : Stepped → Type 0)
     → ((kept : List Kept) → IsRemarked state.kept kept → LAST_ROUND ≤ work.round
     → P (ends (record state { kept = kept }) outcome.GaveUp))
-    → ((kept : List Kept) → IsRemarked state.kept kept → work.round < LAST_ROUND
-    → P (rests (record state { kept = kept }) work))
+    → ((kept : List Kept) (named : List ObjectId) → IsRemarked state.kept kept → AreMore work.named named
+    → work.round < LAST_ROUND → P (rests (record state { kept = kept }) (record work { named = named })))
     → ((kept : List Kept) (begun : Work) → IsRemarked state.kept kept → work.round < LAST_ROUND
-    → IsRound state.keys.bounds kept work.op work.number (work.round + 1) begun
+    → IsRound state.keys.bounds kept work.op work.number (work.round + 1) work.named begun
     → P (begins (record state { kept = kept }) begun))
     → P (ends_round state work)
 ended_cases state work P stops waits each =
     let left : List Kept = after_replies state.keys.bounds work.replies state.kept in
     let same : IsRemarked state.kept left = after_replies-remarked state.keys.bounds work.replies state.kept in
+    let named : List ObjectId = named_after state.keys.bounds work.replies work.named in
+    let more : AreMore work.named named = named_after-more state.keys.bounds work.replies work.named in
     cond_both (is_rest_due work.round work.replies) _ _ P
-    (λ due. waits left same (ltb-true _ _ (and_parts _ _ due).0))
-    (λ _. next_cases (record state { kept = left }) work P (stops left same) (λ begun more. each left begun same more))
+    (λ due. waits left named same more (ltb-true _ _ (and_parts _ _ due).0))
+    (λ _.
+    next_cases (record state { kept = left }) (record work { named = named }) P (stops left same)
+    (λ begun before round.
+    each left begun same before
+    (round_from state.keys.bounds left work.op work.number (work.round + 1) work.named named begun more round)))
 
 -- ---- a verdict
 
@@ -164,11 +201,12 @@ pub record IsNext (state : ClientState) (kept : List Kept) (work : Work) : Type 
   pub last : Work
   pub is : state.work ≡ Some last
   pub more : last.round < LAST_ROUND
-  pub round : IsRound state.keys.bounds kept last.op last.number (last.round + 1) work
+  pub round : IsRound state.keys.bounds kept last.op last.number (last.round + 1) last.named work
 
 -- the first round of the next operation
 abbrev pub IsFirst : ClientState → List Kept → Op → Work → Type 0
-IsFirst state kept op work = IsRound state.keys.bounds kept op (next_number state.last_request) 1 work
+IsFirst state kept op work =
+    IsRound state.keys.bounds kept op (next_number state.last_request) 1 (operation_objects op) work
 
 -- what has to be shown of a step or a tick that sends nothing, where this holds of what is kept: nothing happens;
 -- histories are kept; a verdict counts; the operation ends; it rests, or its rest grows shorter
@@ -181,8 +219,9 @@ pub record OfQuiet (state : ClientState) (Q : List Kept → Type 0) (P : Stepped
       → P (stays (record state { kept = kept; work = Some (with_verdict work replica verdict culled) }))
   pub ends : (kept : List Kept) (work : Work) (end : Outcome) → Q kept → state.work ≡ Some work
       → P (ends (record state { kept = kept }) end)
-  pub rests : (kept : List Kept) (work : Work) → Q kept → state.work ≡ Some work → work.round < LAST_ROUND
-      → P (rests (record state { kept = kept }) work)
+  pub rests : (kept : List Kept) (work : Work) (named : List ObjectId) → Q kept → state.work ≡ Some work
+      → AreMore work.named named → work.round < LAST_ROUND
+      → P (rests (record state { kept = kept }) (record work { named = named }))
   pub ticks : (work : Work) (ticks : ℕ) → state.work ≡ Some work
       → P (stays (record state { work = Some (record work { phase = Resting ticks }) }))
 
@@ -204,7 +243,8 @@ module _ (state : ClientState) (Q : List Kept → Type 0) (P : Stepped → Type 
   ended_by kept work replies held is =
       ended_cases (record state { kept = kept }) (record work { replies = replies }) P
       (λ left same spent. each.quiet.ends left work outcome.GaveUp (histories kept left same held) is)
-      (λ left same more. each.quiet.rests left work (histories kept left same held) is more)
+      (λ left named same named_more more.
+      each.quiet.rests left work named (histories kept left same held) is named_more more)
       (λ left begun same more round. each.begins left begun (histories kept left same held) (record {
         last = work;
         is = is;
@@ -277,7 +317,7 @@ phase_gives_up state work (Resting ticks) =
     (next_cases state work OnlyGivesUp (λ _. refl) (λ _ _ _. tt)) tt
 phase_gives_up state work (Asking false) = tt
 phase_gives_up state work (Asking true) =
-    ended_cases state work OnlyGivesUp (λ _ _ _. refl) (λ _ _ _. tt) (λ _ _ _ _ _. tt)
+    ended_cases state work OnlyGivesUp (λ _ _ _. refl) (λ _ _ _ _ _. tt) (λ _ _ _ _ _. tt)
 
 ticked_gives_up : (state : ClientState) (found : Option Work) → OnlyGivesUp (ticked state found)
 ticked_gives_up state None = tt
@@ -292,7 +332,8 @@ pub invoke_cases : (state : ClientState) (op : Op) (P : Stepped → Type 0)
     → P (begins (record state { kept = unmarked state.kept }) work))
     → P (client_invoke state op)
 invoke_cases state op P each =
-    begin_cases (record state { kept = unmarked state.kept }) op (next_number state.last_request) 1 P each
+    begin_cases (record state { kept = unmarked state.kept }) op (next_number state.last_request) 1
+    (operation_objects op) P each
 
 -- ---- letters
 

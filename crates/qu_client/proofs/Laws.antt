@@ -11,7 +11,7 @@ use Rattle.qu_seal.specs.Keys.{Ring}
 use Rattle.qu_objects.specs.declared.op.Op.{Op}
 use Rattle.qu_frames.specs.declared.limits.TheConstants.{LAST_ROUND}
 use Rattle.qu_frames.specs.declared.verdict.Verdict.{Verdict}
-use Rattle.qu_client.specs.declared.kept.Kept.{Kept}
+use Rattle.qu_question.specs.declared.kept.Kept.{Kept}
 use Rattle.qu_client.specs.declared.work.Counted.{Counted}
 use Rattle.qu_client.specs.declared.work.Phase.{Phase}
 use Rattle.qu_client.specs.declared.work.Phase.TheVariants.{Asking, Resting}
@@ -45,7 +45,7 @@ of_each state = record {
     keeps = λ _ _. record { me = refl; keys = refl };
     counts = λ _ _ _ _ _ _ _ _ _ _. record { me = refl; keys = refl };
     ends = λ _ _ _ _ _. record { me = refl; keys = refl };
-    rests = λ _ _ _ _ _. record { me = refl; keys = refl };
+    rests = λ _ _ _ _ _ _ _. record { me = refl; keys = refl };
     ticks = λ _ _ _. record { me = refl; keys = refl };
   };
   begins = λ _ _ _ _. record { me = refl; keys = refl };
@@ -111,7 +111,10 @@ within_each most state within = record {
       work = work_within most state work within is;
     };
     ends = λ kept work end held is. record { last = within.last; work = tt };
-    rests = λ kept work held is more. record { last = within.last; work = work_within most state work within is };
+    rests = λ kept work named held is _ more. record {
+      last = within.last;
+      work = work_within most state work within is;
+    };
     ticks = λ work ticks is. record { last = within.last; work = work_within most state work within is };
   };
   begins = λ kept work held next. record {
@@ -199,10 +202,10 @@ different_more work replica number round verdict culled counting different =
     (λ k d within. other_replica work.replies replica k d first within)
 
 -- so is the operation in a round that begins
-begun_sound : (bounds : ℕ) (kept : List Kept) (op : Op) (number round : ℕ) (work : Work) → 1 ≤ round
-    → round ≤ LAST_ROUND → IsRound bounds kept op number round work
+begun_sound : (bounds : ℕ) (kept : List Kept) (op : Op) (number round : ℕ) (named : List ObjectId) (work : Work)
+    → 1 ≤ round → round ≤ LAST_ROUND → IsRound bounds kept op number round named work
     → IsSoundWork (Some (work.number, work.round)) work
-begun_sound bounds kept op number round work low high begun = record {
+begun_sound bounds kept op number round named work low high begun = record {
   first = omega (arith, begun.round_is);
   last = omega (arith, begun.round_is);
   different = subst Different (sym begun.fresh) none_different;
@@ -210,10 +213,11 @@ begun_sound bounds kept op number round work low high begun = record {
   asks = subst (λ (it : Op). IsFor it work.body) (sym begun.op_is) begun.asks;
 }
 
--- and in another phase, with other verdicts that count
-phase_sound : (last : Option (ℕ × ℕ)) (work : Work) (phase : Phase) (replies : List Counted) → IsSoundWork last work
-    → Different replies → IsSoundWork last (record work { phase = phase; replies = replies })
-phase_sound last work phase replies before different = record {
+-- and in another phase, with other objects named and other verdicts that count
+phase_sound : (last : Option (ℕ × ℕ)) (work : Work) (phase : Phase) (named : List ObjectId) (replies : List Counted)
+    → IsSoundWork last work → Different replies
+    → IsSoundWork last (record work { phase = phase; named = named; replies = replies })
+phase_sound last work phase named replies before different = record {
   first = before.first;
   last = before.last;
   different = different;
@@ -231,20 +235,21 @@ module _ (state : ClientState) (sound : IsSound state) where
       same = sound;
       keeps = λ kept held. sound;
       counts = λ kept work replica number round verdict culled held is counting.
-          phase_sound state.last_request work work.phase _ (working work is)
+          phase_sound state.last_request work work.phase work.named _ (working work is)
           (different_more work replica number round verdict culled counting (working work is).different);
       ends = λ kept work end held is. tt;
-      rests = λ kept work held is more.
-          phase_sound state.last_request work _ [] (working work is) none_different;
+      rests = λ kept work named held is _ more.
+          phase_sound state.last_request work _ named [] (working work is) none_different;
       ticks = λ work ticks is.
-          phase_sound state.last_request work (Resting ticks) work.replies (working work is)
+          phase_sound state.last_request work (Resting ticks) work.named work.replies (working work is)
           (working work is).different;
     };
     begins = λ kept work held next.
-        begun_sound state.keys.bounds kept next.last.op next.last.number (next.last.round + 1) work (omega arith)
-        (omega (arith, next.more)) next.round;
+        begun_sound state.keys.bounds kept next.last.op next.last.number (next.last.round + 1) next.last.named work
+        (omega arith) (omega (arith, next.more)) next.round;
     asks_others = λ work is stands.
-        phase_sound state.last_request work (Asking true) work.replies (working work is) (working work is).different;
+        phase_sound state.last_request work (Asking true) work.named work.replies (working work is)
+        (working work is).different;
   }
 
 pub IsSound-step : (state : ClientState) (text : List ℕ) → IsSound state → IsSound (client_step state text).state
@@ -257,5 +262,4 @@ pub IsSound-invoke : (state : ClientState) (op : Op) → IsSound (client_invoke 
 IsSound-invoke state op =
     invoke_cases state op (λ stepped. IsSound stepped.state)
     (λ work first.
-    begun_sound state.keys.bounds _ op (next_number state.last_request) 1 work (omega arith) (omega arith)
-    first)
+    begun_sound state.keys.bounds _ op (next_number state.last_request) 1 _ work (omega arith) (omega arith) first)

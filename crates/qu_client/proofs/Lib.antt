@@ -1,10 +1,6 @@
-pub mod Keeping
-pub mod Gathered
 pub mod Requesting
-pub mod Marks
 pub mod Planning
+pub mod Ended
 pub mod Cases
 pub mod Laws
-pub mod Trimmed
-pub mod Targets
 pub mod Sent

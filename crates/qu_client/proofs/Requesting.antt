@@ -12,7 +12,7 @@ use Rattle.qu_client.specs.declared.whom.Whom.{Whom}
 use Rattle.qu_client.specs.declared.work.Phase.{Phase}
 use Rattle.qu_client.specs.declared.work.Work.{Work}
 use Rattle.qu_client.specs.Rounds.{is_asked, request_of, requests_from}
-use Rattle.qu_client.proofs.Gathered.{left_after}
+use Rattle.qu_question.proofs.Gathered.{left_after}
 
 abbrev pub request : ℕ → ClientId → List ℕ → Letter
 request replica me text = record { from = party.Client me; to = party.Replica (record { 0 = replica }); text = text }

@@ -4,11 +4,11 @@ use Rattle.std.specs.List.{list_any}
 use Rattle.qu_base.specs.declared.party.ObjectId.{ObjectId}
 use Rattle.qu_base.specs.declared.party.ReplicaId.{ReplicaId}
 use Rattle.qu_base.specs.Bounds.{quorum}
-use Rattle.qu_client.specs.declared.kept.Kept.{Kept}
-use Rattle.qu_client.specs.declared.kept.Mark.{Mark}
-use Rattle.qu_client.specs.declared.kept.Mark.TheVariants.{LeftOut}
+use Rattle.qu_question.specs.declared.kept.Kept.{Kept}
+use Rattle.qu_question.specs.declared.kept.Mark.{Mark}
+use Rattle.qu_question.specs.declared.kept.Mark.TheVariants.{LeftOut}
 use Rattle.qu_client.specs.declared.work.Counted.{Counted}
-use Rattle.qu_client.specs.State.{is_shown, is_left_out}
+use Rattle.qu_question.specs.Kept.{is_shown, is_left_out}
 
 -- a culled list names the entry
 abbrev pub is_name_of : Kept → ObjectId × ReplicaId → Bool

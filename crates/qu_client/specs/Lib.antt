@@ -1,6 +1,6 @@
 pub mod State
 pub mod Leaving
-pub mod Question
+pub mod Needed
 pub mod Rounds
 pub mod Steps
 pub mod Plans

@@ -1,6 +1,6 @@
 -- What a planned step makes of a client's state.
 use Rattle.std.specs.Prelude.{List, [], Option, None, Some, option_map}
-use Rattle.qu_client.specs.declared.kept.Kept.{Kept}
+use Rattle.qu_question.specs.declared.kept.Kept.{Kept}
 use Rattle.qu_client.specs.declared.planned.Planned.{Planned}
 use Rattle.qu_client.specs.declared.planned.Turn.{Turn}
 use Rattle.qu_client.specs.declared.planned.Turn.TheVariants.{Stays, Ends, Begins, Counts, Rests, Passes}
@@ -17,8 +17,10 @@ after_turn state Stays = state
 after_turn state Ends = record state { work = None }
 after_turn state (Begins work) = record state { last_request = Some (work.number, work.round); work = Some work }
 after_turn state (Counts replies) = with_work state (λ work. record work { replies = replies })
-after_turn state (Rests ticks waits) =
-    record (with_work state (λ work. record work { phase = Resting ticks; replies = [] })) { waits = waits }
+after_turn state (Rests ticks waits named) =
+    record (with_work state (λ work. record work { phase = Resting ticks; named = named; replies = [] })) {
+      waits = waits;
+    }
 after_turn state (Passes phase) = with_work state (λ work. record work { phase = phase })
 
 abbrev pub with_kept : ClientState → Option (List Kept) → ClientState

@@ -1,14 +1,10 @@
 -- How a client begins a round of an operation, and the letters of a round.
-use Rattle.std.specs.Prelude.{ℕ, zero, suc, Bool, true, false, not, ◌+◌, ◌==◌, if◌then◌else◌, List, [], ◌∷◌, map, None, Some}
-use Rattle.std.specs.List.{list_any}
+use Rattle.std.specs.Prelude.{ℕ, zero, suc, Bool, true, false, not, ◌+◌, if◌then◌else◌, List, [], ◌∷◌, None, Some}
 use Rattle.qu_base.specs.declared.party.ClientId.{ClientId}
 use Rattle.qu_base.specs.declared.party.ObjectId.{ObjectId}
 use Rattle.qu_base.specs.declared.party.Party.TheVariants as party
-use Rattle.qu_base.specs.declared.party.ReplicaId.{ReplicaId}
 use Rattle.qu_base.specs.Bounds.{replicas}
 use Rattle.qu_seal.specs.Keys.{Ring}
-use Rattle.qu_history.specs.declared.sets.SetOf.{SetOf}
-use Rattle.qu_history.specs.Sets.{entries_of}
 use Rattle.qu_objects.specs.declared.op.Op.{Op}
 use Rattle.qu_frames.specs.declared.frame.Frame.{Frame}
 use Rattle.qu_frames.specs.declared.frame.Frame.TheVariants as frame
@@ -16,33 +12,16 @@ use Rattle.qu_frames.specs.declared.frame.Letter.{Letter}
 use Rattle.qu_frames.specs.Blank.{blank_mac}
 use Rattle.qu_frames.specs.Signing.{signed}
 use Rattle.qu_pick.specs.AskedFirst.{is_preferred}
-use Rattle.qu_client.specs.declared.kept.Kept.{Kept}
-use Rattle.qu_client.specs.declared.kept.Mark.{Mark}
-use Rattle.qu_client.specs.declared.kept.Mark.TheVariants.{Unshown, Shown, LeftOut}
 use Rattle.qu_client.specs.declared.whom.Whom.{Whom}
 use Rattle.qu_client.specs.declared.whom.Whom.TheVariants.{All, Preferred, Others}
 use Rattle.qu_client.specs.declared.work.Phase.{Phase}
 use Rattle.qu_client.specs.declared.work.Phase.TheVariants.{Asking, Resting}
 use Rattle.qu_client.specs.declared.work.Work.{Work}
-use Rattle.qu_client.specs.State.{ClientState, Stepped, is_left_out}
-use Rattle.qu_client.specs.Question.{Question, operation_objects, lowest_of, question_of}
-
--- ---- marks
-
--- the sets hold an entry of this object and this replica
-abbrev pub are_showing : List SetOf → ObjectId → ReplicaId → Bool
-are_showing sets object replica = list_any (λ entry. (entry.replica).0 == replica.0) (entries_of object sets)
-
--- an entry's mark from the beginning of a round upon these sets on
-abbrev pub mark_in : List SetOf → Kept → Mark
-mark_in sets held =
-    if is_left_out held.mark then LeftOut
-    else if are_showing sets (held.sealed.history).object (held.sealed.history).replica then Shown
-    else Unshown
-
--- the entries of the sets are shown
-unfoldable pub marked_shown : List SetOf → List Kept → List Kept
-marked_shown sets kept = map (λ (held : Kept). record held { mark = mark_in sets held }) kept
+use Rattle.qu_client.specs.State.{ClientState, Stepped}
+use Rattle.qu_question.specs.Named.{operation_objects}
+use Rattle.qu_question.specs.declared.question.Question.{Question}
+use Rattle.qu_question.specs.Question.{lowest_of, question_of}
+use Rattle.qu_question.specs.Marking.{marked_shown}
 
 -- ---- letters
 
@@ -95,6 +74,7 @@ work_asking op number round question = record {
   number = number;
   round = round;
   phase = Asking question.all;
+  named = question.named;
   sets = question.sets;
   body = question.body;
   replies = [];
@@ -112,11 +92,10 @@ begins state work = record {
   ended = None;
 }
 
--- a round of an operation begins, upon the operation's objects and what is kept
-abbrev pub begin_round : ClientState → Op → ℕ → ℕ → Stepped
-begin_round state op number round =
-    begins state
-    (work_asking op number round (question_of state.keys.bounds op round state.kept (operation_objects op)))
+-- a round of an operation begins, upon the objects that are named so far and what is kept
+abbrev pub begin_round : ClientState → Op → ℕ → ℕ → List ObjectId → Stepped
+begin_round state op number round named =
+    begins state (work_asking op number round (question_of state.keys.bounds op round state.kept named))
 
 -- the round in which all are asked, where the preferred ones were
 abbrev pub asking_all : Work → Work

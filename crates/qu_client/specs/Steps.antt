@@ -26,8 +26,11 @@ use Rattle.qu_client.specs.declared.work.Counted.{Counted}
 use Rattle.qu_client.specs.declared.work.Phase.{Phase}
 use Rattle.qu_client.specs.declared.work.Phase.TheVariants.{Asking, Resting}
 use Rattle.qu_client.specs.declared.work.Work.{Work}
-use Rattle.qu_client.specs.State.{ClientState, Stepped, keep_all, unmarked}
+use Rattle.qu_client.specs.State.{ClientState, Stepped}
+use Rattle.qu_question.specs.Kept.{keep_all, unmarked}
 use Rattle.qu_client.specs.Leaving.{after_replies}
+use Rattle.qu_client.specs.Needed.{named_after}
+use Rattle.qu_question.specs.Named.{operation_objects}
 use Rattle.qu_client.specs.Rounds.{is_asked, whom_asked, begin_round, asks_others}
 
 abbrev pub stays : ClientState → Stepped
@@ -88,7 +91,7 @@ is_hopeless bounds body whom replies =
 abbrev pub next_round : ClientState → Work → Stepped
 next_round state work =
     if nat_le LAST_ROUND work.round then ends state outcome.GaveUp
-    else begin_round state work.op work.number (work.round + 1)
+    else begin_round state work.op work.number (work.round + 1) work.named
 
 -- the replica has a later candidate than the sets showed
 abbrev pub is_behind : Verdict → Bool
@@ -109,10 +112,11 @@ rests state work =
 abbrev pub goes_on : ClientState → Work → Stepped
 goes_on state work = if is_rest_due work.round work.replies then rests state work else next_round state work
 
--- a round that ended without an answer leaves out what its replies name
+-- a round that ended without an answer leaves out what its replies name as culled, and names too what they need
 abbrev pub ends_round : ClientState → Work → Stepped
 ends_round state work =
-    goes_on (record state { kept = after_replies state.keys.bounds work.replies state.kept }) work
+    goes_on (record state { kept = after_replies state.keys.bounds work.replies state.kept })
+    (record work { named = named_after state.keys.bounds work.replies work.named })
 
 -- ---- replies
 
@@ -214,7 +218,8 @@ abbrev pub next_number : Option (ℕ × ℕ) → ℕ
 next_number None = 1
 next_number (Some last) = last.0 + 1
 
--- an operation begins with its first round, in which no entry is left out
+-- an operation begins with its first round, in which no entry is left out and its own objects are named
 abbrev pub client_invoke : ClientState → Op → Stepped
 client_invoke state op =
     begin_round (record state { kept = unmarked state.kept }) op (next_number state.last_request) 1
+    (operation_objects op)

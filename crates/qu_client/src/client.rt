@@ -4,15 +4,15 @@ ghost use Rattle.qu_client.specs.State.{client_at_start};
 ghost use Rattle.qu_client.specs.Steps.{client_invoke, client_step, client_on_frame, client_tick, next_number, rest_of};
 ghost use Rattle.qu_client.specs.Plans.{after_turn, planned_state, planned_step};
 
-use super::kept::{keep_all, unmarked};
 use super::rounds::begin_round;
 use super::steps::counted_in;
 use super::ticks::ticked_in;
-use super::{ClientState, Counted, Kept, Moved, Phase, Planned, Turn, Work};
+use super::{ClientState, Counted, Moved, Phase, Planned, Turn, Work};
 use qu_base::{ClientId, List, NoMemory, Party};
 use qu_frames::{Frame, Letter, receive};
 use qu_objects::Op;
 use qu_pick::Backoff;
+use qu_question::{Kept, Named, keep_all, unmarked};
 use qu_seal::KeyRing;
 use std::alloc::Global;
 use std::marker::Model;
@@ -168,7 +168,8 @@ impl Client {
         }
         let kept = unmarked(self.alloc, self.state.kept.as_slice())?;
         let number = self.next_number();
-        let planned = begin_round(self.alloc, &self.state, kept, op, number, 1)?;
+        let named = Named::of(self.alloc, &op)?;
+        let planned = begin_round(self.alloc, &self.state, kept, op, number, 1, named)?;
         Ok(planned)
     }
 
@@ -250,10 +251,13 @@ impl Client {
                 self.state.work = Some(work);
             }
             Turn::Counts(replies) => self.count(replies),
-            Turn::Rests { ticks, waits } => {
+            Turn::Rests {
+                ticks,
+                waits,
+                named,
+            } => {
                 self.state.waits = waits;
-                self.count(List::new(self.alloc));
-                self.pass(Phase::Resting { ticks });
+                self.rest(ticks, named);
             }
             Turn::Passes(phase) => self.pass(phase),
         }
@@ -265,6 +269,18 @@ impl Client {
     {
         if let Some(work) = &mut self.state.work {
             work.replies = replies;
+        }
+    }
+
+    /// It rests, with these objects named.
+    fn rest(&mut self, ticks: u32, named: Named)
+        ensures { self.new ≡ after_turn self.old (Turn.Rests ticks self.old.waits named) }
+    {
+        let alloc = self.alloc;
+        if let Some(work) = &mut self.state.work {
+            work.phase = Phase::Resting { ticks };
+            work.named = named;
+            work.replies = List::new(alloc);
         }
     }
 

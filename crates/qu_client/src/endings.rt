@@ -4,14 +4,16 @@ ghost use Rattle.qu_client.specs.Steps.{next_round, is_behind, is_rest_due, rest
 ghost use Rattle.qu_client.specs.Plans.{planned_step};
 
 use super::leaving::after_replies;
+use super::needed::named_after;
 use super::rounds::begin_round;
-use super::{ClientState, Counted, Kept, Planned, Turn, Work};
+use super::{ClientState, Counted, Planned, Turn, Work};
 use qu_base::{List, NoMemory};
 use qu_frames::{LAST_ROUND, Refusal, Verdict};
 use qu_objects::Outcome;
+use qu_question::{Kept, Named};
 use std::alloc::Global;
 
-/// A round that ended without an answer leaves out what its replies name.
+/// A round that ended without an answer leaves out what its replies name as culled, and names too what they need.
 pub fn ends_round(
     alloc: Global,
     state: &ClientState,
@@ -23,8 +25,10 @@ pub fn ends_round(
     ensures { IfOk result (λ planned. planned_step state.now planned
         ≡ ends_round (record state.now { kept = kept.now }) (record work.now { replies = replies.now })) }
 {
-    let left = after_replies(alloc, state.keys.bounds(), replies, kept)?;
-    goes_on(alloc, state, left, work, replies)
+    let bounds = state.keys.bounds();
+    let left = after_replies(alloc, bounds, replies, kept)?;
+    let named = named_after(alloc, bounds, replies, &work.named)?;
+    goes_on(alloc, state, left, named, work, replies)
 }
 
 /// The client rests, or the next round begins at once.
@@ -32,17 +36,18 @@ fn goes_on(
     alloc: Global,
     state: &ClientState,
     kept: List<Kept>,
+    named: Named,
     work: &Work,
     replies: &[Counted],
 ) -> Result<Planned, NoMemory>
     requires { state.now.work ≡ Some work.now }
     ensures { IfOk result (λ planned. planned_step state.now planned
-        ≡ goes_on (record state.now { kept = kept }) (record work.now { replies = replies.now })) }
+        ≡ goes_on (record state.now { kept = kept }) (record work.now { named = named; replies = replies.now })) }
 {
     if is_rest_due(work.round, replies) {
-        rests(alloc, state, kept, work)
+        rests(alloc, state, kept, named, work)
     } else {
-        next_round(alloc, state, kept, work)
+        next_round(alloc, state, kept, named, work)
     }
 }
 
@@ -52,15 +57,21 @@ fn rests(
     alloc: Global,
     state: &ClientState,
     kept: List<Kept>,
+    named: Named,
     work: &Work,
 ) -> Result<Planned, NoMemory>
     requires { state.now.work ≡ Some work.now }
     ensures { IfOk result (λ planned. planned_step state.now planned
-        ≡ rests (record state.now { kept = kept }) work.now) }
+        ≡ rests (record state.now { kept = kept }) (record work.now { named = named })) }
 {
     let mut waits = state.waits.clone()?;
     let ticks = waits.next(work.round);
-    Ok(Planned::kept(alloc, kept, Turn::Rests { ticks, waits }))
+    let turn = Turn::Rests {
+        ticks,
+        waits,
+        named,
+    };
+    Ok(Planned::kept(alloc, kept, turn))
 }
 
 /// After a round the next one begins, unless it was the last.
@@ -68,16 +79,17 @@ pub fn next_round(
     alloc: Global,
     state: &ClientState,
     kept: List<Kept>,
+    named: Named,
     work: &Work,
 ) -> Result<Planned, NoMemory>
     ensures { IfOk result (λ planned. planned_step state.now planned
-        ≡ next_round (record state.now { kept = kept }) work.now) }
+        ≡ next_round (record state.now { kept = kept }) (record work.now { named = named })) }
 {
     if work.round >= LAST_ROUND {
         return Ok(Planned::ended(alloc, kept, Outcome::GaveUp));
     }
     let op = work.op.copy(alloc)?;
-    begin_round(alloc, state, kept, op, work.number, work.round + 1)
+    begin_round(alloc, state, kept, op, work.number, work.round + 1, named)
 }
 
 /// Whether the sets were behind a replica, and a round is left.

@@ -3,14 +3,11 @@
 
 mod client;
 mod endings;
-mod kept;
 mod leaving;
 mod letters;
+mod needed;
 mod planned;
-mod question;
 mod rounds;
-mod sets;
-mod shared;
 mod state;
 mod steps;
 mod ticks;
@@ -19,10 +16,7 @@ mod whom;
 mod work;
 
 pub use client::{Client, InvokeFail};
-pub use kept::{Kept, Mark};
 pub use planned::{Moved, Planned, Turn};
-pub use question::Question;
-pub use shared::Shared;
 pub use state::ClientState;
 pub use verdicts::is_agreed;
 pub use whom::Whom;

@@ -1,10 +1,11 @@
 ghost use Rattle.std.specs.Prelude.{◌≡◌, [], None, Some, IfOk};
 
-use super::{Counted, Kept, Phase, Work};
+use super::{Counted, Phase, Work};
 use qu_base::{List, NoMemory};
 use qu_frames::Letter;
 use qu_objects::Outcome;
 use qu_pick::Backoff;
+use qu_question::{Kept, Named};
 use std::alloc::Global;
 
 /// What a step made: letters to send, and the end of the operation if it ended.
@@ -50,8 +51,12 @@ pub enum Turn {
     Begins(Work),
     /// These verdicts count in its round.
     Counts(List<Counted>),
-    /// It rests so many ticks. Later rests are drawn from what is left.
-    Rests { ticks: u32, waits: Backoff },
+    /// It rests so many ticks, with these objects named. Later rests are drawn from what is left.
+    Rests {
+        ticks: u32,
+        waits: Backoff,
+        named: Named,
+    },
     /// Its round goes on in this phase.
     Passes(Phase),
 }

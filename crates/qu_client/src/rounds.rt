@@ -2,16 +2,15 @@ ghost use Rattle.std.specs.Prelude.{◌≡◌, IfOk, Some};
 ghost use Rattle.qu_client.specs.Rounds.{begins, begin_round, asks_others};
 ghost use Rattle.qu_client.specs.Plans.{planned_step};
 
-use super::kept::marked_shown;
 use super::letters::requests;
-use super::question::question_of;
-use super::sets::{first_object, operation_objects};
-use super::{ClientState, Kept, Moved, Phase, Planned, Turn, Whom, Work};
+use super::whom::first_object;
+use super::{ClientState, Moved, Phase, Planned, Turn, Whom, Work};
 use qu_base::{List, NoMemory};
 use qu_objects::Op;
+use qu_question::{Kept, Named, marked_shown, question_of};
 use std::alloc::Global;
 
-/// A round of an operation begins, upon the operation's objects and what is kept.
+/// A round of an operation begins, upon the objects that are named so far and what is kept.
 pub fn begin_round(
     alloc: Global,
     state: &ClientState,
@@ -19,20 +18,13 @@ pub fn begin_round(
     op: Op,
     number: u64,
     round: u8,
+    named: Named,
 ) -> Result<Planned, NoMemory>
     ensures { IfOk result (λ planned. planned_step state.now planned
-        ≡ begin_round (record state.now { kept = kept }) op number round) }
+        ≡ begin_round (record state.now { kept = kept }) op number round named) }
 {
     let bounds = state.keys.bounds();
-    let objects = operation_objects(alloc, &op)?;
-    let question = question_of(
-        alloc,
-        bounds,
-        &op,
-        round,
-        kept.as_slice(),
-        objects.as_slice(),
-    )?;
+    let question = question_of(alloc, bounds, &op, round, kept.as_slice(), named)?;
     begins(
         alloc,
         state,

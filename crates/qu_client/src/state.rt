@@ -1,6 +1,7 @@
-use super::{Kept, Work};
+use super::Work;
 use qu_base::{ClientId, List};
 use qu_pick::Backoff;
+use qu_question::Kept;
 use qu_seal::KeyRing;
 
 /// What a client holds: the sealed histories that it was sent, and the operation under way.

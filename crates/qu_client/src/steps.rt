@@ -4,10 +4,11 @@ ghost use Rattle.qu_client.specs.Plans.{planned_step};
 
 use super::endings::ends_round;
 use super::verdicts::{fitting, is_agreed, is_hopeless};
-use super::{ClientState, Counted, Kept, Planned, Turn, Work};
+use super::{ClientState, Counted, Planned, Turn, Work};
 use qu_base::{List, NoMemory, ObjectId, ReplicaId};
 use qu_frames::Verdict;
 use qu_objects::Outcome;
+use qu_question::Kept;
 use std::alloc::Global;
 
 /// What a reply makes: its verdict counts where it is of the round under way, and the first of its replica. These

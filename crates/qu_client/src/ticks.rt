@@ -3,10 +3,10 @@ ghost use Rattle.qu_client.specs.Steps.{rest_ticked, ticked_in};
 ghost use Rattle.qu_client.specs.Plans.{planned_step};
 
 use super::endings::{ends_round, next_round};
-use super::kept::copies;
 use super::rounds::asks_others;
 use super::{ClientState, Phase, Planned, Turn, Work};
 use qu_base::NoMemory;
+use qu_question::copies;
 use std::alloc::Global;
 
 /// A tick: a rest grows shorter; where the preferred replicas were asked, the others are asked too; where all were, the
@@ -42,7 +42,8 @@ fn rest_ticked(
 {
     if ticks <= 1 {
         let kept = copies(alloc, state.kept.as_slice())?;
-        return next_round(alloc, state, kept, work);
+        let named = work.named.copy(alloc)?;
+        return next_round(alloc, state, kept, named, work);
     }
     let phase = Phase::Resting { ticks: ticks - 1 };
     Ok(Planned::turned(alloc, Turn::Passes(phase)))

@@ -1,7 +1,9 @@
-ghost use Rattle.std.specs.Prelude.{◌≡◌};
-ghost use Rattle.qu_client.specs.Rounds.{is_asked};
+ghost use Rattle.std.specs.Prelude.{◌≡◌, map};
+ghost use Rattle.qu_question.specs.Question.{lowest_of};
+ghost use Rattle.qu_client.specs.Rounds.{is_asked, first_object};
 
 use qu_base::{Bounds, ObjectId, ReplicaId};
+use qu_objects::Op;
 use qu_pick::preferred;
 
 /// To which replicas a request goes.
@@ -24,5 +26,25 @@ impl Whom {
             Whom::Preferred(first) => preferred(first, ReplicaId(replica), &bounds),
             Whom::Others(first) => !preferred(first, ReplicaId(replica), &bounds),
         }
+    }
+}
+
+/// The lowest object that an operation names.
+pub fn first_object(op: &Op) -> ObjectId
+    ensures { result ≡ first_object op.now }
+{
+    match op {
+        Op::Act(act) => first_in(act.parts().as_slice()),
+        Op::Query(query) => first_in(query.parts().as_slice()),
+    }
+}
+
+/// The object of the first part.
+fn first_in<T>(parts: &[(ObjectId, T)]) -> ObjectId
+    ensures { result ≡ lowest_of (map (λ part. part.0) parts.now) }
+{
+    match parts {
+        [] => ObjectId(0),
+        [first, ..] => first.0,
     }
 }

@@ -1,12 +1,13 @@
 ghost use Rattle.std.specs.Prelude.{◌≡◌, IfOk};
 
-use super::sets::first_object;
+use super::Whom;
 use super::verdicts::has_replied;
-use super::{Question, Shared, Whom};
+use super::whom::first_object;
 use qu_base::{List, NoMemory, ObjectId, ReplicaId};
 use qu_frames::{Body, Verdict};
 use qu_history::Sets;
 use qu_objects::Op;
+use qu_question::{Named, Question, Shared};
 use std::alloc::Global;
 
 /// A verdict that counts: the first one of its replica in the round.
@@ -36,6 +37,8 @@ pub struct Work {
     /// From 1 to `LAST_ROUND`.
     pub round: u8,
     pub phase: Phase,
+    /// The objects that are named: its own, and those that were added since it began.
+    pub named: Named,
     /// The sets of the round's request, which may be sent again.
     pub sets: Sets,
     /// What the round's request asks for.
@@ -108,6 +111,7 @@ impl Drop for Work {
             number: _,
             round: _,
             phase: _,
+            named: _,
             sets: _,
             body: _,
             replies: _,
@@ -123,12 +127,18 @@ impl Work {
     pub fn asking(alloc: Global, op: Op, number: u64, round: u8, question: Question) -> Work
         ensures { result ≡ work_asking op number round question }
     {
-        let Question { sets, body, all } = question;
+        let Question {
+            named,
+            sets,
+            body,
+            all,
+        } = question;
         Work {
             op,
             number,
             round,
             phase: Phase::Asking { all },
+            named,
             sets,
             body,
             replies: List::new(alloc),

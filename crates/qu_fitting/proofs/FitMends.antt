@@ -1,5 +1,5 @@
 -- What a replica decides upon a request to mend an object that fits, fits.
-use Rattle.std.proofs.Common.{◌≡◌, ◌-◌, ◌≤◌, Bool, true, false, cond, Option, None, Some, refl, sym, subst}
+use Rattle.std.proofs.Common.{◌≡◌, ◌-◌, ◌≤◌, Bool, true, false, cond, Option, None, Some, inl, inr, refl, sym, subst}
 use Rattle.std.specs.Prelude.{IfSome, option_and_then}
 use Rattle.std.proofs.lemmas.Option.{none-some, same_Some}
 use Rattle.qu_base.specs.declared.limits.TheConstants.{OBJECT_IDS}
@@ -21,17 +21,17 @@ use Rattle.qu_rows.specs.Remedy.{wanted_by, unless_barrier}
 use Rattle.qu_rows.specs.Causes.{MakesCandidate, RefusesFor, HasCause}
 use Rattle.qu_rows.proofs.Decided.{decided_has_cause}
 use Rattle.qu_rows.specs.State.{ReplicaState, own_candidates}
-use Rattle.qu_rows.specs.Rows.{Asked, refuse, shown_of, row_few, mend_asked, wanted_version, mending_on, decision_by, decide_repair, keys_at}
+use Rattle.qu_rows.specs.Rows.{Asked, refuse, row_few, mend_asked, wanted_version, mending_on, decision_by, decide_repair, keys_at}
 use Rattle.qu_versions.specs.Versions.{version_at}
 use Rattle.qu_fitting.specs.Fits.{VersionFits, StateFits}
 use Rattle.qu_fitting.proofs.FitStamps.{CandidateFits, shown_fit, plain_fits}
-use Rattle.qu_fitting.proofs.FitVerdicts.{thin_fits, time_fits, full_fits, current_fits, sound_fits, mended_fits}
+use Rattle.qu_fitting.proofs.FitVerdicts.{thin_fits, needs_fits, time_fits, full_fits, current_fits, sound_fits, mended_fits}
 use Rattle.qu_fitting.proofs.FitRepairs.{remedy_fits, made_fits, stored_version_fits, RemedyFits}
 use Rattle.qu_fitting.proofs.FitAccepted.{version_fits}
 use Rattle.qu_fitting.proofs.FitDecisions.{AskedFits, DecisionFits, Gives, past, no_row, own_fits, unknown, thin, KeyFits}
 use Rattle.std.specs.List.{AllByRecursion}
 use Rattle.qu_rows.specs.declared.remedy.Remedy.{Remedy}
-use Rattle.qu_rows.specs.declared.remedy.Remedy.TheVariants.{Nothing, Shown, Fresh}
+use Rattle.qu_rows.specs.declared.remedy.Remedy.TheVariants.{Nothing, Shown, Fresh, Unshown, Unplanned}
 
 module _ (state : ReplicaState) (asked : Asked) (fits : StateFits state) (asks : AskedFits asked)
     (object : ObjectId) (within : object.0 ≤ OBJECT_IDS - 1) where
@@ -48,11 +48,14 @@ module _ (state : ReplicaState) (asked : Asked) (fits : StateFits state) (asks :
   abbrev mend : Mend
   mend = mend_asked state asked object
 
+  mend_fits : RemedyFits object mend.latest mend.remedy
+  mend_fits = remedy_fits state.keys.bounds asked.sets object (shown_fit asked.sets asks.sets object)
+
   added_fits : (candidate : Candidate) → MakesCandidate mend mend.remedy candidate
       → CandidateFits object candidate
   added_fits candidate made =
       made_fits mend object asks.low asks.high asks.set mend.remedy candidate
-      (remedy_fits state.keys.bounds object (shown_of asked object) (shown_fit asked.sets asks.sets object)) made
+      mend_fits made
 
   found_fits : (wanted : Option Stamp)
       → IfSome (option_and_then (λ (stamp : Stamp). version_at object stamp state.versions) wanted) VersionFits
@@ -76,7 +79,10 @@ module _ (state : ReplicaState) (asked : Asked) (fits : StateFits state) (asks :
   why_fits (HistoryFull on) cause =
       subst (λ (it : ObjectId). verdict_form.Fits (Refused (HistoryFull it))) (sym cause.0) (full_fits object within)
   why_fits (Thin on) cause = absurd cause
-  why_fits (Needs on) cause = absurd cause
+  why_fits (Needs on) cause = elim cause [
+    | inl unshown ↦ needs_fits on (subst (RemedyFits object mend.latest) unshown mend_fits)
+    | inr unplanned ↦ needs_fits on (subst (RemedyFits object mend.latest) unplanned mend_fits)
+  ]
   why_fits (Stale on) cause = absurd cause
   why_fits (NotMethod on class) cause = absurd cause
   why_fits (refusal.Spent on number) cause = absurd cause
@@ -92,6 +98,8 @@ module _ (state : ReplicaState) (asked : Asked) (fits : StateFits state) (asks :
       → AllByRecursion KeyFits (keys_at object (wanted_by remedy))
   unfolding wanted_by
   wanted_keys Nothing fits = tt
+  wanted_keys (Unshown member) fits = tt
+  wanted_keys (Unplanned other) fits = tt
   wanted_keys (Shown candidate) fits = unless (candidate.stamp.barrier) candidate.stamp refl fits.stamp
   wanted_keys (Fresh true prior) fits = tt
   wanted_keys (Fresh false prior) fits =
@@ -121,8 +129,7 @@ module _ (state : ReplicaState) (asked : Asked) (fits : StateFits state) (asks :
   )
   caused_fits (Refuses why) cause = (why_fits why cause, tt)
   caused_fits mending.Waits cause =
-      wanted_keys mend.remedy
-      (remedy_fits state.keys.bounds object (shown_of asked object) (shown_fit asked.sets asks.sets object))
+      wanted_keys mend.remedy mend_fits
 
   mended : Gives (Some (decision_by object mend.remedy (mending_on state asked object)))
   mended decision given =

@@ -1,28 +1,34 @@
 -- What mends an object fits, where all fits that the entries show of it.
-use Rattle.std.proofs.Common.{◌≡◌, ℕ, ◌<◌, ◌≤◌, Bool, true, false, ◌&&◌, cond, Option, None, Some, List, length, inl, inr, refl, sym, subst, ◌∙◌, arith}
-use Rattle.std.specs.Prelude.{◌==◌, IfSome, unwrap_or}
+use Rattle.std.proofs.Common.{◌≡◌, ℕ, ◌-◌, ◌<◌, ◌≤◌, Bool, true, false, not, ◌&&◌, cond, Option, None, Some, List, [], ◌∷◌, find, length, inl, inr, refl, sym, subst, ◌∙◌, arith}
+use Rattle.std.specs.Prelude.{◌==◌, IfSome, unwrap_or, option_map}
 use Rattle.std.proofs.lemmas.Bool.{cases_lt, false≢true}
-use Rattle.qu_base.specs.declared.limits.TheConstants.{LAST_CLIENT}
+use Rattle.std.proofs.lemmas.Option.{none-some, same_Some}
+use Rattle.qu_base.specs.declared.limits.TheConstants.{LAST_CLIENT, OBJECT_IDS}
+use Rattle.qu_base.specs.Format.{FitsFrom}
 use Rattle.qu_stamp.specs.declared.stamp.Stamp.{Stamp}
 use Rattle.qu_stamp.specs.declared.limits.TheConstants.{LAST_TIME}
 use Rattle.qu_stamp.specs.declared.candidate.Candidate.{Candidate}
 use Rattle.qu_stamp.specs.Stamp.{is_below}
 use Rattle.qu_stamp.specs.Candidate.{opening}
 use Rattle.qu_base.specs.declared.party.ObjectId.{ObjectId}
-use Rattle.qu_stamp.specs.Formats.{stamp_form}
+use Rattle.qu_stamp.specs.Formats.{stamp_form, member_form, after_member, members_form, group_form}
 use Rattle.qu_stamp.proofs.Forms.{alone_fits}
 use Rattle.qu_stamp.proofs.Order.{is_below_by_time}
 use Rattle.qu_history.specs.History.{ObjectHistory, holds}
-use Rattle.qu_history.specs.Sets.{candidates_of, latest_of, object_candidate}
+use Rattle.qu_history.specs.declared.sets.SetOf.{SetOf}
+use Rattle.qu_history.specs.Sets.{entries_of, candidates_of, latest_of, object_candidate}
 use Rattle.qu_history.proofs.Stamps.{not_below_latest}
 use Rattle.qu_objects.specs.declared.state.ObjState.{ObjState}
-use Rattle.qu_class.specs.declared.class.Class.TheVariants.{Method, InlineMethod, Copy, InlineBarrier, Barrier}
+use Rattle.qu_class.specs.declared.class.Class.{Class}
+use Rattle.qu_class.specs.declared.class.Class.TheVariants.{Method, InlineMethod, Copy, InlineBarrier, Barrier, Needs}
 use Rattle.qu_class.specs.Repairable.{barrier_candidate, object_base}
-use Rattle.qu_class.specs.Class.{is_latest, is_full, barrier_class, class_of}
+use Rattle.qu_class.specs.Class.{is_latest, is_full, barrier_class, class_of, is_in_sets, with_members, class_in}
+use Rattle.qu_class.specs.Plan.{lowest_other}
+use Rattle.qu_class.proofs.GroupRule.{inline_by}
 use Rattle.qu_rows.specs.declared.remedy.Remedy.{Remedy}
-use Rattle.qu_rows.specs.declared.remedy.Remedy.TheVariants.{Nothing, Shown, Fresh}
+use Rattle.qu_rows.specs.declared.remedy.Remedy.TheVariants.{Nothing, Shown, Fresh, Unshown, Unplanned}
 use Rattle.qu_rows.specs.declared.mend.Mend.{Mend}
-use Rattle.qu_rows.specs.Remedy.{remedy_by, remedy_of, fresh_repair}
+use Rattle.qu_rows.specs.Remedy.{copy_by, remedy_by, remedy_of, fresh_repair}
 use Rattle.qu_rows.specs.Causes.{MakesCandidate, AddsVersion}
 use Rattle.qu_fitting.specs.Fits.{VersionFits}
 use Rattle.qu_fitting.proofs.FitStamps.{CandidateFits, CandidatesFit, opening_candidate_fits, object_candidate_shown, barrier_candidate_shown, actless_stamp_fits, prior_fits, not_opening, later_time}
@@ -39,6 +45,41 @@ abbrev pub RemedyFits : ObjectId → Stamp → Remedy → Type 0
 RemedyFits object latest Nothing = Unit {0}
 RemedyFits object latest (Shown candidate) = CandidateFits object candidate
 RemedyFits object latest (Fresh barrier prior) = RestsWell latest prior
+RemedyFits object latest (Unshown member) = member.0 ≤ OBJECT_IDS - 1
+RemedyFits object latest (Unplanned other) = other.0 ≤ OBJECT_IDS - 1
+
+-- ---- the members of a group have numbers
+
+member_numbered : (least : ℕ) (member : ObjectId × ℕ) → (member_form least).Fits member
+    → (member.0).0 ≤ OBJECT_IDS - 1
+unfolding member_form
+member_numbered least member fits = ((fits.0).0).1
+
+found_numbered : (test : ObjectId × ℕ → Bool) (least : ℕ) (group : List (ObjectId × ℕ))
+    → FitsFrom member_form after_member least group → (object : ObjectId)
+    → option_map (λ (member : ObjectId × ℕ). member.0) (find test group) ≡ Some object → object.0 ≤ OBJECT_IDS - 1
+found_numbered test least [] fits object found = absurd (none-some object found)
+found_numbered test least (member ∷ later) fits object found =
+    by_test (test member) found (found_numbered test (after_member member) later fits.1 object)
+  where
+    by_test : (here : Bool) → option_map (λ (it : ObjectId × ℕ). it.0) (cond here (Some member) (find test later))
+        ≡ Some object
+        → (option_map (λ (it : ObjectId × ℕ). it.0) (find test later) ≡ Some object → object.0 ≤ OBJECT_IDS - 1)
+        → object.0 ≤ OBJECT_IDS - 1
+    by_test true is so_far =
+        subst (λ (it : ObjectId). it.0 ≤ OBJECT_IDS - 1) (same_Some member.0 object is)
+        (member_numbered least member fits.0)
+    by_test false is so_far = so_far is
+
+numbered : (on : ObjectId) (candidate : Candidate) → CandidateFits on candidate → (test : ObjectId × ℕ → Bool)
+    (object : ObjectId)
+    → option_map (λ (member : ObjectId × ℕ). member.0) (find test candidate.group) ≡ Some object
+    → object.0 ≤ OBJECT_IDS - 1
+unfolding group_form members_form
+numbered on candidate fits test object found =
+    found_numbered test 0 candidate.group ((((fits.group).0).1).1) object found
+
+-- ---- what is told by a class
 
 module _ (bounds : ℕ) (object : ObjectId) (entries : List ObjectHistory)
     (fits : CandidatesFit object (candidates_of entries)) where
@@ -53,9 +94,9 @@ module _ (bounds : ℕ) (object : ObjectId) (entries : List ObjectHistory)
         | inr within ↦ within
       ]
 
-  record BaseFits (base : Candidate) : Type 0 where
-    candidate : CandidateFits object base
-    rests : RestsWell (latest_of entries) base.stamp
+  pub record BaseFits (base : Candidate) : Type 0 where
+    pub candidate : CandidateFits object base
+    pub rests : RestsWell (latest_of entries) base.stamp
 
   base_fits : BaseFits (object_base bounds entries)
   unfolding object_base
@@ -78,29 +119,74 @@ module _ (bounds : ℕ) (object : ObjectId) (entries : List ObjectHistory)
   abbrev base : Candidate
   base = object_base bounds entries
 
+  -- of the class, where nothing shown is wrong
+  abbrev ClassFits : Class → Type 0
+  ClassFits (Method candidate) = Unit {0}
+  ClassFits (InlineMethod candidate) = BaseFits candidate
+  ClassFits Copy = Unit {0}
+  ClassFits (InlineBarrier candidate) = CandidateFits object candidate
+  ClassFits (Barrier prior) = RestsWell (latest_of entries) prior
+  ClassFits (Needs member) = member.0 ≤ OBJECT_IDS - 1
+
   barrier_fits : (found : Option Candidate) → barrier_candidate bounds entries ≡ found
-      → RemedyFits object (latest_of entries) (remedy_by base.stamp (barrier_class bounds entries base.stamp found))
-  unfolding remedy_by barrier_class
+      → ClassFits (barrier_class bounds entries base.stamp found)
+  unfolding barrier_class
   barrier_fits None is = base_fits.rests
   barrier_fits (Some barrier) is = by_tests (is_latest entries barrier) (is_full bounds entries barrier)
     where
-      by_tests : (latest full : Bool) → RemedyFits object (latest_of entries) (remedy_by base.stamp
-          (cond (latest && full) Copy (cond latest (InlineBarrier barrier) (Barrier base.stamp))))
-      by_tests true true = base_fits.rests
+      by_tests : (latest full : Bool)
+          → ClassFits (cond (latest && full) Copy (cond latest (InlineBarrier barrier) (Barrier base.stamp)))
+      by_tests true true = tt
       by_tests true false = fits barrier (barrier_candidate_shown bounds entries barrier is)
       by_tests false full = base_fits.rests
 
-  pub remedy_fits : RemedyFits object (latest_of entries) (remedy_of bounds entries)
-  unfolding remedy_of remedy_by class_of
-  remedy_fits = by_tests (is_latest entries base) (is_full bounds entries base)
+  class_fits : ClassFits (class_of bounds entries)
+  unfolding class_of
+  class_fits = by_tests (is_latest entries base) (is_full bounds entries base)
     where
-      by_tests : (latest full : Bool) → RemedyFits object (latest_of entries) (remedy_by base.stamp
-          (cond (latest && full) (Method base)
+      by_tests : (latest full : Bool) → ClassFits (cond (latest && full) (Method base)
           (cond latest (InlineMethod base)
-          (barrier_class bounds entries base.stamp (barrier_candidate bounds entries)))))
+          (barrier_class bounds entries base.stamp (barrier_candidate bounds entries))))
       by_tests true true = tt
-      by_tests true false = base_fits.candidate
+      by_tests true false = base_fits
       by_tests false full = barrier_fits (barrier_candidate bounds entries) refl
+
+  members_fit : (sets : List SetOf) (class : Class) → ClassFits class → ClassFits (with_members bounds sets class)
+  unfolding with_members
+  members_fit sets (Method candidate) fit = tt
+  members_fit sets (InlineMethod candidate) fit =
+      inline_by bounds sets ClassFits candidate
+      (λ member first. numbered object candidate fit.candidate (λ it. not (is_in_sets sets it.0)) member first)
+      (λ none all. fit) (λ none differ. fit.rests)
+  members_fit sets Copy fit = tt
+  members_fit sets (InlineBarrier candidate) fit = fit
+  members_fit sets (Barrier prior) fit = fit
+  members_fit sets (Needs member) fit = fit
+
+  copy_fits : (other : Option ObjectId) → lowest_other object base.group ≡ other
+      → RemedyFits object (latest_of entries) (copy_by base.stamp other)
+  copy_fits None is = base_fits.rests
+  copy_fits (Some other) is =
+      numbered object base base_fits.candidate (λ it. not ((it.0).0 == object.0)) other is
+
+  by_class : (class : Class) → ClassFits class → RemedyFits object (latest_of entries) (remedy_by object base class)
+  unfolding remedy_by
+  by_class (Method candidate) fit = tt
+  by_class (InlineMethod candidate) fit = fit.candidate
+  by_class Copy fit = copy_fits (lowest_other object base.group) refl
+  by_class (InlineBarrier candidate) fit = fit
+  by_class (Barrier prior) fit = fit
+  by_class (Needs member) fit = fit
+
+pub remedy_fits : (bounds : ℕ) (sets : List SetOf) (object : ObjectId)
+    → CandidatesFit object (candidates_of (entries_of object sets))
+    → RemedyFits object (latest_of (entries_of object sets)) (remedy_of bounds sets object)
+unfolding remedy_of class_in
+remedy_fits bounds sets object fits =
+    let entries : List ObjectHistory = entries_of object sets in
+    by_class bounds object entries fits (class_in bounds sets object)
+    (members_fit bounds object entries fits sets (class_of bounds entries)
+    (class_fits bounds object entries fits))
 
 -- ---- what is added
 
@@ -122,6 +208,8 @@ module _ (mend : Mend) (object : ObjectId) (low : 1 ≤ (mend.client).0) (high :
   pub made_fits : (remedy : Remedy) (candidate : Candidate) → RemedyFits object mend.latest remedy
       → MakesCandidate mend remedy candidate → CandidateFits object candidate
   made_fits Nothing candidate fits made = absurd made
+  made_fits (Unshown member) candidate fits made = absurd made
+  made_fits (Unplanned other) candidate fits made = absurd made
   made_fits (Shown shown) candidate fits made = subst (CandidateFits object) (sym made.0) fits
   made_fits (Fresh barrier prior) candidate fits made =
       subst (CandidateFits object) (sym made.0) (fresh_fits barrier prior fits made.1)
@@ -130,6 +218,8 @@ module _ (mend : Mend) (object : ObjectId) (low : 1 ≤ (mend.client).0) (high :
 pub stored_version_fits : (remedy : Remedy) (version stored : Option ObjState) → IfSome version VersionFits
     → AddsVersion remedy version stored → IfSome stored VersionFits
 stored_version_fits Nothing version stored fits has = absurd has
+stored_version_fits (Unshown member) version stored fits has = absurd has
+stored_version_fits (Unplanned other) version stored fits has = absurd has
 stored_version_fits (Shown candidate) version stored fits has =
     subst (λ (it : Option ObjState). IfSome it VersionFits) (sym has.1) tt
 stored_version_fits (Fresh true prior) version stored fits has =

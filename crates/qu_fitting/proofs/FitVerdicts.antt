@@ -28,6 +28,7 @@ use Rattle.qu_frames.specs.declared.verdict.ClassCode.{ClassCode}
 use Rattle.qu_frames.specs.declared.verdict.ClassCode.TheVariants.{InlineMethod, Copy, InlineBarrier, Barrier, Needs}
 use Rattle.qu_frames.specs.declared.verdict.Refusal.{Refusal}
 use Rattle.qu_frames.specs.declared.verdict.Refusal.TheVariants.{HistoryFull, Thin, NotCurrent, NotMethod, Spent, TimeSpent, UnknownObject, Sound}
+use Rattle.qu_frames.specs.declared.verdict.Refusal.TheVariants as refusal
 use Rattle.qu_frames.specs.declared.verdict.Verdict.TheVariants.{Done, Told, Already, Mended, Refused}
 use Rattle.qu_frames.specs.Formats.{class_form, refusal_form, stamp_from, after_told, stamps_form, verdict_form}
 use Rattle.qu_fitting.specs.Fits.{ValueFits}
@@ -64,6 +65,10 @@ module _ (object : ObjectId) (within : object.0 ≤ OBJECT_IDS - 1) where
   pub full_fits : verdict_form.Fits (Refused (HistoryFull object))
   unfolding refusal_form
   full_fits = refused_fits _ (((omega arith, omega arith), refl), (omega arith, within))
+
+  pub needs_fits : verdict_form.Fits (Refused (refusal.Needs object))
+  unfolding refusal_form
+  needs_fits = refused_fits _ (((omega arith, omega arith), refl), (omega arith, within))
 
   pub sound_fits : verdict_form.Fits (Refused (Sound object))
   unfolding refusal_form

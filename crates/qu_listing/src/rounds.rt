@@ -8,7 +8,8 @@ use super::names::{put_count, put_object, put_party};
 use super::stood::{Round, Stood, Why};
 use super::told::{LinePart, put_all};
 use qu_base::{NoMemory, Party};
-use qu_client::{Client, Kept, Phase, Work};
+use qu_client::{Client, Phase, Work};
+use qu_question::Kept;
 use qu_world::World;
 
 /// Writes what became of the round of a client that stood so, in the world behind the event.

@@ -17,6 +17,10 @@ mod kept;
 #[cfg(test)]
 mod machine;
 #[cfg(test)]
+mod members;
+#[cfg(test)]
 mod random_class;
+#[cfg(test)]
+mod random_members;
 #[cfg(test)]
 mod versions;

@@ -25,7 +25,8 @@ use Rattle.qu_frames.specs.Verdict.{same_verdict}
 use Rattle.qu_client.specs.declared.state.ClientState.{ClientState}
 use Rattle.qu_client.specs.declared.work.Counted.{Counted}
 use Rattle.qu_client.specs.declared.work.Work.{Work}
-use Rattle.qu_client.specs.State.{Stepped, keep_all}
+use Rattle.qu_client.specs.State.{Stepped}
+use Rattle.qu_question.specs.Kept.{keep_all}
 use Rattle.qu_client.specs.Steps.{stays, ends, identical_verdicts, judged, counts, has_replied, is_asking, with_verdict, client_on_frame}
 use Rattle.qu_world.proofs.Each.{each_append}
 

@@ -20,17 +20,12 @@ use Rattle.qu_history.specs.Sets.{histories, entries_of, latest_of, order_of}
 use Rattle.qu_history.proofs.Method.{order_of_most}
 use Rattle.qu_history.proofs.RightSeals.{culled_whole}
 use Rattle.qu_objects.specs.declared.act.Method.{Method}
-use Rattle.qu_objects.specs.declared.kind.Value.{Value}
 use Rattle.qu_objects.specs.declared.state.ObjState.{ObjState}
 use Rattle.qu_objects.specs.Digesting.{act_digest}
 use Rattle.qu_objects.specs.Parts.{are_parts}
-use Rattle.qu_objects.specs.Performing.{performed_answer, performed_values}
 use Rattle.qu_kept.specs.declared.repeats.Standing.TheVariants.{Fresh}
-use Rattle.qu_kept.specs.Performing.{row_by, state_after}
 use Rattle.qu_kept.specs.Standing.{standing_of}
 use Rattle.qu_kept.proofs.StandingLaws.{fresh_where}
-use Rattle.qu_objects.proofs.Single.{values_one}
-use Rattle.qu_kept.proofs.OneObject.{performed_to}
 use Rattle.qu_frames.specs.declared.verdict.Refusal.{Refusal}
 use Rattle.qu_frames.specs.declared.verdict.Refusal.TheVariants as refusal
 use Rattle.qu_rows.specs.declared.decision.Accepted.{Accepted}
@@ -38,11 +33,10 @@ use Rattle.qu_rows.specs.declared.decision.Decision.{Decision}
 use Rattle.qu_rows.specs.declared.decision.Decision.TheVariants.{Answers, Waits}
 use Rattle.qu_rows.specs.State.{ReplicaState, own_candidates, own_latest}
 use Rattle.qu_rows.specs.Rows.{Asked, asked_of, asked_at, refuse, shown_of, base_version, fresh_stamp, fresh_act, is_held, repeated, row_unknown, row_thin, row_retry, row_current, row_method, row_version, row_kept, row_time, row_full, row_done, decide_act, decision_on}
-use Rattle.qu_fitting.proofs.CarriedOne.{versions_one, done_one}
+use Rattle.qu_fitting.proofs.CarriedEach.{accepted_each, fresh_candidates, versions_made, versions_each, done_each}
 use Rattle.qu_rows.specs.Table.{first_given}
 use Rattle.qu_claims.specs.Grounds.{IsGround}
 use Rattle.qu_accepts.proofs.Grounds.{IsBase, is_base, above_held}
-use Rattle.qu_runs.proofs.Small.{single}
 use Rattle.qu_quick.specs.Done.{parts_on, act_on, done_verdict, IsReady}
 
 -- ---- small ones
@@ -89,6 +83,12 @@ module _ (state : ReplicaState) (client : ClientId) (number : ℕ) (set : SetOf)
 
   abbrev shown : List ObjectHistory
   shown = entries_of set.object (set ∷ [])
+
+  abbrev bases : ObjectId → Candidate
+  bases it = base
+
+  abbrev befores : ObjectId → ObjState
+  befores it = version
 
   abbrev fresh : Candidate
   fresh = record { stamp = fresh_stamp asked set.object; prior = base.stamp; group = [] }
@@ -167,7 +167,7 @@ module _ (state : ReplicaState) (client : ClientId) (number : ℕ) (set : SetOf)
       let stands : standing_of client number act (parts_on set method) (version ∷ []) ≡ Fresh =
       (fresh_where client number act (parts_on set method) (version ∷ []) fits refl).1 (ready.lower, tt) in
       ap (λ (states : List ObjState). repeated (standing_of client number act (parts_on set method) states))
-      (versions_one state asked object version version_found) ∙ ap repeated stands
+      (versions_each state asked bases befores objects (version_found, tt)) ∙ ap repeated stands
 
   time : row_time state asked objects ≡ None
   unfolding row_time
@@ -184,26 +184,16 @@ module _ (state : ReplicaState) (client : ClientId) (number : ℕ) (set : SetOf)
 
   -- ---- what is decided
 
-  after : (value : Value) × (performed_values (parts_on set method) (version.value ∷ []) ≡ value ∷ [])
-  after = single (performed_values (parts_on set method) (version.value ∷ []))
-      (values_one (parts_on set method) version.value refl)
-
   -- what is accepted: the fresh candidate, with the version that the act makes of the base's
   pub accepted_one : List Accepted
-  accepted_one = record {
-    object = set.object;
-    candidate = fresh;
-    state = Some (state_after (row_by client number (parts_on set method) (version.value ∷ [])) after.0 [] version);
-  } ∷ []
+  accepted_one =
+      accepted_each (fresh_candidates state asked bases befores)
+      (versions_made state asked bases befores (parts_on set method)) objects
 
   done : row_done state asked (parts_on set method) objects
       ≡ Some (Answers (done_verdict client number set method version) accepted_one)
   unfolding accepted_one
-  done =
-      done_one state asked (parts_on set method) object fresh version
-      (state_after (row_by client number (parts_on set method) (version.value ∷ [])) after.0 [] version)
-      (performed_answer (parts_on set method) (version.value ∷ [])) fresh_is version_found
-      (performed_to client number (parts_on set method) (fresh.stamp ∷ []) version after.0 refl refl after.1) refl
+  done = done_each state asked bases befores (parts_on set method) (tt, tt) (ready.method, tt) (version_found, tt)
 
   decided : decision_on state asked (act_on set method)
       ≡ Answers (done_verdict client number set method version) accepted_one

@@ -33,11 +33,14 @@ use Rattle.qu_accepts.proofs.Grounds.{IsBase, is_base}
 use Rattle.qu_client.specs.declared.whom.Whom.{Whom}
 use Rattle.qu_client.specs.declared.whom.Whom.TheVariants.{Preferred}
 use Rattle.qu_client.specs.declared.work.Work.{Work}
-use Rattle.qu_client.specs.declared.question.Question.{Question}
+use Rattle.qu_question.specs.declared.question.Question.{Question}
 use Rattle.qu_client.specs.declared.state.ClientState.{ClientState}
-use Rattle.qu_client.specs.Question.{operation_objects, set_of, are_full, are_current, asked_upon}
+use Rattle.qu_question.specs.Named.{operation_objects}
+use Rattle.qu_question.specs.Question.{set_of, sets_of, are_full, are_current, needed_in, named_for, asked_upon}
+use Rattle.qu_question.proofs.Building.{named_for-none, one_current}
 use Rattle.qu_client.specs.Rounds.{is_asked, requests_from, work_asking, begins}
-use Rattle.qu_client.specs.State.{Stepped, unmarked}
+use Rattle.qu_client.specs.State.{Stepped}
+use Rattle.qu_question.specs.Kept.{unmarked}
 use Rattle.qu_client.specs.Steps.{client_invoke, next_number}
 use Rattle.qu_claims.specs.Quick.{first_sets, asked_first}
 use Rattle.qu_quick.proofs.DoneRows.{entries_here}
@@ -57,7 +60,8 @@ enough_not_few a b enough = grind (arith, nat_tests)
 -- where each object has a quorum of entries and is of class METHOD, the operation is asked of the preferred replicas
 asked_current : (bounds : ℕ) (what : Op) (objects : List ObjectId) (sets : List SetOf) → are_full bounds sets ≡ true
     → are_current bounds sets (operation_objects what) ≡ true
-    → asked_upon bounds what objects sets ≡ record { sets = sets; body = body_of what; all = false }
+    → asked_upon bounds what objects sets
+    ≡ record { named = objects; sets = sets; body = body_of what; all = false }
 asked_current bounds what objects sets full current = rw (full, current) refl
 
 module _ (state : ClientState) (object : ObjectId) (method : Method) where
@@ -75,7 +79,12 @@ module _ (state : ClientState) (object : ObjectId) (method : Method) where
   -- the first round of the act
   abbrev pub first_work : Work
   first_work = work_asking act (next_number state.last_request) 1
-      (record { sets = first_set ∷ []; body = body.Act ((object, method) ∷ []); all = false })
+      (record {
+        named = object ∷ [];
+        sets = first_set ∷ [];
+        body = body.Act ((object, method) ∷ []);
+        all = false;
+      })
 
   module _ (base : Candidate) (current : method_at state.keys.bounds (entries_of object (first_set ∷ [])) ≡ Some base)
     where
@@ -97,12 +106,22 @@ module _ (state : ClientState) (object : ObjectId) (method : Method) where
       is_current : are_current state.keys.bounds (first_set ∷ []) (object ∷ []) ≡ true
       is_current = rw current refl
 
+      -- no other object is named
+      named_is : named_for state.keys.bounds 1 (unmarked state.kept) (object ∷ []) ≡ object ∷ []
+      named_is =
+          named_for-none state.keys.bounds 1 (unmarked state.kept) (object ∷ [])
+          (ap (λ (sets : List SetOf). needed_in state.keys.bounds sets (object ∷ [])) first_sets-one
+          ∙ one_current state.keys.bounds (first_set ∷ []) object base current)
+
       pub invoke_is : client_invoke state act ≡ begins (record state { kept = unmarked state.kept }) first_work
       invoke_is =
           let begun : Question → Stepped =
           λ question. begins (record state { kept = unmarked state.kept })
           (work_asking act (next_number state.last_request) 1 question) in
-          ap (λ (sets : List SetOf). begun (asked_upon state.keys.bounds act (object ∷ []) sets)) first_sets-one
+          ap (λ (named : List ObjectId).
+          begun (asked_upon state.keys.bounds act named (sets_of state.keys.bounds 1 (unmarked state.kept) named)))
+          named_is
+          ∙ ap (λ (sets : List SetOf). begun (asked_upon state.keys.bounds act (object ∷ []) sets)) first_sets-one
           ∙ ap begun (asked_current state.keys.bounds act (object ∷ []) (first_set ∷ []) full is_current)
 
 -- ---- whom it asks

@@ -28,7 +28,8 @@ use Rattle.qu_client.specs.declared.whom.Whom.TheVariants.{Preferred}
 use Rattle.qu_client.specs.declared.work.Work.{Work}
 use Rattle.qu_client.specs.Rounds.{first_object, requests, request_of}
 use Rattle.qu_client.specs.Rounds as rounds
-use Rattle.qu_client.specs.State.{Stepped, unmarked}
+use Rattle.qu_client.specs.State.{Stepped}
+use Rattle.qu_question.specs.Kept.{unmarked}
 use Rattle.qu_client.specs.Steps.{client_invoke, next_number}
 use Rattle.qu_trace.specs.declared.event.Event.TheVariants.{Invoke}
 use Rattle.qu_trace.specs.declared.trace.Entry.{Entry}

@@ -19,7 +19,7 @@ use Rattle.qu_client.specs.declared.work.Work.{Work}
 use Rattle.qu_client.specs.Steps.{client_invoke, client_step, client_tick}
 use Rattle.qu_client.specs.Sound.{NumbersWithin}
 use Rattle.qu_client.proofs.Cases.{OfEach, step_cases, tick_cases, invoke_cases}
-use Rattle.qu_client.specs.declared.kept.Kept.{Kept}
+use Rattle.qu_question.specs.declared.kept.Kept.{Kept}
 use Rattle.qu_client.proofs.Laws.{NumbersWithin-opening, NumbersWithin-step, NumbersWithin-tick, NumbersWithin-invoke, client_step-me, client_tick-me, client_invoke-me}
 use Rattle.qu_trace.specs.Faulty.{is_same, is_faulty}
 use Rattle.qu_trace.specs.declared.trace.Setup.{Setup}
@@ -146,7 +146,7 @@ balances_each me state =
         counts = λ kept work replica number round verdict culled held is counting.
             let one = working state work is in omega (arith, none, one);
         ends = λ kept work end held is. let some = an_end me state.work end in omega (arith, some);
-        rests = λ kept work held is more. let one = working state work is in omega (arith, none, one);
+        rests = λ kept work named held is _ more. let one = working state work is in omega (arith, none, one);
         ticks = λ work ticks is. let one = working state work is in omega (arith, none, one);
       };
       begins = λ kept work held next. let one = working state next.last next.is in omega (arith, none, one);

@@ -1,44 +1,43 @@
 -- What a reply to a query, and to a request to mend an object, tells of its replica.
-use Rattle.std.proofs.Common.{◌≡◌, ℕ, ◌<◌, Bool, true, false, cond, List, [], ◌∷◌, length, Option, None, Some, inl, inr, refl, sym, subst, ap, ◌∙◌, arith, ltb}
-use Rattle.std.specs.Prelude.{option_map, option_and_then, find, nat_le, ◌==◌}
-use Rattle.std.proofs.lemmas.Bool.{cases_Bool, leb-false, eqb-true}
+use Rattle.std.proofs.Common.{◌≡◌, ℕ, true, false, cond, Bool, List, [], ◌∷◌, length, map, Option, None, Some, refl, sym, subst, ap, ◌∙◌, ltb}
+use Rattle.std.specs.Prelude.{option_map, option_and_then}
+use Rattle.std.specs.List.{AllByRecursion, AllZip}
 use Rattle.std.proofs.lemmas.Option.{none-some, same_Some}
 use Rattle.qu_base.specs.declared.party.ClientId.{ClientId}
 use Rattle.qu_base.specs.declared.party.ObjectId.{ObjectId}
+use Rattle.qu_base.specs.Bounds.{quorum}
 use Rattle.qu_stamp.specs.declared.stamp.Stamp.{Stamp}
 use Rattle.qu_stamp.specs.declared.candidate.Candidate.{Candidate}
 use Rattle.qu_stamp.specs.Stamp.{is_below}
 use Rattle.qu_stamp.proofs.Order.{is_below-not_chain}
 use Rattle.qu_history.specs.declared.sets.SetOf.{SetOf}
-use Rattle.qu_history.specs.Sets.{histories, entries_of, latest_of, method_at}
+use Rattle.qu_history.specs.Sets.{latest_of}
 use Rattle.qu_history.proofs.Stamps.{not_below_latest}
 use Rattle.qu_objects.specs.declared.act.Method.{Method}
 use Rattle.qu_objects.specs.declared.query.Ask.{Ask}
 use Rattle.qu_objects.specs.declared.answer.Answer.{Answer}
 use Rattle.qu_objects.specs.declared.state.ObjState.{ObjState}
+use Rattle.qu_kept.specs.Performing.{values_of}
+use Rattle.qu_kept.proofs.EachObject.{objects_named}
 use Rattle.qu_frames.specs.declared.frame.Body.TheVariants as body
 use Rattle.qu_frames.specs.declared.verdict.Refusal.{Refusal}
-use Rattle.qu_frames.specs.declared.verdict.Refusal.TheVariants.{NotCurrent, NotMethod, UnknownObject}
+use Rattle.qu_frames.specs.declared.verdict.Refusal.TheVariants as refusal
 use Rattle.qu_frames.specs.declared.verdict.Verdict.{Verdict}
 use Rattle.qu_frames.specs.declared.verdict.Verdict.TheVariants as verdict
 use Rattle.qu_rows.specs.declared.decision.Accepted.{Accepted}
 use Rattle.qu_rows.specs.declared.decision.Decision.{Decision}
 use Rattle.qu_rows.specs.declared.decision.Decision.TheVariants.{Answers, Waits}
+use Rattle.qu_rows.specs.declared.mending.Mending.{Mending}
+use Rattle.qu_rows.specs.declared.mending.Mending.TheVariants as mending
+use Rattle.qu_rows.specs.declared.remedy.Remedy.{Remedy}
 use Rattle.qu_rows.specs.State.{ReplicaState, own_candidates, own_latest}
-use Rattle.qu_rows.specs.Rows.{asked_of, Asked, refuse, shown_of, method_base, base_version, row_unknown, row_thin, row_retry, row_current, row_method, row_version, row_kept, row_time, row_full, row_done, row_told, decide_act, decide_ask, decision_on, class_told, row_few, decision_by, mending_on, decide_repair, mend_asked}
+use Rattle.qu_rows.specs.Rows.{asked_of, Asked, refuse, shown_of, method_base, base_version, row_unknown, row_thin, row_retry, row_current, row_method, row_version, row_kept, row_time, row_full, row_done, row_told, decide_act, decide_ask, decision_on, row_few, decision_by, mending_on, decide_repair, mend_asked}
 use Rattle.qu_rows.specs.Table.{first_given}
 use Rattle.qu_versions.specs.Versions.{version_at}
-use Rattle.qu_fitting.proofs.CarriedOne.{told_one}
-use Rattle.qu_replies.specs.Replies.{TellsQuery, IsOfUpdate}
+use Rattle.qu_fitting.proofs.CarriedEach.{with_stamps, AreBases, AreBefores, told_each}
+use Rattle.qu_fitting.proofs.PassedRows.{base_of, before_of, passed_current, passed_method, passed_version}
 use Rattle.qu_accepts.proofs.Grounds.{is_base}
-use Rattle.qu_runs.proofs.Small.{some_of}
-use Rattle.qu_fitting.proofs.PassedRows.{before_of, passed_version as each_version}
-use Rattle.qu_rows.proofs.Allowed.{no_first, not_first, unmapped, method_at_none}
-use Rattle.qu_rows.specs.declared.mending.Mending.TheVariants as mending
-use Rattle.qu_rows.specs.declared.mending.Mending.{Mending}
-use Rattle.qu_base.specs.Bounds.{quorum}
-use Rattle.qu_frames.specs.declared.verdict.Refusal.TheVariants as refusal
-use Rattle.qu_rows.specs.declared.remedy.Remedy.{Remedy}
+use Rattle.qu_replies.specs.Replies.{HasTold, TellsQuery, IsOfUpdate}
 
 -- ---- the rows
 
@@ -100,22 +99,22 @@ module _ (P : Decision → Type 0) (refused : (why : Refusal) → P (refuse why)
       → Gives P (row_retry state asked parts objects)
       → (row_method state asked objects ≡ None → row_version state asked objects ≡ None
       → Gives P (row_kept state asked parts objects))
-      → (row_unknown state asked ≡ None → row_current state asked objects ≡ None
-      → row_method state asked objects ≡ None → row_version state asked objects ≡ None
+      → (row_current state asked objects ≡ None → row_method state asked objects ≡ None
+      → row_version state asked objects ≡ None → row_kept state asked parts objects ≡ None
       → Gives P (row_done state asked parts objects))
       → P (decide_act state asked parts objects)
   unfolding decide_act
   act_cases parts objects retry kept done =
-      past P _ _ unknown (λ is_known.
+      past P _ _ unknown (λ _.
       past P _ _ thin (λ _.
       past P _ _ retry (λ _.
       past P _ _ (current objects) (λ is_current.
       past P _ _ (method objects) (λ is_method.
       past P _ _ (version objects) (λ is_version.
-      past P _ _ (kept is_method is_version) (λ _.
+      past P _ _ (kept is_method is_version) (λ is_new.
       past P _ _ (time objects) (λ _.
       past P _ _ (full objects) (λ _.
-      past P _ _ (done is_known is_current is_method is_version) (λ _. no_row))))))))))
+      past P _ _ (done is_current is_method is_version is_new) (λ _. no_row))))))))))
 
   ask_cases : (parts : List (ObjectId × Ask)) (objects : List ObjectId)
       → (row_current state asked objects ≡ None → row_method state asked objects ≡ None
@@ -149,133 +148,111 @@ module _ (P : Decision → Type 0) (refused : (why : Refusal) → P (refuse why)
   mend_cases target mended =
       past P _ _ unknown (λ _. past P _ _ thin (λ _. past P _ _ (few target) (λ _. last_row _ mended)))
 
--- ---- what is so where a row decided nothing
+-- the version is that of the base
+pub version_of_base : (state : ReplicaState) (asked : Asked) (object : ObjectId) (base : Candidate)
+    (version : ObjState) → method_base state asked object ≡ Some base
+    → base_version state asked object ≡ Some version → version_at object base.stamp state.versions ≡ Some version
+version_of_base state asked object base version is_base is_version =
+    let stored : Candidate → Option ObjState = λ it. version_at object it.stamp state.versions in
+    sym (ap (option_and_then stored) is_base) ∙ is_version
 
--- no object of the sets is unknown, so one that has a base is known
-pub known_by_base : (number bounds : ℕ) (sets : List SetOf) (object : ObjectId) (base : Candidate)
-    → find (λ (set : SetOf). nat_le number (set.object).0) sets ≡ None
-    → method_at bounds (entries_of object sets) ≡ Some base → object.0 < number
-unfolding entries_of
-known_by_base number bounds [] object base none is = absurd (none-some base (sym (method_at_none bounds) ∙ is))
-known_by_base number bounds (set ∷ sets) object base none is =
-    let good : (nat_le number (set.object).0 ≡ false)
-    × (find (λ (it : SetOf). nat_le number (it.object).0) sets ≡ None) = not_first _ set _ none in
-    let below : (set.object).0 < number = leb-false _ _ good.0 in
-    elim (cases_Bool ((set.object).0 == object.0)) [
-      | inl here ↦
-          let equal : (set.object).0 ≡ object.0 = eqb-true _ _ here in
-          omega arith
-      | inr there ↦
-          known_by_base number bounds sets object base good.1
-          (ap (λ (test : Bool). method_at bounds (cond test (histories set.entries) (entries_of object sets)))
-          (sym there) ∙ is)
-    ]
-
-module _ (state : ReplicaState) (asked : Asked) (object : ObjectId) where
-  pub passed_unknown : row_unknown state asked ≡ None
-      → find (λ (set : SetOf). nat_le (length state.histories) (set.object).0) asked.sets ≡ None
-  unfolding row_unknown
-  passed_unknown none = unmapped (λ (set : SetOf). refuse (UnknownObject set.object)) _ none
-
-  pub passed_current : row_current state asked (object ∷ []) ≡ None → is_below (latest_of (shown_of asked object))
-      (own_latest state object) ≡ false
-  unfolding row_current
-  passed_current none = no_first (λ it. NotCurrent it (own_latest state it)) _ object none
-
-  pub passed_method : row_method state asked (object ∷ []) ≡ None → (it : Candidate)
-      × (method_base state asked object ≡ Some it)
-  unfolding row_method
-  passed_method none =
-      some_of (method_base state asked object) (no_first (λ it. NotMethod it (class_told state asked it)) _ object none)
-
-  pub passed_version : row_version state asked (object ∷ []) ≡ None → (it : ObjState)
-      × (base_version state asked object ≡ Some it)
-  passed_version none = (before_of state asked object, (each_version state asked (object ∷ []) none).0)
-
-  -- the version is that of the base
-  pub version_of_base : (base : Candidate) (version : ObjState) → method_base state asked object ≡ Some base
-      → base_version state asked object ≡ Some version → version_at object base.stamp state.versions ≡ Some version
-  version_of_base base version is_base is_version =
-      let stored : Candidate → Option ObjState = λ it. version_at object it.stamp state.versions in
-      sym (ap (option_and_then stored) is_base) ∙ is_version
+-- the objects to which stamps are told
+pub told_objects : (stamp : ObjectId → Stamp) (objects : List ObjectId)
+    → map (λ (it : ObjectId × Stamp). it.0) (with_stamps stamp objects) ≡ objects
+told_objects stamp [] = refl
+told_objects stamp (object ∷ later) = ap (λ (objects : List ObjectId). object ∷ objects) (told_objects stamp later)
 
 -- ---- a query
 
--- a query is told from the version of its base
-abbrev QueryTells : ReplicaState → List SetOf → ObjectId → Ask → Decision → Type 0
-QueryTells state sets object ask (Answers (verdict.Done stamps answer) accepted) = ⊥
-QueryTells state sets object ask (Answers (verdict.Told stamps answer) accepted) =
-    TellsQuery state sets ((object, ask) ∷ []) stamps answer
-QueryTells state sets object ask (Answers (verdict.Already answer) accepted) = ⊥
-QueryTells state sets object ask (Answers (verdict.Mended other stamp) accepted) = ⊥
-QueryTells state sets object ask (Answers (verdict.Refused why) accepted) = Unit {0}
-QueryTells state sets object ask (Waits missing) = Unit {0}
+-- a query is told from the versions of its bases
+abbrev QueryTells : ReplicaState → List SetOf → List (ObjectId × Ask) → Decision → Type 0
+QueryTells state sets query (Answers (verdict.Done stamps answer) accepted) = ⊥
+QueryTells state sets query (Answers (verdict.Told stamps answer) accepted) =
+    TellsQuery state sets query stamps answer
+QueryTells state sets query (Answers (verdict.Already answer) accepted) = ⊥
+QueryTells state sets query (Answers (verdict.Mended other stamp) accepted) = ⊥
+QueryTells state sets query (Answers (verdict.Refused why) accepted) = Unit {0}
+QueryTells state sets query (Waits missing) = Unit {0}
 
-told_tells : (state : ReplicaState) (asked : Asked) (object : ObjectId) (ask : Ask)
-    → row_current state asked (object ∷ []) ≡ None → row_method state asked (object ∷ []) ≡ None
-    → row_version state asked (object ∷ []) ≡ None
-    → Gives (QueryTells state asked.sets object ask) (row_told state asked ((object, ask) ∷ []) (object ∷ []))
-told_tells state asked object ask is_current is_method is_version decision given =
-    let found : (it : Candidate) × (method_base state asked object ≡ Some it) =
-    passed_method state asked object is_method in
-    let base : Candidate = found.0 in
-    let stored : (it : ObjState) × (base_version state asked object ≡ Some it) =
-    passed_version state asked object is_version in
-    let version : ObjState = stored.0 in
-    let latest : Stamp = latest_of (shown_of asked object) in
-    let is_latest : base.stamp ≡ latest = (is_base state.keys.bounds (shown_of asked object) base found.1).latest in
-    subst (QueryTells state asked.sets object ask)
-    (same_Some _ decision (sym (told_one state asked ((object, ask) ∷ []) object base version found.1 stored.1)
-    ∙ given))
-    (record {
-      of_parts = refl;
-      values = version.value ∷ [];
-      each = (
+module _ (state : ReplicaState) (asked : Asked) where
+  -- no candidate of the replica is above what the sets show of the object
+  abbrev IsCurrent : ObjectId → Type 0
+  IsCurrent object = is_below (latest_of (shown_of asked object)) (own_latest state object) ≡ false
+
+  each_told : (objects : List ObjectId)
+      → AreBases state asked (base_of state asked) (before_of state asked) objects
+      → AreBefores state asked (base_of state asked) (before_of state asked) objects
+      → AllByRecursion IsCurrent objects
+      → AllZip (HasTold state asked.sets) (with_stamps (λ object. (base_of state asked object).stamp) objects)
+      (values_of (map (before_of state asked) objects))
+  each_told [] bases befores current = tt
+  each_told (object ∷ later) bases befores current =
+      let base : Candidate = base_of state asked object in
+      let latest : Stamp = latest_of (shown_of asked object) in
+      let is_latest : base.stamp ≡ latest =
+      (is_base state.keys.bounds (shown_of asked object) base bases.0).latest in (
         record {
           base = base;
           is_told = refl;
-          method = found.1;
-          version = version;
-          of_base = version_of_base state asked object base version found.1 stored.1;
+          method = bases.0;
+          version = before_of state asked object;
+          of_base = version_of_base state asked object base (before_of state asked object) bases.0 befores.0;
           value_is = refl;
           nothing_above = λ held holding.
               ap (λ (stamp : Stamp). is_below stamp held.stamp) is_latest ∙
-              is_below-not_chain latest (own_latest state object) held.stamp
-              (passed_current state asked object is_current)
+              is_below-not_chain latest (own_latest state object) held.stamp current.0
               (not_below_latest (own_candidates state object) held holding);
         },
-        tt,
-      );
+        each_told later bases.1 befores.1 current.1,
+      )
+
+told_tells : (state : ReplicaState) (asked : Asked) (query : List (ObjectId × Ask))
+    → row_current state asked (objects_named query) ≡ None → row_method state asked (objects_named query) ≡ None
+    → row_version state asked (objects_named query) ≡ None
+    → Gives (QueryTells state asked.sets query) (row_told state asked query (objects_named query))
+told_tells state asked query is_current is_method is_version decision given =
+    let objects : List ObjectId = objects_named query in
+    let bases : AreBases state asked (base_of state asked) (before_of state asked) objects =
+    passed_method state asked objects is_method in
+    let befores : AreBefores state asked (base_of state asked) (before_of state asked) objects =
+    passed_version state asked objects is_version in
+    subst (QueryTells state asked.sets query)
+    (same_Some _ decision
+    (sym (told_each state asked (base_of state asked) (before_of state asked) query bases befores) ∙ given))
+    (record {
+      of_parts = told_objects (λ object. (base_of state asked object).stamp) objects;
+      values = values_of (map (before_of state asked) objects);
+      each = each_told state asked objects bases befores (passed_current state asked objects is_current);
       answer_is = refl;
     })
 
-query_tells : (state : ReplicaState) (asked : Asked) (object : ObjectId) (ask : Ask)
-    → QueryTells state asked.sets object ask (decision_on state asked (body.Ask ((object, ask) ∷ [])))
-query_tells state asked object ask =
-    ask_cases (QueryTells state asked.sets object ask) (λ why. tt) (λ missing. tt) state asked ((object, ask) ∷ [])
-    (object ∷ []) (told_tells state asked object ask)
+query_tells : (state : ReplicaState) (asked : Asked) (query : List (ObjectId × Ask))
+    → QueryTells state asked.sets query (decision_on state asked (body.Ask query))
+query_tells state asked query =
+    ask_cases (QueryTells state asked.sets query) (λ why. tt) (λ missing. tt) state asked query (objects_named query)
+    (told_tells state asked query)
 
-module _ (state : ReplicaState) (client : ClientId) (number : ℕ) (sets : List SetOf) (object : ObjectId)
-    (ask : Ask) (accepted : List Accepted) where
-  -- a told answer is that of the version of a base that the replica has nothing above
+module _ (state : ReplicaState) (client : ClientId) (number : ℕ) (sets : List SetOf) (query : List (ObjectId × Ask))
+    (accepted : List Accepted) where
+  -- a told answer is that of the versions of bases that the replica has nothing above
   pub told_is_true : (stamps : List (ObjectId × Stamp)) (answer : Answer)
-      → decision_on state (asked_of client number sets (body.Ask ((object, ask) ∷ [])))
-      (body.Ask ((object, ask) ∷ [])) ≡ Answers (verdict.Told stamps answer) accepted
-      → TellsQuery state sets ((object, ask) ∷ []) stamps answer
+      → decision_on state (asked_of client number sets (body.Ask query)) (body.Ask query)
+      ≡ Answers (verdict.Told stamps answer) accepted
+      → TellsQuery state sets query stamps answer
   told_is_true stamps answer decided =
-      subst (QueryTells state sets object ask) decided
-      (query_tells state (asked_of client number sets (body.Ask ((object, ask) ∷ []))) object ask)
+      subst (QueryTells state sets query) decided
+      (query_tells state (asked_of client number sets (body.Ask query)) query)
 
   -- and nothing is done
   pub query_is_no_update : (given : Verdict) → IsOfUpdate given
-      → decision_on state (asked_of client number sets (body.Ask ((object, ask) ∷ [])))
-      (body.Ask ((object, ask) ∷ [])) ≡ Answers given accepted → ⊥
+      → decision_on state (asked_of client number sets (body.Ask query)) (body.Ask query)
+      ≡ Answers given accepted → ⊥
   query_is_no_update (verdict.Done those said) of_update decided =
-      subst (QueryTells state sets object ask) decided
-      (query_tells state (asked_of client number sets (body.Ask ((object, ask) ∷ []))) object ask)
+      subst (QueryTells state sets query) decided
+      (query_tells state (asked_of client number sets (body.Ask query)) query)
   query_is_no_update (verdict.Already said) of_update decided =
-      subst (QueryTells state sets object ask) decided
-      (query_tells state (asked_of client number sets (body.Ask ((object, ask) ∷ []))) object ask)
+      subst (QueryTells state sets query) decided
+      (query_tells state (asked_of client number sets (body.Ask query)) query)
   query_is_no_update (verdict.Told those said) of_update decided = absurd of_update
   query_is_no_update (verdict.Mended other stamp) of_update decided = absurd of_update
   query_is_no_update (verdict.Refused why) of_update decided = absurd of_update

@@ -1,5 +1,5 @@
 -- What the replies of a run say is true of the replicas that sent them.
-use Rattle.std.proofs.Common.{◌≡◌, ℕ, ◌<◌, ◌≤◌, true, List, [], ◌∷◌, length, IsTrue, inl, refl, sym, subst, ap, ◌∙◌, arith, None, Some}
+use Rattle.std.proofs.Common.{◌≡◌, ℕ, ◌<◌, ◌≤◌, true, List, [], ◌∷◌, length, IsTrue, refl, sym, subst, ap, ◌∙◌, arith, None, Some}
 use Rattle.std.proofs.lemmas.Bool.{false≢true}
 use Rattle.qu_base.specs.declared.party.ClientId.{ClientId}
 use Rattle.qu_base.specs.declared.party.ObjectId.{ObjectId}
@@ -30,9 +30,10 @@ use Rattle.qu_accepts.proofs.Handled.{handled_upon}
 use Rattle.qu_claims.specs.Handled.{IsHandled}
 use Rattle.qu_replies.specs.Replies.{culled_in, HasDone, TellsDone, TellsAlready, TellsQuery, IsOfUpdate, IsReplyTo}
 use Rattle.qu_runs.specs.Plain.{ArePlain}
-use Rattle.qu_claims.specs.Parts.{Names}
 use Rattle.qu_replies.proofs.QueryReplies.{told_is_true, query_is_no_update, mend_is_not_told, mend_is_no_update}
-use Rattle.qu_replies.proofs.TrueReplies.{AddsWhatIsFound, done_is_true, already_is_true, act_is_not_told, update_is_known}
+use Rattle.qu_replies.proofs.EachOf.{first_weaker}
+use Rattle.qu_replies.proofs.Retries.{AddsWhatIsFound, HasVersions}
+use Rattle.qu_replies.proofs.TrueReplies.{done_is_true, already_is_true, act_is_not_told, update_is_known}
 use Rattle.qu_claims.specs.Carried.{Brings}
 use Rattle.qu_claims.specs.Handled.{is_of_setup}
 use Rattle.qu_claims.specs.Handling.{Handles}
@@ -65,45 +66,6 @@ module _ (state : ReplicaState) (client : ClientId) (number : ℕ) (sets : List 
   abbrev Decides : Body → Verdict → Type 0
   Decides asks given = decision_on state (asked_of client number sets asks) asks ≡ Answers given accepted
 
-  done_of_act : (stamps : List (ObjectId × Stamp)) (answer : Answer) (parts : List (ObjectId × Method))
-      → ((object : ObjectId) → Names parts object → AddsWhatIsFound state object accepted)
-      → IsTrue (has_parts (body.Act parts)) → Decides (body.Act parts) (verdict.Done stamps answer)
-      → TellsDone (accept_all state accepted) client number (act_digest client number parts) parts stamps answer
-  done_of_act stamps answer [] adds some decided = absurd (false≢true some)
-  done_of_act stamps answer ((object, method) ∷ []) adds some decided =
-      done_is_true state client number sets object method accepted answer (adds object (inl refl)) stamps decided
-  done_of_act stamps answer (first ∷ second ∷ later) adds some decided = absurd (false≢true some)
-
-  already_of_act : (answer : Answer) (parts : List (ObjectId × Method)) → IsTrue (has_parts (body.Act parts))
-      → Decides (body.Act parts) (verdict.Already answer)
-      → TellsAlready state client number (act_digest client number parts) sets parts answer
-  already_of_act answer [] some decided = absurd (false≢true some)
-  already_of_act answer ((object, method) ∷ []) some decided =
-      already_is_true state client number sets object method accepted answer decided
-  already_of_act answer (first ∷ second ∷ later) some decided = absurd (false≢true some)
-
-  act_not_told : (stamps : List (ObjectId × Stamp)) (answer : Answer) (parts : List (ObjectId × Method))
-      → IsTrue (has_parts (body.Act parts)) → Decides (body.Act parts) (verdict.Told stamps answer) → ⊥
-  act_not_told stamps answer [] some decided = absurd (false≢true some)
-  act_not_told stamps answer ((object, method) ∷ []) some decided =
-      act_is_not_told state client number sets object method accepted answer stamps decided
-  act_not_told stamps answer (first ∷ second ∷ later) some decided = absurd (false≢true some)
-
-  told_of_query : (stamps : List (ObjectId × Stamp)) (answer : Answer) (query : List (ObjectId × Ask))
-      → IsTrue (has_parts (body.Ask query)) → Decides (body.Ask query) (verdict.Told stamps answer)
-      → TellsQuery state sets query stamps answer
-  told_of_query stamps answer [] some decided = absurd (false≢true some)
-  told_of_query stamps answer ((object, ask) ∷ []) some decided =
-      told_is_true state client number sets object ask accepted stamps answer decided
-  told_of_query stamps answer (first ∷ second ∷ later) some decided = absurd (false≢true some)
-
-  query_no_update : (given : Verdict) → IsOfUpdate given → (query : List (ObjectId × Ask))
-      → IsTrue (has_parts (body.Ask query)) → Decides (body.Ask query) given → ⊥
-  query_no_update given of_update [] some decided = absurd (false≢true some)
-  query_no_update given of_update ((object, ask) ∷ []) some decided =
-      query_is_no_update state client number sets object ask accepted given of_update decided
-  query_no_update given of_update (first ∷ second ∷ later) some decided = absurd (false≢true some)
-
   some_parts : (parts : List (ObjectId × Method)) → IsTrue (has_parts (body.Act parts)) → 1 ≤ length parts
   some_parts [] some = absurd (false≢true some)
   some_parts (part ∷ later) some = omega arith
@@ -113,13 +75,14 @@ module _ (state : ReplicaState) (client : ClientId) (number : ℕ) (sets : List 
   update_to_act given of_update (body.Act parts) some decided =
       record { parts = parts; is_act = refl; some = some_parts parts some }
   update_to_act given of_update (body.Ask query) some decided =
-      absurd (query_no_update given of_update query some decided)
+      absurd (query_is_no_update state client number sets query accepted given of_update decided)
   update_to_act given of_update (body.Mend target) some decided =
       absurd (mend_is_no_update state client number sets target accepted given of_update decided)
 
   told_to_ask : (stamps : List (ObjectId × Stamp)) (answer : Answer) (asks : Body) → IsTrue (has_parts asks)
       → Decides asks (verdict.Told stamps answer) → IsAskOf asks
-  told_to_ask stamps answer (body.Act parts) some decided = absurd (act_not_told stamps answer parts some decided)
+  told_to_ask stamps answer (body.Act parts) some decided =
+      absurd (act_is_not_told state client number sets parts some accepted answer stamps decided)
   told_to_ask stamps answer (body.Ask query) some decided = record { query = query; is_ask = refl }
   told_to_ask stamps answer (body.Mend target) some decided =
       absurd (mend_is_not_told state client number sets target accepted stamps answer decided)
@@ -127,22 +90,30 @@ module _ (state : ReplicaState) (client : ClientId) (number : ℕ) (sets : List 
 -- ---- replies
 
 -- what a replica that tells Done has it has in each state that holds the same
+has_alike : (new other : ReplicaState) → HoldsAlike new other → (client : ClientId) (number : ℕ) (act : Digest)
+    (kept : Answer) (told : ObjectId × Stamp) → HasDone other client number act kept told
+    → HasDone new client number act kept told
+has_alike new other alike client number act kept told it = record {
+  candidate = it.candidate;
+  is_told = it.is_told;
+  held = ap (holds it.candidate) (alike_candidates new other alike told.0) ∙ it.held;
+  of_client = it.of_client;
+  of_act = it.of_act;
+  version = it.version;
+  of_candidate = ap (version_at told.0 it.candidate.stamp) alike.versions ∙ it.of_candidate;
+  keeps = it.keeps;
+}
+
 done_alike : (new other : ReplicaState) → HoldsAlike new other → (client : ClientId) (number : ℕ) (act : Digest)
     (parts : List (ObjectId × Method)) (stamps : List (ObjectId × Stamp)) (answer : Answer)
     → TellsDone other client number act parts stamps answer → TellsDone new client number act parts stamps answer
 done_alike new other alike client number act parts stamps answer done = record {
   of_parts = done.of_parts;
-  each = All-weaker (HasDone other client number act answer) (HasDone new client number act answer)
-      (λ told it. record {
-        candidate = it.candidate;
-        is_told = it.is_told;
-        held = ap (holds it.candidate) (alike_candidates new other alike told.0) ∙ it.held;
-        of_client = it.of_client;
-        of_act = it.of_act;
-        version = it.version;
-        of_candidate = ap (version_at told.0 it.candidate.stamp) alike.versions ∙ it.of_candidate;
-        keeps = it.keeps;
-      }) stamps done.each;
+  each = All-weaker (λ (told : ObjectId × Stamp). (kept : Answer) × HasDone other client number act kept told)
+      (λ (told : ObjectId × Stamp). (kept : Answer) × HasDone new client number act kept told)
+      (λ told it. (it.0, has_alike new other alike client number act it.0 told it.1)) stamps done.each;
+  first = first_weaker (HasDone other client number act answer) (HasDone new client number act answer)
+      (has_alike new other alike client number act answer) stamps done.first;
 }
 
 module _ (trace : Trace) (is_run : IsRun trace) (have : ArePlain trace) (at : ℕ)
@@ -217,19 +188,18 @@ module _ (trace : Trace) (is_run : IsRun trace) (have : ArePlain trace) (at : �
   module _ (stamps : List (ObjectId × Stamp)) (answer : Answer) where
     -- where Done is told the replica has the act's candidates afterwards
     pub done_in_run : (reply : IsReplyTo trace at replica client number round (verdict.Done stamps answer))
-        → ((object : ObjectId) → Names (act_of_update (verdict.Done stamps answer) tt reply).parts object
-        → AddsWhatIsFound (reply.handles).mid object reply.accepted)
+        → HasVersions (reply.handles).mid → AddsWhatIsFound (reply.handles).mid reply.accepted
         → TellsDone reply.new client number
         (act_digest client number (act_of_update (verdict.Done stamps answer) tt reply).parts)
         (act_of_update (verdict.Done stamps answer) tt reply).parts stamps answer
-    done_in_run reply adds =
+    done_in_run reply has adds =
         let given : Verdict = verdict.Done stamps answer in
         let mid : ReplicaState = (reply.handles).mid in
         let act : IsActOn reply.body = act_of_update given tt reply in
         done_alike reply.new (accept_all mid reply.accepted) (reply_accepts given reply) client number
         (act_digest client number act.parts) act.parts stamps answer
-        (done_of_act mid client number (culled_in mid reply.sets) reply.accepted stamps answer act.parts adds
-        (act_has_parts given tt reply) (decided_act given tt reply))
+        (done_is_true mid client number (culled_in mid reply.sets) act.parts (act_has_parts given tt reply)
+        reply.accepted answer has adds stamps (decided_act given tt reply))
 
     -- an answer is told to a query, from what the replica has
     pub ask_of_told : (reply : IsReplyTo trace at replica client number round (verdict.Told stamps answer))
@@ -244,9 +214,8 @@ module _ (trace : Trace) (is_run : IsRun trace) (have : ArePlain trace) (at : �
         answer
     told_in_run reply =
         let asked : IsAskOf reply.body = ask_of_told reply in
-        told_of_query (reply.handles).mid client number (culled_in (reply.handles).mid reply.sets) reply.accepted
-        stamps answer asked.query
-        (subst (λ (it : Body). IsTrue (has_parts it)) asked.is_ask (body_has_parts (verdict.Told stamps answer) reply))
+        told_is_true (reply.handles).mid client number (culled_in (reply.handles).mid reply.sets) asked.query
+        reply.accepted stamps answer
         (ap (λ (it : Body).
         decision_on (reply.handles).mid (asked_at (reply.handles).mid client number reply.sets it) it)
         (sym asked.is_ask)
@@ -260,5 +229,6 @@ module _ (trace : Trace) (is_run : IsRun trace) (have : ArePlain trace) (at : �
       (culled_in (reply.handles).mid reply.sets) (act_of_update (verdict.Already answer) tt reply).parts answer
   already_in_run answer reply =
       let given : Verdict = verdict.Already answer in
-      already_of_act (reply.handles).mid client number (culled_in (reply.handles).mid reply.sets) reply.accepted
-      answer (act_of_update given tt reply).parts (act_has_parts given tt reply) (decided_act given tt reply)
+      already_is_true (reply.handles).mid client number (culled_in (reply.handles).mid reply.sets)
+      (act_of_update given tt reply).parts (act_has_parts given tt reply) reply.accepted answer
+      (decided_act given tt reply)

@@ -1,8 +1,8 @@
 -- What a verdict says is true of the replica that gives it.
-use Rattle.std.proofs.Common.{◌≡◌, ℕ, ◌<◌, Bool, true, false, ◌&&◌, cond, List, [], ◌∷◌, ◌++◌, length, Option, None, Some, refl, sym, subst, ap, ◌∙◌}
-use Rattle.std.specs.List.{cons_option}
-use Rattle.std.specs.Prelude.{option_map}
-use Rattle.std.proofs.lemmas.List.Elements.{All-nil, All-cons}
+use Rattle.std.proofs.Common.{◌≡◌, ℕ, List, [], ◌∷◌, ◌++◌, map, Option, None, Some, IsTrue, refl, sym, subst, ap, ◌∙◌, inl, inr}
+use Rattle.std.specs.Option.{option_or}
+use Rattle.std.specs.List.{AllByRecursion}
+use Rattle.std.proofs.lemmas.List.Elements.{All-from_recursion}
 use Rattle.std.proofs.lemmas.Option.{none-some, same_Some}
 use Rattle.qu_base.specs.declared.party.ClientId.{ClientId}
 use Rattle.qu_base.specs.declared.party.Digest.{Digest}
@@ -14,315 +14,257 @@ use Rattle.qu_history.specs.History.{holds}
 use Rattle.qu_history.proofs.Rising.{holds_pushed}
 use Rattle.qu_objects.specs.declared.act.Method.{Method}
 use Rattle.qu_objects.specs.declared.answer.Answer.{Answer}
-use Rattle.qu_objects.specs.declared.kind.Value.{Value}
 use Rattle.qu_objects.specs.declared.state.KeptRow.{KeptRow}
 use Rattle.qu_objects.specs.declared.state.ObjState.{ObjState}
 use Rattle.qu_objects.specs.Digesting.{act_digest}
-use Rattle.qu_objects.specs.Performing.{performed_answer, performed_values}
+use Rattle.qu_objects.specs.Parts.{are_parts}
+use Rattle.qu_objects.specs.Performing.{performed_answer}
 use Rattle.qu_kept.specs.declared.repeats.Standing.{Standing}
 use Rattle.qu_kept.specs.declared.repeats.Standing.TheVariants.{Fresh, Already, Spent}
-use Rattle.qu_kept.specs.Performing.{row_by, state_after}
+use Rattle.qu_kept.specs.Performing.{values_of, row_by}
 use Rattle.qu_kept.specs.Rows.{client_of}
 use Rattle.qu_kept.specs.Standing.{standing_of}
-use Rattle.qu_kept.proofs.KeyedLaws.{own_item}
-use Rattle.qu_objects.proofs.Single.{values_one}
-use Rattle.qu_kept.proofs.OneObject.{performed_to}
+use Rattle.qu_kept.proofs.EachObject.{objects_named, distinct_parts, values_are-before, values_before}
+use Rattle.qu_kept.proofs.KeyedLaws.{own_item, all_both}
 use Rattle.qu_frames.specs.declared.frame.Body.TheVariants as body
 use Rattle.qu_frames.specs.declared.verdict.Verdict.{Verdict}
 use Rattle.qu_frames.specs.declared.verdict.Verdict.TheVariants as verdict
+use Rattle.qu_versions.specs.declared.stored.Stored.{Stored}
+use Rattle.qu_versions.specs.Versions.{version_at}
+use Rattle.qu_versions.proofs.Lookup.{version_at-append, append_grows}
 use Rattle.qu_rows.specs.declared.decision.Accepted.{Accepted}
 use Rattle.qu_rows.specs.declared.decision.Decision.{Decision}
 use Rattle.qu_rows.specs.declared.decision.Decision.TheVariants.{Answers, Waits}
+use Rattle.qu_rows.specs.Allowed.{MayAcceptAll, MayDecide}
 use Rattle.qu_rows.specs.State.{ReplicaState, own_candidates}
-use Rattle.qu_fitting.specs.Holding.{accept_all}
-use Rattle.qu_rows.specs.Rows.{asked_of, Asked, method_base, base_version, fresh_stamp, fresh_act, fresh_stamps, fresh_versions, is_held, standing_in, done_again, repeated, row_unknown, row_retry, row_current, row_method, row_version, row_kept, row_done, decide_act, decision_on}
+use Rattle.qu_rows.specs.Rows.{asked_of, Asked, method_base, base_version, fresh_stamp, standing_in, repeated, row_unknown, row_current, row_method, row_version, row_kept, row_done, decide_act, decision_on}
 use Rattle.qu_rows.specs.Table.{first_given}
-use Rattle.qu_versions.specs.Versions.{is_stored, version_at}
-use Rattle.qu_fitting.proofs.CarriedOne.{versions_one, done_one}
-use Rattle.qu_versions.specs.declared.stored.Stored.{Stored}
-use Rattle.qu_versions.proofs.Lookup.{append_grows}
+use Rattle.qu_rows.proofs.Allowed.{decision_on-may}
+use Rattle.qu_fitting.specs.Holding.{accept_all}
+use Rattle.qu_fitting.proofs.AcceptingAll.{accept_all-is}
+use Rattle.qu_fitting.proofs.CarriedEach.{with_stamps, accepted_each, AreBases, AreBefores, done_each, versions_each}
+use Rattle.qu_fitting.proofs.PassedRows.{base_of, before_of, passed_method, passed_version}
+use Rattle.qu_claims.specs.Grounds.{stored_of}
+use Rattle.qu_claims.specs.Parts.{Names}
+use Rattle.qu_accepts.proofs.ActAcceptance.{MakesAll, makes_all, fresh, afters, stored_each, added_to}
+use Rattle.qu_accepts.proofs.Performed.{named_stored}
 use Rattle.qu_replies.specs.Replies.{Keeps, HasDone, TellsDone, HasKept, TellsAlready, IsOfUpdate}
+use Rattle.qu_replies.proofs.EachOf.{each_of_made, first_of_made, first_also, all_first, all_named}
 use Rattle.qu_replies.proofs.KeptActs.{kept_where}
-use Rattle.qu_accepts.proofs.Grounds.{is_base}
-use Rattle.qu_runs.proofs.Small.{single}
-use Rattle.qu_accepts.proofs.ActAcceptance.{candidates_after}
-use Rattle.qu_accepts.proofs.Performed.{version_at-push}
-use Rattle.qu_replies.proofs.QueryReplies.{Gives, unknown, method, version, act_cases, known_by_base, passed_unknown, passed_method, passed_version, version_of_base}
+use Rattle.qu_replies.proofs.Retries.{AddsWhatIsFound, HasVersions, ActTells, told_done, many, stands_so, retry_tells}
+use Rattle.qu_replies.proofs.QueryReplies.{Gives, unknown, act_cases, version_of_base}
 
--- ---- an act
+-- ---- an act that was performed before
 
--- of an act on one object Done is told with the stamp of a candidate that is held, and with its answer
-record DoneOnOne (state : ReplicaState) (client : ClientId) (number : ℕ) (act : Digest) (object : ObjectId)
-    (stamps : List (ObjectId × Stamp)) (answer : Answer) : Type 0 where
-  stamp : Stamp
-  stamps_are : stamps ≡ (object, stamp) ∷ []
-  has : HasDone state client number act answer (object, stamp)
+module _ (state : ReplicaState) (asked : Asked) (parts : List (ObjectId × Method)) (in_order : IsTrue (are_parts parts))
+    (act : Digest) (is_act : asked.act ≡ Some act) where
+  abbrev objects : List ObjectId
+  objects = objects_named parts
 
-one_done : (state : ReplicaState) (client : ClientId) (number : ℕ) (act : Digest) (object : ObjectId)
-    (method : Method) (stamps : List (ObjectId × Stamp)) (answer : Answer)
-    → DoneOnOne state client number act object stamps answer
-    → TellsDone state client number act ((object, method) ∷ []) stamps answer
-one_done state client number act object method stamps answer done =
-    subst (λ (all : List (ObjectId × Stamp)). TellsDone state client number act ((object, method) ∷ []) all answer)
-    (sym done.stamps_are)
-    (record {
-      of_parts = refl;
-      each = All-cons (HasDone state client number act answer) (object, done.stamp) [] done.has
-          (All-nil (HasDone state client number act answer));
-    })
+  module _ (is_method : row_method state asked objects ≡ None) (is_version : row_version state asked objects ≡ None)
+    where
+      bases : AreBases state asked (base_of state asked) (before_of state asked) objects
+      bases = passed_method state asked objects is_method
 
--- where a replica adds one version to an object, and found one under its stamp before, it is the same
-abbrev pub AddsWhatIsFound : ReplicaState → ObjectId → List Accepted → Type 0
-AddsWhatIsFound state object accepted = (stamp : Stamp) (before after : ObjState)
-    → version_at object stamp state.versions ≡ Some before
-    → (accept_all state accepted).versions
-    ≡ state.versions ++ (record { object = object; stamp = stamp; state = after }) ∷ []
-    → before ≡ after
+      befores : AreBefores state asked (base_of state asked) (before_of state asked) objects
+      befores = passed_version state asked objects is_version
 
--- what is done is held, with its version; what was done before is kept by the version on which the act would rest
-abbrev ActTells : ReplicaState → Asked → Digest → ObjectId → Decision → Type 0
-ActTells state asked act object (Answers (verdict.Done stamps answer) accepted) =
-    AddsWhatIsFound state object accepted
-    → DoneOnOne (accept_all state accepted) asked.client asked.number act object stamps answer
-ActTells state asked act object (Answers (verdict.Told stamps answer) accepted) = ⊥
-ActTells state asked act object (Answers (verdict.Already answer) accepted) =
-    HasKept state asked.client asked.number act asked.sets answer object
-ActTells state asked act object (Answers (verdict.Mended other stamp) accepted) = ⊥
-ActTells state asked act object (Answers (verdict.Refused why) accepted) = Unit {0}
-ActTells state asked act object (Waits missing) = Unit {0}
+      abbrev IsBased : ObjectId → Type 0
+      IsBased object = (method_base state asked object ≡ Some (base_of state asked object))
+          × (base_version state asked object ≡ Some (before_of state asked object))
 
-abbrev fresh_of : Asked → ObjectId → Candidate → Candidate
-fresh_of asked object base = record { stamp = fresh_stamp asked object; prior = base.stamp; group = [] }
+      based : AllByRecursion IsBased objects
+      based = all_both (λ object. method_base state asked object ≡ Some (base_of state asked object))
+          (λ object. base_version state asked object ≡ Some (before_of state asked object)) IsBased
+          (λ object base version. (base, version)) objects bases befores
 
--- a version that says Already keeps the act
-keeps_by : (asked : Asked) (part : ObjectId × Method) (act : Digest) → asked.act ≡ Some act → (version : ObjState)
-    (answer : Answer) → standing_in asked (part ∷ []) (version ∷ []) ≡ Already answer
-    → Keeps asked.client asked.number act answer version
-keeps_by asked part act is_act version answer stands =
-    let by : Option Digest → Standing =
-    λ found. elim found [
-      | None ↦ Fresh
-      | Some digest ↦ standing_of asked.client asked.number digest (part ∷ []) (version ∷ [])
-    ] in
-    kept_where asked.client asked.number act part version answer (sym (ap by is_act) ∙ stands)
-
-module _ (state : ReplicaState) (asked : Asked) (object : ObjectId) (method : Method) where
-  abbrev one_part : List (ObjectId × Method)
-  one_part = (object, method) ∷ []
-
-  abbrev stamps_of : List (ObjectId × Stamp)
-  stamps_of = (object, fresh_stamp asked object) ∷ []
-
-  abbrev kept_by : Option ObjState → Option Decision
-  kept_by stored = done_again stamps_of (standing_in asked one_part (cons_option stored []))
-
-  not_held : method_base state asked object ≡ None → is_held state asked object ≡ false
-  unfolding is_held
-  not_held is = rw (is_held, is) refl
-
-  held_where : (base : Candidate) → method_base state asked object ≡ Some base → is_held state asked object ≡ holds
-      (fresh_of asked object base) (own_candidates state object)
-  unfolding is_held
-  held_where base is = rw (is_held, is) refl
-
-  stamps_where : (base : Candidate) → method_base state asked object ≡ Some base
-      → fresh_stamps state asked (object ∷ []) ≡ stamps_of
-  stamps_where base is = rw is refl
-
-  retry_by : (test : Bool) → is_held state asked object ≡ test
-      → row_retry state asked one_part (object ∷ []) ≡ cond (test && true)
-      (done_again (fresh_stamps state asked (object ∷ []))
-      (standing_in asked one_part (fresh_versions state asked (object ∷ [])))) None
-  unfolding row_retry
-  retry_by test is =
-      ap (λ (it : Bool). cond (it && true)
-      (done_again (fresh_stamps state asked (object ∷ []))
-      (standing_in asked one_part (fresh_versions state asked (object ∷ [])))) None) is
-
-  retry_none : method_base state asked object ≡ None → row_retry state asked one_part (object ∷ []) ≡ None
-  retry_none is = retry_by false (not_held is)
-
-  retry_some : (base : Candidate) → method_base state asked object ≡ Some base
-      → row_retry state asked one_part (object ∷ []) ≡ cond
-      (holds (fresh_of asked object base) (own_candidates state object) && true)
-      (kept_by (version_at object (fresh_stamp asked object) state.versions)) None
-  retry_some base is =
-      let test : Bool = holds (fresh_of asked object base) (own_candidates state object) in
-      retry_by test (held_where base is) ∙
-      ap (λ (stamps : List (ObjectId × Stamp)). cond (test && true)
-      (done_again stamps (standing_in asked one_part (fresh_versions state asked (object ∷ [])))) None)
-      (stamps_where base is)
-
-  module _ (act : Digest) (is_act : asked.act ≡ Some act) where
-    -- what stands with the version of a candidate that is held
-    again_tells : (base : Candidate) (version : ObjState)
-        → holds (fresh_of asked object base) (own_candidates state object) ≡ true
-        → version_at object (fresh_stamp asked object) state.versions ≡ Some version
-        → (standing : Standing) → standing_in asked one_part (version ∷ []) ≡ standing
-        → Gives (ActTells state asked act object) (done_again stamps_of standing)
-    unfolding accept_all
-    again_tells base version is_held is_stored Fresh stands decision given = absurd (none-some decision given)
-    again_tells base version is_held is_stored (Spent on number) stands decision given =
-        absurd (none-some decision given)
-    again_tells base version is_held is_stored (Already answer) stands decision given =
-        subst (ActTells state asked act object) (same_Some _ decision given)
-        (λ adds. record {
-          stamp = fresh_stamp asked object;
-          stamps_are = refl;
-          has = record {
-            candidate = fresh_of asked object base;
-            is_told = refl;
-            held = is_held;
-            of_client = refl;
-            of_act = is_act;
-            version = version;
-            of_candidate = is_stored;
-            keeps = keeps_by asked (object, method) act is_act version answer stands;
-          };
-        })
-
-    -- nothing stands with no version
-    none_again : (found : Option Digest) (decision : Decision)
-        → done_again stamps_of (elim found [
-          | None ↦ Fresh
-          | Some digest ↦ standing_of asked.client asked.number digest one_part []
-        ]) ≡ Some decision → ⊥
-    none_again None decision given = none-some decision given
-    none_again (Some digest) decision given = none-some decision given
-
-    kept_tells : (base : Candidate) (holding : Bool) (stored : Option ObjState)
-        → holds (fresh_of asked object base) (own_candidates state object) ≡ holding
-        → version_at object (fresh_stamp asked object) state.versions ≡ stored
-        → Gives (ActTells state asked act object) (cond (holding && true) (kept_by stored) None)
-    kept_tells base false stored is_held is_stored decision given = absurd (none-some decision given)
-    kept_tells base true None is_held is_stored decision given = absurd (none_again asked.act decision given)
-    kept_tells base true (Some version) is_held is_stored decision given =
-        again_tells base version is_held is_stored (standing_in asked one_part (version ∷ [])) refl decision given
-
-    -- a retry is told what is stored with the candidate that is held
-    retry_tells : (found : Option Candidate) → method_base state asked object ≡ found
-        → Gives (ActTells state asked act object) (row_retry state asked one_part (object ∷ []))
-    retry_tells None is decision given = absurd (none-some decision (sym (retry_none is) ∙ given))
-    retry_tells (Some base) is decision given =
-        kept_tells base _ _ refl refl decision (sym (retry_some base is) ∙ given)
-
-    -- an act that was performed before is told what the version of its base keeps
-    repeated_tells : (base : Candidate) (version : ObjState) → method_base state asked object ≡ Some base
-        → version_at object base.stamp state.versions ≡ Some version
-        → (standing : Standing) → standing_in asked one_part (version ∷ []) ≡ standing
-        → Gives (ActTells state asked act object) (repeated standing)
-    repeated_tells base version is_base of_base Fresh stands decision given = absurd (none-some decision given)
-    repeated_tells base version is_base of_base (Spent on number) stands decision given =
-        subst (ActTells state asked act object) (same_Some _ decision given) tt
-    repeated_tells base version is_base of_base (Already answer) stands decision given =
-        subst (ActTells state asked act object) (same_Some _ decision given)
-        (record {
-          base = base;
-          method = is_base;
-          version = version;
-          of_base = of_base;
-          keeps = keeps_by asked (object, method) act is_act version answer stands;
-        })
-
-    already_tells : row_method state asked (object ∷ []) ≡ None → row_version state asked (object ∷ []) ≡ None
-        → Gives (ActTells state asked act object) (row_kept state asked one_part (object ∷ []))
-    unfolding row_kept
-    already_tells is_method is_version decision given =
-        let found : (it : Candidate) × (method_base state asked object ≡ Some it) =
-        passed_method state asked object is_method in
-        let stored : (it : ObjState) × (base_version state asked object ≡ Some it) =
-        passed_version state asked object is_version in
-        repeated_tells found.0 stored.0 found.1
-        (version_of_base state asked object found.0 stored.0 found.1 stored.1)
-        (standing_in asked one_part (stored.0 ∷ [])) refl decision
-        (ap (λ (versions : List ObjState). repeated (standing_in asked one_part versions))
-        (sym (versions_one state asked object stored.0 stored.1)) ∙ given)
-
--- a version that is added is found, where none other was found under its stamp before
-found_after : (object : ObjectId) (stamp : Stamp) (versions : List Stored) (version : ObjState)
-    → ((before : ObjState) → version_at object stamp versions ≡ Some before → before ≡ version)
-    → (found : Option ObjState) → version_at object stamp versions ≡ found
-    → version_at object stamp (versions ++ (record { object = object; stamp = stamp; state = version }) ∷ [])
-    ≡ Some version
-found_after object stamp versions version only None none = version_at-push object stamp versions version none
-found_after object stamp versions version only (Some before) is =
-    append_grows versions (record { object = object; stamp = stamp; state = version } ∷ []) _ refl object stamp before
-    is
-    ∙ ap (λ (it : ObjState). Some it) (only before is)
-
--- the replica holds what it accepted, and finds the version that it stored
-accepted_tells : (state : ReplicaState) (asked : Asked) (act : Digest) → asked.act ≡ Some act
-    → (object : ObjectId) (base : Candidate) (version : ObjState) (answer : Answer)
-    → Keeps asked.client asked.number act answer version
-    → object.0 < length state.histories
-    → AddsWhatIsFound state object
-    (record { object = object; candidate = fresh_of asked object base; state = Some version } ∷ [])
-    → DoneOnOne (accept_all state
-    (record { object = object; candidate = fresh_of asked object base; state = Some version } ∷ [])) asked.client
-    asked.number act object ((object, fresh_stamp asked object) ∷ []) answer
-unfolding accept_all
-accepted_tells state asked act is_act object base version answer keeps known adds =
-    let fresh : Candidate = fresh_of asked object base in
-    record {
-      stamp = fresh_stamp asked object;
-      stamps_are = refl;
-      has = record {
-        candidate = fresh;
-        is_told = refl;
-        held = ap (holds fresh) (candidates_after object.0 fresh state.histories known)
-            ∙ holds_pushed fresh (own_candidates state object);
-        of_client = refl;
-        of_act = is_act;
-        version = version;
-        of_candidate = found_after object (fresh_stamp asked object) state.versions version
-            (λ before is. adds (fresh_stamp asked object) before version is refl)
-            (version_at object (fresh_stamp asked object) state.versions) refl;
+      kept_on : (object : ObjectId) (kept : Answer) → IsBased object
+          → Keeps asked.client asked.number act kept (before_of state asked object)
+          → HasKept state asked.client asked.number act asked.sets kept object
+      kept_on object kept is keeps = record {
+        base = base_of state asked object;
+        method = is.0;
+        version = before_of state asked object;
+        of_base = version_of_base state asked object (base_of state asked object) (before_of state asked object) is.0
+            is.1;
         keeps = keeps;
-      };
-    }
+      }
 
-done_tells : (state : ReplicaState) (asked : Asked) (object : ObjectId) (method : Method)
-    → asked.act ≡ Some (act_digest asked.client asked.number ((object, method) ∷ []))
-    → row_unknown state asked ≡ None → row_current state asked (object ∷ []) ≡ None
-    → row_method state asked (object ∷ []) ≡ None → row_version state asked (object ∷ []) ≡ None
-    → Gives (ActTells state asked (act_digest asked.client asked.number ((object, method) ∷ [])) object)
-    (row_done state asked ((object, method) ∷ []) (object ∷ []))
-done_tells state asked object method is_act is_known is_current is_method is_version decision given =
-    let parts : List (ObjectId × Method) = (object, method) ∷ [] in
+      told_already : (answer : Answer)
+          → standing_of asked.client asked.number act parts (map (before_of state asked) objects) ≡ Already answer
+          → TellsAlready state asked.client asked.number act asked.sets parts answer
+      told_already answer stands =
+          let keeps = kept_where asked.client asked.number act parts (map (before_of state asked) objects) answer
+          in_order (many state asked parts in_order act is_act (before_of state asked)) stands in
+          let Keeps-some : ObjState → Type 0 =
+          λ version. (kept : Answer) × Keeps asked.client asked.number act kept version in
+          let Kept : ObjectId → Type 0 =
+          λ object. (kept : Answer) × HasKept state asked.client asked.number act asked.sets kept object in
+          let object_of : ObjectId × Method → ObjectId = λ part. part.0 in
+          record {
+            each = All-from_recursion (λ (part : ObjectId × Method). Kept part.0) parts
+                (each_of_made object_of Kept parts
+                (all_both IsBased (λ object. Keeps-some (before_of state asked object)) Kept
+                (λ object is kept. (kept.0, kept_on object kept.0 is kept.1)) objects based
+                (each_of_made (before_of state asked) Keeps-some objects keeps.0)));
+            first = first_of_made object_of (HasKept state asked.client asked.number act asked.sets answer) parts
+                (first_also IsBased (λ object. Keeps asked.client asked.number act answer (before_of state asked object))
+                (HasKept state asked.client asked.number act asked.sets answer) objects
+                (λ object is kept. kept_on object answer is kept) based
+                (first_of_made (before_of state asked) (Keeps asked.client asked.number act answer) objects keeps.1));
+          }
+
+      repeated_tells : (standing : Standing)
+          → standing_of asked.client asked.number act parts (map (before_of state asked) objects) ≡ standing
+          → Gives (ActTells state asked act parts) (repeated standing)
+      repeated_tells Fresh stands decision given = absurd (none-some decision given)
+      repeated_tells (Spent on number) stands decision given =
+          subst (ActTells state asked act parts) (same_Some _ decision given) tt
+      repeated_tells (Already answer) stands decision given =
+          subst (ActTells state asked act parts) (same_Some _ decision given) (told_already answer stands)
+
+      already_tells : Gives (ActTells state asked act parts) (row_kept state asked parts objects)
+      unfolding row_kept
+      already_tells decision given =
+          repeated_tells (standing_of asked.client asked.number act parts (map (before_of state asked) objects)) refl
+          decision
+          (sym (ap (λ (versions : List ObjState). repeated (standing_in asked parts versions))
+          (versions_each state asked (base_of state asked) (before_of state asked) objects befores)
+          ∙ ap repeated (stands_so state asked parts in_order act is_act (map (before_of state asked) objects))) ∙ given)
+
+-- ---- an act that is performed
+
+-- what all stored versions of parts are, that of a named object is
+stored_has : (candidates : ObjectId → Candidate) (versions : ObjectId → ObjState) (P : Stored → Type 0)
+    (parts : List (ObjectId × Method)) → AllByRecursion P (stored_of candidates versions parts) → (object : ObjectId)
+    → Names parts object → P (record {
+      object = object;
+      stamp = (candidates object).stamp;
+      state = versions object;
+    })
+stored_has candidates versions P [] all object names = absurd names
+stored_has candidates versions P (part ∷ later) all object (inl same) =
+    subst (λ (it : ObjectId). P (record { object = it; stamp = (candidates it).stamp; state = versions it })) same all.0
+stored_has candidates versions P (part ∷ later) all object (inr names) =
+    stored_has candidates versions P later all.1 object names
+
+module _ (state : ReplicaState) (asked : Asked) (parts : List (ObjectId × Method)) (in_order : IsTrue (are_parts parts))
+    (is_act : asked.act ≡ Some (act_digest asked.client asked.number parts))
+    (made : MakesAll state asked parts (accepted_each (fresh state asked parts) (afters state asked parts)
+    (objects_named parts))) where
+  abbrev act : Digest
+  act = act_digest asked.client asked.number parts
+
+  abbrev candidates : ObjectId → Candidate
+  candidates = fresh state asked parts
+
+  abbrev versions : ObjectId → ObjState
+  versions = afters state asked parts
+
+  abbrev accepted : List Accepted
+  accepted = accepted_each (fresh state asked parts) (afters state asked parts) (objects_named parts)
+
+  abbrev new : ReplicaState
+  new = accept_all state accepted
+
+  abbrev answer : Answer
+  answer = performed_answer parts (values_of (map (before_of state asked) (objects_named parts)))
+
+  new_versions : new.versions ≡ state.versions ++ stored_of candidates versions parts
+  new_versions =
+      ap (λ (it : ReplicaState). it.versions) (accept_all-is state accepted)
+      ∙ ap (λ (it : List Stored). state.versions ++ it) (stored_each candidates versions parts)
+
+  -- each version that is stored is found, unless another one was there before
+  found_after : AddsWhatIsFound state accepted → (object : ObjectId) → Names parts object → (found : Option ObjState)
+      → version_at object (candidates object).stamp state.versions ≡ found
+      → version_at object (candidates object).stamp new.versions ≡ Some (versions object)
+  found_after adds object names None none =
+      ap (version_at object (candidates object).stamp) new_versions
+      ∙ version_at-append object (candidates object).stamp state.versions (stored_of candidates versions parts)
+      ∙ ap (λ (it : Option ObjState). option_or it
+      (version_at object (candidates object).stamp (stored_of candidates versions parts))) none
+      ∙ named_stored candidates versions parts object names
+  found_after adds object names (Some before) is =
+      append_grows state.versions (stored_of candidates versions parts) new.versions new_versions object
+      (candidates object).stamp before is
+      ∙ ap (λ (it : ObjState). Some it)
+      (stored_has candidates versions (λ (it : Stored). (one : ObjState)
+      → version_at it.object it.stamp state.versions ≡ Some one → one ≡ it.state) parts
+      (subst (AllByRecursion (λ (it : Stored). (one : ObjState)
+      → version_at it.object it.stamp state.versions ≡ Some one → one ≡ it.state))
+      (stored_each candidates versions parts) adds) object names before is)
+
+  -- the answer that is told is that which each version keeps
+  answer_is : performed_answer parts (values_before asked.client asked.number parts (fresh_stamp asked)
+      (before_of state asked)) ≡ answer
+  answer_is = ap (performed_answer parts) (sym (values_are-before asked.client asked.number parts (fresh_stamp asked)
+      (before_of state asked) parts))
+
+  kept_after : (object : ObjectId) → Keeps asked.client asked.number act answer (versions object)
+  kept_after object =
+      let row : KeptRow = row_by asked.client asked.number parts
+      (values_before asked.client asked.number parts (fresh_stamp asked) (before_of state asked)) in
+      subst (λ (it : Answer). Keeps asked.client asked.number act it (versions object)) answer_is
+      (own_item client_of row (before_of state asked object).kept)
+
+  done_after : MayAcceptAll state accepted → AddsWhatIsFound state accepted → (object : ObjectId) → Names parts object
+      → HasDone new asked.client asked.number act answer (object, fresh_stamp asked object)
+  done_after may adds object names = record {
+    candidate = candidates object;
+    is_told = refl;
+    held = ap (holds (candidates object))
+        (added_to state new asked parts accepted made (record {
+          me = refl;
+          keys = refl;
+          histories = refl;
+          versions = refl;
+        }) in_order may object names) ∙ holds_pushed (candidates object) (own_candidates state object);
+    of_client = refl;
+    of_act = is_act;
+    version = versions object;
+    of_candidate = found_after adds object names (version_at object (candidates object).stamp state.versions) refl;
+    keeps = kept_after object;
+  }
+
+  performed_tells : MayAcceptAll state accepted → AddsWhatIsFound state accepted
+      → TellsDone new asked.client asked.number act parts (with_stamps (fresh_stamp asked) (objects_named parts)) answer
+  performed_tells may adds =
+      let HasIt : ObjectId → Type 0 =
+      λ object. HasDone new asked.client asked.number act answer (object, fresh_stamp asked object) in
+      told_done new asked.client asked.number act parts (fresh_stamp asked) answer
+      (all_named (λ object. (kept : Answer)
+      × HasDone new asked.client asked.number act kept (object, fresh_stamp asked object)) parts
+      (λ object names. (answer, done_after may adds object names)))
+      (all_first HasIt parts in_order (all_named HasIt parts (done_after may adds)))
+
+done_tells : (state : ReplicaState) (asked : Asked) (parts : List (ObjectId × Method))
+    → IsTrue (are_parts parts) → asked.act ≡ Some (act_digest asked.client asked.number parts)
+    → row_current state asked (objects_named parts) ≡ None → row_method state asked (objects_named parts) ≡ None
+    → row_version state asked (objects_named parts) ≡ None → row_kept state asked parts (objects_named parts) ≡ None
+    → Gives (ActTells state asked (act_digest asked.client asked.number parts) parts)
+    (row_done state asked parts (objects_named parts))
+done_tells state asked parts in_order is_act is_current is_method is_version is_new decision given =
     let act : Digest = act_digest asked.client asked.number parts in
-    let found : (it : Candidate) × (method_base state asked object ≡ Some it) =
-    passed_method state asked object is_method in
-    let base : Candidate = found.0 in
-    let before : (it : ObjState) × (base_version state asked object ≡ Some it) =
-    passed_version state asked object is_version in
-    let value : (it : Value) × (performed_values parts ((before.0).value ∷ []) ≡ it ∷ []) =
-    single (performed_values parts ((before.0).value ∷ [])) (values_one parts (before.0).value refl) in
-    let answer : Answer = performed_answer parts ((before.0).value ∷ []) in
-    let row : KeptRow = row_by asked.client asked.number parts ((before.0).value ∷ []) in
-    let after : ObjState = state_after row value.0 [] before.0 in
-    let fresh : Candidate = fresh_of asked object base in
-    let is_fresh : fresh_act state asked object ≡ Some fresh = ap (option_map (fresh_of asked object)) found.1 in
-    let known : object.0 < length state.histories =
-    known_by_base (length state.histories) state.keys.bounds asked.sets object base
-    (passed_unknown state asked object is_known) found.1 in
-    subst (ActTells state asked act object)
+    let made : MakesAll state asked parts (accepted_each (fresh state asked parts) (afters state asked parts)
+    (objects_named parts)) =
+    makes_all state asked parts act is_act in_order is_current is_method is_version is_new in
+    subst (ActTells state asked act parts)
     (same_Some _ decision
-    (sym (done_one state asked parts object fresh before.0 after answer is_fresh before.1
-    (performed_to asked.client asked.number parts (fresh_stamp asked object ∷ []) before.0 value.0 refl refl value.1)
-    refl) ∙ given))
-    (accepted_tells state asked act is_act object base after answer (own_item client_of row (before.0).kept) known)
+    (sym (done_each state asked (base_of state asked) (before_of state asked) parts (distinct_parts parts in_order)
+    made.are_bases made.are_befores) ∙ given))
+    (λ has may adds. performed_tells state asked parts in_order is_act made may adds)
 
-act_tells : (state : ReplicaState) (asked : Asked) (object : ObjectId) (method : Method)
-    → asked.act ≡ Some (act_digest asked.client asked.number ((object, method) ∷ []))
-    → ActTells state asked (act_digest asked.client asked.number ((object, method) ∷ [])) object
-    (decision_on state asked (body.Act ((object, method) ∷ [])))
-act_tells state asked object method is_act =
-    let act : Digest = act_digest asked.client asked.number ((object, method) ∷ []) in
-    act_cases (ActTells state asked act object) (λ why. tt) (λ missing. tt) state asked ((object, method) ∷ [])
-    (object ∷ [])
-    (retry_tells state asked object method act is_act (method_base state asked object) refl)
-    (already_tells state asked object method act is_act)
-    (done_tells state asked object method is_act)
+act_tells : (state : ReplicaState) (asked : Asked) (parts : List (ObjectId × Method)) → IsTrue (are_parts parts)
+    → asked.act ≡ Some (act_digest asked.client asked.number parts)
+    → ActTells state asked (act_digest asked.client asked.number parts) parts
+    (decision_on state asked (body.Act parts))
+act_tells state asked parts in_order is_act =
+    let act : Digest = act_digest asked.client asked.number parts in
+    act_cases (ActTells state asked act parts) (λ why. tt) (λ missing. tt) state asked parts (objects_named parts)
+    (retry_tells state asked parts in_order act is_act)
+    (already_tells state asked parts in_order act is_act)
+    (done_tells state asked parts in_order is_act)
 
 -- what is no refusal
 abbrev IsRefusing : Decision → Type 0
@@ -357,35 +299,29 @@ update_is_known state asked parts objects given accepted of_update decided =
     passed_first (row_unknown state asked) _ (Answers given accepted)
     (update_refuses_none given accepted of_update) (unknown IsRefusing (λ why. tt) (λ missing. tt) state asked) decided
 
-module _ (state : ReplicaState) (client : ClientId) (number : ℕ) (sets : List SetOf) (object : ObjectId)
-    (method : Method) (accepted : List Accepted) (answer : Answer) where
+module _ (state : ReplicaState) (client : ClientId) (number : ℕ) (sets : List SetOf)
+    (parts : List (ObjectId × Method)) (in_order : IsTrue (are_parts parts)) (accepted : List Accepted)
+    (answer : Answer) where
   abbrev it_asks : Asked
-  it_asks = asked_of client number sets (body.Act ((object, method) ∷ []))
+  it_asks = asked_of client number sets (body.Act parts)
 
-  -- where Done is told, the replica has the candidate afterwards, and the answer is the kept one
-  pub done_is_true : AddsWhatIsFound state object accepted → (stamps : List (ObjectId × Stamp))
-      → decision_on state it_asks (body.Act ((object, method) ∷ [])) ≡ Answers (verdict.Done stamps answer) accepted
-      → TellsDone (accept_all state accepted) client number (act_digest client number ((object, method) ∷ []))
-      ((object, method) ∷ []) stamps answer
-  done_is_true adds stamps decided =
-      let act : Digest = act_digest client number ((object, method) ∷ []) in
-      one_done (accept_all state accepted) client number act object method stamps answer
-      (subst (ActTells state it_asks act object) decided (act_tells state it_asks object method refl) adds)
+  tells : ActTells state it_asks (act_digest client number parts) parts (decision_on state it_asks (body.Act parts))
+  tells = act_tells state it_asks parts in_order refl
 
-  -- where Already is told, the version of the base keeps the act with its answer
-  pub already_is_true : decision_on state it_asks (body.Act ((object, method) ∷ []))
-      ≡ Answers (verdict.Already answer) accepted
-      → TellsAlready state client number (act_digest client number ((object, method) ∷ [])) sets
-      ((object, method) ∷ []) answer
-  already_is_true decided =
-      let act : Digest = act_digest client number ((object, method) ∷ []) in
-      All-cons (λ (part : ObjectId × Method). HasKept state client number act sets answer part.0) (object, method) []
-      (subst (ActTells state it_asks act object) decided (act_tells state it_asks object method refl))
-      (All-nil (λ (part : ObjectId × Method). HasKept state client number act sets answer part.0))
+  -- where Done is told, the replica has the candidates afterwards, and the answer is that which a version keeps
+  pub done_is_true : HasVersions state → AddsWhatIsFound state accepted → (stamps : List (ObjectId × Stamp))
+      → decision_on state it_asks (body.Act parts) ≡ Answers (verdict.Done stamps answer) accepted
+      → TellsDone (accept_all state accepted) client number (act_digest client number parts) parts stamps answer
+  done_is_true has adds stamps decided =
+      subst (ActTells state it_asks (act_digest client number parts) parts) decided tells has
+      (subst (MayDecide state) decided (decision_on-may state it_asks (body.Act parts) in_order)) adds
+
+  -- where Already is told, the versions of the bases keep the act, the first one with its answer
+  pub already_is_true : decision_on state it_asks (body.Act parts) ≡ Answers (verdict.Already answer) accepted
+      → TellsAlready state client number (act_digest client number parts) sets parts answer
+  already_is_true decided = subst (ActTells state it_asks (act_digest client number parts) parts) decided tells
 
   pub act_is_not_told : (stamps : List (ObjectId × Stamp))
-      → decision_on state it_asks (body.Act ((object, method) ∷ [])) ≡ Answers (verdict.Told stamps answer) accepted
-      → ⊥
+      → decision_on state it_asks (body.Act parts) ≡ Answers (verdict.Told stamps answer) accepted → ⊥
   act_is_not_told stamps decided =
-      let act : Digest = act_digest client number ((object, method) ∷ []) in
-      subst (ActTells state it_asks act object) decided (act_tells state it_asks object method refl)
+      subst (ActTells state it_asks (act_digest client number parts) parts) decided tells

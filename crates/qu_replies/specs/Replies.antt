@@ -1,5 +1,5 @@
 -- What a replica's reply says of the replica.
-use Rattle.std.specs.Prelude.{◌≡◌, ℕ, true, false, List, map, All, Some}
+use Rattle.std.specs.Prelude.{◌≡◌, ℕ, true, false, List, [], ◌∷◌, map, All, Some}
 use Rattle.std.specs.List.{AllZip}
 use Rattle.qu_base.specs.declared.party.ClientId.{ClientId}
 use Rattle.qu_base.specs.declared.party.Digest.{Digest}
@@ -35,6 +35,11 @@ abbrev pub Keeps : ClientId → ℕ → Digest → Answer → ObjState → Type 
 Keeps client number act answer version =
     row_of client version.kept ≡ Some (record { client = client; number = number; act = act; answer = answer })
 
+-- the first of a list is such
+abbrev pub HoldsOfFirst : {X : Type 0} → (X → Type 0) → List X → Type 0
+HoldsOfFirst P [] = ⊥
+HoldsOfFirst P (first ∷ later) = P first
+
 -- on an object of an update, whose digest is `act`, a replica has the candidate with the stamp that it tells, and
 -- the version of it, which keeps the update with the answer
 pub record HasDone (state : ReplicaState) (client : ClientId) (number : ℕ) (act : Digest) (answer : Answer)
@@ -48,11 +53,13 @@ pub record HasDone (state : ReplicaState) (client : ClientId) (number : ℕ) (ac
   pub of_candidate : version_at told.0 candidate.stamp state.versions ≡ Some version
   pub keeps : Keeps client number act answer version
 
--- a replica that tells Done has a candidate of the update on each of its objects
+-- a replica that tells Done has a candidate of the update on each of its objects, and a version of each that keeps it:
+-- that of the lowest object with the answer that is told
 pub record TellsDone (new : ReplicaState) (client : ClientId) (number : ℕ) (act : Digest)
     (parts : List (ObjectId × Method)) (stamps : List (ObjectId × Stamp)) (answer : Answer) : Type 0 where
   pub of_parts : map (λ (it : ObjectId × Stamp). it.0) stamps ≡ map (λ (part : ObjectId × Method). part.0) parts
-  pub each : All (HasDone new client number act answer) stamps
+  pub each : All (λ (told : ObjectId × Stamp). (kept : Answer) × HasDone new client number act kept told) stamps
+  pub first : HoldsOfFirst (HasDone new client number act answer) stamps
 
 -- on an object of an update, a replica has the version of a base that a quorum holds in the sets, and it keeps the
 -- update with the answer
@@ -64,10 +71,13 @@ pub record HasKept (state : ReplicaState) (client : ClientId) (number : ℕ) (ac
   pub of_base : version_at object base.stamp state.versions ≡ Some version
   pub keeps : Keeps client number act answer version
 
--- a replica that tells Already has such a version of each object of the update
-abbrev pub TellsAlready : ReplicaState → ClientId → ℕ → Digest → List SetOf → List (ObjectId × Method) → Answer → Type 0
-TellsAlready state client number act sets parts answer =
-    All (λ (part : ObjectId × Method). HasKept state client number act sets answer part.0) parts
+-- a replica that tells Already has such a version of each object of the update, that of the lowest one with the answer
+-- that is told
+pub record TellsAlready (state : ReplicaState) (client : ClientId) (number : ℕ) (act : Digest) (sets : List SetOf)
+    (parts : List (ObjectId × Method)) (answer : Answer) : Type 0 where
+  pub each : All (λ (part : ObjectId × Method).
+      (kept : Answer) × HasKept state client number act sets kept part.0) parts
+  pub first : HoldsOfFirst (λ (part : ObjectId × Method). HasKept state client number act sets answer part.0) parts
 
 -- what is told of an update alone: that it is done, now or before
 abbrev pub IsOfUpdate : Verdict → Type 0

@@ -17,7 +17,8 @@ use Rattle.qu_client.specs.declared.state.ClientState.{ClientState}
 use Rattle.qu_client.specs.State.{Stepped}
 use Rattle.qu_client.specs.declared.work.Counted.{Counted}
 use Rattle.qu_client.specs.declared.work.Work.{Work}
-use Rattle.qu_client.specs.State.{client_at_start, keep_all}
+use Rattle.qu_client.specs.State.{client_at_start}
+use Rattle.qu_question.specs.Kept.{keep_all}
 use Rattle.qu_client.specs.Steps.{is_asking, counts, client_on_frame, client_on_received, client_step, client_invoke, client_tick, next_round, ends_round, with_verdict}
 use Rattle.qu_client.specs.Sound.{IsSound}
 use Rattle.qu_rounds.proofs.Ticking.{clock_cases}
@@ -259,7 +260,7 @@ over_answered : (trace : Trace) (before : ℕ) (me : ClientId) (state : ClientSt
     → StepAnswered trace before me (ends_round state work)
 over_answered trace before me state work =
     ended_cases state work (StepAnswered trace before me) (λ left same spent. tt)
-    (λ left same more. All-nil (WasAnswered trace before me work.number work.round))
+    (λ left named same named_more more. All-nil (WasAnswered trace before me work.number work.round))
     (λ left begun same more round. fresh_answered trace before me begun round.fresh)
 
 -- what a text makes of them

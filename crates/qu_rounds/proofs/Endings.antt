@@ -15,7 +15,7 @@ use Rattle.qu_frames.specs.declared.verdict.Verdict.{Verdict}
 use Rattle.qu_client.specs.declared.state.ClientState.{ClientState}
 use Rattle.qu_client.specs.State.{Stepped}
 use Rattle.qu_client.specs.declared.work.Work.{Work}
-use Rattle.qu_client.specs.State.{keep_all}
+use Rattle.qu_question.specs.Kept.{keep_all}
 use Rattle.qu_client.specs.Steps.{fitting, identical_verdicts, counts, client_on_frame, client_on_received, client_step, client_tick, next_round, ends_round, with_verdict}
 use Rattle.qu_rounds.proofs.Ticking.{clock_cases}
 use Rattle.qu_client.proofs.Cases.{counted_cases, next_cases, ended_cases}
@@ -177,7 +177,8 @@ CompletesNot answer stepped = stepped.ended ≡ Some (outcome.Done answer) → �
 over_completes_not : (state : ClientState) (work : Work) (answer : Answer) → CompletesNot answer (ends_round state work)
 over_completes_not state work answer =
     ended_cases state work (CompletesNot answer) (λ left same spent. gave_up answer)
-    (λ left same more. none-some (outcome.Done answer)) (λ left begun same more round. none-some (outcome.Done answer))
+    (λ left named same named_more more. none-some (outcome.Done answer))
+    (λ left begun same more round. none-some (outcome.Done answer))
 
 next_completes_not : (state : ClientState) (work : Work) (answer : Answer) → CompletesNot answer (next_round state work)
 next_completes_not state work answer =

@@ -197,7 +197,8 @@ module _ (trace : Trace) (count begun : ℕ) (state : ClientState) (sound : IsSo
       counts = λ kept work replica number round verdict culled _ is counting fits.
           record { at_work = goes_on work _ is refl refl; letters = none_asked };
       ends = λ kept work end _ is fits. record { at_work = ended work is; letters = none_asked };
-      rests = λ kept work _ is more fits. record { at_work = goes_on work _ is refl refl; letters = none_asked };
+      rests = λ kept work named _ is _ more fits.
+          record { at_work = goes_on work _ is refl refl; letters = none_asked };
       ticks = λ work ticks is fits. record { at_work = goes_on work _ is refl refl; letters = none_asked };
     };
     begins = λ kept work _ next fits.

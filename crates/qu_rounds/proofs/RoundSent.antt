@@ -12,11 +12,12 @@ use Rattle.qu_frames.specs.Formats.{frame_form}
 use Rattle.qu_client.specs.declared.state.ClientState.{ClientState}
 use Rattle.qu_client.specs.State.{Stepped}
 use Rattle.qu_client.specs.declared.work.Work.{Work}
-use Rattle.qu_client.specs.declared.kept.Kept.{Kept}
+use Rattle.qu_question.specs.declared.kept.Kept.{Kept}
 use Rattle.qu_client.specs.declared.whom.Whom.{Whom}
 use Rattle.qu_client.specs.declared.work.Phase.TheVariants.{Resting}
-use Rattle.qu_client.specs.State.{unmarked}
-use Rattle.qu_client.specs.Rounds.{request_of, marked_shown, whom_asked, requests}
+use Rattle.qu_question.specs.Kept.{unmarked}
+use Rattle.qu_client.specs.Rounds.{request_of, whom_asked, requests}
+use Rattle.qu_question.specs.Marking.{marked_shown}
 use Rattle.qu_client.specs.Steps.{rests, client_step, client_tick, client_invoke, next_number, with_verdict}
 use Rattle.qu_client.specs.Sound.{IsSound, last_number}
 use Rattle.qu_client.proofs.Cases.{IsNext, OfEach, OfQuiet, OfSending, sending, asked_last, of_sending, step_cases, tick_cases, invoke_cases}
@@ -232,8 +233,9 @@ module _ (Sent : Letter → Type 0) (state : ClientState) (sound : IsSound state
         None up_to (under_way work is);
     ends = λ kept work end _ is fits.
         quiet Sent state.me (record state { kept = kept; work = None }) (Some end) up_to tt;
-    rests = λ kept work _ is more fits.
-        quiet Sent state.me (rests (record state { kept = kept }) work).state None up_to (under_way work is);
+    rests = λ kept work named _ is _ more fits.
+        quiet Sent state.me (rests (record state { kept = kept }) (record work { named = named })).state None up_to
+        (under_way work is);
     ticks = λ work ticks is fits.
         quiet Sent state.me (record state { work = Some (record work { phase = Resting ticks }) }) None up_to
         (under_way work is);

@@ -30,7 +30,7 @@ use Rattle.qu_frames.specs.declared.verdict.Refusal.TheVariants as refusal
 use Rattle.qu_frames.specs.declared.verdict.Verdict.TheVariants.{Done}
 use Rattle.qu_frames.specs.declared.verdict.Verdict.TheVariants as verdict
 use Rattle.qu_rows.specs.declared.remedy.Remedy.{Remedy}
-use Rattle.qu_rows.specs.declared.remedy.Remedy.TheVariants.{Nothing, Shown, Fresh}
+use Rattle.qu_rows.specs.declared.remedy.Remedy.TheVariants.{Nothing, Shown, Fresh, Unshown, Unplanned}
 use Rattle.qu_rows.specs.declared.mend.Mend.{Mend}
 use Rattle.qu_rows.specs.declared.mending.Mending.{Mending}
 use Rattle.qu_rows.specs.declared.mending.Mending.TheVariants.{Mends, Holds, Refuses}
@@ -366,6 +366,8 @@ target_found state asked target known enough =
 made_in_time : (mend : Mend) (remedy : Remedy) (candidate : Candidate) → MakesCandidate mend remedy candidate
     → candidate.stamp.time ≤ LAST_TIME
 made_in_time mend Nothing candidate made = absurd made
+made_in_time mend (Unshown member) candidate made = absurd made
+made_in_time mend (Unplanned other) candidate made = absurd made
 made_in_time mend (Shown shown) candidate made =
     subst (λ (it : Candidate). it.stamp.time ≤ LAST_TIME) (sym made.0) made.1
 made_in_time mend (Fresh barrier prior) candidate made =

@@ -2,21 +2,25 @@
 use Rattle.std.proofs.Common.{◌≡◌, Bool, true, false, ◌&&◌, ◌||◌, leb, ltb, cond, List, [], ◌∷◌, Option, Some, None, length, IsSome, IfOk, Result, Ok, Err, refl, sym, ap, subst, ◌∙◌, inl, inr, arith}
 use Rattle.std.specs.Prelude.{is_some, is_none, option_map, option_and_then}
 use Rattle.std.proofs.lemmas.Bool.{false≢true, and_parts, or_cases, not-true, not-false, or_parts, leb-true, leb-false, ltb-true, ltb-false}
+use Rattle.std.proofs.lemmas.Option.{same_Some}
+use Rattle.qu_base.specs.declared.party.ObjectId.{ObjectId}
 use Rattle.qu_stamp.specs.declared.limits.TheConstants.{LAST_TIME}
 use Rattle.qu_stamp.specs.declared.candidate.Candidate.{Candidate}
 use Rattle.qu_stamp.specs.Stamp.{is_below}
 use Rattle.qu_history.specs.declared.limits.TheConstants.{HISTORY_LIMIT}
 use Rattle.qu_history.specs.History.{latest, holds}
 use Rattle.qu_objects.specs.declared.state.ObjState.{ObjState}
+use Rattle.qu_frames.specs.declared.verdict.Refusal.{Refusal}
+use Rattle.qu_frames.specs.declared.verdict.Refusal.TheVariants.{Needs, Sound}
 use Rattle.qu_rows.specs.declared.remedy.Remedy.{Remedy}
-use Rattle.qu_rows.specs.declared.remedy.Remedy.TheVariants.{Nothing, Shown, Fresh}
+use Rattle.qu_rows.specs.declared.remedy.Remedy.TheVariants.{Nothing, Shown, Fresh, Unshown, Unplanned}
 use Rattle.qu_rows.specs.declared.mend.Mend.{Mend}
 use Rattle.qu_rows.specs.declared.mending.Mending.{Mending}
-use Rattle.qu_rows.specs.declared.mending.Mending.TheVariants.{Mends, Holds, Waits}
+use Rattle.qu_rows.specs.declared.mending.Mending.TheVariants.{Mends, Holds, Refuses, Waits}
 use Rattle.qu_rows.specs.Remedy.{fresh_repair, addition_by, addition_of, wanted_by, stored_by}
 use Rattle.qu_rows.specs.Table.{first_given}
-use Rattle.qu_rows.specs.Mending.{mend_row_held, is_passed, mend_row_current, is_sound, mend_row_sound, mend_row_version, mend_row_time, mend_row_full, mend_row_mended, decide_mend}
-use Rattle.qu_rows.specs.Causes.{MakesCandidate, AddsVersion, IsBehind, IsSpent, HasCause}
+use Rattle.qu_rows.specs.Mending.{mend_row_held, is_passed, mend_row_current, unplanned_by, mend_row_plan, unmended_by, mend_row_sound, mend_row_version, mend_row_time, mend_row_full, mend_row_mended, decide_mend}
+use Rattle.qu_rows.specs.Causes.{MakesCandidate, AddsVersion, IsBehind, IsSpent, RefusesFor, HasCause}
 
 -- ---- the first row that fits
 
@@ -26,6 +30,14 @@ row_by_test : (Fact : Mending → Type 0) (test : Bool) (mending : Mending) (lat
 unfolding first_given
 row_by_test Fact true mending later here after = here refl
 row_by_test Fact false mending later here after = after refl
+
+row_by_given : {X : Type 0} (Fact : Mending → Type 0) (why : X → Refusal) (given : Option X)
+    (later : List (Option Mending)) → ((it : X) → given ≡ Some it → Fact (Refuses (why it)))
+    → (given ≡ None → Fact (first_given Waits later))
+    → Fact (first_given Waits (option_map (λ (it : X). Refuses (why it)) given ∷ later))
+unfolding first_given
+row_by_given Fact why None later here after = after refl
+row_by_given Fact why (Some it) later here after = here it refl
 
 row_if_held : (Fact : Mending → Type 0) (own : List Candidate) (addition : Option Candidate)
     (later : List (Option Mending))
@@ -58,6 +70,8 @@ module _ (mend : Mend) where
       → MakesCandidate mend remedy candidate
   unfolding addition_by
   made Nothing candidate is = absurd cc
+  made (Unshown member) candidate is = absurd cc
+  made (Unplanned other) candidate is = absurd cc
   made (Shown shown) candidate is =
       let both = by_test (leb shown.stamp.time LAST_TIME) shown candidate is in
       (both.0, leb-true shown.stamp.time LAST_TIME both.1)
@@ -69,21 +83,37 @@ module _ (mend : Mend) where
   not_added true it none = absurd (false≢true none)
   not_added false it none = refl
 
-  -- what is not sound, and has nothing to add, has no time for it
-  spent : (remedy : Remedy) → is_sound remedy ≡ false → is_none (addition_by mend remedy) ≡ true
-      → IsSpent mend remedy
+  -- what is not refused, and has nothing to add, has no time for it
+  spent : (remedy : Remedy) → unplanned_by remedy ≡ None → unmended_by mend.target remedy ≡ None
+      → is_none (addition_by mend remedy) ≡ true → IsSpent mend remedy
   unfolding addition_by
-  spent Nothing unsound none = absurd (false≢true (sym unsound))
-  spent (Shown shown) unsound none =
+  spent Nothing planned unsound none = absurd cc
+  spent (Unshown member) planned unsound none = absurd cc
+  spent (Unplanned other) planned unsound none = absurd cc
+  spent (Shown shown) planned unsound none =
       leb-false shown.stamp.time LAST_TIME (not_added (leb shown.stamp.time LAST_TIME) shown none)
-  spent (Fresh barrier prior) unsound none =
+  spent (Fresh barrier prior) planned unsound none =
       ltb-false mend.latest.time LAST_TIME
       (not_added (ltb mend.latest.time LAST_TIME) (fresh_repair mend barrier prior) none)
 
-is_sound_nothing : (remedy : Remedy) → is_sound remedy ≡ true → remedy ≡ Nothing
-is_sound_nothing Nothing sound = refl
-is_sound_nothing (Shown candidate) sound = absurd (false≢true sound)
-is_sound_nothing (Fresh barrier prior) sound = absurd (false≢true sound)
+unplanned_remedy : (remedy : Remedy) (object : ObjectId) → unplanned_by remedy ≡ Some object
+    → remedy ≡ Unplanned object
+unplanned_remedy Nothing object is = absurd cc
+unplanned_remedy (Shown candidate) object is = absurd cc
+unplanned_remedy (Fresh barrier prior) object is = absurd cc
+unplanned_remedy (Unshown member) object is = absurd cc
+unplanned_remedy (Unplanned other) object is = ap Unplanned (same_Some other object is)
+
+-- nothing is added, and this is why
+unmended_cause : (mend : Mend) (own : List Candidate) (remedy : Remedy) (why : Refusal) → mend.remedy ≡ remedy
+    → unmended_by mend.target remedy ≡ Some why → RefusesFor mend own why
+unmended_cause mend own Nothing why is given =
+    subst (RefusesFor mend own) (same_Some (Sound mend.target) why given) (refl, is)
+unmended_cause mend own (Shown candidate) why is given = absurd cc
+unmended_cause mend own (Fresh barrier prior) why is given = absurd cc
+unmended_cause mend own (Unshown member) why is given =
+    subst (RefusesFor mend own) (same_Some (Needs member) why given) (inl is)
+unmended_cause mend own (Unplanned other) why is given = absurd cc
 
 some_by_test : {X : Type 0} (found : Option X) → is_some found ≡ true → IsSome found
 some_by_test None test = absurd (false≢true test)
@@ -102,17 +132,20 @@ value_if : {X : Type 0} (found : Option X) → is_none found ≡ false → (valu
 value_if None test = absurd (false≢true (sym test))
 value_if (Some value) test = (value, refl)
 
-has_version : (remedy : Remedy) (version : Option ObjState) → is_sound remedy ≡ false
+has_version : (target : ObjectId) (remedy : Remedy) (version : Option ObjState) → unplanned_by remedy ≡ None
+    → unmended_by target remedy ≡ None
     → (is_some (wanted_by remedy) && is_none version) ≡ false → AddsVersion remedy version (stored_by remedy version)
 unfolding wanted_by stored_by
-has_version Nothing version unsound ready = absurd (false≢true (sym unsound))
-has_version (Shown candidate) version unsound ready = (
+has_version target Nothing version planned unsound ready = absurd cc
+has_version target (Unshown member) version planned unsound ready = absurd cc
+has_version target (Unplanned other) version planned unsound ready = absurd cc
+has_version target (Shown candidate) version planned unsound ready = (
   λ plain. found_if version
       (ap (λ barrier. is_some (cond barrier None (Some candidate.stamp)) && is_none version) (sym plain) ∙ ready),
   refl,
 )
-has_version (Fresh true prior) version unsound ready = refl
-has_version (Fresh false prior) version unsound ready = (found_if version ready, refl)
+has_version target (Fresh true prior) version planned unsound ready = refl
+has_version target (Fresh false prior) version planned unsound ready = (found_if version ready, refl)
 
 -- ---- the table
 
@@ -141,14 +174,14 @@ module _ (mend : Mend) (own : List Candidate) (version : Option ObjState) where
   abbrev Fact : Mending → Type 0
   Fact mending = HasCause mend own version mending
 
-  mended : is_sound mend.remedy ≡ false
+  mended : unplanned_by mend.remedy ≡ None → unmended_by mend.target mend.remedy ≡ None
       → (is_below mend.latest (latest own) || is_passed own (addition_of mend)) ≡ false
       → (is_some (wanted_by mend.remedy) && is_none version) ≡ false
       → is_none (addition_of mend) ≡ false
       → leb HISTORY_LIMIT (length own) ≡ false
       → Fact (first_given Waits (mend_row_mended mend version ∷ []))
   unfolding mend_row_mended
-  mended unsound current ready in_time room =
+  mended planned unsound current ready in_time room =
       let addition = value_if (addition_of mend) in_time in
       row_if_added Fact (stored_by mend.remedy version) (addition_of mend) addition.0 addition.1 (
         made mend mend.remedy addition.0 addition.1,
@@ -157,22 +190,25 @@ module _ (mend : Mend) (own : List Candidate) (version : Option ObjState) where
           above = above addition.0 addition.1 current;
           room = leb-false HISTORY_LIMIT (length own) room;
         },
-        has_version mend.remedy version unsound ready,
+        has_version mend.target mend.remedy version planned unsound ready,
       )
 
   pub decided_has_cause : HasCause mend own version (decide_mend mend own version)
-  unfolding decide_mend mend_row_held mend_row_current mend_row_sound mend_row_version mend_row_time mend_row_full
+  unfolding decide_mend mend_row_plan mend_row_held mend_row_current mend_row_sound mend_row_version mend_row_time mend_row_full
   decided_has_cause =
-      row_if_held Fact own (addition_of mend) _
+      row_by_given Fact Needs (unplanned_by mend.remedy) _
+      (λ object is. inr (unplanned_remedy mend.remedy object is))
+      (λ planned. row_if_held Fact own (addition_of mend) _
       (λ candidate is held. (candidate, made mend mend.remedy candidate is, held, refl))
       (row_by_test Fact _ _ _ (λ test. (refl, refl, behind test))
-      (λ current. row_by_test Fact _ _ _ (λ test. (refl, is_sound_nothing mend.remedy test))
+      (λ current. row_by_given Fact (λ why. why) (unmended_by mend.target mend.remedy) _
+      (λ why is. unmended_cause mend own mend.remedy why refl is)
       (λ unsound. row_by_test Fact _ _ _ (λ test.
       let parts = and_parts (is_some (wanted_by mend.remedy)) (is_none version) test in
       (some_by_test (wanted_by mend.remedy) parts.0, none_by_test version parts.1))
-      (λ ready. row_by_test Fact _ _ _ (λ test. (refl, spent mend mend.remedy unsound test))
+      (λ ready. row_by_test Fact _ _ _ (λ test. (refl, spent mend mend.remedy planned unsound test))
       (λ in_time. row_by_test Fact _ _ _ (λ test. (refl, leb-true HISTORY_LIMIT (length own) test))
-      (λ room. mended unsound current ready in_time room))))))
+      (λ room. mended planned unsound current ready in_time room)))))))
 
 pub ok_has_cause : {E : Type 0} (mend : Mend) (own : List Candidate) (version : Option ObjState)
     (result : Result Mending E) → IfOk result (λ mending. mending ≡ decide_mend mend own version)

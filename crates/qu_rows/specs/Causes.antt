@@ -9,7 +9,7 @@ use Rattle.qu_objects.specs.declared.state.ObjState.{ObjState}
 use Rattle.qu_frames.specs.declared.verdict.Refusal.{Refusal}
 use Rattle.qu_frames.specs.declared.verdict.Refusal.TheVariants.{HistoryFull, Thin, Needs, Stale, NotCurrent, NotMethod, Spent, TimeSpent, UnknownObject, Sound}
 use Rattle.qu_rows.specs.declared.remedy.Remedy.{Remedy}
-use Rattle.qu_rows.specs.declared.remedy.Remedy.TheVariants.{Nothing, Shown, Fresh}
+use Rattle.qu_rows.specs.declared.remedy.Remedy.TheVariants.{Nothing, Shown, Fresh, Unshown, Unplanned}
 use Rattle.qu_rows.specs.declared.mend.Mend.{Mend}
 use Rattle.qu_rows.specs.declared.mending.Mending.{Mending}
 use Rattle.qu_rows.specs.declared.mending.Mending.TheVariants.{Mends, Holds, Refuses, Waits}
@@ -23,17 +23,17 @@ pub record MayBeAdded (mend : Mend) (own : List Candidate) (candidate : Candidat
 
 -- the remedy makes this candidate: one that is shown is left as it is, and no other has a time after the last
 abbrev pub MakesCandidate : Mend → Remedy → Candidate → Type 0
-MakesCandidate mend Nothing candidate = ⊥
 MakesCandidate mend (Shown shown) candidate = (candidate ≡ shown) × (shown.stamp.time ≤ LAST_TIME)
 MakesCandidate mend (Fresh barrier prior) candidate = (candidate ≡ fresh_repair mend barrier prior)
     × (mend.latest.time < LAST_TIME)
+MakesCandidate mend _ candidate = ⊥
 
 -- what is added has a version, if the replica is to have one: that which was found under the wanted stamp
 abbrev pub AddsVersion : Remedy → Option ObjState → Option ObjState → Type 0
-AddsVersion Nothing version stored = ⊥
 AddsVersion (Shown candidate) version stored = (candidate.stamp.barrier ≡ false → IsSome version) × (stored ≡ None)
 AddsVersion (Fresh true prior) version stored = stored ≡ None
 AddsVersion (Fresh false prior) version stored = IsSome version × (stored ≡ version)
+AddsVersion _ version stored = ⊥
 
 -- the replica's latest candidate is above the sets, or what would be added is not above it
 abbrev pub IsBehind : Mend → List Candidate → Type 0
@@ -44,9 +44,9 @@ IsBehind mend own =
 
 -- what would be added would have a time after the last
 abbrev pub IsSpent : Mend → Remedy → Type 0
-IsSpent mend Nothing = ⊥
 IsSpent mend (Shown shown) = LAST_TIME < shown.stamp.time
 IsSpent mend (Fresh barrier prior) = LAST_TIME ≤ mend.latest.time
+IsSpent mend _ = ⊥
 
 -- no other refusal answers a request to mend an object that is known, with a quorum of histories
 abbrev pub RefusesFor : Mend → List Candidate → Refusal → Type 0
@@ -55,7 +55,7 @@ RefusesFor mend own (Sound object) = (object ≡ mend.target) × (mend.remedy �
 RefusesFor mend own (TimeSpent object) = (object ≡ mend.target) × IsSpent mend mend.remedy
 RefusesFor mend own (HistoryFull object) = (object ≡ mend.target) × (HISTORY_LIMIT ≤ length own)
 RefusesFor mend own (Thin object) = ⊥
-RefusesFor mend own (Needs object) = ⊥
+RefusesFor mend own (Needs object) = (mend.remedy ≡ Unshown object) ⊎ (mend.remedy ≡ Unplanned object)
 RefusesFor mend own (Stale object) = ⊥
 RefusesFor mend own (NotMethod object class) = ⊥
 RefusesFor mend own (Spent object number) = ⊥

@@ -1,17 +1,27 @@
 -- What a replica makes of a request to mend an object, row by row (Query/Update: repair).
-use Rattle.std.specs.Prelude.{Bool, true, false, not, ◌||◌, if◌then◌else◌, List, [], ◌∷◌, Option, None, Some, is_none, is_some, option_map, option_and_then, ◌&&◌}
+use Rattle.std.specs.Prelude.{Bool, false, not, ◌||◌, if◌then◌else◌, List, [], ◌∷◌, Option, None, Some, is_none, is_some, option_map, option_and_then, ◌&&◌}
+use Rattle.qu_base.specs.declared.party.ObjectId.{ObjectId}
 use Rattle.qu_stamp.specs.declared.candidate.Candidate.{Candidate}
 use Rattle.qu_stamp.specs.Stamp.{is_below}
 use Rattle.qu_history.specs.History.{latest, holds}
 use Rattle.qu_objects.specs.declared.state.ObjState.{ObjState}
-use Rattle.qu_frames.specs.declared.verdict.Refusal.TheVariants.{NotCurrent, Sound, TimeSpent, HistoryFull}
+use Rattle.qu_frames.specs.declared.verdict.Refusal.{Refusal}
+use Rattle.qu_frames.specs.declared.verdict.Refusal.TheVariants.{Needs, NotCurrent, Sound, TimeSpent, HistoryFull}
 use Rattle.qu_rows.specs.declared.remedy.Remedy.{Remedy}
-use Rattle.qu_rows.specs.declared.remedy.Remedy.TheVariants.{Nothing, Shown, Fresh}
+use Rattle.qu_rows.specs.declared.remedy.Remedy.TheVariants.{Nothing, Unshown, Unplanned}
 use Rattle.qu_rows.specs.declared.mend.Mend.{Mend}
 use Rattle.qu_rows.specs.declared.mending.Mending.{Mending}
 use Rattle.qu_rows.specs.declared.mending.Mending.TheVariants.{Mends, Holds, Refuses, Waits}
 use Rattle.qu_rows.specs.Table.{first_given, has_no_room}
 use Rattle.qu_rows.specs.Remedy.{addition_of, wanted_by, stored_by}
+
+-- there is no plan of the copy before more is known of an object
+abbrev pub unplanned_by : Remedy → Option ObjectId
+unplanned_by (Unplanned object) = Some object
+unplanned_by _ = None
+
+unfoldable pub mend_row_plan : Mend → Option Mending
+mend_row_plan mend = option_map (λ object. Refuses (Needs object)) (unplanned_by mend.remedy)
 
 -- what would be added is held already
 unfoldable pub mend_row_held : Mend → List Candidate → Option Mending
@@ -30,14 +40,14 @@ mend_row_current mend own =
     if is_below mend.latest (latest own) || is_passed own (addition_of mend)
     then Some (Refuses (NotCurrent mend.target (latest own))) else None
 
-abbrev pub is_sound : Remedy → Bool
-is_sound Nothing = true
-is_sound (Shown candidate) = false
-is_sound (Fresh barrier prior) = false
+-- there is nothing to mend, or the sets have to show an object more
+abbrev pub unmended_by : ObjectId → Remedy → Option Refusal
+unmended_by target Nothing = Some (Sound target)
+unmended_by target (Unshown object) = Some (Needs object)
+unmended_by target _ = None
 
--- there is nothing to mend
 unfoldable pub mend_row_sound : Mend → Option Mending
-mend_row_sound mend = if is_sound mend.remedy then Some (Refuses (Sound mend.target)) else None
+mend_row_sound mend = option_map (λ why. Refuses why) (unmended_by mend.target mend.remedy)
 
 -- the version upon which the mend rests is missing
 unfoldable pub mend_row_version : Mend → Option ObjState → Option Mending
@@ -60,7 +70,8 @@ mend_row_mended mend version = option_map (λ candidate. Mends candidate (stored
 -- upon the own candidates of the object, and the version that was found under the wanted stamp
 unfoldable pub decide_mend : Mend → List Candidate → Option ObjState → Mending
 decide_mend mend own version = first_given Waits (
-    mend_row_held mend own
+    mend_row_plan mend
+    ∷ mend_row_held mend own
     ∷ mend_row_current mend own
     ∷ mend_row_sound mend
     ∷ mend_row_version mend version

@@ -12,24 +12,32 @@ use Rattle.qu_history.specs.History.{ObjectHistory}
 use Rattle.qu_history.specs.Sets.{entries_of, order_of, latest_of, method_at}
 use Rattle.qu_objects.specs.declared.state.ObjState.{ObjState}
 use Rattle.qu_class.specs.declared.class.Class.{Class}
-use Rattle.qu_class.specs.declared.class.Class.TheVariants.{Method, InlineMethod, Copy, InlineBarrier, Barrier}
-use Rattle.qu_class.specs.Class.{class_of}
+use Rattle.qu_class.specs.declared.class.Class.TheVariants.{Method, InlineMethod, Copy, InlineBarrier, Barrier, Needs}
+use Rattle.qu_class.specs.Class.{class_in}
+use Rattle.qu_class.specs.Plan.{lowest_other}
 use Rattle.qu_class.specs.Repairable.{object_base}
 use Rattle.qu_class.specs.Rows.{IsGreatestOfKind}
 use Rattle.qu_rows.specs.declared.remedy.Remedy.{Remedy}
-use Rattle.qu_rows.specs.declared.remedy.Remedy.TheVariants.{Nothing, Shown, Fresh}
+use Rattle.qu_rows.specs.declared.remedy.Remedy.TheVariants.{Nothing, Shown, Fresh, Unshown, Unplanned}
 use Rattle.qu_rows.specs.declared.mend.Mend.{Mend}
 
--- where the object candidate has this stamp. A copy is of it: the plan is the target alone, and wants no other version.
-unfoldable pub remedy_by : Stamp → Class → Remedy
-remedy_by base (Method candidate) = Nothing
-remedy_by base (InlineMethod candidate) = Shown candidate
-remedy_by base Copy = Fresh false base
-remedy_by base (InlineBarrier candidate) = Shown candidate
-remedy_by base (Barrier prior) = Fresh true prior
+-- a copy is of the object candidate, which has this stamp: of the target alone, if its plan needs no other object
+abbrev pub copy_by : Stamp → Option ObjectId → Remedy
+copy_by base None = Fresh false base
+copy_by base (Some other) = Unplanned other
 
-unfoldable pub remedy_of : ℕ → List ObjectHistory → Remedy
-remedy_of bounds entries = remedy_by (object_base bounds entries).stamp (class_of bounds entries)
+-- of an object with this object candidate
+unfoldable pub remedy_by : ObjectId → Candidate → Class → Remedy
+remedy_by object base (Method candidate) = Nothing
+remedy_by object base (InlineMethod candidate) = Shown candidate
+remedy_by object base Copy = copy_by base.stamp (lowest_other object base.group)
+remedy_by object base (InlineBarrier candidate) = Shown candidate
+remedy_by object base (Barrier prior) = Fresh true prior
+remedy_by object base (Needs member) = Unshown member
+
+unfoldable pub remedy_of : ℕ → List SetOf → ObjectId → Remedy
+remedy_of bounds sets object =
+    remedy_by object (object_base bounds (entries_of object sets)) (class_in bounds sets object)
 
 -- a request to mend an object, with what its culled sets say of it
 abbrev pub mend_of : ℕ → List SetOf → Digest → ObjectId → ClientId → Mend
@@ -39,7 +47,7 @@ mend_of bounds sets set target client =
       client = client;
       set = set;
       latest = latest_of (entries_of target sets);
-      remedy = remedy_of bounds (entries_of target sets);
+      remedy = remedy_of bounds sets target;
     }
 
 -- the candidate above all that the sets show, a barrier or a copy
@@ -59,10 +67,10 @@ fresh_repair mend barrier prior =
 
 -- the candidate that the remedy adds; none has a time after the last
 unfoldable pub addition_by : Mend → Remedy → Option Candidate
-addition_by mend Nothing = None
 addition_by mend (Shown candidate) = if nat_le candidate.stamp.time LAST_TIME then Some candidate else None
 addition_by mend (Fresh barrier prior) =
     if nat_lt mend.latest.time LAST_TIME then Some (fresh_repair mend barrier prior) else None
+addition_by mend _ = None
 
 abbrev pub addition_of : Mend → Option Candidate
 addition_of mend = addition_by mend mend.remedy
@@ -73,22 +81,19 @@ unless_barrier barrier value = if barrier then None else Some value
 -- the stamp of the version that what is added has: that of the shown candidate, or that of the copied one. A barrier
 -- has no version.
 unfoldable pub wanted_by : Remedy → Option Stamp
-wanted_by Nothing = None
 wanted_by (Shown candidate) = unless_barrier candidate.stamp.barrier candidate.stamp
 wanted_by (Fresh barrier prior) = unless_barrier barrier prior
+wanted_by _ = None
 
 -- of the version that was found, what is stored under the new stamp: a copy's; that of a shown candidate stands under
 -- its own stamp already
 unfoldable pub stored_by : Remedy → Option ObjState → Option ObjState
-stored_by Nothing version = None
-stored_by (Shown candidate) version = None
-stored_by (Fresh true prior) version = None
 stored_by (Fresh false prior) version = version
+stored_by _ version = None
 
 abbrev pub is_copy : Remedy → Bool
-is_copy Nothing = false
-is_copy (Shown candidate) = false
 is_copy (Fresh barrier prior) = not barrier
+is_copy _ = false
 
 -- what is sound is of class METHOD; what is added is shown by as many as may repair, or rests upon the object candidate
 abbrev pub IsGrounded : ℕ → List ObjectHistory → Remedy → Type 0
@@ -96,3 +101,4 @@ IsGrounded bounds entries Nothing = IsSome (method_at bounds entries)
 IsGrounded bounds entries (Shown candidate) = repair bounds ≤ order_of candidate entries
 IsGrounded bounds entries (Fresh barrier prior) =
     (base : Candidate) × IsGreatestOfKind bounds entries false base × (base.stamp ≡ prior)
+IsGrounded bounds entries _ = Unit {0}

@@ -21,7 +21,7 @@ use Rattle.qu_objects.specs.Performing.{performed_answer, told_answer}
 use Rattle.qu_objects.specs.Digesting.{act_digest}
 use Rattle.qu_class.specs.declared.class.Class.{Class}
 use Rattle.qu_class.specs.declared.class.Class.TheVariants as class
-use Rattle.qu_class.specs.Class.{class_of}
+use Rattle.qu_class.specs.Class.{class_in}
 use Rattle.qu_kept.specs.declared.repeats.Standing.{Standing}
 use Rattle.qu_kept.specs.declared.repeats.Standing.TheVariants.{Fresh, Already, Spent}
 use Rattle.qu_kept.specs.Performing.{values_of, performed_states}
@@ -29,7 +29,7 @@ use Rattle.qu_kept.specs.Standing.{standing_of}
 use Rattle.qu_frames.specs.declared.frame.Body.{Body}
 use Rattle.qu_frames.specs.declared.frame.Body.TheVariants as body
 use Rattle.qu_frames.specs.declared.verdict.ClassCode.{ClassCode}
-use Rattle.qu_frames.specs.declared.verdict.ClassCode.TheVariants.{InlineMethod, Copy, InlineBarrier, Barrier}
+use Rattle.qu_frames.specs.declared.verdict.ClassCode.TheVariants.{InlineMethod, Copy, InlineBarrier, Barrier, Needs}
 use Rattle.qu_frames.specs.declared.verdict.Refusal.{Refusal}
 use Rattle.qu_frames.specs.declared.verdict.Refusal.TheVariants as refusal
 use Rattle.qu_frames.specs.declared.verdict.Verdict.TheVariants as verdict
@@ -55,6 +55,7 @@ class_code (class.InlineMethod candidate) = Some InlineMethod
 class_code class.Copy = Some Copy
 class_code (class.InlineBarrier candidate) = Some InlineBarrier
 class_code (class.Barrier prior) = Some Barrier
+class_code (class.Needs member) = Some Needs
 
 -- a request, as a replica is handed it
 pub record Asked : Type 0 where
@@ -197,7 +198,7 @@ row_current state asked objects =
 -- the class that is told of an object upon which no operation may rest: without an object candidate it is BARRIER
 abbrev pub class_told : ReplicaState → Asked → ObjectId → ClassCode
 class_told state asked object =
-    unwrap_or (class_code (class_of state.keys.bounds (shown_of asked object))) Barrier
+    unwrap_or (class_code (class_in state.keys.bounds asked.sets object)) Barrier
 
 -- the object is of another class than METHOD
 unfoldable pub row_method : ReplicaState → Asked → List ObjectId → Option Decision

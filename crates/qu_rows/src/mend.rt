@@ -4,7 +4,7 @@ ghost use Rattle.qu_base.specs.Bounds.{quorum};
 ghost use Rattle.qu_history.specs.Sets.{entries_of};
 ghost use Rattle.qu_rows.specs.Remedy.{mend_of, addition_by, addition_of, stored_by, is_copy, IsGrounded};
 ghost use Rattle.qu_rows.specs.Causes.{HasCause};
-ghost use Rattle.qu_rows.specs.Mending.{is_passed, is_sound, mend_row_held, mend_row_current, mend_row_sound, mend_row_version, mend_row_time, mend_row_full, mend_row_mended, decide_mend};
+ghost use Rattle.qu_rows.specs.Mending.{is_passed, mend_row_plan, mend_row_held, mend_row_current, mend_row_sound, mend_row_version, mend_row_time, mend_row_full, mend_row_mended, decide_mend};
 
 use super::{Mending, Remedy, Seen};
 use crate::rows::has_no_room;
@@ -77,6 +77,9 @@ impl Mend {
             ≡ decide_mend self.now own.now.candidates (option_copied version.entry)) }
         ensures memory { OnErr result (is_copy self.now.remedy ≡ true) }
     {
+        if let Some(refused) = self.row_plan() {
+            return Ok(refused);
+        }
         if let Some(held) = self.row_held(own) {
             return Ok(held);
         }
@@ -96,6 +99,17 @@ impl Mend {
             return Ok(refused);
         }
         self.row_mended(alloc, version)
+    }
+
+    /// Refuses a copy that has no plan.
+    #[tactic(auto, unfolding(crate::specs::Mending::mend_row_plan))]
+    fn row_plan(&self) -> Option<Mending>
+        ensures { result ≡ mend_row_plan self.now }
+    {
+        match self.remedy {
+            Remedy::Unplanned(object) => Some(Mending::Refuses(Refusal::Needs(object))),
+            _ => None,
+        }
     }
 
     /// Is content where what it would add is held already.
@@ -124,15 +138,15 @@ impl Mend {
         }
     }
 
-    /// Refuses where there is nothing to mend.
+    /// Refuses where there is nothing to mend, or the sets have to show an object more.
     #[tactic(auto, unfolding(crate::specs::Mending::mend_row_sound))]
     fn row_sound(&self) -> Option<Mending>
-        ensures unsound { IfNone result (is_sound self.now.remedy ≡ false) }
-        ensures value { result ≡ mend_row_sound self.now }
+        ensures { result ≡ mend_row_sound self.now }
     {
         match self.remedy {
             Remedy::Nothing => Some(Mending::Refuses(Refusal::Sound(self.target))),
-            Remedy::Shown(_) | Remedy::Fresh { .. } => None,
+            Remedy::Unshown(object) => Some(Mending::Refuses(Refusal::Needs(object))),
+            _ => None,
         }
     }
 
@@ -189,10 +203,9 @@ impl Mend {
         ensures { result ≡ addition_of self.now }
     {
         match self.remedy {
-            Remedy::Nothing => None,
             Remedy::Shown(candidate) if candidate.stamp.time <= LAST_TIME => Some(candidate),
-            Remedy::Shown(_) => None,
             Remedy::Fresh { barrier, prior } => self.fresh(barrier, prior),
+            _ => None,
         }
     }
 

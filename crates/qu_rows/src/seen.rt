@@ -1,10 +1,10 @@
 ghost use Rattle.std.specs.Prelude.{◌≡◌, ◌≤◌, false, length};
 ghost use Rattle.qu_base.specs.Bounds.{quorum};
 ghost use Rattle.qu_history.specs.Sets.{entries_of};
-ghost use Rattle.qu_class.specs.Class.{class_of};
+ghost use Rattle.qu_class.specs.Class.{class_in, method_of};
 ghost use Rattle.qu_class.specs.Repairable.{object_base};
 ghost use Rattle.qu_class.specs.Rows.{IsGreatestOfKind};
-ghost use Rattle.qu_rows.specs.Seen.{method_of, seen_in};
+ghost use Rattle.qu_rows.specs.Seen.{seen_in};
 ghost use Rattle.qu_rows.specs.Remedy.{remedy_by, IsGrounded};
 
 use qu_base::{Bounds, ObjectId};
@@ -27,11 +27,11 @@ pub struct Seen {
 
 impl Seen {
     /// What these sets show of the object. What a quorum of histories shows is ground for the remedy of the class.
-    #[tactic(auto, using(qu_history::proofs::Method::latest_of_none, crate::proofs::Seeing::method_is))]
+    #[tactic(auto, using(qu_history::proofs::Method::latest_of_none, qu_class::proofs::ClassRows::method_told))]
     pub fn of(sets: &Sets, object: ObjectId, bounds: &Bounds) -> Seen
         ensures value { result ≡ seen_in bounds.now sets.now object }
         ensures grounds { quorum bounds.now ≤ length (entries_of object sets.now)
-            → IsGrounded bounds.now (entries_of object sets.now) (remedy_by result.base.stamp result.class) }
+            → IsGrounded bounds.now (entries_of object sets.now) (remedy_by object result.base result.class) }
     {
         let class = classify(sets, object, bounds);
         let latest = sets.latest(object).unwrap_or(Stamp::opening());
@@ -53,22 +53,21 @@ fn method_of(class: &Class) -> Option<Candidate>
 {
     match class {
         Class::Method(candidate) => Some(*candidate),
-        Class::InlineMethod(_) | Class::Copy | Class::InlineBarrier(_) | Class::Barrier { .. } =>
-            None,
+        _ => None,
     }
 }
 
 /// The object candidate of an object of this class. Where the class has it, the sets are not read for it again.
-#[tactic(auto, using(crate::proofs::Seeing::class_has_base))]
+#[tactic(auto, using(qu_class::proofs::BaseOfClass::class_has_base))]
 fn base_by(class: &Class, sets: &Sets, object: ObjectId, bounds: &Bounds) -> Candidate
-    requires { class.now ≡ class_of bounds.now (entries_of object sets.now) }
+    requires { class.now ≡ class_in bounds.now sets.now object }
     ensures value { result ≡ object_base bounds.now (entries_of object sets.now) }
     ensures greatest { class.now ≡ Class.Copy → quorum bounds.now ≤ length (entries_of object sets.now)
         → IsGreatestOfKind bounds.now (entries_of object sets.now) false result }
 {
     match class {
         Class::Method(base) | Class::InlineMethod(base) => *base,
-        Class::Copy | Class::InlineBarrier(_) | Class::Barrier { .. } => {
+        Class::Copy | Class::InlineBarrier(_) | Class::Barrier { .. } | Class::Needs(_) => {
             object_base(sets, object, bounds)
         }
     }

@@ -6,6 +6,7 @@ use Rattle.std.specs.List.{AllByRecursion, cons_option}
 use Rattle.std.proofs.lemmas.Bool.{cond_both}
 use Rattle.std.proofs.lemmas.Option.{none-some}
 use Rattle.qu_base.specs.declared.party.ClientId.{ClientId}
+use Rattle.qu_base.specs.declared.party.ObjectId.{ObjectId}
 use Rattle.qu_base.specs.declared.party.Party.TheVariants as party
 use Rattle.qu_base.specs.Bounds.{replicas}
 use Rattle.qu_history.specs.declared.sets.SetOf.{SetOf}
@@ -28,21 +29,23 @@ use Rattle.qu_fitting.specs.Holding.{accept_all}
 use Rattle.qu_rows.specs.Rows.{asked_at, decision_on}
 use Rattle.qu_replica.specs.Step.{shown, answer_frame, reply, carried_out, learned, handled, if_handled, replica_step}
 use Rattle.qu_replica.specs.Step as replica
-use Rattle.qu_client.specs.declared.kept.Kept.{Kept}
-use Rattle.qu_client.specs.declared.kept.Mark.TheVariants.{Unshown}
+use Rattle.qu_question.specs.declared.kept.Kept.{Kept}
+use Rattle.qu_question.specs.declared.kept.Mark.TheVariants.{Unshown}
 use Rattle.qu_client.specs.declared.work.Work.{Work}
 use Rattle.qu_client.specs.declared.state.ClientState.{ClientState}
 use Rattle.qu_client.specs.State.{Stepped}
-use Rattle.qu_client.specs.State.{client_at_start, is_older, same_source, keep, keep_all}
+use Rattle.qu_client.specs.State.{client_at_start}
+use Rattle.qu_question.specs.Kept.{is_older, same_source, keep, keep_all}
 use Rattle.qu_client.specs.declared.whom.Whom.{Whom}
 use Rattle.qu_client.specs.declared.whom.Whom.TheVariants.{Others}
-use Rattle.qu_client.specs.State.{unmarked}
-use Rattle.qu_client.specs.Question.{operation_objects}
-use Rattle.qu_client.specs.Rounds.{request_of, whom_asked, marked_shown, first_object, asking_all, begins, requests}
-use Rattle.qu_client.proofs.Trimmed.{each_of_sets}
+use Rattle.qu_question.specs.Kept.{unmarked}
+use Rattle.qu_question.specs.Named.{operation_objects}
+use Rattle.qu_client.specs.Rounds.{request_of, whom_asked, first_object, asking_all, begins, requests}
+use Rattle.qu_question.specs.Marking.{marked_shown}
+use Rattle.qu_question.proofs.Trimmed.{each_of_sets}
 use Rattle.qu_client.proofs.Sent.{each_letter}
 use Rattle.qu_client.specs.Steps.{client_step, client_invoke, client_tick, next_number}
-use Rattle.qu_client.proofs.Marks.{each_remarked, unmarked-remarked, shown_in-remarked}
+use Rattle.qu_question.proofs.Marks.{each_remarked, unmarked-remarked, shown_in-remarked}
 use Rattle.qu_client.proofs.Cases.{IsRound, OfEach, IsOfHistories, step_cases, tick_cases, invoke_cases}
 use Rattle.qu_claims.specs.Carried.{Carries}
 use Rattle.qu_shown.specs.Views.{EachEntry}
@@ -168,13 +171,13 @@ module _ (Held : Sealed → Type 0) where
   IsTrueIf stepped = AsksFit stepped.state → IsTrueStep Held stepped
 
   -- a round begins upon what is kept
-  begins-true : (state : ClientState) (kept : List Kept) (op : Op) (number round : ℕ) (work : Work)
-      → AllByRecursion IsHeld kept → IsRound state.keys.bounds kept op number round work
+  begins-true : (state : ClientState) (kept : List Kept) (op : Op) (number round : ℕ) (before : List ObjectId)
+      (work : Work) → AllByRecursion IsHeld kept → IsRound state.keys.bounds kept op number round before work
       → IsTrueIf (begins (record state { kept = kept }) work)
-  begins-true state kept op number round work held is fits =
+  begins-true state kept op number round before work held is fits =
       let sets : EachEntry Held work.sets =
       subst (EachEntry Held) (sym is.sets_are)
-      (each_of_sets Held state.keys.bounds round kept (operation_objects op) held) in
+      (each_of_sets Held state.keys.bounds round kept work.named held) in
       record {
         state = record {
           kept = each_remarked Held kept (marked_shown work.sets kept) (shown_in-remarked work.sets kept) held;
@@ -194,7 +197,7 @@ module _ (Held : Sealed → Type 0) where
         letters = tt;
       };
       ends = λ kept work end held is fits. record { state = record { kept = held; work = tt }; letters = tt };
-      rests = λ kept work held is more fits. record {
+      rests = λ kept work named held is _ more fits. record {
         state = record { kept = held; work = under_way state.work work is client.work };
         letters = tt;
       };
@@ -204,7 +207,7 @@ module _ (Held : Sealed → Type 0) where
       };
     };
     begins = λ kept work held next.
-        begins-true state kept next.last.op next.last.number (next.last.round + 1) work held next.round;
+        begins-true state kept next.last.op next.last.number (next.last.round + 1) next.last.named work held next.round;
     asks_others = λ work is preferred fits.
         let sets : EachEntry Held work.sets = under_way state.work work is client.work in
         record {
@@ -235,7 +238,7 @@ module _ (Held : Sealed → Type 0) where
   client_invoke-true state op client =
       invoke_cases state op IsTrueIf
       (λ work first.
-      begins-true state (unmarked state.kept) op (next_number state.last_request) 1 work
+      begins-true state (unmarked state.kept) op (next_number state.last_request) 1 (operation_objects op) work
       (each_remarked Held state.kept (unmarked state.kept) (unmarked-remarked state.kept) client.kept) first)
 
   pub opening-true : (me : ClientId) (keys : Ring) → IsTrueClient Held (client_at_start me keys keys.seed)

@@ -218,6 +218,7 @@ fn class_code(class: &Class) -> Option<ClassCode>
         Class::Copy => Some(ClassCode::Copy),
         Class::InlineBarrier(_) => Some(ClassCode::InlineBarrier),
         Class::Barrier { .. } => Some(ClassCode::Barrier),
+        Class::Needs(_) => Some(ClassCode::Needs),
     }
 }
 

@@ -19,7 +19,7 @@ module _ (state : ClientState) (P : List Letter → Type 0) (none : P [])
       keeps = λ kept _. none;
       counts = λ kept work replica number round verdict culled _ is counting. none;
       ends = λ kept work end _ is. none;
-      rests = λ kept work _ is more. none;
+      rests = λ kept work named _ is _ more. none;
       ticks = λ work ticks is. none;
     };
     begins = λ kept work _ next. asks work (whom_asked work);

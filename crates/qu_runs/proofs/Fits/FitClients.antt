@@ -21,15 +21,17 @@ use Rattle.qu_frames.specs.Decoding.{decoded}
 use Rattle.qu_frames.specs.declared.frame.Body.{Body}
 use Rattle.qu_client.specs.declared.whom.Whom.TheVariants.{Others}
 use Rattle.qu_client.specs.declared.whom.Whom.{Whom}
-use Rattle.qu_client.specs.declared.kept.Kept.{Kept}
-use Rattle.qu_client.specs.declared.kept.Mark.TheVariants.{Unshown}
+use Rattle.qu_question.specs.declared.kept.Kept.{Kept}
+use Rattle.qu_question.specs.declared.kept.Mark.TheVariants.{Unshown}
 use Rattle.qu_client.specs.declared.state.ClientState.{ClientState}
 use Rattle.qu_client.specs.State.{Stepped}
 use Rattle.qu_client.specs.declared.work.Work.{Work}
-use Rattle.qu_client.specs.State.{client_at_start, is_older, same_source, keep, keep_all, unmarked}
+use Rattle.qu_client.specs.State.{client_at_start}
+use Rattle.qu_question.specs.Kept.{is_older, same_source, keep, keep_all, unmarked}
 use Rattle.qu_client.specs.Steps.{client_step, client_invoke, next_number, client_tick, with_verdict}
 use Rattle.qu_client.specs.Sound.{NumbersWithin, IsSoundWork, IsSound}
-use Rattle.qu_client.specs.Rounds.{request_of, requests, whom_asked, marked_shown, first_object, asking_all}
+use Rattle.qu_client.specs.Rounds.{request_of, requests, whom_asked, first_object, asking_all}
+use Rattle.qu_question.specs.Marking.{marked_shown}
 use Rattle.qu_client.proofs.Sent.{each_letter}
 use Rattle.qu_client.proofs.Cases.{step_cases, invoke_cases, IsRound, OfEach, IsOfHistories, tick_cases}
 use Rattle.qu_history.specs.declared.sets.SetOf.{SetOf}
@@ -38,13 +40,15 @@ use Rattle.qu_world.specs.State.{opening_clients, numbered}
 use Rattle.qu_client.proofs.Laws.{client_step-me, client_step-bounds, client_invoke-me, client_invoke-bounds, NumbersWithin-opening, NumbersWithin-step, NumbersWithin-invoke, IsSound-step, IsSound-invoke, work_within, sound_work, client_tick-me, client_tick-bounds, NumbersWithin-tick, IsSound-tick}
 use Rattle.qu_runs.specs.Plain.{HasOpParts}
 use Rattle.qu_runs.proofs.Fits.Carrying.{AsksFit}
-use Rattle.qu_runs.proofs.Fits.FitRequests.{KeptFits, request_fits, FitAsked, round_fits}
+use Rattle.qu_runs.proofs.Fits.FitRequests.{KeptFits, request_fits, FitAsked, round_fits, AreNamedFor, more_named, own_named}
 use Rattle.qu_world.proofs.RunLaws.{within_more}
 use Rattle.qu_frames.specs.Signing.{signature, with_mac}
 use Rattle.qu_seal.specs.Keys.{Ring}
 use Rattle.qu_frames.proofs.Signed.{brought_is_decoded, signed_is_spelled}
 use Rattle.qu_base.specs.declared.party.Party.TheVariants as party
-use Rattle.qu_client.proofs.Marks.{each_remarked, unmarked-remarked, shown_in-remarked}
+use Rattle.qu_question.specs.Named.{operation_objects}
+use Rattle.qu_question.proofs.Naming.{AreMore, same_named}
+use Rattle.qu_question.proofs.Marks.{each_remarked, unmarked-remarked, shown_in-remarked}
 
 -- ---- what a reply shows
 
@@ -91,10 +95,11 @@ keep_all_fits number round (sealed ∷ later) kept fits all =
 
 -- ---- a client's state
 
--- the operation under way has a number and parts, and what its round asks fits
+-- the operation under way has a number and parts, objects are named for it, and what its round asks fits
 pub record IsBegun (work : Work) : Type 0 where
   pub from_one : 1 ≤ work.number
   pub parts : HasOpParts work.op
+  pub named : AreNamedFor work.op work.named
   pub asked : FitAsked work.sets work.body
 
 abbrev pub HasBegun : Option Work → Type 0
@@ -107,34 +112,38 @@ pub record HoldsFit (state : ClientState) : Type 0 where
 begun : (found : Option Work) (work : Work) → found ≡ Some work → HasBegun found → IsBegun work
 begun found work is has = subst HasBegun is has
 
--- the same work with other replies or in another phase
-same_asked : (old new : Work) → new.op ≡ old.op → new.number ≡ old.number → new.sets ≡ old.sets
-    → new.body ≡ old.body → IsBegun old → IsBegun new
-same_asked old new op_is number_is sets_are body_is is = record {
+-- the same work with more that is named, other replies or in another phase
+same_asked : (old new : Work) → new.op ≡ old.op → new.number ≡ old.number → AreMore old.named new.named
+    → new.sets ≡ old.sets → new.body ≡ old.body → IsBegun old → IsBegun new
+same_asked old new op_is number_is more sets_are body_is is = record {
   from_one = subst (λ (it : ℕ). 1 ≤ it) (sym number_is) is.from_one;
   parts = subst HasOpParts (sym op_is) is.parts;
+  named = subst (λ (it : Op). AreNamedFor it new.named) (sym op_is) (more_named old.op old.named new.named more is.named);
   asked = subst (λ (it : List SetOf). FitAsked it new.body) (sym sets_are)
       (subst (λ (it : Body). FitAsked old.sets it) (sym body_is) is.asked);
 }
 
 -- a round of an operation with parts, upon what fits
-round_begun : (bounds : ℕ) (kept : List Kept) (what : Op) (number round : ℕ) (work : Work)
-    → IsRound bounds kept what number round work → 1 ≤ number → HasOpParts what → KeptFits kept
-    → replicas bounds ≤ REPLICA_IDS → IsBegun work
-round_begun bounds kept what number round work is low parts fits few =
+round_begun : (bounds : ℕ) (kept : List Kept) (what : Op) (number round : ℕ) (before : List ObjectId) (work : Work)
+    → IsRound bounds kept what number round before work → 1 ≤ number → HasOpParts what → AreNamedFor what before
+    → KeptFits kept → replicas bounds ≤ REPLICA_IDS → IsBegun work
+round_begun bounds kept what number round before work is low parts named fits few =
+    let more : AreNamedFor what work.named = more_named what before work.named is.names named in
     record {
       from_one = subst (λ (it : ℕ). 1 ≤ it) (sym is.number_is) low;
       parts = subst HasOpParts (sym is.op_is) parts;
-      asked = round_fits bounds kept what number round work is fits few parts;
+      named = subst (λ (it : Op). AreNamedFor it work.named) (sym is.op_is) more;
+      asked = round_fits bounds kept what number round before work is fits few parts more;
     }
 
 module _ (state : ClientState) (few : replicas state.keys.bounds ≤ REPLICA_IDS) (holds : HoldsFit state) where
   with_work : (kept : List Kept) (work last : Work) → KeptFits kept → state.work ≡ Some last → work.op ≡ last.op
-      → work.number ≡ last.number → work.sets ≡ last.sets → work.body ≡ last.body
+      → work.number ≡ last.number → work.named ≡ last.named → work.sets ≡ last.sets → work.body ≡ last.body
       → HoldsFit (record state { kept = kept; work = Some work })
-  with_work kept work last fits is op_is number_is sets_are body_is = record {
+  with_work kept work last fits is op_is number_is named_are sets_are body_is = record {
     kept = fits;
-    work = same_asked last work op_is number_is sets_are body_is (begun state.work last is holds.work);
+    work = same_asked last work op_is number_is (subst (AreMore last.named) (sym named_are) (same_named last.named))
+        sets_are body_is (begun state.work last is holds.work);
   }
 
   each_fit : OfEach state KeptFits (λ stepped. HoldsFit stepped.state)
@@ -143,23 +152,23 @@ module _ (state : ClientState) (few : replicas state.keys.bounds ≤ REPLICA_IDS
       same = holds;
       keeps = λ kept fits. record { kept = fits; work = holds.work };
       counts = λ kept work replica number round verdict culled fits is counting.
-          with_work kept (with_verdict work replica verdict culled) work fits is refl refl refl refl;
+          with_work kept (with_verdict work replica verdict culled) work fits is refl refl refl refl refl;
       ends = λ kept work end fits is. record { kept = fits; work = tt };
-      rests = λ kept work fits is more. record {
+      rests = λ kept work named fits is named_more more. record {
         kept = fits;
-        work = same_asked work _ refl refl refl refl (begun state.work work is holds.work);
+        work = same_asked work _ refl refl named_more refl refl (begun state.work work is holds.work);
       };
-      ticks = λ work ticks is. with_work state.kept _ work holds.kept is refl refl refl refl;
+      ticks = λ work ticks is. with_work state.kept _ work holds.kept is refl refl refl refl refl;
     };
     begins = λ kept work fits next.
         let last : IsBegun next.last = begun state.work next.last next.is holds.work in
         record {
           kept = each_remarked sealed_form.Fits kept (marked_shown work.sets kept) (shown_in-remarked work.sets kept)
               fits;
-          work = round_begun state.keys.bounds kept next.last.op next.last.number (next.last.round + 1) work next.round
-              last.from_one last.parts fits few;
+          work = round_begun state.keys.bounds kept next.last.op next.last.number (next.last.round + 1) next.last.named
+              work next.round last.from_one last.parts last.named fits few;
         };
-    asks_others = λ work is preferred. with_work state.kept _ work holds.kept is refl refl refl refl;
+    asks_others = λ work is preferred. with_work state.kept _ work holds.kept is refl refl refl refl refl;
   }
 
   histories_fit : IsOfHistories KeptFits
@@ -190,8 +199,8 @@ invoke-fit state what few parts holds =
     invoke_cases state what (λ stepped. HoldsFit stepped.state)
     (λ work first. record {
       kept = each_remarked sealed_form.Fits kept (marked_shown work.sets kept) (shown_in-remarked work.sets kept) fits;
-      work = round_begun state.keys.bounds kept what (next_number state.last_request) 1 work first
-          (next_from_one state.last_request) parts fits few;
+      work = round_begun state.keys.bounds kept what (next_number state.last_request) 1 (operation_objects what) work
+          first (next_from_one state.last_request) parts (own_named what parts) fits few;
     })
 
 -- the client with this number, in a run of so many events
@@ -316,7 +325,7 @@ each_letters state = record {
     keeps = λ kept _ fits. tt;
     counts = λ kept work replica number round verdict culled _ is counting fits. tt;
     ends = λ kept work end _ is fits. tt;
-    rests = λ kept work _ is more fits. tt;
+    rests = λ kept work named _ is _ more fits. tt;
     ticks = λ work ticks is fits. tt;
   };
   begins = λ kept work _ next fits.

@@ -1,18 +1,20 @@
 -- What a client asks for fits its format, where what it keeps fits and its numbers are in their ranges.
-use Rattle.std.proofs.Common.{◌≡◌, ℕ, zero, suc, ◌+◌, ◌-◌, ◌<◌, ◌≤◌, ◌^◌, Bool, true, false, cond, List, [], ◌∷◌, length, Option, None, Some, refl, sym, ap, subst, ◌∙◌, arith, inl, inr}
-use Rattle.std.specs.Prelude.{◌==◌, ◌&&◌, ◌%◌, not}
+use Rattle.std.proofs.Common.{◌≡◌, ℕ, zero, suc, ◌+◌, ◌-◌, ◌<◌, ◌≤◌, ◌^◌, Bool, true, cond, List, [], ◌∷◌, length, Option, None, Some, refl, sym, ap, subst, ◌∙◌, arith, inl, inr}
+use Rattle.std.specs.Prelude.{◌==◌, ◌&&◌, ◌%◌, not, nat_lt, nat_le, map, IsTrue}
 use Rattle.std.specs.List.{AllByRecursion}
-use Rattle.std.proofs.lemmas.Bool.{false≢true, cases_Bool, cond_both, and_parts, or_left, eq-eqb, eqb-true, le-leb, ltb-true}
+use Rattle.std.proofs.lemmas.Bool.{false≢true, cases_Bool, cond_both, and_parts, or_cases, or_left, or_right, eq-eqb, eqb-true, leb-true, le-leb, ltb-true}
+use Rattle.std.proofs.lemmas.List.{length-map}
 use Rattle.std.proofs.lemmas.Option.{none-some, same_Some}
 use Rattle.qu_base.specs.declared.limits.TheConstants.{LAST_CLIENT, OBJECT_IDS, REPLICA_IDS}
 use Rattle.qu_base.specs.declared.party.ClientId.{ClientId}
 use Rattle.qu_base.specs.declared.party.ObjectId.{ObjectId}
 use Rattle.qu_base.specs.Format.{FitsFrom}
 use Rattle.qu_base.specs.Bounds.{replicas}
+use Rattle.qu_history.specs.declared.limits.TheConstants.{OBJECTS_LIMIT}
 use Rattle.qu_history.specs.declared.sealed.Sealed.{Sealed}
 use Rattle.qu_history.specs.declared.sets.SetOf.{SetOf}
 use Rattle.qu_history.specs.History.{ObjectHistory}
-use Rattle.qu_history.specs.Trimming.{trimmed}
+use Rattle.qu_history.specs.Trimming.{trimmed_set, trimmed}
 use Rattle.qu_history.specs.Formats.{history_form, sealed_form, entry_form, sealed_entry_form, next_entry, entries_form, set_form, sets_form}
 use Rattle.qu_objects.specs.declared.act.Method.{Method}
 use Rattle.qu_objects.specs.declared.query.Ask.{Ask}
@@ -26,18 +28,21 @@ use Rattle.qu_frames.specs.declared.frame.Body.{Body}
 use Rattle.qu_frames.specs.declared.frame.Body.TheVariants as body
 use Rattle.qu_frames.specs.Formats.{body_form, request_frame, kind_form, frame_form}
 use Rattle.qu_frames.specs.Formats as forms
-use Rattle.qu_client.specs.declared.kept.Kept.{Kept}
+use Rattle.qu_question.specs.declared.kept.Kept.{Kept}
 use Rattle.qu_client.specs.declared.work.Work.{Work}
-use Rattle.qu_client.specs.State.{is_left_out, kept_of}
-use Rattle.qu_client.specs.Question.{operation_objects, entries_from, set_of, sets_of, target_of}
+use Rattle.qu_question.specs.Kept.{is_left_out, kept_of}
+use Rattle.qu_question.specs.Named.{operation_objects, are_objects_from, are_objects}
+use Rattle.qu_question.specs.Question.{lowest_of, entries_from, set_of, whole_sets, sets_of, target_of}
 use Rattle.qu_client.specs.Sound.{IsFor}
 use Rattle.qu_client.proofs.Cases.{IsRound}
 use Rattle.qu_client.specs.Rounds.{request_of}
 use Rattle.qu_runs.specs.Plain.{HasOpParts}
 use Rattle.qu_objects.proofs.Text.{method_fits, ask_fits}
 use Rattle.qu_fitting.proofs.FitRequests.{blank_sized}
-use Rattle.qu_client.proofs.Trimmed.{trimmed-fits}
-use Rattle.qu_client.proofs.Targets.{target_such}
+use Rattle.qu_question.proofs.Gathered.{are_objects_of_parts}
+use Rattle.qu_question.proofs.Naming.{AreMore}
+use Rattle.qu_question.proofs.Trimmed.{trimmed-fits}
+use Rattle.qu_question.proofs.Targets.{target_such}
 
 -- ---- the entries of an object, replica by replica
 
@@ -136,181 +141,246 @@ entries_fit object replica (suc count) kept fit key order =
     (λ sealed found. found_among sealed_form.Fits object replica kept sealed fit found)
     (λ from below. entries_fit object (replica + 1) count kept fit from below))
 
-set_fits : (bounds : ℕ) (kept : List Kept) (object : ObjectId) → KeptFits kept → replicas bounds ≤ REPLICA_IDS
-    → object.0 < OBJECT_IDS → sets_form.Fits (set_of bounds kept object ∷ [])
-unfolding sets_form set_form entries_form
-set_fits bounds kept object fit few below =
+set_fits : (bounds least : ℕ) (kept : List Kept) (object : ObjectId) → KeptFits kept → replicas bounds ≤ REPLICA_IDS
+    → least ≤ object.0 → object.0 < OBJECT_IDS → (set_form least).Fits (set_of bounds kept object)
+unfolding set_form entries_form
+set_fits bounds least kept object fit few order below =
     let entries : EntriesFit object 0 (replicas bounds) (entries_from object 0 (replicas bounds) kept) =
     entries_fit object 0 (replicas bounds) kept fit 0 (omega arith) in (
-      (omega arith, omega arith),
-      (
-        refl,
-        (
-          (
-            ((omega arith, omega arith), le-leb 0 object.0 (omega arith)),
-            ((omega arith, omega (arith, entries.1)), (refl, entries.0)),
-          ),
-          tt,
-        ),
-      ),
+      ((omega arith, omega arith), le-leb least object.0 order),
+      ((omega arith, omega (arith, entries.1)), (refl, entries.0)),
     )
 
--- ---- what is asked for
+-- ---- the objects that are named
 
-act_fits : (object : ObjectId) (method : Method) → object.0 < OBJECT_IDS → MethodFits method
-    → (act_form (is_one_of (object ∷ []))).Fits ((object, method) ∷ [])
-unfolding act_form
-act_fits object method below fit = (
-  (omega arith, omega arith),
-  (
-    refl,
-    (
-      (
-        (
-          (
-            (omega arith, omega arith),
-            or_left (object.0 == object.0) false
-                (eq-eqb object.0 object.0 refl),
-          ),
-          refl,
-        ),
-        method_fits method fit,
-      ),
-      tt,
-    ),
-  ),
+-- they rise, and the operation's own are among them
+pub record AreNamedFor (what : Op) (named : List ObjectId) : Type 0 where
+  pub are : IsTrue (are_objects named)
+  pub own : (object : ObjectId) → is_one_of (operation_objects what) object ≡ true → is_one_of named object ≡ true
+
+pub more_named : (what : Op) (old new : List ObjectId) → AreMore old new → AreNamedFor what old → AreNamedFor what new
+more_named what old new more named = record {
+  are = more.are named.are;
+  own = λ object is. more.hold object (named.own object is);
+}
+
+-- its own are, where an operation begins
+pub own_named : (what : Op) → HasOpParts what → AreNamedFor what (operation_objects what)
+own_named (op.Act acted) parts = record { are = are_objects_of_parts acted parts.0; own = λ object is. is }
+own_named (op.Query asked) parts = record { are = are_objects_of_parts asked parts.0; own = λ object is. is }
+
+itself : (object : ObjectId) (later : List ObjectId) → is_one_of (object ∷ later) object ≡ true
+itself object later = or_left (object.0 == object.0) (is_one_of later object) (eq-eqb object.0 object.0 refl)
+
+-- what is known of the first of some that rise
+record IsFirstNamed (least : ℕ) (object : ObjectId) (later : List ObjectId) : Type 0 where
+  order : least ≤ object.0
+  below : object.0 < OBJECT_IDS
+  rest : are_objects_from (object.0 + 1) later ≡ true
+
+first_named : (least : ℕ) (object : ObjectId) (later : List ObjectId)
+    → are_objects_from least (object ∷ later) ≡ true → IsFirstNamed least object later
+unfolding are_objects_from
+first_named least object later rising =
+    let parts = and_parts (nat_le least object.0 && nat_lt object.0 OBJECT_IDS) (are_objects_from (object.0 + 1) later)
+    rising in
+    let tests = and_parts (nat_le least object.0) (nat_lt object.0 OBJECT_IDS) parts.0 in
+    record {
+      order = leb-true least object.0 tests.0;
+      below = ltb-true object.0 OBJECT_IDS tests.1;
+      rest = parts.1;
+    }
+
+-- what is known of all of them
+record AreFewNamed (named : List ObjectId) : Type 0 where
+  some : 0 < length named
+  few : length named ≤ OBJECTS_LIMIT
+  rising : are_objects_from 0 named ≡ true
+
+few_named : (named : List ObjectId) → IsTrue (are_objects named) → AreFewNamed named
+unfolding are_objects
+few_named named are =
+    let parts = and_parts (nat_lt 0 (length named) && nat_le (length named) OBJECTS_LIMIT) (are_objects_from 0 named)
+    are in
+    let number = and_parts (nat_lt 0 (length named)) (nat_le (length named) OBJECTS_LIMIT) parts.0 in
+    record {
+      some = ltb-true 0 (length named) number.0;
+      few = leb-true (length named) OBJECTS_LIMIT number.1;
+      rising = parts.1;
+    }
+
+-- each has a number
+named_below : (least : ℕ) (named : List ObjectId) (object : ObjectId) → are_objects_from least named ≡ true
+    → is_one_of named object ≡ true → object.0 < OBJECT_IDS
+named_below least [] object rising is = absurd (false≢true is)
+named_below least (first ∷ later) object rising is =
+    let here : IsFirstNamed least first later = first_named least first later rising in
+    elim (or_cases (first.0 == object.0) (is_one_of later object) is) [
+      | inl same ↦ subst (λ (it : ℕ). it < OBJECT_IDS) (eqb-true first.0 object.0 same) here.below
+      | inr after ↦ named_below (first.0 + 1) later object here.rest after
+    ]
+
+-- each of some of them is one of them
+each_named : (named some : List ObjectId)
+    → ((object : ObjectId) → is_one_of some object ≡ true → is_one_of named object ≡ true)
+    → AllByRecursion (λ (it : ObjectId). is_one_of named it ≡ true) some
+each_named named [] within = tt
+each_named named (object ∷ later) within = (
+  within object (itself object later),
+  each_named named later (λ it is. within it (or_right (object.0 == it.0) (is_one_of later it) is)),
 )
 
-query_fits : (object : ObjectId) (ask : Ask) → object.0 < OBJECT_IDS → AskFits ask
-    → (query_form (is_one_of (object ∷ []))).Fits ((object, ask) ∷ [])
-unfolding query_form
-query_fits object ask below fit = (
-  (omega arith, omega arith),
-  (
-    refl,
-    (
-      (
-        (
-          (
-            (omega arith, omega arith),
-            or_left (object.0 == object.0) false
-                (eq-eqb object.0 object.0 refl),
-          ),
-          refl,
-        ),
-        ask_fits ask fit,
-      ),
-      tt,
-    ),
-  ),
-)
+lowest_named : (named : List ObjectId) → 0 < length named → is_one_of named (lowest_of named) ≡ true
+lowest_named [] some = absurd (omega arith)
+lowest_named (object ∷ later) some = itself object later
 
 -- ---- the sets of a round
 
--- the sets of one object
-record FitSets (object : ObjectId) (sets : List SetOf) : Type 0 where
+-- the sets of these objects
+record FitSets (named : List ObjectId) (sets : List SetOf) : Type 0 where
   of_sets : sets_form.Fits sets
-  objects : forms.objects_in_sets sets ≡ object ∷ []
+  objects : forms.objects_in_sets sets ≡ named
 
-sets_fit : (bounds round : ℕ) (kept : List Kept) (object : ObjectId) → KeptFits kept → replicas bounds ≤ REPLICA_IDS
-    → object.0 < OBJECT_IDS → FitSets object (sets_of bounds round kept (object ∷ []))
+sets_fit_from : (bounds least : ℕ) (kept : List Kept) (named : List ObjectId) → are_objects_from least named ≡ true
+    → KeptFits kept → replicas bounds ≤ REPLICA_IDS
+    → FitsFrom set_form (λ (set : SetOf). (set.object).0 + 1) least (whole_sets bounds kept named)
+sets_fit_from bounds least kept [] rising fit few = tt
+sets_fit_from bounds least kept (object ∷ later) rising fit few =
+    let first : IsFirstNamed least object later = first_named least object later rising in (
+      set_fits bounds least kept object fit few first.order first.below,
+      sets_fit_from bounds (object.0 + 1) kept later first.rest fit few,
+    )
+
+whole_objects : (bounds : ℕ) (kept : List Kept) (named : List ObjectId)
+    → forms.objects_in_sets (whole_sets bounds kept named) ≡ named
+whole_objects bounds kept [] = refl
+whole_objects bounds kept (object ∷ later) =
+    ap (λ (rest : List ObjectId). object ∷ rest) (whole_objects bounds kept later)
+
+trimmed_objects : (bounds : ℕ) (sets : List SetOf)
+    → forms.objects_in_sets (map (trimmed_set bounds) sets) ≡ forms.objects_in_sets sets
+trimmed_objects bounds [] = refl
+trimmed_objects bounds (set ∷ later) =
+    ap (λ (rest : List ObjectId). set.object ∷ rest) (trimmed_objects bounds later)
+
+whole_fit : (bounds : ℕ) (kept : List Kept) (named : List ObjectId) → AreFewNamed named → KeptFits kept
+    → replicas bounds ≤ REPLICA_IDS → sets_form.Fits (whole_sets bounds kept named)
+unfolding sets_form
+whole_fit bounds kept named are fit few =
+    let size : length (whole_sets bounds kept named) ≡ length named =
+    length-map named (λ (object : ObjectId). set_of bounds kept object) in (
+      (omega (arith, size, are.some), omega (arith, size, are.few)),
+      (refl, sets_fit_from bounds 0 kept named are.rising fit few),
+    )
+
+sets_fit : (bounds round : ℕ) (kept : List Kept) (named : List ObjectId) → AreFewNamed named → KeptFits kept
+    → replicas bounds ≤ REPLICA_IDS → FitSets named (sets_of bounds round kept named)
 unfolding trimmed
-sets_fit bounds round kept object fit few below =
-    let whole : sets_form.Fits (set_of bounds kept object ∷ []) = set_fits bounds kept object fit few below in
-    cond_both (round % 2 == 1) _ _ (FitSets object)
-    (λ _. record { of_sets = trimmed-fits bounds (set_of bounds kept object ∷ []) whole; objects = refl })
-    (λ _. record { of_sets = whole; objects = refl })
+sets_fit bounds round kept named are fit few =
+    let whole : sets_form.Fits (whole_sets bounds kept named) = whole_fit bounds kept named are fit few in
+    cond_both (round % 2 == 1) _ _ (FitSets named)
+    (λ _. record {
+      of_sets = trimmed-fits bounds (whole_sets bounds kept named) whole;
+      objects = trimmed_objects bounds (whole_sets bounds kept named) ∙ whole_objects bounds kept named;
+    })
+    (λ _. record { of_sets = whole; objects = whole_objects bounds kept named })
+
+-- ---- what is asked for
+
+act_fits : (named : List ObjectId) (object : ObjectId) (method : Method) → is_one_of named object ≡ true
+    → object.0 < OBJECT_IDS → MethodFits method → (act_form (is_one_of named)).Fits ((object, method) ∷ [])
+unfolding act_form
+act_fits named object method known below fit = (
+  (omega arith, omega arith),
+  (refl, (((((omega arith, omega arith), known), refl), method_fits method fit), tt)),
+)
+
+query_fits : (named : List ObjectId) (object : ObjectId) (ask : Ask) → is_one_of named object ≡ true
+    → object.0 < OBJECT_IDS → AskFits ask → (query_form (is_one_of named)).Fits ((object, ask) ∷ [])
+unfolding query_form
+query_fits named object ask known below fit = (
+  (omega arith, omega arith),
+  (refl, (((((omega arith, omega arith), known), refl), ask_fits ask fit), tt)),
+)
 
 -- ---- what a round asks
-
--- of one object it is the one to be mended
-target_is : (bounds : ℕ) (sets : List SetOf) (object : ObjectId) → target_of bounds sets (object ∷ []) ≡ object
-target_is bounds sets object =
-    target_such (λ (it : ObjectId). it ≡ object) bounds sets (object ∷ []) (refl, tt) refl
 
 -- the sets of a round and what it asks
 pub record FitAsked (sets : List SetOf) (asked : Body) : Type 0 where
   pub of_sets : sets_form.Fits sets
   pub of_body : (body_form (forms.objects_in_sets sets)).Fits asked
 
--- what is asked of one object
-record FitsOne (object : ObjectId) (asked : Body) : Type 0 where
-  fits : (body_form (object ∷ [])).Fits asked
+-- what is asked where these objects are named
+record FitsNamed (named : List ObjectId) (asked : Body) : Type 0 where
+  fits : (body_form named).Fits asked
 
-operation_fits : (what : Op) (object : ObjectId) → operation_objects what ≡ object ∷ [] → HasOpParts what
-    → FitsOne object (body_of what)
+operation_fits : (what : Op) (named : List ObjectId) → AreNamedFor what named → HasOpParts what
+    → FitsNamed named (body_of what)
 unfolding body_form
-operation_fits (op.Act []) object is parts = absurd (false≢true parts.0)
-operation_fits (op.Act ((own, method) ∷ [])) object is parts =
-    let below : own.0 < OBJECT_IDS = ltb-true own.0 OBJECT_IDS parts.0 in
+operation_fits (op.Act []) named are parts = absurd (false≢true parts.0)
+operation_fits (op.Act ((object, method) ∷ [])) named are parts =
+    let below : object.0 < OBJECT_IDS = ltb-true object.0 OBJECT_IDS parts.0 in
     record {
-      fits = subst (λ (it : List ObjectId). (body_form it).Fits (body_of (op.Act ((own, method) ∷ [])))) is
-          (((omega arith, omega arith), refl), act_fits own method below (parts.1).0);
+      fits = (
+        ((omega arith, omega arith), refl),
+        act_fits named object method (are.own object (itself object [])) below (parts.1).0,
+      );
     }
-operation_fits (op.Act (first ∷ second ∷ later)) object is parts = absurd (false≢true parts.0)
-operation_fits (op.Query []) object is parts = absurd (false≢true parts.0)
-operation_fits (op.Query ((own, ask) ∷ [])) object is parts =
-    let below : own.0 < OBJECT_IDS = ltb-true own.0 OBJECT_IDS parts.0 in
+operation_fits (op.Act (first ∷ second ∷ later)) named are parts = absurd (false≢true parts.0)
+operation_fits (op.Query []) named are parts = absurd (false≢true parts.0)
+operation_fits (op.Query ((object, ask) ∷ [])) named are parts =
+    let below : object.0 < OBJECT_IDS = ltb-true object.0 OBJECT_IDS parts.0 in
     record {
-      fits = subst (λ (it : List ObjectId). (body_form it).Fits (body_of (op.Query ((own, ask) ∷ [])))) is
-          (((omega arith, omega arith), refl), query_fits own ask below (parts.1).0);
+      fits = (
+        ((omega arith, omega arith), refl),
+        query_fits named object ask (are.own object (itself object [])) below (parts.1).0,
+      );
     }
-operation_fits (op.Query (first ∷ second ∷ later)) object is parts = absurd (false≢true parts.0)
+operation_fits (op.Query (first ∷ second ∷ later)) named are parts = absurd (false≢true parts.0)
 
-mend_fits : (object : ObjectId) → object.0 < OBJECT_IDS → FitsOne object (body.Mend object)
+mend_fits : (named : List ObjectId) (target : ObjectId) → is_one_of named target ≡ true → target.0 < OBJECT_IDS
+    → FitsNamed named (body.Mend target)
 unfolding body_form
-mend_fits object below = record {
-  fits = (
-    ((omega arith, omega arith), refl),
-    ((omega arith, omega arith), or_left (object.0 == object.0) false (eq-eqb object.0 object.0 refl)),
-  );
+mend_fits named target known below = record {
+  fits = (((omega arith, omega arith), refl), ((omega arith, omega arith), known));
 }
 
--- the one object of an operation
-record HasObject (what : Op) : Type 0 where
-  object : ObjectId
-  below : object.0 < OBJECT_IDS
-  is : operation_objects what ≡ object ∷ []
+-- one of the objects that are named is mended
+target_named : (bounds : ℕ) (sets : List SetOf) (named : List ObjectId) → AreFewNamed named
+    → is_one_of named (target_of bounds sets named) ≡ true
+target_named bounds sets named are =
+    target_such (λ (it : ObjectId). is_one_of named it ≡ true) bounds sets named
+    (each_named named named (λ object is. is)) (lowest_named named are.some)
 
-object_of : (what : Op) → HasOpParts what → HasObject what
-object_of (op.Act []) parts = absurd (false≢true parts.0)
-object_of (op.Act ((object, method) ∷ [])) parts =
-    record { object = object; below = ltb-true object.0 OBJECT_IDS parts.0; is = refl }
-object_of (op.Act (first ∷ second ∷ later)) parts = absurd (false≢true parts.0)
-object_of (op.Query []) parts = absurd (false≢true parts.0)
-object_of (op.Query ((object, ask) ∷ [])) parts =
-    record { object = object; below = ltb-true object.0 OBJECT_IDS parts.0; is = refl }
-object_of (op.Query (first ∷ second ∷ later)) parts = absurd (false≢true parts.0)
-
-asked_fits : (object : ObjectId) (sets : List SetOf) (asked : Body) → FitSets object sets → FitsOne object asked
-    → FitAsked sets asked
-asked_fits object sets asked fit one = record {
-  of_sets = fit.of_sets;
-  of_body = subst (λ (it : List ObjectId). (body_form it).Fits asked) (sym fit.objects) one.fits;
-}
-
--- what may be asked of this object in a round of an operation on it
-one_fits : (what : Op) (object : ObjectId) → object.0 < OBJECT_IDS → FitsOne object (body_of what) → (asked : Body)
-    → IsFor what asked → ((target : ObjectId) → asked ≡ body.Mend target → target ≡ object) → FitsOne object asked
-one_fits what object below one asked (inl same) mends = subst (FitsOne object) (sym same) one
-one_fits what object below one (body.Act parts) (inr mend) mends = absurd mend
-one_fits what object below one (body.Ask parts) (inr mend) mends = absurd mend
-one_fits what object below one (body.Mend target) (inr mend) mends =
-    subst (λ (it : ObjectId). FitsOne object (body.Mend it)) (sym (mends target refl)) (mend_fits object below)
+-- what may be asked in a round of an operation
+body_fits : (what : Op) (named : List ObjectId) → FitsNamed named (body_of what)
+    → ((target : ObjectId) → is_one_of named target ≡ true → FitsNamed named (body.Mend target)) → (asked : Body)
+    → IsFor what asked → ((target : ObjectId) → asked ≡ body.Mend target → is_one_of named target ≡ true)
+    → FitsNamed named asked
+body_fits what named one mended asked (inl same) mends = subst (FitsNamed named) (sym same) one
+body_fits what named one mended (body.Act parts) (inr mend) mends = absurd mend
+body_fits what named one mended (body.Ask parts) (inr mend) mends = absurd mend
+body_fits what named one mended (body.Mend target) (inr mend) mends = mended target (mends target refl)
 
 -- what a round asks upon what is kept fits
-pub round_fits : (bounds : ℕ) (kept : List Kept) (what : Op) (number round : ℕ) (work : Work)
-    → IsRound bounds kept what number round work → KeptFits kept → replicas bounds ≤ REPLICA_IDS → HasOpParts what
-    → FitAsked work.sets work.body
-round_fits bounds kept what number round work is fit few parts =
-    let one : HasObject what = object_of what parts in
-    let sets : FitSets one.object work.sets =
-    subst (FitSets one.object) (sym (is.sets_are ∙ ap (sets_of bounds round kept) one.is))
-    (sets_fit bounds round kept one.object fit few one.below) in
-    asked_fits one.object work.sets work.body sets
-    (one_fits what one.object one.below (operation_fits what one.object one.is parts) work.body is.asks
+pub round_fits : (bounds : ℕ) (kept : List Kept) (what : Op) (number round : ℕ) (before : List ObjectId) (work : Work)
+    → IsRound bounds kept what number round before work → KeptFits kept → replicas bounds ≤ REPLICA_IDS
+    → HasOpParts what → AreNamedFor what work.named → FitAsked work.sets work.body
+round_fits bounds kept what number round before work is fit few parts named =
+    let are : AreFewNamed work.named = few_named work.named named.are in
+    let sets : FitSets work.named work.sets =
+    subst (FitSets work.named) (sym is.sets_are) (sets_fit bounds round kept work.named are fit few) in
+    let asked : FitsNamed work.named work.body =
+    body_fits what work.named (operation_fits what work.named named parts)
+    (λ target known. mend_fits work.named target known (named_below 0 work.named target are.rising known)) work.body
+    is.asks
     (λ target mends.
-    is.mends target mends ∙ ap (target_of bounds work.sets) one.is ∙ target_is bounds work.sets one.object))
+    subst (λ (it : ObjectId). is_one_of work.named it ≡ true) (sym (is.mends target mends))
+    (target_named bounds work.sets work.named are)) in
+    record {
+      of_sets = sets.of_sets;
+      of_body = subst (λ (it : List ObjectId). (body_form it).Fits work.body) (sym sets.objects) asked.fits;
+    }
 
 -- ---- the request
 

@@ -1,11 +1,17 @@
--- What a reply adds under a stamp, where a version was found there before, is that version.
-use Rattle.std.proofs.Common.{◌≡◌, ℕ, ◌<◌, ◌+◌, length, sym, subst, ◌∙◌, arith}
+-- What a reply adds under a stamp, where a version was found there before, is that version; what it holds has versions.
+use Rattle.std.proofs.Common.{◌≡◌, ℕ, ◌<◌, ◌+◌, not, List, [], ◌∷◌, length, Some, sym, ap, subst, ◌∙◌, arith}
+use Rattle.std.specs.List.{AllByRecursion}
 use Rattle.qu_base.specs.declared.party.ClientId.{ClientId}
 use Rattle.qu_base.specs.declared.party.ObjectId.{ObjectId}
 use Rattle.qu_stamp.specs.declared.stamp.Stamp.{Stamp}
 use Rattle.qu_stamp.specs.declared.candidate.Candidate.{Candidate}
 use Rattle.qu_objects.specs.declared.state.ObjState.{ObjState}
 use Rattle.qu_frames.specs.declared.verdict.Verdict.{Verdict}
+use Rattle.qu_versions.specs.declared.stored.Stored.{Stored}
+use Rattle.qu_versions.specs.Versions.{version_at}
+use Rattle.qu_rows.specs.State.{ReplicaState}
+use Rattle.qu_fitting.specs.Holding.{stored_all}
+use Rattle.qu_fitting.proofs.AcceptingAll.{accept_all-is}
 use Rattle.qu_trace.specs.declared.trace.Trace.{Trace}
 use Rattle.qu_world.specs.Run.{IsRun}
 use Rattle.qu_chain.specs.Laws.{Laws}
@@ -16,11 +22,11 @@ use Rattle.qu_claims.specs.Values.{HasVersion}
 use Rattle.qu_runs.specs.Plain.{ArePlain}
 use Rattle.qu_replies.specs.Replies.{IsReplyTo}
 use Rattle.qu_replies.proofs.RepliesInRuns.{reply_accepts}
-use Rattle.qu_replies.proofs.TrueReplies.{AddsWhatIsFound}
+use Rattle.qu_replies.proofs.Retries.{AddsWhatIsFound, HasVersions}
 use Rattle.qu_values.proofs.Updating.UpdateFacts.{UpdateFacts}
 use Rattle.qu_values.proofs.Updating.Updates.{same_accepted}
 use Rattle.qu_values.proofs.Versions.EverAccepted.{once_accepted}
-use Rattle.qu_values.proofs.Versions.StoredValues.{found_upon, added_of_stamp}
+use Rattle.qu_values.proofs.Versions.StoredValues.{found_upon, added_of_stamps, stored_upon}
 
 module _ (trace : Trace) (is_run : IsRun trace) (have : ArePlain trace) (laws : Laws (setting trace))
     (joint : Joint (setting trace)) (facts : UpdateFacts trace) (at : ℕ) (below : at < length trace.entries) where
@@ -36,12 +42,32 @@ module _ (trace : Trace) (is_run : IsRun trace) (have : ArePlain trace) (laws : 
       facts.one_version object other.candidate before after
       (subst (λ (it : Candidate). HasVersion trace object it before) same one.has) other.has
 
-  pub adds_what_is_found : (replica : ℕ) (client : ClientId) (number round : ℕ) (given : Verdict)
-      (reply : IsReplyTo trace at replica client number round given) (object : ObjectId)
-      → AddsWhatIsFound (reply.handles).mid object reply.accepted
-  adds_what_is_found replica client number round given reply object stamp before after found adds =
-      let handles = reply.handles in
-      one_of_stamp object stamp before after
-      (found_upon trace laws joint is_run have at below replica reply.old reply.new handles object stamp before found)
-      (added_of_stamp trace laws joint is_run have at below replica reply.old reply.new handles object stamp after
-      ((reply_accepts trace is_run have at below replica client number round given reply).versions ∙ adds))
+  module _ (replica : ℕ) (client : ClientId) (number round : ℕ) (given : Verdict)
+      (reply : IsReplyTo trace at replica client number round given) where
+    each_once : (more : List Stored)
+        → AllByRecursion (λ (it : Stored). IsVersionOf trace (at + 1) it.object it.stamp it.state) more
+        → AllByRecursion (λ (it : Stored). (before : ObjState)
+        → version_at it.object it.stamp (reply.handles).mid.versions ≡ Some before → before ≡ it.state) more
+    each_once [] all = tt
+    each_once (it ∷ later) all = (
+      λ before found. one_of_stamp it.object it.stamp before it.state
+          (found_upon trace laws joint is_run have at below replica reply.old reply.new reply.handles it.object it.stamp
+          before found) all.0,
+      each_once later all.1,
+    )
+
+    pub adds_what_is_found : AddsWhatIsFound (reply.handles).mid reply.accepted
+    adds_what_is_found =
+        let mid : ReplicaState = (reply.handles).mid in
+        each_once (stored_all reply.accepted)
+        (added_of_stamps trace laws joint is_run have at below replica reply.old reply.new reply.handles
+        (stored_all reply.accepted)
+        ((reply_accepts trace is_run have at below replica client number round given reply).versions
+        ∙ ap (λ (it : ReplicaState). it.versions) (accept_all-is mid reply.accepted)))
+
+    pub has_versions : HasVersions (reply.handles).mid
+    unfolding setting
+    has_versions object candidate plain held =
+        let stored = stored_upon trace laws joint is_run have at below replica reply.old reply.new reply.handles object
+        candidate (ap not plain) held in
+        (stored.0, stored.1)

@@ -5,6 +5,7 @@ use Rattle.std.specs.List.{AllZip}
 use Rattle.std.proofs.lemmas.List.Elements.{All-nil, All-cons, All-head, All-tail, Contains-get_or}
 use Rattle.qu_base.specs.declared.party.ObjectId.{ObjectId}
 use Rattle.qu_claims.specs.Parts.{Names}
+use Rattle.qu_replies.specs.Replies.{HoldsOfFirst}
 
 -- the objects of a list
 abbrev pub objects_in : {X : Type 0} → List (ObjectId × X) → List ObjectId
@@ -82,12 +83,16 @@ pub record Named {X Y : Type 0} (from : List (ObjectId × X)) (to : List (Object
   pub among : Contains from told
   pub names : Names to told.0
 
-pub first_named : {X Y : Type 0} (from : List (ObjectId × X)) (to : List (ObjectId × Y))
-    → objects_in from ≡ objects_in to → 1 ≤ length to → Named from to
-first_named from [] same some = absurd (omega arith)
-first_named [] (second ∷ to) same some = absurd (cc)
-first_named (first ∷ from) (second ∷ to) same some = record {
-  told = first;
-  among = (0, omega arith, refl);
-  names = inl (sym (same_cons first.0 second.0 (objects_in from) (objects_in to) same).0);
-}
+-- the first element, which has what the first of the list has
+pub first_having : {X Y : Type 0} (P : ObjectId × X → Type 0) (from : List (ObjectId × X)) (to : List (ObjectId × Y))
+    → objects_in from ≡ objects_in to → 1 ≤ length to → HoldsOfFirst P from → (named : Named from to) × P named.told
+first_having P from [] same some first = absurd (omega arith)
+first_having P [] (second ∷ to) same some first = absurd first
+first_having P (one ∷ from) (second ∷ to) same some first = (
+  record {
+    told = one;
+    among = (0, omega arith, refl);
+    names = inl (sym (same_cons one.0 second.0 (objects_in from) (objects_in to) same).0);
+  },
+  first,
+)

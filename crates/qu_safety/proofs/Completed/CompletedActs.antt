@@ -32,14 +32,15 @@ use Rattle.qu_trace.specs.declared.trace.Trace.{Trace}
 use Rattle.qu_trace.specs.Operation.{operations_of}
 use Rattle.qu_world.specs.Run.{IsRun}
 use Rattle.qu_objects.specs.Digesting.{act_digest}
-use Rattle.qu_safety.proofs.Completed.Along.{all_along, all_contained, Named, first_named}
+use Rattle.qu_safety.proofs.Completed.Along.{all_along, all_contained, Named, first_having}
 use Rattle.qu_claims.specs.Handled.{IsHandled}
 use Rattle.qu_claims.specs.Completions.{RepliedAt, Replied, IsCompleted}
 use Rattle.qu_claims.specs.Accepted.{accepts}
 use Rattle.qu_claims.specs.RunSetting.{setting}
 use Rattle.qu_claims.specs.Times.{world_after}
 use Rattle.qu_runs.proofs.Worlds.Settings.{acceptors_are, acceptors_counted}
-use Rattle.qu_replies.specs.Replies.{HasDone, TellsDone, HasKept, TellsAlready, IsReplyTo, culled_in}
+use Rattle.qu_replies.specs.Replies.{HoldsOfFirst, HasDone, TellsDone, HasKept, TellsAlready, IsReplyTo, culled_in}
+use Rattle.qu_replies.proofs.EachOf.{first_weaker}
 use Rattle.qu_claims.specs.Quorums.{PartOfQuorum}
 use Rattle.qu_runs.specs.Plain.{ArePlain}
 use Rattle.qu_rounds.proofs.Endings.{EndsAt, operation_ends}
@@ -49,7 +50,7 @@ use Rattle.qu_values.proofs.Versions.EverAccepted.{place_ever, held_ever}
 use Rattle.qu_rounds.proofs.Members.{is_among, members_count}
 use Rattle.qu_replies.proofs.RepliesInRuns.{IsActOn, act_of_update, done_in_run, already_in_run}
 use Rattle.qu_safety.proofs.Completed.KeptParts.{KeptPart, kept_part}
-use Rattle.qu_safety.proofs.Completed.AddedOnce.{adds_what_is_found}
+use Rattle.qu_safety.proofs.Completed.AddedOnce.{adds_what_is_found, has_versions}
 use Rattle.qu_values.proofs.Versions.StoredValues.{version_is}
 use Rattle.qu_values.proofs.Updating.UpdateFacts.{UpdateFacts}
 use Rattle.qu_rounds.proofs.Verdicts.{fits_act, equal_done, equal_already}
@@ -61,13 +62,36 @@ module _ (trace : Trace) (is_run : IsRun trace) (have : ArePlain trace) (clients
     (among : Contains (operations_of trace) operation) (parts : List (ObjectId × Method))
     (is_act : operation.op ≡ op.Act parts) (answer : Answer) (stamps : List (ObjectId × Stamp))
   where
+    -- with some answer
     abbrev Part : ℕ → ℕ → ObjectId × Stamp → Type 0
-    Part time replica told = HasPart trace operation parts answer time replica told
+    Part time replica told = (kept : Answer) × HasPart trace operation parts kept time replica told
 
     abbrev Has : ℕ → ℕ → Type 0
     Has time replica = HasAll trace operation parts answer stamps time replica
 
     -- ---- members
+
+    -- a candidate that a replica has once it told Done
+    part_done : (at : ℕ) → at < length trace.entries → (replica round : ℕ)
+        → (reply : IsReplyTo trace at replica operation.client operation.number round (verdict.Done stamps answer))
+        → IsHandled trace operation.client operation.number parts → (kept : Answer) (told : ObjectId × Stamp)
+        → HasDone reply.new operation.client operation.number
+        (act_digest operation.client operation.number parts) kept told
+        → HasPart trace operation parts kept (at + 1) replica told
+    unfolding setting
+    part_done at below replica round reply handled kept told it = record {
+      candidate = it.candidate;
+      is_told = it.is_told;
+      made = record { handled = handled; of_client = it.of_client; of_act = it.of_act };
+      accepted = test_at-here (accepts told.0 it.candidate) (world_after trace (at + 1)).replicas replica
+          reply.new (reply.handles).is_new ∙ it.held;
+      version = it.version;
+      has = version_is trace laws joint is_run have (at + 1) (omega arith) replica reply.new
+          (reply.handles).is_new told.0 it.candidate
+          (held_ever trace laws (at + 1) (omega arith) replica reply.new (reply.handles).is_new told.0
+          it.candidate it.held) it.version it.of_candidate;
+      keeps = it.keeps;
+    }
 
     -- a replica that told Done has the candidates
     has_by_reply : (at : ℕ) → at < length trace.entries → (replica round : ℕ)
@@ -87,43 +111,42 @@ module _ (trace : Trace) (is_run : IsRun trace) (have : ArePlain trace) (clients
         subst (λ (it : List (ObjectId × Method)).
         TellsDone reply.new client number (act_digest client number it) it stamps answer) these
         (done_in_run trace is_run have at below replica client number round stamps answer reply
-        (λ object names. adds_what_is_found trace is_run have laws joint facts at below replica client number round
-        given reply object)) in
+        (has_versions trace is_run have laws joint facts at below replica client number round given reply)
+        (adds_what_is_found trace is_run have laws joint facts at below replica client number round given reply)) in
         let handled : IsHandled trace client number parts =
         told_handled trace is_run have clients operation among parts is_act at below replica round given tt reply in
         record {
           some = subst (λ (it : List (ObjectId × Method)). 1 ≤ length it) these asks.some;
           of_parts = done.of_parts;
-          each = All-weaker (HasDone reply.new client number act answer) (Part (at + 1) replica)
-              (λ told it. record {
-                candidate = it.candidate;
-                is_told = it.is_told;
-                made = record { handled = handled; of_client = it.of_client; of_act = it.of_act };
-                accepted = test_at-here (accepts told.0 it.candidate) (world_after trace (at + 1)).replicas replica
-                    reply.new (reply.handles).is_new ∙ it.held;
-                version = it.version;
-                has = version_is trace laws joint is_run have (at + 1) (omega arith) replica reply.new
-                    (reply.handles).is_new told.0 it.candidate
-                    (held_ever trace laws (at + 1) (omega arith) replica reply.new (reply.handles).is_new told.0
-                    it.candidate it.held) it.version it.of_candidate;
-                keeps = it.keeps;
-              }) stamps done.each;
+          each = All-weaker (λ (told : ObjectId × Stamp). (kept : Answer)
+              × HasDone reply.new client number act kept told) (Part (at + 1) replica)
+              (λ told it. (it.0, part_done at below replica round reply handled it.0 told it.1)) stamps done.each;
+          first = first_weaker (HasDone reply.new client number act answer)
+              (HasPart trace operation parts answer (at + 1) replica)
+              (part_done at below replica round reply handled answer) stamps done.first;
         }
+
+    part_later : (early late : ℕ) → early ≤ late → (replica : ℕ) (kept : Answer) (told : ObjectId × Stamp)
+        → HasPart trace operation parts kept early replica told → HasPart trace operation parts kept late replica told
+    part_later early late order replica kept told it = record {
+      candidate = it.candidate;
+      is_told = it.is_told;
+      made = it.made;
+      accepted = accepted-later (setting trace) laws early late order told.0 replica it.candidate it.accepted;
+      version = it.version;
+      has = it.has;
+      keeps = it.keeps;
+    }
 
     has_later : (early late : ℕ) → early ≤ late → (replica : ℕ) → Has early replica → Has late replica
     has_later early late order replica held = record {
       some = held.some;
       of_parts = held.of_parts;
       each = All-weaker (Part early replica) (Part late replica)
-          (λ told it. record {
-            candidate = it.candidate;
-            is_told = it.is_told;
-            made = it.made;
-            accepted = accepted-later (setting trace) laws early late order told.0 replica it.candidate it.accepted;
-            version = it.version;
-            has = it.has;
-            keeps = it.keeps;
-          }) stamps held.each;
+          (λ told it. (it.0, part_later early late order replica it.0 told it.1)) stamps held.each;
+      first = first_weaker (HasPart trace operation parts answer early replica)
+          (HasPart trace operation parts answer late replica) (part_later early late order replica answer) stamps
+          held.first;
     }
 
     has_by_verdict : (before round : ℕ) (given : Verdict) → given ≡ verdict.Done stamps answer → (replica : ℕ)
@@ -145,10 +168,12 @@ module _ (trace : Trace) (is_run : IsRun trace) (have : ArePlain trace) (clients
     -- ---- they all have the same
 
     has_first : (time : ℕ) → time ≤ length trace.entries → (first : ℕ) → first < replicas trace.setup.bounds
-        → (told : ObjectId × Stamp) (held : Part time first told) → (replica : ℕ)
+        → (told : ObjectId × Stamp) (part : Part time first told) → (replica : ℕ)
         → replica < replicas trace.setup.bounds → Part time replica told
-        → (setting trace).accepted time told.0 replica held.candidate ≡ true
-    has_first time within first below told held replica also other =
+        → (setting trace).accepted time told.0 replica (part.1).candidate ≡ true
+    has_first time within first below told part replica also its =
+        let held = part.1 in
+        let other = its.1 in
         let candidates : held.candidate ≡ other.candidate =
         same_accepted trace laws joint told.0 held.candidate other.candidate
         (place_ever trace laws time within first below told.0 held.candidate held.accepted)
@@ -162,28 +187,30 @@ module _ (trace : Trace) (is_run : IsRun trace) (have : ArePlain trace) (clients
         (enough : quorum trace.setup.bounds ≤ length members + trace.setup.bounds) (all : All (Has time) members)
         (first : ℕ)
         (below : first < replicas trace.setup.bounds) where
-      quorum_by : (told : ObjectId × Stamp) → Contains stamps told → (held : Part time first told)
-          → quorum trace.setup.bounds ≤ acceptors (setting trace) time told.0 held.candidate + trace.setup.bounds
+      quorum_by : (told : ObjectId × Stamp) → Contains stamps told → (part : Part time first told)
+          → quorum trace.setup.bounds ≤ acceptors (setting trace) time told.0 (part.1).candidate + trace.setup.bounds
       unfolding setting
-      quorum_by told one held =
+      quorum_by told one part =
+          let held = part.1 in
           let n : ℕ = replicas trace.setup.bounds in
           let accepted : ℕ → Bool = test_at (accepts told.0 held.candidate) (world_after trace time).replicas in
           let among_them : length members ≤ count n (is_among members) = members_count n members different within in
           let more : count n (is_among members) ≤ count n accepted =
           count-more n (is_among members) accepted
           (λ index low member.
-          has_first time ends first below told held index low
+          has_first time ends first below told part index low
           (All-contains (Part time index) stamps told (among_all (Has time) members all index member).each one)) in
           let same : acceptors (setting trace) time told.0 held.candidate ≡ count n accepted =
           acceptors_counted trace time told.0 held.candidate in
           omega (arith, enough, among_them, more, same)
 
-      decided_of_quorum : (told : ObjectId × Stamp) → Contains stamps told → (held : Part time first told)
-          → IsDecided (setting trace) time told.0 held.candidate
+      decided_of_quorum : (told : ObjectId × Stamp) → Contains stamps told → (part : Part time first told)
+          → IsDecided (setting trace) time told.0 (part.1).candidate
       unfolding setting
-      decided_of_quorum told one held =
+      decided_of_quorum told one part =
+          let held = part.1 in
           let counted : quorum trace.setup.bounds
-          ≤ acceptors (setting trace) time told.0 held.candidate + trace.setup.bounds = quorum_by told one held in
+          ≤ acceptors (setting trace) time told.0 held.candidate + trace.setup.bounds = quorum_by told one part in
           IsDecided.established held.candidate
           (facts.plain told.0 held.candidate (place_ever trace laws time ends first below told.0
           held.candidate held.accepted) (rw (held.made).of_act refl))
@@ -204,10 +231,11 @@ module _ (trace : Trace) (is_run : IsRun trace) (have : ArePlain trace) (clients
       where
         at : (told : ObjectId × Stamp) → Contains stamps told → Part (reply - 1) first told
             → PartOfQuorum trace operation parts reply (verdict.Done stamps answer) told.0
-        at told one part =
+        at told one it =
+            let part = it.1 in
             let counted : quorum trace.setup.bounds
             ≤ acceptors (setting trace) (reply - 1) told.0 part.candidate + trace.setup.bounds =
-            quorum_by (reply - 1) ends members different within enough all first below told one part in
+            quorum_by (reply - 1) ends members different within enough all first below told one it in
             record {
               candidate = part.candidate;
               of_client = (part.made).of_client;
@@ -231,9 +259,10 @@ module _ (trace : Trace) (is_run : IsRun trace) (have : ArePlain trace) (clients
         some_member P members (omega (arith, some, enough)) (both members all within) in
         let held : Has (reply - 1) one.0 = (one.1).0 in
         let below : one.0 < replicas trace.setup.bounds = (one.1).1 in
-        let named : Named stamps parts = first_named stamps parts held.of_parts held.some in
-        let part : Part (reply - 1) one.0 named.told =
-        All-contains (Part (reply - 1) one.0) stamps named.told held.each named.among in
+        let having = first_having (HasPart trace operation parts answer (reply - 1) one.0) stamps parts held.of_parts
+        held.some held.first in
+        let named : Named stamps parts = having.0 in
+        let part : HasPart trace operation parts answer (reply - 1) one.0 named.told = having.1 in
         record {
           parts = parts;
           is_act = is_act;
@@ -244,7 +273,7 @@ module _ (trace : Trace) (is_run : IsRun trace) (have : ArePlain trace) (clients
           has = part.has;
           keeps = part.keeps;
           decided = decided_of_quorum (reply - 1) (omega arith) members different within enough all one.0 below
-              named.told named.among part;
+              named.told named.among (answer, part);
           of_quorum = record {
             some = held.some;
             each = each_of_quorum reply (omega arith) members different within enough all one.0 below held;
@@ -270,11 +299,16 @@ module _ (trace : Trace) (is_run : IsRun trace) (have : ArePlain trace) (clients
     (laws : Laws (setting trace)) (joint : Joint (setting trace)) (facts : UpdateFacts trace) (operation : OpRecord)
     (among : Contains (operations_of trace) operation) (parts : List (ObjectId × Method))
     (is_act : operation.op ≡ op.Act parts) (answer : Answer) where
-  abbrev Kept : ℕ → ObjectId → Type 0
-  Kept time object = KeptPart trace operation.client operation.number parts answer time object
+  abbrev KeptWith : Answer → ℕ → ObjectId → Type 0
+  KeptWith kept time object = KeptPart trace operation.client operation.number parts kept time object
 
-  kept_later : (early late : ℕ) → early ≤ late → (object : ObjectId) → Kept early object → Kept late object
-  kept_later early late order object it = record {
+  -- with some answer
+  abbrev Kept : ℕ → ObjectId → Type 0
+  Kept time object = (kept : Answer) × KeptWith kept time object
+
+  kept_later : (early late : ℕ) → early ≤ late → (kept : Answer) (object : ObjectId) → KeptWith kept early object
+      → KeptWith kept late object
+  kept_later early late order kept object it = record {
     candidate = it.candidate;
     made = it.made;
     version = it.version;
@@ -290,6 +324,7 @@ module _ (trace : Trace) (is_run : IsRun trace) (have : ArePlain trace) (clients
   kept_by_reply : (at : ℕ) → at < length trace.entries → (replica round : ℕ)
       → IsReplyTo trace at replica operation.client operation.number round (verdict.Already answer)
       → (1 ≤ length parts) × All (λ (part : ObjectId × Method). Kept at part.0) parts
+      × HoldsOfFirst (λ (part : ObjectId × Method). KeptWith answer at part.0) parts
   kept_by_reply at below replica round reply =
       let client : ClientId = operation.client in
       let number : ℕ = operation.number in
@@ -309,17 +344,27 @@ module _ (trace : Trace) (is_run : IsRun trace) (have : ArePlain trace) (clients
       told_handled trace is_run have clients operation among parts is_act at below replica round given tt reply in (
         subst (λ (it : List (ObjectId × Method)). 1 ≤ length it) these asks.some,
         All-weaker
+            (λ (part : ObjectId × Method). (kept : Answer)
+            × HasKept (reply.handles).mid client number act (culled_in (reply.handles).mid reply.sets) kept part.0)
+            (λ (part : ObjectId × Method). Kept at part.0)
+            (λ part it. (
+              it.0,
+              kept_part trace is_run have laws joint facts at below replica client number round answer
+                  reply parts handled it.0 part.0 it.1,
+            )) parts tells.each,
+        first_weaker
             (λ (part : ObjectId × Method).
             HasKept (reply.handles).mid client number act (culled_in (reply.handles).mid reply.sets) answer part.0)
-            (λ (part : ObjectId × Method). Kept at part.0)
+            (λ (part : ObjectId × Method). KeptWith answer at part.0)
             (λ part it. kept_part trace is_run have laws joint facts at below replica client number round answer reply
-            parts handled part.0 it) parts tells,
+            parts handled answer part.0 it) parts tells.first,
       )
 
   quorum_of_kept : (reply : ℕ) → (object : ObjectId) → Kept (reply - 1) object
       → PartOfQuorum trace operation parts reply (verdict.Already answer) object
   unfolding setting
-  quorum_of_kept reply object it =
+  quorum_of_kept reply object kept =
+      let it = kept.1 in
       let counted : quorum trace.setup.bounds
       ≤ acceptors (setting trace) (reply - 1) object it.complete + trace.setup.bounds = it.established in
       record {
@@ -350,10 +395,13 @@ module _ (trace : Trace) (is_run : IsRun trace) (have : ArePlain trace) (clients
       let each : All (λ (part : ObjectId × Method). Kept (reply - 1) part.0) parts =
       All-weaker (λ (part : ObjectId × Method). Kept at part.0)
       (λ (part : ObjectId × Method). Kept (reply - 1) part.0)
-      (λ part it. kept_later at (reply - 1) (omega arith) part.0 it) parts all.1 in
-      let named : Named parts parts = first_named parts parts refl all.0 in
-      let it : Kept (reply - 1) (named.told).0 =
-      All-contains (λ (part : ObjectId × Method). Kept (reply - 1) part.0) parts named.told each named.among in
+      (λ part it. (it.0, kept_later at (reply - 1) (omega arith) it.0 part.0 it.1)) parts all.1 in
+      let having = first_having (λ (part : ObjectId × Method). KeptWith answer (reply - 1) part.0) parts parts refl all.0
+      (first_weaker (λ (part : ObjectId × Method). KeptWith answer at part.0)
+      (λ (part : ObjectId × Method). KeptWith answer (reply - 1) part.0)
+      (λ part it. kept_later at (reply - 1) (omega arith) answer part.0 it) parts all.2) in
+      let named : Named parts parts = having.0 in
+      let it : KeptWith answer (reply - 1) (named.told).0 = having.1 in
       record {
         parts = parts;
         is_act = is_act;

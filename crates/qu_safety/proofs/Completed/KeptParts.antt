@@ -63,9 +63,9 @@ module _ (trace : Trace) (is_run : IsRun trace) (have : ArePlain trace) (laws : 
 
   module _ (at : ℕ) (below : at < length trace.entries) (replica : ℕ) (client : ClientId) (number round : ℕ)
       (answer : Answer) (reply : IsReplyTo trace at replica client number round (verdict.Already answer))
-      (parts : List (ObjectId × Method)) (handled : IsHandled trace client number parts) (object : ObjectId)
-      (kept : HasKept (reply.handles).mid client number (act_digest client number parts)
-      (culled_in (reply.handles).mid reply.sets) answer object) where
+      (parts : List (ObjectId × Method)) (handled : IsHandled trace client number parts) (its : Answer)
+      (object : ObjectId) (kept : HasKept (reply.handles).mid client number (act_digest client number parts)
+      (culled_in (reply.handles).mid reply.sets) its object) where
     abbrev given : Verdict
     given = verdict.Already answer
 
@@ -123,10 +123,10 @@ module _ (trace : Trace) (is_run : IsRun trace) (have : ArePlain trace) (laws : 
         upon_is trace laws joint is_run have at below replica reply.old reply.new handles object kept.base base_ever
         kept.version kept.of_base
 
-    pub kept_part : KeptPart trace client number parts answer at object
+    pub kept_part : KeptPart trace client number parts its at object
     unfolding setting
     kept_part =
-        let row : KeptRow = record { client = client; number = number; act = act; answer = answer } in
+        let row : KeptRow = record { client = client; number = number; act = act; answer = its } in
         let it : IsWritten trace object kept.base client row =
         facts.written object kept.base kept.version base_version base_ever client row kept.keeps in
         let made : IsMadeFor trace it.first (it.update).client (it.update).number (it.update).parts =

@@ -27,7 +27,7 @@ use Rattle.qu_claims.specs.RunSetting.{setting}
 use Rattle.qu_client.specs.Sound.{IsFor}
 use Rattle.qu_rounds.specs.Invocations.{IsRequestOf}
 use Rattle.qu_rounds.proofs.Requesting.{op_for}
-use Rattle.qu_replies.specs.Replies.{Keeps, IsOfUpdate, IsReplyTo}
+use Rattle.qu_replies.specs.Replies.{HoldsOfFirst, Keeps, IsOfUpdate, IsReplyTo}
 use Rattle.qu_claims.specs.Quorums.{ActOfQuorum}
 use Rattle.qu_claims.specs.Updates.{IsOf}
 use Rattle.qu_claims.specs.Values.{HasVersion}
@@ -86,12 +86,14 @@ pub record HasPart (trace : Trace) (operation : OpRecord) (parts : List (ObjectI
   pub keeps : Keeps operation.client operation.number (act_digest operation.client operation.number parts) answer
       version
 
--- on each of them
+-- on each of them one whose version keeps an answer, the first one that which is told
 pub record HasAll (trace : Trace) (operation : OpRecord) (parts : List (ObjectId × Method)) (answer : Answer)
     (stamps : List (ObjectId × Stamp)) (time replica : ℕ) : Type 0 where
   pub some : 1 ≤ length parts
   pub of_parts : objects_in stamps ≡ objects_in parts
-  pub each : All (HasPart trace operation parts answer time replica) stamps
+  pub each : All (λ (told : ObjectId × Stamp). (kept : Answer)
+      × HasPart trace operation parts kept time replica told) stamps
+  pub first : HoldsOfFirst (HasPart trace operation parts answer time replica) stamps
 
 same_acts : (first second : List (ObjectId × Method)) → op.Act first ≡ op.Act second → first ≡ second
 same_acts first second same = cc

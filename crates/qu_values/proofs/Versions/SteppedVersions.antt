@@ -1,5 +1,6 @@
 -- What an event stores with the candidates that it makes a replica accept: their versions.
 use Rattle.std.proofs.Common.{◌≡◌, ℕ, ◌+◌, ◌<◌, ◌≤◌, true, false, List, length, Some, inl, inr, refl, sym, ap, subst, ◌∙◌, arith, Option, not, None, ◌++◌, is_some}
+use Rattle.std.specs.List.{AllByRecursion}
 use Rattle.std.proofs.lemmas.Bool.{false≢true}
 use Rattle.qu_base.specs.declared.party.ObjectId.{ObjectId}
 use Rattle.qu_stamp.specs.declared.candidate.Candidate.{Candidate}
@@ -97,21 +98,11 @@ later_of_stamp trace laws early late order object stamp version it = record {
 
 -- ---- lists of versions
 
-pub none_is_one : (one : Stored) → [] ≡ one ∷ [] → ⊥
-none_is_one one same = absurd (omega (arith, ap length same))
-
 -- what stands behind the same is the same
 pub same_behind : (before more other : List Stored) → before ++ more ≡ before ++ other → more ≡ other
 same_behind before more other same =
     sym (drop_at before more (length before) refl) ∙ ap (drop (length before)) same
     ∙ drop_at before other (length before) refl
-
-abbrev first_or : Stored → List Stored → Stored
-first_or default [] = default
-first_or default (held ∷ behind) = held
-
-same_first : (one other : Stored) (later last : List Stored) → one ∷ later ≡ other ∷ last → one ≡ other
-same_first one other later last same = ap (first_or one) same
 
 -- ---- what accepted candidates are made of
 
@@ -424,51 +415,49 @@ module _ (trace : Trace) (laws : Laws (setting trace)) (joint : Joint (setting t
             (subst (HasVersion trace object fresh) (same_Some stored.0 version found_so) stored.2))
       ]
 
-  -- ---- one version that the request adds
+  -- ---- the versions that the request adds
 
-  module _ (object : ObjectId) (stamp : Stamp) (version : ObjState) where
-    abbrev more : Stored
-    more = record { object = object; stamp = stamp; state = version }
+  abbrev IsTrue : Stored → Type 0
+  IsTrue it = IsVersionOf trace (count + 1) it.object it.stamp it.state
 
-    abbrev IsTrue : Stored → Type 0
-    IsTrue it = IsVersionOf trace (count + 1) it.object it.stamp it.state
+  act_adds : (parts : List (ObjectId × Method)) → one.asks ≡ body.Act parts
+      → (performs : Performs mid new (asked_of one.client one.number one.sets (body.Act parts)) parts one.candidates)
+      → (some : List (ObjectId × Method)) → ((object : ObjectId) → Names some object → Names parts object)
+      → AllByRecursion IsTrue (stored_of one.candidates performs.versions some)
+  act_adds parts is performs [] among = tt
+  act_adds parts is performs (part ∷ later) among =
+      let names : Names parts part.0 = among part.0 (inl refl) in (
+        fresh_of_stamp part.0 (adds_part parts is performs part.0 names)
+            (ap (λ (it : Stamp). it.barrier) (performs.grounds part.0 names).stamp) (performs.versions part.0)
+            (act_has parts is performs part.0 names),
+        act_adds parts is performs later (λ object named. among object (inr named)),
+      )
 
-    act_adds : (parts : List (ObjectId × Method)) → one.asks ≡ body.Act parts
-        → (performs : Performs mid new (asked_of one.client one.number one.sets (body.Act parts)) parts
-        one.candidates)
-        → stored_of one.candidates performs.versions parts ≡ more ∷ [] → IsTrue more
-    act_adds [] is performs alone = absurd (none_is_one more alone)
-    act_adds (part ∷ later) is performs alone =
-        let parts : List (ObjectId × Method) = part ∷ later in
-        subst IsTrue (same_first _ more (stored_of one.candidates performs.versions later) [] alone)
-        (fresh_of_stamp part.0 (adds_part parts is performs part.0 (inl refl))
-        (ap (λ (it : Stamp). it.barrier) (performs.grounds part.0 (inl refl)).stamp) (performs.versions part.0)
-        (act_has parts is performs part.0 (inl refl)))
+  mend_adds : (target : ObjectId) → one.asks ≡ body.Mend target → (stored : Option ObjState)
+      → IsRemedy mid (asked_of one.client one.number one.sets (body.Mend target)) target (one.candidates target) stored
+      → AllByRecursion IsTrue (stored_if target (one.candidates target).stamp stored)
+  unfolding setting
+  mend_adds target is stored (IsRemedy.inline_barrier barrier found) = tt
+  mend_adds target is stored (IsRemedy.inline_method its plain found found_so) = tt
+  mend_adds target is stored (IsRemedy.barrier barrier made) = tt
+  mend_adds target is stored (IsRemedy.copy latest its plain made barrier is_latest full found) =
+      let adds : AddsTo one.asks target = subst (λ (asks : Body). AddsTo asks target) (sym is) refl in (
+        fresh_of_stamp target adds plain its
+            (copied_has (asked_of one.client one.number one.sets (body.Mend target)) target (one.candidates target) its
+            refl (ap not plain) made (now_accepted target adds) found),
+        tt,
+      )
 
-    mend_adds : (target : ObjectId) → one.asks ≡ body.Mend target → (stored : Option ObjState)
-        → IsRemedy mid (asked_of one.client one.number one.sets (body.Mend target)) target (one.candidates target)
-        stored
-        → stored_if target (one.candidates target).stamp stored ≡ more ∷ [] → IsTrue more
-    unfolding setting
-    mend_adds target is stored (IsRemedy.inline_barrier barrier found) alone = absurd (none_is_one more alone)
-    mend_adds target is stored (IsRemedy.inline_method its plain found found_so) alone =
-        absurd (none_is_one more alone)
-    mend_adds target is stored (IsRemedy.barrier barrier made) alone = absurd (none_is_one more alone)
-    mend_adds target is stored (IsRemedy.copy latest its plain made barrier is_latest full found) alone =
-        let adds : AddsTo one.asks target = subst (λ (asks : Body). AddsTo asks target) (sym is) refl in
-        subst IsTrue (same_first _ more [] [] alone)
-        (fresh_of_stamp target adds plain its
-        (copied_has (asked_of one.client one.number one.sets (body.Mend target)) target (one.candidates target) its refl
-        (ap not plain) made (now_accepted target adds) found))
-
-    pub request_adds : (asks : Body) → one.asks ≡ asks
-        → Reasons mid new (asked_of one.client one.number one.sets asks) asks one.candidates
-        → new.versions ≡ mid.versions ++ more ∷ [] → IsTrue more
-    request_adds (body.Act parts) is reasons adds =
-        act_adds parts is reasons (same_behind mid.versions _ _ (sym reasons.stored ∙ adds))
-    request_adds (body.Ask parts) is reasons adds = absurd reasons
-    request_adds (body.Mend target) is reasons adds =
-        mend_adds target is reasons.version reasons.remedy (same_behind mid.versions _ _ (sym reasons.stored ∙ adds))
+  pub request_adds : (asks : Body) → one.asks ≡ asks
+      → Reasons mid new (asked_of one.client one.number one.sets asks) asks one.candidates
+      → (more : List Stored) → new.versions ≡ mid.versions ++ more → AllByRecursion IsTrue more
+  request_adds (body.Act parts) is reasons more adds =
+      subst (AllByRecursion IsTrue) (same_behind mid.versions _ more (sym reasons.stored ∙ adds))
+      (act_adds parts is reasons parts (λ object names. names))
+  request_adds (body.Ask parts) is reasons more adds = absurd reasons
+  request_adds (body.Mend target) is reasons more adds =
+      subst (AllByRecursion IsTrue) (same_behind mid.versions _ more (sym reasons.stored ∙ adds))
+      (mend_adds target is reasons.version reasons.remedy)
 
   pub moved-versioned : IsVersioned trace (count + 1) new
   moved-versioned = record {

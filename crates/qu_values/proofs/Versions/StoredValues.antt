@@ -21,6 +21,7 @@ use Rattle.qu_runs.specs.Plain.{ArePlain}
 use Rattle.qu_claims.specs.Truth.{IsVersionOf}
 use Rattle.qu_values.proofs.Versions.BegunVersions.{Stores, IsVersioned}
 use Rattle.std.proofs.Common.{zero, suc, add-one, [], ◌∷◌}
+use Rattle.std.specs.List.{AllByRecursion}
 use Rattle.std.proofs.lemmas.Bool.{cases_eq, cases_Bool, and_parts}
 use Rattle.std.proofs.lemmas.Option.{same_Some, none-some}
 use Rattle.qu_base.specs.declared.party.ReplicaId.{ReplicaId}
@@ -43,7 +44,7 @@ use Rattle.qu_accepts.proofs.ActAcceptance.{alike_candidates}
 use Rattle.qu_accepts.proofs.Handling.{mid_candidates}
 use Rattle.qu_accepts.proofs.Happenings.{moves_at, handled_moves}
 use Rattle.qu_accepts.proofs.Performed.{stored_cases}
-use Rattle.qu_values.proofs.Versions.SteppedVersions.{later_of_stamp, version_of_stamp, moved-versioned, request_adds, none_is_one, same_behind}
+use Rattle.qu_values.proofs.Versions.SteppedVersions.{later_of_stamp, version_of_stamp, moved-versioned, request_adds, same_behind}
 use Rattle.qu_stamp.specs.Stamp.{same_stamp}
 use Rattle.qu_stamp.proofs.Order.{equal_by_same_stamp}
 use Rattle.std.proofs.lemmas.List.Elements.{All-head, All-tail}
@@ -146,20 +147,21 @@ module _ (trace : Trace) (laws : Laws (setting trace)) (joint : Joint (setting t
             (learned-versioned trace laws count all old (moved.handles).mid (moved.handles).learns before)
       ]
 
-  -- a version that is added when a frame is handled is that of its stamp
-  handled_adds : (handles : Handles trace count place old new) (object : ObjectId) (stamp : Stamp) (version : ObjState)
-      → new.versions ≡ (handles.mid).versions ++ (record { object = object; stamp = stamp; state = version }) ∷ []
-      → IsVersionOf trace (count + 1) object stamp version
-  handled_adds handles object stamp version adds =
+  -- the versions that are added when a frame is handled are those of their stamps
+  handled_adds : (handles : Handles trace count place old new) (more : List Stored)
+      → new.versions ≡ (handles.mid).versions ++ more
+      → AllByRecursion (λ (it : Stored). IsVersionOf trace (count + 1) it.object it.stamp it.state) more
+  handled_adds handles more adds =
       elim (handled_moves trace is_run have count below place old new handles) [
-        | inl alike ↦ absurd (none_is_one (record { object = object; stamp = stamp; state = version })
-            (same_behind (handles.mid).versions [] _
-            (append-nil (handles.mid).versions ∙ sym alike.versions ∙ adds)))
+        | inl alike ↦
+            subst (AllByRecursion (λ (it : Stored). IsVersionOf trace (count + 1) it.object it.stamp it.state))
+            (same_behind (handles.mid).versions [] more
+            (append-nil (handles.mid).versions ∙ sym alike.versions ∙ adds)) tt
         | inr accepts ↦
             request_adds trace laws joint is_run have count below place old new handles accepts
             (learned-versioned trace laws count all old handles.mid handles.learns
             (all count (omega arith) place old is_old))
-            object stamp version accepts.asks refl accepts.reasons adds
+            accepts.asks refl accepts.reasons more adds
       ]
 
 -- ---- all worlds of a run
@@ -197,16 +199,28 @@ versioned trace laws joint is_run have (suc count) within past order =
       | inr earlier ↦ versioned trace laws joint is_run have count (omega arith) past (omega (arith, order, earlier))
     ]
 
--- a version that is added when a frame is handled is that of its stamp
-pub added_of_stamp : (trace : Trace) → Laws (setting trace) → Joint (setting trace) → IsRun trace → ArePlain trace →
+-- the versions that are added when a frame is handled are those of their stamps
+pub added_of_stamps : (trace : Trace) → Laws (setting trace) → Joint (setting trace) → IsRun trace → ArePlain trace →
     (count : ℕ) → count < length trace.entries → (place : ℕ) (old new : ReplicaState)
-    (handles : Handles trace count place old new) (object : ObjectId) (stamp : Stamp) (version : ObjState)
-    → new.versions ≡ (handles.mid).versions ++ (record { object = object; stamp = stamp; state = version }) ∷ []
-    → IsVersionOf trace (count + 1) object stamp version
-added_of_stamp trace laws joint is_run have count below place old new handles object stamp version adds =
+    (handles : Handles trace count place old new) (more : List Stored)
+    → new.versions ≡ (handles.mid).versions ++ more
+    → AllByRecursion (λ (it : Stored). IsVersionOf trace (count + 1) it.object it.stamp it.state) more
+added_of_stamps trace laws joint is_run have count below place old new handles more adds =
     handled_adds trace laws joint is_run have count below
     (versioned trace laws joint is_run have count (omega (arith, below))) place old new handles.is_old handles.is_new
-    handles object stamp version adds
+    handles more adds
+
+-- each candidate without barrier that is held where a frame is handled has its version there
+pub stored_upon : (trace : Trace) → Laws (setting trace) → Joint (setting trace) → IsRun trace → ArePlain trace →
+    (count : ℕ) → count < length trace.entries → (place : ℕ) (old new : ReplicaState)
+    (handles : Handles trace count place old new) (object : ObjectId) (candidate : Candidate)
+    → (setting trace).plain candidate ≡ true → holds candidate (own_candidates (handles.mid) object) ≡ true
+    → Stores trace object handles.mid candidate
+stored_upon trace laws joint is_run have count below place old new handles object candidate plain held =
+    let all : (past : ℕ) → past ≤ count → AreVersioned trace past =
+    versioned trace laws joint is_run have count (omega (arith, below)) in
+    (learned-versioned trace laws count all old handles.mid handles.learns
+    (all count (omega arith) place old handles.is_old)).stores object candidate plain held
 
 -- what is found upon which a frame is handled is the version of its stamp
 pub found_upon : (trace : Trace) → Laws (setting trace) → Joint (setting trace) → IsRun trace → ArePlain trace →

@@ -1,6 +1,0 @@
-use Rattle.std.proofs.Common.{◌≡◌}
-use Rattle.qu_client.proofs.Marks.{shown_up_to}
-use Rattle.qu_client.proofs.kept.marking.marked_shown.Given as goal
-
-abbrev pub invariant-loop-held : goal.invariant-loop-held
-invariant-loop-held l = l.held-items ≡ shown_up_to l.sets l.held-index l.fn.kept

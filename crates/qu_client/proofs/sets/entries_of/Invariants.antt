@@ -1,8 +1,0 @@
-use Rattle.std.proofs.Common.{◌≡◌, ◌-◌, ◌++◌}
-use Rattle.qu_client.specs.Question.{entries_from}
-use Rattle.qu_client.proofs.sets.entries_of.Given as goal
-
-abbrev pub invariant-loop-replica : goal.invariant-loop-replica
-invariant-loop-replica l =
-    l.entries ++ entries_from l.object l.replica (l.replicas - l.replica) l.kept ≡ entries_from l.object 0
-    l.replicas l.kept

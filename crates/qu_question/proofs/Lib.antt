@@ -1,0 +1,7 @@
+pub mod Keeping
+pub mod Naming
+pub mod Gathered
+pub mod Building
+pub mod Marks
+pub mod Trimmed
+pub mod Targets

@@ -1,0 +1,7 @@
+use Rattle.std.proofs.Common.{◌≡◌, filter, take}
+use Rattle.std.specs.Prelude.{nat_lt}
+use Rattle.qu_question.proofs.named.below.Given as goal
+
+abbrev pub invariant-loop-other : goal.invariant-loop-other
+invariant-loop-other l =
+    l.objects ≡ filter (λ other. nat_lt other.0 l.object.0) (take l.other-index l.others)
