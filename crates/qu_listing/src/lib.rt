@@ -1,4 +1,4 @@
-//! The letters of a run as lines of text: by event, or with their digests.
+//! The letters of a run as lines of text: by event, with their digests, or with their bytes.
 #![tactic(auto)]
 
 mod deliveries;
@@ -17,5 +17,5 @@ mod stood;
 mod told;
 mod verdicts;
 
-pub use digests::digests_text;
+pub use digests::{bytes_text, digests_text};
 pub use events::events_text;
