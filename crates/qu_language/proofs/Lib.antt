@@ -4,3 +4,4 @@ pub mod CommentFacts
 pub mod LiarFacts
 pub mod PhaseFacts
 pub mod ScriptFacts
+pub mod CallFacts

@@ -11,9 +11,9 @@ neither false true x y z other_word some = absurd cc
 neither true other x y z other_word some = absurd cc
 
 -- a line that is none of an object, behind one at least
-pub body_is_later : (script : Script) (number : ℕ) (word : List ℕ) (words : List (List ℕ))
+pub body_is_later : (live : Bool) (script : Script) (number : ℕ) (word : List ℕ) (words : List (List ℕ))
     → bytes_eq word (codes "object") ≡ false → has_none script.setup.kinds ≡ false
-    → body_rule script number word words ≡ later_rule script number word words
+    → body_rule live script number word words ≡ later_rule live script number word words
 unfolding body_rule
-body_is_later script number word words other some =
+body_is_later live script number word words other some =
     neither (bytes_eq word (codes "object")) (has_none script.setup.kinds) _ _ _ other some

@@ -1,10 +1,10 @@
 -- The lines behind a setup.
-use Rattle.std.specs.Prelude.{ℕ, List, [], ◌∷◌, length, None, Some, Result, Ok, Err, if◌then◌else◌, codes}
+use Rattle.std.specs.Prelude.{ℕ, nat_lt, Bool, ◌||◌, List, [], ◌∷◌, length, None, Some, Result, Ok, Err, if◌then◌else◌, codes}
 use Rattle.std.specs.Str.{bytes_eq}
 use Rattle.qu_trace.specs.declared.trace.Setup.{Setup}
 use Rattle.qu_language.specs.declared.bad.BadKind.{BadKind}
-use Rattle.qu_language.specs.declared.bad.BadKind.TheVariants.{UnknownWord}
-use Rattle.qu_language.specs.declared.limits.TheConstants.{MOST_TICKS}
+use Rattle.qu_language.specs.declared.bad.BadKind.TheVariants.{OverLimit, UnknownWord, NotInLive}
+use Rattle.qu_language.specs.declared.limits.TheConstants.{MOST_CALLS, MOST_TICKS}
 use Rattle.qu_language.specs.declared.line.Line.{Line}
 use Rattle.qu_language.specs.declared.line.Line.TheVariants.{Call, Deliver, Flow, Hold, Free, Lose, Tick, Wake}
 use Rattle.qu_language.specs.Bringing.{inject_rule, fake_rule}
@@ -73,3 +73,18 @@ event_rule setup verb words =
     else (if bytes_eq verb (codes "flow") then flow_rule words
     else (if bytes_eq verb (codes "inject") then inject_rule setup words
     else (if bytes_eq verb (codes "fake") then fake_rule setup words else quiet_rule setup verb words))))
+
+-- ---- for threads
+
+-- the words with which the lines begin that make other events than a call
+abbrev pub is_event_word : List ℕ → Bool
+is_event_word verb =
+    bytes_eq verb (codes "deliver") || bytes_eq verb (codes "flow") || bytes_eq verb (codes "inject")
+    || bytes_eq verb (codes "fake") || bytes_eq verb (codes "tick") || bytes_eq verb (codes "wake")
+    || bytes_eq verb (codes "hold") || bytes_eq verb (codes "free") || bytes_eq verb (codes "lose")
+
+-- a line behind so many calls, by its first word: a script for threads calls, and has no other events
+unfoldable pub live_rule : Setup → ℕ → List ℕ → List (List ℕ) → Result Line BadKind
+live_rule setup count verb words =
+    if bytes_eq verb (codes "call") then (if nat_lt count MOST_CALLS then call_rule setup words else Err OverLimit)
+    else (if is_event_word verb then Err NotInLive else Err UnknownWord)

@@ -8,3 +8,4 @@ pub mod Event
 pub mod Setup
 pub mod Phase
 pub mod Script
+pub mod Called

@@ -11,7 +11,7 @@ use Rattle.qu_language.specs.declared.line.Line.{Line}
 use Rattle.qu_language.specs.declared.line.Script.{Script}
 use Rattle.qu_language.specs.declared.phase.Phase.{Phase}
 use Rattle.qu_language.specs.declared.phase.Phase.TheVariants.{NeedsBounds, NeedsSeed, NeedsClients, Body}
-use Rattle.qu_language.specs.Event.{event_rule}
+use Rattle.qu_language.specs.Event.{event_rule, live_rule}
 use Rattle.qu_language.specs.Meaning.{then_good}
 use Rattle.qu_language.specs.Rules.{number_rule, ranged_rule}
 use Rattle.qu_language.specs.Setup.{IsWithin, object_line, faulty_line}
@@ -72,25 +72,30 @@ faulty_said script words =
     if has_none script.lines
     then then_good (faulty_line script.setup words) (λ who. Ok (with_liar script who)) else Err OutOfOrder
 
-abbrev pub event_said : Script → ℕ → List ℕ → List (List ℕ) → Result Script BadKind
-event_said script number word words =
-    then_good (event_rule script.setup word words) (λ line. Ok (with_line script number line))
+-- a line behind those of a script; `live` where threads run it
+abbrev pub next_line : Bool → Script → List ℕ → List (List ℕ) → Result Line BadKind
+next_line live script word words =
+    if live then live_rule script.setup (length script.lines) word words else event_rule script.setup word words
+
+abbrev pub event_said : Bool → Script → ℕ → List ℕ → List (List ℕ) → Result Script BadKind
+event_said live script number word words =
+    then_good (next_line live script word words) (λ line. Ok (with_line script number line))
 
 -- the words with which the first three lines begin
 abbrev pub is_opening_word : List ℕ → Bool
 is_opening_word word = bytes_eq word (codes "bounds") || bytes_eq word (codes "seed") || bytes_eq word (codes "clients")
 
 -- a line that lists a faulty party or makes events
-unfoldable pub later_rule : Script → ℕ → List ℕ → List (List ℕ) → Result Script BadKind
-later_rule script number word words =
+unfoldable pub later_rule : Bool → Script → ℕ → List ℕ → List (List ℕ) → Result Script BadKind
+later_rule live script number word words =
     if bytes_eq word (codes "faulty") then faulty_said script words
-    else (if is_opening_word word then Err OutOfOrder else event_said script number word words)
+    else (if is_opening_word word then Err OutOfOrder else event_said live script number word words)
 
 -- a line behind the first three, by its first word: there is one object at least
-unfoldable pub body_rule : Script → ℕ → List ℕ → List (List ℕ) → Result Script BadKind
-body_rule script number word words =
+unfoldable pub body_rule : Bool → Script → ℕ → List ℕ → List (List ℕ) → Result Script BadKind
+body_rule live script number word words =
     if bytes_eq word (codes "object") then object_said script words
-    else (if has_none script.setup.kinds then Err ExpectedObject else later_rule script number word words)
+    else (if has_none script.setup.kinds then Err ExpectedObject else later_rule live script number word words)
 
 -- ---- all lines
 
@@ -99,17 +104,17 @@ abbrev pub opening_line : List ℕ → BadKind → (List ℕ → Result ℕ BadK
 opening_line first kind rule word words = if bytes_eq word first then only_of rule words else Err kind
 
 -- a line that says something, by its first word and the others
-abbrev pub said_rule : Phase → ℕ → List ℕ → List (List ℕ) → Result Phase BadKind
-said_rule NeedsBounds number word words =
+abbrev pub said_rule : Bool → Phase → ℕ → List ℕ → List (List ℕ) → Result Phase BadKind
+said_rule live NeedsBounds number word words =
     then_good (opening_line (codes "bounds") ExpectedBounds (ranged_rule 1 MOST_FAULTS) word words)
     (λ bounds. Ok (NeedsSeed bounds))
-said_rule (NeedsSeed bounds) number word words =
+said_rule live (NeedsSeed bounds) number word words =
     then_good (opening_line (codes "seed") ExpectedSeed number_rule word words) (λ seed. Ok (NeedsClients bounds seed))
-said_rule (NeedsClients bounds seed) number word words =
+said_rule live (NeedsClients bounds seed) number word words =
     then_good (opening_line (codes "clients") ExpectedClients (ranged_rule 1 LAST_CLIENT) word words)
     (λ clients. Ok (Body (opening_script bounds seed clients)))
-said_rule (Body script) number word words =
-    then_good (body_rule script number word words) (λ script. Ok (Body script))
+said_rule live (Body script) number word words =
+    then_good (body_rule live script number word words) (λ script. Ok (Body script))
 
 -- whether the first word of a line makes it a comment
 abbrev pub is_comment : List ℕ → Bool
@@ -121,11 +126,12 @@ abbrev pub comment_of : List (List ℕ) → Result (Unit {0}) BadKind
 comment_of words = if list_all is_ascii_word words then Ok tt else Err NotAscii
 
 -- the line with this number, by its words: an empty line and a comment are passed over
-unfoldable pub line_rule : Phase → ℕ → List (List ℕ) → Result Phase BadKind
-line_rule phase number [] = Ok phase
-line_rule phase number (word ∷ words) =
+unfoldable pub line_rule : Bool → Phase → ℕ → List (List ℕ) → Result Phase BadKind
+line_rule live phase number [] = Ok phase
+line_rule live phase number (word ∷ words) =
     then_good (ascii_word word) (λ word.
-    if is_comment word then then_good (comment_of words) (λ done. Ok phase) else said_rule phase number word words)
+    if is_comment word then then_good (comment_of words) (λ done. Ok phase)
+    else said_rule live phase number word words)
 
 -- the script, where no line is left
 abbrev pub whole_script : Script → Result Script BadKind

@@ -1,5 +1,5 @@
 ghost use Rattle.std.specs.Prelude.{◌≡◌};
-ghost use Rattle.qu_language.specs.Event.{call_rule, deliver_rule, flow_rule, event_rule};
+ghost use Rattle.qu_language.specs.Event.{call_rule, flow_rule, event_rule, is_event_word, live_rule};
 ghost use Rattle.qu_language.specs.Meaning.{IsReadAs};
 
 use super::bringing::{read_fake, read_inject};
@@ -8,7 +8,7 @@ use super::operation::read_operation;
 use super::parties::read_correct_client;
 use super::rules::read_number;
 use super::ticking::read_quiet;
-use super::{BadKind, Line, LineFail, Words};
+use super::{BadKind, Line, LineFail, MOST_CALLS, Words};
 use qu_trace::Setup;
 use std::alloc::Global;
 
@@ -35,6 +35,45 @@ pub fn read_event(
     } else {
         read_quiet(alloc, setup, verb, words)
     }
+}
+
+/// Reads a line of a script for threads, behind this setup and so many calls, by its first word.
+#[tactic(auto, unfolding(crate::specs::Event::live_rule))]
+pub fn read_live(
+    alloc: Global,
+    setup: &Setup,
+    count: usize,
+    verb: &[u8],
+    words: &mut Words<'_>,
+) -> Result<Line, LineFail>
+    ensures { IsReadAs (λ line. line) result (live_rule setup.now count verb.now words.old) }
+{
+    if verb == b"call".as_slice() {
+        if count < MOST_CALLS {
+            read_call(alloc, setup, words)
+        } else {
+            Err(LineFail::Bad(BadKind::OverLimit))
+        }
+    } else if is_event_word(verb) {
+        Err(LineFail::Bad(BadKind::NotInLive))
+    } else {
+        Err(LineFail::Bad(BadKind::UnknownWord))
+    }
+}
+
+/// Whether a line that begins with this word makes other events than a call.
+fn is_event_word(verb: &[u8]) -> bool
+    ensures { result ≡ is_event_word verb.now }
+{
+    verb == b"deliver".as_slice()
+        || verb == b"flow".as_slice()
+        || verb == b"inject".as_slice()
+        || verb == b"fake".as_slice()
+        || verb == b"tick".as_slice()
+        || verb == b"wake".as_slice()
+        || verb == b"hold".as_slice()
+        || verb == b"free".as_slice()
+        || verb == b"lose".as_slice()
 }
 
 /// `C OP`, of a correct client.

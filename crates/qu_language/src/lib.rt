@@ -18,7 +18,7 @@ mod ticking;
 mod words;
 
 pub use bad::{Bad, BadKind, LineFail, ScriptFail};
-pub use limits::{MOST_TICKS, SCRIPT_LIMIT, limits_are_these};
+pub use limits::{MOST_CALLS, MOST_TICKS, SCRIPT_LIMIT, limits_are_these};
 pub use line::{How, Line, Script};
 pub use operation::{Part, Verb};
 pub use phase::Phase;

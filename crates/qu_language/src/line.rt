@@ -1,4 +1,5 @@
-ghost use Rattle.std.specs.Prelude.{◌≡◌, IfOk};
+ghost use Rattle.std.specs.Prelude.{◌≡◌, ◌++◌, IfOk, OnOk};
+ghost use Rattle.qu_language.specs.Called.{call_of, calls_said};
 
 use qu_base::{ClientId, List, NoMemory, Party, ReplicaId};
 use qu_objects::Op;
@@ -74,6 +75,18 @@ pub struct Script {
 }
 
 impl Script {
+    /// The calls of its lines, in their order.
+    #[tactic(auto, using(crate::proofs::CallFacts::calls_more))]
+    pub fn calls(&self, alloc: Global) -> Result<List<(ClientId, Op)>, NoMemory>
+        ensures { IfOk result (λ calls. calls ≡ calls_said self.now.lines) }
+    {
+        let mut calls = List::new(alloc);
+        for numbered in self.lines.as_slice() {
+            push_call(alloc, &mut calls, &numbered.1)?;
+        }
+        Ok(calls)
+    }
+
     /// An equal script.
     pub fn copy(&self, alloc: Global) -> Result<Script, NoMemory>
         ensures { IfOk result (λ script. script ≡ self.now) }
@@ -86,5 +99,23 @@ impl Script {
             setup: self.setup.copy(alloc)?,
             lines,
         })
+    }
+}
+
+/// Puts the call of a line behind others, where it is one.
+fn push_call(alloc: Global, calls: &mut List<(ClientId, Op)>, line: &Line) -> Result<(), NoMemory>
+    ensures { OnOk result (calls.new ≡ calls.old ++ call_of line.now) }
+{
+    match line {
+        Line::Call(client, op) => calls.push((*client, op.copy(alloc)?)),
+        Line::Deliver(_)
+        | Line::Flow(_)
+        | Line::Hold(_)
+        | Line::Free(_)
+        | Line::Lose
+        | Line::Tick(_, _)
+        | Line::Wake(_)
+        | Line::Inject(_, _)
+        | Line::Fake(_, _, _, _) => Ok(()),
     }
 }

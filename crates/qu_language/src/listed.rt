@@ -6,7 +6,7 @@ ghost use Rattle.qu_language.specs.Words.{all_of, some_of};
 
 use super::parties::read_replica;
 use super::rules::read_number;
-use super::{LineFail, Words};
+use super::{BadKind, LineFail, Words};
 use qu_base::{Bounds, List, ReplicaId};
 use std::alloc::Global;
 
@@ -16,7 +16,7 @@ pub fn read_numbers(alloc: Global, words: &mut Words<'_>) -> Result<List<u64>, L
     ensures { IsReadAs (λ numbers. numbers) result (some_of number_rule words.old) }
 {
     if words.is_empty() {
-        return Err(words.missing());
+        return Err(LineFail::Bad(BadKind::WrongCount));
     }
     read_all_numbers(alloc, words)
 }
@@ -43,7 +43,7 @@ pub fn read_replicas(
     ensures { IsReadAs (λ replicas. replicas) result (some_of (replica_rule bounds.now) words.old) }
 {
     if words.is_empty() {
-        return Err(words.missing());
+        return Err(LineFail::Bad(BadKind::WrongCount));
     }
     read_all_replicas(alloc, bounds, words)
 }

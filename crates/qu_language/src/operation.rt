@@ -1,5 +1,4 @@
 ghost use Rattle.std.specs.Prelude.{◌≡◌, ◌≤◌, ◌<◌, IfOk, IsTrue};
-ghost use Rattle.std.specs.Result.{result_map_both};
 ghost use Rattle.qu_base.specs.declared.limits.TheConstants.{OBJECT_IDS};
 ghost use Rattle.qu_objects.specs.Parts.{is_sized_method, is_sized_ask};
 ghost use Rattle.qu_language.specs.Meaning.{IsReadAs};

@@ -1,11 +1,11 @@
 ghost use Rattle.std.specs.Prelude.{◌≡◌, ◌≤◌, IfOk, codes};
 ghost use Rattle.qu_base.specs.declared.limits.TheConstants.{LAST_CLIENT, MOST_FAULTS};
 ghost use Rattle.qu_language.specs.Meaning.{IsReadAs};
-ghost use Rattle.qu_language.specs.Phase.{opening_script, with_kind, with_liar, with_line, object_said, faulty_said, event_said, is_opening_word, has_none, later_rule, body_rule, opening_line, said_rule, is_comment, comment_of, line_rule, whole_script, end_rule, AreFaults, IsGood};
+ghost use Rattle.qu_language.specs.Phase.{opening_script, with_line, object_said, faulty_said, next_line, event_said, is_opening_word, has_none, later_rule, body_rule, opening_line, said_rule, is_comment, comment_of, line_rule, end_rule, AreFaults, IsGood};
 ghost use Rattle.qu_language.specs.Rules.{ranged_rule, number_rule};
 ghost use Rattle.qu_language.specs.Setup.{IsWithin};
 
-use super::event::read_event;
+use super::event::{read_event, read_live};
 use super::rules::{read_number, read_ranged};
 use super::setup::{read_faulty_line, read_object_line};
 use super::words::is_ascii_word;
@@ -28,16 +28,18 @@ pub enum Phase {
 }
 
 impl Phase {
-    /// Reads the words of the line with this number. An empty line and a comment are passed over.
+    /// Reads the words of the line with this number; `live` where threads run the script. An empty line and a comment
+    /// are passed over.
     #[tactic(auto, unfolding(crate::specs::Phase::line_rule))]
     pub fn read_line(
         self,
         alloc: Global,
+        live: bool,
         number: u64,
         words: &mut Words<'_>,
     ) -> Result<Phase, LineFail>
         requires { IsGood self }
-        ensures value { IsReadAs (λ phase. phase) result (line_rule self number words.old) }
+        ensures value { IsReadAs (λ phase. phase) result (line_rule live self number words.old) }
         ensures good { IfOk result IsGood }
     {
         if words.is_empty() {
@@ -48,19 +50,20 @@ impl Phase {
             pass_comment(words)?;
             return Ok(self);
         }
-        self.read_said(alloc, number, word, words)
+        self.read_said(alloc, live, number, word, words)
     }
 
     /// Reads a line that says something, of which the first word was taken.
     fn read_said(
         self,
         alloc: Global,
+        live: bool,
         number: u64,
         word: &[u8],
         words: &mut Words<'_>,
     ) -> Result<Phase, LineFail>
         requires { IsGood self }
-        ensures value { IsReadAs (λ phase. phase) result (said_rule self number word.now words.old) }
+        ensures value { IsReadAs (λ phase. phase) result (said_rule live self number word.now words.old) }
         ensures good { IfOk result IsGood }
     {
         match self {
@@ -71,7 +74,7 @@ impl Phase {
                 Ok(Phase::Body(opening_script(alloc, bounds, seed, clients)))
             }
             Phase::Body(script) => {
-                let script = read_body(alloc, script, number, word, words)?;
+                let script = read_body(alloc, live, script, number, word, words)?;
                 Ok(Phase::Body(script))
             }
         }
@@ -189,13 +192,14 @@ fn opening_script(alloc: Global, bounds: Bounds, seed: u64, clients: u16) -> Scr
 #[tactic(auto, unfolding(crate::specs::Phase::body_rule))]
 fn read_body(
     alloc: Global,
+    live: bool,
     script: Script,
     number: u64,
     word: &[u8],
     words: &mut Words<'_>,
 ) -> Result<Script, LineFail>
     requires { IsWithin script.setup }
-    ensures value { IsReadAs (λ script. script) result (body_rule script number word.now words.old) }
+    ensures value { IsReadAs (λ script. script) result (body_rule live script number word.now words.old) }
     ensures limits { IfOk result (λ script. IsWithin script.setup) }
 {
     if word == b"object".as_slice() {
@@ -203,7 +207,7 @@ fn read_body(
     } else if has_none(&script.setup.kinds) {
         Err(LineFail::Bad(BadKind::ExpectedObject))
     } else {
-        read_later(alloc, script, number, word, words)
+        read_later(alloc, live, script, number, word, words)
     }
 }
 
@@ -211,13 +215,14 @@ fn read_body(
 #[tactic(auto, unfolding(crate::specs::Phase::later_rule))]
 fn read_later(
     alloc: Global,
+    live: bool,
     script: Script,
     number: u64,
     word: &[u8],
     words: &mut Words<'_>,
 ) -> Result<Script, LineFail>
     requires { IsWithin script.setup }
-    ensures value { IsReadAs (λ script. script) result (later_rule script number word.now words.old) }
+    ensures value { IsReadAs (λ script. script) result (later_rule live script number word.now words.old) }
     ensures limits { IfOk result (λ script. IsWithin script.setup) }
 {
     if word == b"faulty".as_slice() {
@@ -225,24 +230,42 @@ fn read_later(
     } else if is_opening_word(word) {
         Err(LineFail::Bad(BadKind::OutOfOrder))
     } else {
-        add_line(alloc, script, number, word, words)
+        add_line(alloc, live, script, number, word, words)
     }
 }
 
 /// Reads a line that makes events.
 fn add_line(
     alloc: Global,
+    live: bool,
     script: Script,
     number: u64,
     word: &[u8],
     words: &mut Words<'_>,
 ) -> Result<Script, LineFail>
     requires { IsWithin script.setup }
-    ensures value { IsReadAs (λ script. script) result (event_said script number word.now words.old) }
+    ensures value { IsReadAs (λ script. script) result (event_said live script number word.now words.old) }
     ensures limits { IfOk result (λ script. IsWithin script.setup) }
 {
-    let line = read_event(alloc, &script.setup, word, words)?;
+    let line = read_next(alloc, live, &script, word, words)?;
     Ok(with_line(script, number, line)?)
+}
+
+/// Reads a line that makes events, behind those of a script.
+fn read_next(
+    alloc: Global,
+    live: bool,
+    script: &Script,
+    word: &[u8],
+    words: &mut Words<'_>,
+) -> Result<Line, LineFail>
+    ensures { IsReadAs (λ line. line) result (next_line live script.now word.now words.old) }
+{
+    if live {
+        read_live(alloc, &script.setup, script.lines.len(), word, words)
+    } else {
+        read_event(alloc, &script.setup, word, words)
+    }
 }
 
 /// The script with one line more.

@@ -1,8 +1,8 @@
-ghost use Rattle.std.specs.Prelude.{◌≡◌, ◌≤◌, ◌+◌, ◌<◌, ◌∷◌, [], ◌++◌, length, count_by, IfOk};
+ghost use Rattle.std.specs.Prelude.{◌≡◌, ◌≤◌, ◌+◌, ◌<◌, ◌∷◌, [], ◌++◌, count_by, IfOk};
 ghost use Rattle.std.specs.List.{list_all};
 ghost use Rattle.qu_base.specs.declared.limits.TheConstants.{OBJECT_IDS};
 ghost use Rattle.qu_trace.specs.Faulty.{is_replica};
-ghost use Rattle.qu_language.specs.Setup.{IsWithin, kind_rule, object_in_turn, object_line, party_number, rises, rises_in_clients, faulty_replica, faulty_client, faulty_line};
+ghost use Rattle.qu_language.specs.Setup.{kind_rule, object_in_turn, object_line, party_number, rises, rises_in_clients, faulty_replica, faulty_client, faulty_line};
 
 use super::parties::{client_by_number, replica_by_number};
 use super::rules::read_number;

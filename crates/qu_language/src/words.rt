@@ -2,7 +2,7 @@ ghost use Rattle.std.specs.Prelude.{◌≡◌, map, IfOk};
 ghost use Rattle.std.specs.Result.{result_map_both};
 ghost use Rattle.qu_language.specs.Words.{is_nil, has_bytes, words_in, is_ascii_word, next_of, end_of, next_of_part};
 
-use super::{BadKind, LineFail};
+use super::BadKind;
 use qu_notation::cut_words as cut_pieces;
 use std::alloc::{AllocError, Global};
 use std::marker::Model;
@@ -39,8 +39,6 @@ pub fn is_ascii_word(word: &[u8]) -> bool
 pub struct Words<'a> {
     words: &'a [&'a [u8]],
     taken: usize,
-    /// How many words stand before the one at which was looked last.
-    place: usize,
 }
 
 impl<'a> Model for Words<'a> {
@@ -58,16 +56,7 @@ impl<'a> Words<'a> {
     pub fn of(words: &'a [&'a [u8]]) -> Words<'a>
         ensures { result ≡ map (λ word. word.now) words.now }
     {
-        Words {
-            words,
-            taken: 0,
-            place: 0,
-        }
-    }
-
-    /// How many words stand before the one at which was looked last.
-    pub fn place(&self) -> usize {
-        self.place
+        Words { words, taken: 0 }
     }
 
     /// Whether no word is left.
@@ -83,7 +72,6 @@ impl<'a> Words<'a> {
     pub fn next(&mut self) -> Result<&'a [u8], BadKind>
         ensures { result_map_both (λ word. (word.now, self.new)) (λ kind. kind) result ≡ next_of self.old }
     {
-        self.place = self.taken;
         if self.taken == self.words.len() {
             return Err(BadKind::WrongCount);
         }
@@ -104,14 +92,6 @@ impl<'a> Words<'a> {
             return Err(BadKind::WrongCount);
         }
         Ok(word)
-    }
-
-    /// That a word is missing here.
-    pub fn missing(&mut self) -> LineFail
-        ensures { result ≡ LineFail.Bad BadKind.WrongCount }
-    {
-        self.place = self.taken;
-        LineFail::Bad(BadKind::WrongCount)
     }
 
     /// That no word is left.

@@ -156,7 +156,7 @@ run_of script = then_good (lines_made (opening_play script.setup) script.lines)
 
 -- the trace of the run of the script that a text spells, or the line for which it is refused
 unfoldable pub sim_of : List ℕ → Result Trace Bad
-sim_of bytes = then_good (script_of bytes) run_of
+sim_of bytes = then_good (script_of false bytes) run_of
 
 -- ---- for the contracts of private functions
 

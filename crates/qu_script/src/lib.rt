@@ -8,5 +8,5 @@ mod read;
 mod run;
 
 pub use qu_language::{Bad, BadKind, How, Line, MOST_TICKS, SCRIPT_LIMIT, Script, ScriptFail};
-pub use read::read_script;
+pub use read::{read_live_script, read_script};
 pub use run::play_script;

@@ -10,7 +10,7 @@ abbrev pub invariant-lines : goal.invariant-lines
 invariant-lines l = record {
   few : l.number + length l.rest ≤ 1 + length l.fn.text;
   good : IsGood l.phase;
-  read : lines_rule l.phase l.number (lines_of l.rest) ≡ lines_rule NeedsBounds 1 (lines_of l.fn.text);
+  read : lines_rule l.live l.phase l.number (lines_of l.rest) ≡ lines_rule l.live NeedsBounds 1 (lines_of l.fn.text);
 }
 
 abbrev pub decreases-lines : goal.decreases-lines
