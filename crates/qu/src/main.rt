@@ -3,6 +3,7 @@
 
 use qu_cli::qu;
 use qu_io::{StdSink, StdSource};
+use qu_live::OpenGate;
 use std::env;
 use std::process::ExitCode;
 use std::rt::Env;
@@ -11,7 +12,14 @@ fn main(rt: HostRuntime) -> ExitCode {
     let words = words(&rt);
     let mut input = StdSource::new(rt.stdin());
     let mut output = StdSink::new(rt.stdout());
-    let report = qu(rt.alloc(), words.as_slice(), &mut input, &mut output);
+    let report = qu(
+        &rt,
+        rt.alloc(),
+        words.as_slice(),
+        &mut input,
+        &mut output,
+        &OpenGate,
+    );
     ExitCode::from(report.status)
 }
 

@@ -1,7 +1,7 @@
 //! A source and a sink that see what each call moves.
 
 use qu_base::List;
-use qu_cli::{PIECE, qu};
+use qu_cli::{PIECE, qu_alone};
 use qu_io::{Failed, MemSink, MemSource, Sink, Source};
 use qu_testing::holds;
 use std::alloc::Global;
@@ -76,7 +76,7 @@ fn each_call_moves_what_it_can(rt: HostRuntime) -> Result<(), Fail> {
     let words = [String::from_str(rt.alloc(), "sim")?];
     let mut input = short_script(rt.alloc())?;
     let mut output = small_sink(rt.alloc());
-    let status = qu(rt.alloc(), &words, &mut input, &mut output).status;
+    let status = qu_alone(rt.alloc(), &words, &mut input, &mut output).status;
     holds(status == 0, "it is done")?;
     have_moved(&input, &output)
 }

@@ -2,7 +2,7 @@
 
 use qu_base::List;
 use qu_case_forms::{Case, NoAnswer, repeated, set_off, words_of};
-use qu_cli::{qu, qu_letters};
+use qu_cli::{qu_alone, qu_letters};
 use qu_io::{MemSink, MemSource};
 use std::alloc::{AllocError, Global};
 use std::fs;
@@ -59,7 +59,7 @@ fn ended(
     sink: &mut MemSink,
 ) -> (u8, bool) {
     let report = match program {
-        Program::Qu => qu(alloc, words, source, sink),
+        Program::Qu => qu_alone(alloc, words, source, sink),
         Program::QuLetters => qu_letters(alloc, words, source, sink),
     };
     (report.status, report.trace.is_some())

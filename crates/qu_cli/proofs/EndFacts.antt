@@ -1,19 +1,23 @@
 -- Laws by cases on the command: what was taken is refused or reported as what was held is.
-use Rattle.std.proofs.Common.{◌≡◌, ℕ, ◌<◌, ◌≤◌, List, ◌++◌, length, length-append, append-nil, Option, None, Some, IfSome, refl, sym, ap, ◌∙◌, arith, inl, inr, subst, ◌⊎◌}
+use Rattle.std.proofs.Common.{◌≡◌, true, Result, Ok, Err, ℕ, ◌<◌, ◌≤◌, List, ◌++◌, length, length-append, append-nil, Option, None, Some, IfSome, refl, sym, ap, ◌∙◌, arith, inl, inr, subst, ◌⊎◌}
 use Rattle.std.specs.Io.KnownBytes.{Consumes, IsAtEnd}
 use Rattle.std.proofs.lemmas.Bool.{cases_lt}
 use Rattle.qu_io.specs.Streams.{StreamView}
+use Rattle.qu_language.specs.Script.{script_of}
+use Rattle.qu_script.specs.Events.{sim_of}
 use Rattle.qu_trace.specs.declared.trace.Trace.{Trace}
 use Rattle.qu_language.specs.declared.bad.Bad.{Bad}
 use Rattle.qu_language.specs.declared.limits.TheConstants.{SCRIPT_LIMIT}
 use Rattle.qu_cli.specs.declared.command.Command.{Command}
-use Rattle.qu_cli.specs.declared.command.Command.TheVariants.{Sim, Events, Digests}
+use Rattle.qu_cli.specs.declared.command.Command.TheVariants.{Sim, Live}
+use Rattle.qu_cli.specs.declared.command.Telling.{Telling}
+use Rattle.qu_cli.specs.declared.command.Telling.TheVariants.{Operations, Events, Digests}
 use Rattle.qu_cli.specs.declared.output.Output.TheVariants.{Report}
 use Rattle.qu_cli.specs.Refusal.{bad_text}
-use Rattle.qu_cli.proofs.ScriptFacts.{sim_too_long}
+use Rattle.qu_cli.proofs.ScriptFacts.{too_long, sim_too_long, live_too_long}
 use Rattle.qu_cli.specs.Transfer.{TakesScript, Writes, WritesShort, WritesOrFails}
 use Rattle.qu_cli.specs.Ends.{Reports, TellsRun, MakesText, HasOneHistory, IsPromised, IsScriptFor, Refuses, EndsShort, EndsDone, IsRefused, IsComplete}
-use Rattle.qu_cli.specs.Output.{Outputs}
+use Rattle.qu_cli.specs.Output.{Outputs, Tears}
 
 -- what was taken is all that was held, or both are too long
 data IsTaken (script held : List ℕ) : Type 0 where
@@ -36,68 +40,95 @@ is_taken source source' script held takes holds =
 
 -- ---- the laws
 
-pub tells_report : (command : Command) (trace : Trace) (text : List ℕ) → command ≡ Sim → Reports trace text
-    → TellsRun command trace text
-tells_report command trace text is reports = rw is reports
+pub tells_report : (telling : Telling) (trace : Trace) (text : List ℕ) → telling ≡ Operations → Reports trace text
+    → TellsRun telling trace text
+tells_report telling trace text is reports = rw is reports
+
+-- of a script that is refused where it is too long nothing is made then
+few_by : {X : Type 0} (script : List ℕ) (found : Result X Bad) (x : X)
+    → (SCRIPT_LIMIT < length script → found ≡ Err too_long) → found ≡ Ok x → length script ≤ SCRIPT_LIMIT
+few_by script found x refuses is = by (cases_lt SCRIPT_LIMIT (length script))
+  where
+    by : (SCRIPT_LIMIT < length script) ⊎ (length script ≤ SCRIPT_LIMIT) → length script ≤ SCRIPT_LIMIT
+    by (inl more) = absurd (let refused = refuses more in cc)
+    by (inr few) = few
 
 pub makes_few : (command : Command) (script : List ℕ) (trace : Option Trace) (text : List ℕ)
     → MakesText command script trace text → length script ≤ SCRIPT_LIMIT
 makes_few command script None text makes = absurd makes
-makes_few command script (Some trace) text makes = by (cases_lt SCRIPT_LIMIT (length script))
-  where
-    by : (SCRIPT_LIMIT < length script) ⊎ (length script ≤ SCRIPT_LIMIT) → length script ≤ SCRIPT_LIMIT
-    by (inl more) = absurd (let refused = sim_too_long script more in let runs = makes.runs in cc)
-    by (inr few) = few
+makes_few (Sim telling) script (Some trace) text makes =
+    few_by script (sim_of script) trace (sim_too_long script) makes.runs
+makes_few Live script (Some trace) text makes =
+    few_by script (script_of true script) makes.script (live_too_long script) makes.spelled
 
 makes_accepts : (command : Command) (script : List ℕ) (trace : Option Trace) (text : List ℕ)
     → MakesText command script trace text → IsScriptFor command script
 makes_accepts command script None text makes = absurd makes
-makes_accepts command script (Some trace) text makes = rw makes.runs refl
+makes_accepts (Sim telling) script (Some trace) text makes = rw makes.runs refl
+makes_accepts Live script (Some trace) text makes = rw makes.spelled refl
 
 -- what is known of the run of which a text tells; of a report, that it has one history
 pub makes_known : (command : Command) (script : List ℕ) (trace : Trace) (text : List ℕ)
     → MakesText command script (Some trace) text → IsPromised (Some command) trace
-makes_known Sim script trace text makes = record {
+makes_known (Sim Operations) script trace text makes = record {
   order = makes.tells.order;
   is_run = makes.is_run;
   printed = makes.tells.ordered;
   serial = makes.tells.serial;
   chained = makes.tells.chained;
 }
-makes_known Events script trace text makes = makes.is_run
-makes_known Digests script trace text makes = makes.is_run
+makes_known (Sim Events) script trace text makes = makes.is_run
+makes_known (Sim Digests) script trace text makes = makes.is_run
+makes_known Live script trace text makes = record {
+  order = makes.reports.order;
+  is_run = makes.ran.is_run;
+  printed = makes.reports.ordered;
+  serial = makes.reports.serial;
+  chained = makes.reports.chained;
+}
 
 -- the headline of a program whose one command makes reports
 pub has_history : (asked : Option Command) (trace : Option Trace)
-    → ((command : Command) → asked ≡ Some command → command ≡ Sim) → IfSome trace (IsPromised asked)
+    → ((command : Command) → asked ≡ Some command → command ≡ Sim Operations) → IfSome trace (IsPromised asked)
     → IfSome trace HasOneHistory
 has_history asked None one known = tt
 has_history None (Some trace) one known = absurd known
-has_history (Some Sim) (Some trace) one known = known
-has_history (Some Events) (Some trace) one known = let wrong = one Events refl in absurd (cc)
-has_history (Some Digests) (Some trace) one known = let wrong = one Digests refl in absurd (cc)
+has_history (Some (Sim Operations)) (Some trace) one known = known
+has_history (Some (Sim Events)) (Some trace) one known = let wrong = one (Sim Events) refl in absurd (cc)
+has_history (Some (Sim Digests)) (Some trace) one known = let wrong = one (Sim Digests) refl in absurd (cc)
+has_history (Some Live) (Some trace) one known = let wrong = one Live refl in absurd (cc)
+
+-- ---- a script is refused or not
 
 not_both : (command : Command) (script : List ℕ) (bad : Bad) → IsScriptFor command script → Refuses command script bad
     → ⊥
-not_both command script bad accepts refuses = let accepted = rw refuses at accepts in absurd (cc)
+not_both (Sim telling) script bad accepts refuses = let accepted = rw refuses at accepts in absurd (cc)
+not_both Live script bad accepts refuses = let accepted = rw refuses at accepts in absurd (cc)
 
 one_bad : (command : Command) (script : List ℕ) (bad other : Bad) → Refuses command script bad
     → Refuses command script other → bad ≡ other
-one_bad command script bad other refuses again = cc
+one_bad (Sim telling) script bad other refuses again = cc
+one_bad Live script bad other refuses again = cc
+
+-- a script of too many bytes is refused
+long_refused : (command : Command) (script : List ℕ) → SCRIPT_LIMIT < length script → Refuses command script too_long
+long_refused (Sim telling) script more = sim_too_long script more
+long_refused Live script more = live_too_long script more
 
 -- what is held is refused as what was taken is
 refuses_by : (command : Command) (script held : List ℕ) (bad : Bad) → IsTaken script held
     → Refuses command held bad → Refuses command script bad
 refuses_by command script held bad (all same) refuses = rw same refuses
-refuses_by command script held bad (long more most) refuses = let first = sim_too_long script more in let second =
-    sim_too_long held most in cc
+refuses_by command script held bad (long more most) refuses =
+    subst (Refuses command script) (one_bad command held too_long bad (long_refused command held most) refuses)
+    (long_refused command script more)
 
 -- a good script that is held was taken
 accepts_by : (command : Command) (script held : List ℕ) → IsTaken script held → IsScriptFor command held
     → IsScriptFor command script
 accepts_by command script held (all same) accepts = rw same accepts
 accepts_by command script held (long more most) accepts =
-    absurd (not_both command held _ accepts (sim_too_long held most))
+    absurd (not_both command held too_long accepts (long_refused command held most))
 
 -- what is made of what was taken is made of what was held
 makes_by : (command : Command) (script held : List ℕ) (trace : Option Trace) (text : List ℕ) → IsTaken script held
@@ -204,3 +235,12 @@ report_short asked source source' sink sink' told command trace text asks answer
   makes = subst (λ (it : Option Trace). MakesText command answers.script it text) (sym tells) answers.output_is;
   short = short;
 }
+
+-- no run is torn of a script that is refused
+pub torn_refused : (asked : Option Command) (source source' sink sink' : StreamView) (status : ℕ) (command : Command)
+    → asked ≡ Some command → Tears command source source' → IsRefused asked source source' sink sink' status
+torn_refused asked source source' sink sink' status command asks tears other held bad again holds refuses quiet =
+    let same = one_command asked other command again asks in
+    let taken = is_taken source source' tears.script held tears.takes holds in
+    absurd (not_both command tears.script bad tears.accepts
+    (refuses_by command tears.script held bad taken (subst (λ c. Refuses c held bad) same refuses)))

@@ -1,3 +1,4 @@
 pub mod EndFacts
+pub mod LiveFacts
 pub mod ScriptFacts
 pub mod TransferFacts

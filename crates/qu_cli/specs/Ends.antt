@@ -1,6 +1,6 @@
 -- How a call of a program ends. What is known of the source and of the sink stands as `source` and
 -- `sink` before the call, and as `source'` and `sink'` behind it.
-use Rattle.std.specs.Prelude.{◌≡◌, ℕ, List, Option, None, Some, Ok, Err, IsOk, IsSome, ◌⊎◌, ◌↔◌}
+use Rattle.std.specs.Prelude.{◌≡◌, ℕ, true, List, Option, None, Some, Ok, Err, IsOk, IsSome, ◌⊎◌, ◌↔◌}
 use Rattle.std.specs.Io.KnownBytes.{IsAtEnd}
 use Rattle.qu_io.specs.Streams.{StreamView, Rose}
 use Rattle.qu_machine.specs.declared.record.Point.{Point}
@@ -17,9 +17,15 @@ use Rattle.qu_print.specs.Report.{report_of}
 use Rattle.qu_listing.specs.Digests.{digests_text}
 use Rattle.qu_listing.specs.Events.{events_text}
 use Rattle.qu_language.specs.declared.bad.Bad.{Bad}
+use Rattle.qu_language.specs.declared.line.Script.{Script}
+use Rattle.qu_language.specs.Called.{calls_said}
+use Rattle.qu_language.specs.Script.{script_of}
+use Rattle.qu_gather.specs.Live.{IsLive}
 use Rattle.qu_script.specs.Events.{sim_of}
 use Rattle.qu_cli.specs.declared.command.Command.{Command}
-use Rattle.qu_cli.specs.declared.command.Command.TheVariants.{Sim, Events, Digests}
+use Rattle.qu_cli.specs.declared.command.Command.TheVariants.{Sim, Live}
+use Rattle.qu_cli.specs.declared.command.Telling.{Telling}
+use Rattle.qu_cli.specs.declared.command.Telling.TheVariants.{Operations, Events, Digests}
 use Rattle.qu_cli.specs.Refusal.{bad_text}
 use Rattle.qu_cli.specs.Transfer.{TakesScript, Writes, WritesShort, WritesOrFails}
 
@@ -48,37 +54,53 @@ pub record HasOneHistory (trace : Trace) : Type 0 where
   pub serial : MeetsPremises trace → IsSerial trace.setup.kinds (operations_of trace) order
   pub chained : MeetsPremises trace → IsChained trace
 
--- the text is what the command tells of a run
-abbrev pub TellsRun : Command → Trace → List ℕ → Type 0
-TellsRun Sim trace text = Reports trace text
+-- the text is what is to be told of a run
+abbrev pub TellsRun : Telling → Trace → List ℕ → Type 0
+TellsRun Operations trace text = Reports trace text
 TellsRun Events trace text = text ≡ events_text trace
 TellsRun Digests trace text = text ≡ digests_text trace
 
--- the trace is that of the script's run, and the text is what the command tells of it
-pub record MakesOf (command : Command) (script : List ℕ) (trace : Trace) (text : List ℕ) : Type 0 where
+-- the trace is that of the script's run, and the text is what is to be told of it
+pub record MakesOf (telling : Telling) (script : List ℕ) (trace : Trace) (text : List ℕ) : Type 0 where
   pub runs : sim_of script ≡ Ok trace
   pub is_run : IsRun trace
-  pub tells : TellsRun command trace text
+  pub tells : TellsRun telling trace text
 
--- the command makes this trace and this text of it
+-- the trace is that of a run on threads, of the setup and the calls of the script that is spelled, and the text is its
+-- report
+pub record MakesLive (text : List ℕ) (trace : Trace) (told : List ℕ) : Type 0 where
+  pub script : Script
+  pub spelled : script_of true text ≡ Ok script
+  pub ran : IsLive script.setup (calls_said script.lines) trace
+  pub reports : Reports trace told
+
+-- the command makes this trace of a script, and this text of the trace
+abbrev pub MakesRun : Command → List ℕ → Trace → List ℕ → Type 0
+MakesRun (Sim telling) script trace text = MakesOf telling script trace text
+MakesRun Live script trace text = MakesLive script trace text
+
+-- the same where there may be no trace
 abbrev pub MakesText : Command → List ℕ → Option Trace → List ℕ → Type 0
 MakesText command script None text = ⊥
-MakesText command script (Some trace) text = MakesOf command script trace text
+MakesText command script (Some trace) text = MakesRun command script trace text
 
 -- what is known of a run of which a call told that was asked this
 abbrev pub IsPromised : Option Command → Trace → Type 0
 IsPromised None trace = ⊥
-IsPromised (Some Sim) trace = HasOneHistory trace
-IsPromised (Some Events) trace = IsRun trace
-IsPromised (Some Digests) trace = IsRun trace
+IsPromised (Some (Sim Operations)) trace = HasOneHistory trace
+IsPromised (Some (Sim Events)) trace = IsRun trace
+IsPromised (Some (Sim Digests)) trace = IsRun trace
+IsPromised (Some Live) trace = HasOneHistory trace
 
 -- the command can make something of it: each command runs a script
 abbrev pub IsScriptFor : Command → List ℕ → Type 0
-IsScriptFor command script = IsOk (sim_of script)
+IsScriptFor (Sim telling) script = IsOk (sim_of script)
+IsScriptFor Live script = IsOk (script_of true script)
 
 -- the command refuses it, for this
 abbrev pub Refuses : Command → List ℕ → Bad → Type 0
-Refuses command script bad = sim_of script ≡ Err bad
+Refuses (Sim telling) script bad = sim_of script ≡ Err bad
+Refuses Live script bad = script_of true script ≡ Err bad
 
 -- ---- the ends
 
@@ -136,9 +158,11 @@ pub record WritesMade (command : Command) (script : List ℕ) (sink sink' : Stre
     pub makes : MakesText command script trace text
     pub writes : Writes sink sink' text
 
--- a source that holds a good script, and no fault of source or sink: the whole text is written
+-- a source that holds a good script, and no fault of source or sink: the whole text is written, unless there is no
+-- memory, or what threads left behind is torn
 abbrev pub IsComplete : Option Command → StreamView → StreamView → StreamView → StreamView → Option Trace → ℕ → Type 0
 IsComplete asked source source' sink sink' trace status =
     (command : Command) (script : List ℕ) → asked ≡ Some command → source.bytes ≡ Some script
     → IsScriptFor command script → (Rose source source' → ⊥) → (Rose sink sink' → ⊥)
-    → ((status ≡ 0) × WritesMade command script sink sink' trace) ⊎ (status ≡ 6)
+    → ((status ≡ 0) × WritesMade command script sink sink' trace)
+    ⊎ ((status ≡ 6) ⊎ ((asked ≡ Some Live) × (status ≡ 7)))

@@ -1,5 +1,6 @@
 ghost use Rattle.std.specs.Prelude.{◌≡◌, ◌≢◌, ◌≤◌, ◌↔◌, None, IfSome};
 ghost use Rattle.qu_io.specs.Streams.{Rose, IsCalm};
+ghost use Rattle.qu_cli.specs.Output.{IsAlone};
 ghost use Rattle.qu_cli.specs.Transfer.{TakesFew, WritesOrFails};
 ghost use Rattle.qu_cli.specs.Ends.{EndsBad, EndsShort, EndsDone, IsPromised, IsTraced, IsRefused, IsComplete};
 
@@ -21,6 +22,7 @@ pub fn answer<S: Source, K: Sink>(
     input: &mut S,
     output: &mut K,
 ) -> Report
+    requires { IfSome asked IsAlone }
     ensures status { (result.status ≤ 6) × (result.status ≢ 1) }
     ensures few { TakesFew (S.known input.old) (S.known input.new) }
 
@@ -39,6 +41,7 @@ pub fn answer<S: Source, K: Sink>(
         (S.known input.old) (S.known input.new) (K.known output.old) (K.known output.new) result.trace }
     ensures traced { IsTraced result.trace result.status }
     ensures known { IfSome result.trace (IsPromised asked) }
+    ensures whole { result.torn ≡ None }
 
     ensures refused { IsRefused asked (S.known input.old)
         (S.known input.new) (K.known output.old) (K.known output.new) result.status }
@@ -60,5 +63,6 @@ pub fn answer<S: Source, K: Sink>(
         }
         Err(NoOutput::ReadFault) => Report::from(End::ReadFault),
         Err(NoOutput::NoMemory) => Report::from(End::NoMemory),
+        Err(NoOutput::Torn(_)) => unreachable!(),
     }
 }

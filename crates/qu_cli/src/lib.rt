@@ -2,9 +2,11 @@
 #![tactic(auto)]
 
 mod answering;
+mod answering_live;
 mod command;
 mod letters;
 mod limits;
+mod live;
 mod output;
 mod reading;
 mod refusal;
@@ -14,10 +16,9 @@ mod simulation;
 mod top;
 mod writing;
 
-pub use answering::answer;
-pub use command::Command;
+pub use command::{Command, Telling};
 pub use letters::qu_letters;
 pub use limits::{PIECE, limits_are_these};
 pub use report::{End, Report};
 pub use script::run_script;
-pub use top::qu;
+pub use top::{qu, qu_alone};

@@ -1,12 +1,13 @@
-ghost use Rattle.std.specs.Prelude.{◌≡◌, ◌≢◌, IfOk, Err};
+ghost use Rattle.std.specs.Prelude.{◌≡◌, ◌≢◌, IfOk, IfErr, Err};
 ghost use Rattle.qu_io.specs.Streams.{Rose, IsCalm};
 ghost use Rattle.qu_cli.specs.Transfer.{TakesFew};
-ghost use Rattle.qu_cli.specs.Output.{Outputs};
+ghost use Rattle.qu_cli.specs.Output.{IsAlone, IsOutput, IsWhole, Outputs};
 
 use super::Command;
 use super::reading::{NoScript, take_script};
 use super::simulation::simulate;
 use qu_base::{List, NoMemory};
+use qu_gather::Torn;
 use qu_io::Source;
 use qu_trace::Trace;
 use std::alloc::Global;
@@ -21,11 +22,13 @@ pub enum Output {
 }
 
 /// Why a command has nothing to write.
-#[derive(Clone, Copy, Debug, PartialEq, Eq)]
+#[derive(Debug, Drop)]
 pub enum NoOutput {
     /// A fault of the source ended a read.
     ReadFault,
     NoMemory,
+    /// What threads left behind does not fit together.
+    Torn(Torn),
 }
 
 impl From<NoScript> for NoOutput {
@@ -51,17 +54,30 @@ impl From<NoMemory> for NoOutput {
     }
 }
 
-/// Reads what a command wants to read, and computes what it has to write.
+/// Reads what a command wants to read, and computes what it has to write, without threads.
 pub fn output_for<S: Source>(
     alloc: Global,
     command: Command,
     input: &mut S,
 ) -> Result<Output, NoOutput>
+    requires { IsAlone command }
     ensures outputs { IfOk result (Outputs command (S.known input.old) (S.known input.new)) }
     ensures few { TakesFew (S.known input.old) (S.known input.new) }
     ensures fault { result ≡ Err NoOutput.ReadFault → Rose (S.known input.old) (S.known input.new) }
     ensures calm { result ≢ Err NoOutput.ReadFault → IsCalm (S.known input.old) (S.known input.new) }
+    ensures whole { IfErr result IsWhole }
 {
     let script = take_script(alloc, input)?;
-    Ok(simulate(alloc, command, script.as_slice())?)
+    Ok(made(alloc, command, script.as_slice())?)
+}
+
+/// What a command makes of a script without threads.
+fn made(alloc: Global, command: Command, script: &[u8]) -> Result<Output, NoMemory>
+    requires { IsAlone command }
+    ensures { IfOk result (IsOutput command script.now) }
+{
+    match command {
+        Command::Sim(telling) => simulate(alloc, telling, script),
+        Command::Live => unreachable!(),
+    }
 }

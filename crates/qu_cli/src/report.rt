@@ -1,9 +1,8 @@
-ghost use Rattle.std.specs.Prelude.{◌≡◌, None, Some, IfOk};
+ghost use Rattle.std.specs.Prelude.{◌≡◌, None, Some};
 ghost use Rattle.qu_cli.specs.Report.{status_of};
 
-use qu_base::NoMemory;
+use qu_gather::Torn;
 use qu_trace::Trace;
-use std::alloc::Global;
 
 /// How a run of the program ended.
 #[derive(Clone, Copy, Debug, PartialEq, Eq)]
@@ -20,6 +19,8 @@ pub enum End {
     WriteFault,
     /// No memory is left.
     NoMemory,
+    /// What threads left behind does not fit together.
+    Torn,
 }
 
 impl End {
@@ -34,6 +35,7 @@ impl End {
             End::ReadFault => 4,
             End::WriteFault => 5,
             End::NoMemory => 6,
+            End::Torn => 7,
         }
     }
 }
@@ -45,42 +47,47 @@ pub struct Report {
     pub status: u8,
     /// The run that was reported, where one was.
     pub trace: Option<Trace>,
+    /// What of a run on threads does not fit together, where something does not.
+    pub torn: Option<Torn>,
 }
 
 impl Report {
-    /// An equal report.
-    pub fn copy(&self, alloc: Global) -> Result<Report, NoMemory>
-        ensures { IfOk result (λ report. report ≡ self.now) }
-    {
-        let trace = match &self.trace {
-            Some(trace) => Some(trace.copy(alloc)?),
-            None => None,
-        };
-        Ok(Report {
-            status: self.status,
-            trace,
-        })
-    }
-
     /// The report of a run that ended so.
     pub fn with_trace(outcome: End, trace: Trace) -> Report
         ensures status { result.status ≡ status_of outcome }
         ensures trace { result.trace ≡ Some trace }
+        ensures torn { result.torn ≡ None }
     {
         Report {
             status: outcome.status(),
             trace: Some(trace),
+            torn: None,
+        }
+    }
+
+    /// The report of a run that is torn so.
+    pub fn with_torn(torn: Torn) -> Report
+        ensures status { result.status ≡ status_of End.Torn }
+        ensures trace { result.trace ≡ None }
+        ensures torn { result.torn ≡ Some torn }
+    {
+        Report {
+            status: End::Torn.status(),
+            trace: None,
+            torn: Some(torn),
         }
     }
 }
 
 impl From<End> for Report {
-    ghost from_gives = { λ outcome report. (report.status ≡ status_of outcome) × (report.trace ≡ None) };
+    ghost from_gives = { λ outcome report.
+        (report.status ≡ status_of outcome) × (report.trace ≡ None) × (report.torn ≡ None) };
 
     fn from(outcome: End) -> Report {
         Report {
             status: outcome.status(),
             trace: None,
+            torn: None,
         }
     }
 }

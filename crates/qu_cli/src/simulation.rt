@@ -5,10 +5,10 @@ ghost use Rattle.qu_script.specs.Events.{sim_of};
 ghost use Rattle.qu_cli.specs.Ends.{Reports, TellsRun};
 ghost use Rattle.qu_cli.specs.Output.{IsOutput};
 
-use super::Command;
 use super::output::Output;
 use super::refusal::refusal_line;
 use super::script::run_script;
+use super::{Command, Telling};
 use qu_base::{List, NoMemory};
 use qu_listing::{digests_text, events_text};
 use qu_premise::audit;
@@ -18,13 +18,13 @@ use qu_script::{ScriptFail, read_script};
 use qu_trace::{DecodedTrace, Trace};
 use std::alloc::Global;
 
-/// Runs a script and tells what the command tells of the run, or why there is none.
-pub fn simulate(alloc: Global, command: Command, script: &[u8]) -> Result<Output, NoMemory>
-    ensures { IfOk result (IsOutput command script.now) }
+/// Runs a script and tells this of the run, or why there is none.
+pub fn simulate(alloc: Global, telling: Telling, script: &[u8]) -> Result<Output, NoMemory>
+    ensures { IfOk result (IsOutput (Command.Sim telling) script.now) }
 {
     match run_text(alloc, script) {
         Ok(trace) => {
-            let text = told_text(alloc, command, &trace)?;
+            let text = told_text(alloc, telling, &trace)?;
             Ok(Output::Report(trace, text))
         }
         Err(ScriptFail::Bad(bad)) => Ok(Output::Refusal(refusal_line(alloc, bad)?)),
@@ -32,21 +32,21 @@ pub fn simulate(alloc: Global, command: Command, script: &[u8]) -> Result<Output
     }
 }
 
-/// What a command tells of the run of a script.
-fn told_text(alloc: Global, command: Command, trace: &Trace) -> Result<List<u8>, NoMemory>
+/// What is told of the run of a script.
+fn told_text(alloc: Global, telling: Telling, trace: &Trace) -> Result<List<u8>, NoMemory>
     requires { IsRun trace.now }
-    ensures { IfOk result (TellsRun command trace.now) }
+    ensures { IfOk result (TellsRun telling trace.now) }
 {
-    match command {
-        Command::Sim => {
-            let text = sim_text(alloc, trace)?;
+    match telling {
+        Telling::Operations => {
+            let text = operations_text(alloc, trace)?;
             Ok(text)
         }
-        Command::Events => {
+        Telling::Events => {
             let text = events_text(alloc, trace)?;
             Ok(text)
         }
-        Command::Digests => {
+        Telling::Digests => {
             let text = digests_text(alloc, trace)?;
             Ok(text)
         }
@@ -54,7 +54,7 @@ fn told_text(alloc: Global, command: Command, trace: &Trace) -> Result<List<u8>,
 }
 
 /// The report of a run, which is decoded once for all that reads it.
-fn sim_text(alloc: Global, trace: &Trace) -> Result<List<u8>, NoMemory>
+pub fn operations_text(alloc: Global, trace: &Trace) -> Result<List<u8>, NoMemory>
     requires { IsRun trace.now }
     ensures { IfOk result (Reports trace.now) }
 {

@@ -1,29 +1,75 @@
-ghost use Rattle.std.specs.Prelude.{◌≡◌, ◌≢◌, ◌≤◌, ◌↔◌, None, IfSome, map, string_bytes};
+ghost use Rattle.std.specs.Prelude.{◌≡◌, ◌≢◌, ◌≤◌, ◌↔◌, None, Some, IfSome, IsSome, map, string_bytes};
 ghost use Rattle.qu_io.specs.Streams.{Rose, IsCalm};
-ghost use Rattle.qu_cli.specs.Command.{command_of, usage_text};
+ghost use Rattle.qu_cli.specs.Command.{alone_command_of, command_of, usage_text};
 ghost use Rattle.qu_cli.specs.Transfer.{TakesFew, WritesOrFails};
 ghost use Rattle.qu_cli.specs.Ends.{EndsBad, EndsShort, EndsDone, HasOneHistory, IsTraced, IsRefused, IsComplete};
 
-use super::Report;
 use super::answering::answer;
-use super::command::{USAGE, read_command};
+use super::answering_live::answer_live;
+use super::command::{USAGE, asks_live, read_alone_command};
+use super::{Command, Report};
 use qu_io::{Sink, Source};
+use qu_live::Gate;
 use std::alloc::Global;
+use std::sync::Wait;
+use std::thread::Threads;
 
-/// Runs the program `qu`: what the words ask for, over the input, with all that it tells in the output.
+/// Runs the program `qu` without threads: what the words ask for, over the input, with all that it tells in the output.
 ///
 /// The status is 0 where all went well, 2 for wrong words, 3 for a script that is refused, 4 for a
 /// fault of the input, 5 for one of the output, and 6 for want of memory. Any other status than 4 comes
 /// with no new fault of the input. At 0 and 5 the report has the trace of the run, whose operations have
-/// one history.
+/// one history. The word `live` is wrong here.
 #[tactic(auto, using(crate::proofs::EndFacts::has_history), unfolding(crate::specs::Command::usage_text))]
-pub fn qu<S: Source, K: Sink>(
+pub fn qu_alone<S: Source, K: Sink>(
     alloc: Global,
     words: &[String],
     input: &mut S,
     output: &mut K,
 ) -> Report
     ensures status { (result.status ≤ 6) × (result.status ≢ 1) }
+    ensures few { TakesFew (S.known input.old) (S.known input.new) }
+
+    ensures bad_words { (result.status ≡ 2) ↔ (alone_command_of (map string_bytes words.now) ≡ None) }
+    ensures usage { result.status ≡ 2 → (input.new ≡ input.old)
+        × WritesOrFails (K.known output.old) (K.known output.new) usage_text }
+    ensures bad_script { result.status ≡ 3 → EndsBad (alone_command_of (map string_bytes words.now))
+        (S.known input.old) (S.known input.new) (K.known output.old) (K.known output.new) }
+    ensures read_fault { result.status ≡ 4 →
+        Rose (S.known input.old) (S.known input.new) × (output.new ≡ output.old) }
+    ensures calm { result.status ≢ 4 → IsCalm (S.known input.old) (S.known input.new) }
+    ensures write_fault { result.status ≡ 5 → EndsShort (alone_command_of (map string_bytes words.now))
+        (S.known input.old) (S.known input.new) (K.known output.old) (K.known output.new) result.trace }
+    ensures no_memory { result.status ≡ 6 → output.new ≡ output.old }
+    ensures done { result.status ≡ 0 → EndsDone (alone_command_of (map string_bytes words.now))
+        (S.known input.old) (S.known input.new) (K.known output.old) (K.known output.new) result.trace }
+    ensures traced { IsTraced result.trace result.status }
+    ensures headline { IfSome result.trace HasOneHistory }
+    ensures whole { result.torn ≡ None }
+
+    ensures refused { IsRefused (alone_command_of (map string_bytes words.now)) (S.known input.old)
+        (S.known input.new) (K.known output.old) (K.known output.new) result.status }
+    ensures complete { IsComplete (alone_command_of (map string_bytes words.now)) (S.known input.old)
+        (S.known input.new) (K.known output.old) (K.known output.new) result.trace result.status }
+{
+    answer(alloc, read_alone_command(words), USAGE, input, output)
+}
+
+/// Runs the program `qu`. For the one word `live` it runs the calls of the script on the input on threads, which pass
+/// the gate, and reports that run; for all others it does what `qu_alone` does.
+///
+/// The statuses are those of `qu_alone`. For `live` there is one more, 7: what the threads left behind does not fit
+/// together. Then nothing is written, and the report tells what does not fit. With `live` it may wait for ever.
+#[tactic(auto, unfolding(crate::specs::Command::command_of, crate::specs::Command::usage_text))]
+pub fn qu<R: Threads + Wait + Sync, S: Source, K: Sink, G: Gate>(
+    rt: &R,
+    alloc: Global,
+    words: &[String],
+    input: &mut S,
+    output: &mut K,
+    gate: &G,
+) -> Report
+    ensures status { (result.status ≤ 7) × (result.status ≢ 1) }
     ensures few { TakesFew (S.known input.old) (S.known input.new) }
 
     ensures bad_words { (result.status ≡ 2) ↔ (command_of (map string_bytes words.now) ≡ None) }
@@ -41,11 +87,17 @@ pub fn qu<S: Source, K: Sink>(
         (S.known input.old) (S.known input.new) (K.known output.old) (K.known output.new) result.trace }
     ensures traced { IsTraced result.trace result.status }
     ensures headline { IfSome result.trace HasOneHistory }
+    ensures torn { IsSome result.torn ↔ (result.status ≡ 7) }
+    ensures tears { result.status ≡ 7 →
+        (command_of (map string_bytes words.now) ≡ Some Command.Live) × (output.new ≡ output.old) }
 
     ensures refused { IsRefused (command_of (map string_bytes words.now)) (S.known input.old)
         (S.known input.new) (K.known output.old) (K.known output.new) result.status }
     ensures complete { IsComplete (command_of (map string_bytes words.now)) (S.known input.old)
         (S.known input.new) (K.known output.old) (K.known output.new) result.trace result.status }
 {
-    answer(alloc, read_command(words), USAGE, input, output)
+    if asks_live(words) {
+        return answer_live(rt, alloc, input, output, gate);
+    }
+    qu_alone(alloc, words, input, output)
 }

@@ -3,7 +3,7 @@ use Rattle.std.proofs.Common.{ap, subst, ◌∙◌}
 use Rattle.qu_trace.specs.declared.trace.Trace.{Trace}
 use Rattle.qu_print.specs.Report.{report_of}
 use Rattle.qu_cli.specs.Ends.{Reports}
-use Rattle.qu_cli.proofs.simulation.sim_text.Goals as goal
+use Rattle.qu_cli.proofs.simulation.operations_text.Goals as goal
 
 pub returns : goal.returns
 returns c =

@@ -1,0 +1,50 @@
+-- The answer to what was taken is the one to what the source held.
+use Rattle.std.proofs.Common.{refl}
+use Rattle.qu_cli.specs.declared.command.Command.TheVariants.{Live}
+use Rattle.qu_cli.proofs.EndFacts.{report_refused, report_complete, report_done, report_short, refusal_refused, refusal_complete, torn_refused}
+use Rattle.qu_cli.proofs.answering_live.answer_live.Goals as goal
+
+pub returns-in-Ok-clause-refused : goal.returns-in-Ok-clause-refused
+returns-in-Ok-clause-refused g c =
+    report_refused _ _ _ _ _ _ Live c.in-Ok-Report.trace c.in-Ok-Report.text
+    refl (rw c.in-Ok-Report.field-0-is at c.in-Ok-Report.ensures.outputs)
+
+pub returns-in-Ok-clause-complete : goal.returns-in-Ok-clause-complete
+returns-in-Ok-clause-complete g c =
+    report_complete _ _ _ _ _ _ _ Live c.in-Ok-Report.trace c.in-Ok-Report.text
+    refl (rw c.in-Ok-Report.field-0-is at c.in-Ok-Report.ensures.outputs)
+    c.with_trace.ensures.trace c.with_trace.ensures.status (rw c.as_slice.ensures at c.in-Ok.ensures.whole)
+
+pub returns-in-Ok-clause-done : goal.returns-in-Ok-clause-done
+returns-in-Ok-clause-done g c = λ is.
+    report_done _ _ _ _ _ _ Live c.in-Ok-Report.trace c.in-Ok-Report.text
+    refl (rw c.in-Ok-Report.field-0-is at c.in-Ok-Report.ensures.outputs)
+    c.with_trace.ensures.trace (rw c.as_slice.ensures at c.in-Ok.ensures.whole)
+
+pub returns-in-Ok-Report-clause-write_fault : goal.returns-in-Ok-Report-clause-write_fault
+returns-in-Ok-Report-clause-write_fault g c = λ is.
+    report_short _ _ _ _ _ _ Live c.in-Ok-Report.trace c.in-Ok-Report.text
+    refl (rw c.in-Ok-Report.field-0-is at c.in-Ok-Report.ensures.outputs)
+    c.with_trace-in-Err.ensures.trace (rw c.as_slice.ensures at c.in-Err.ensures.short)
+
+pub returns-in-Ok-Report-clause-refused : goal.returns-in-Ok-Report-clause-refused
+returns-in-Ok-Report-clause-refused g c =
+    report_refused _ _ _ _ _ _ Live c.in-Ok-Report.trace c.in-Ok-Report.text
+    refl (rw c.in-Ok-Report.field-0-is at c.in-Ok-Report.ensures.outputs)
+
+pub returns-in-Ok-Refusal-clause-refused : goal.returns-in-Ok-Refusal-clause-refused
+returns-in-Ok-Refusal-clause-refused g c =
+    let answers = rw c.in-Ok-Refusal.field-0-is at c.in-Ok-Refusal.ensures.outputs in
+    refusal_refused _ _ _ _ _ _ Live answers.script _ answers.output_is.bad
+    refl answers.takes answers.output_is.refuses answers.output_is.tells
+    c.from.ensures.0 (rw c.as_bytes.ensures.value at c.tell_text.ensures)
+
+pub returns-in-Ok-Refusal-clause-complete : goal.returns-in-Ok-Refusal-clause-complete
+returns-in-Ok-Refusal-clause-complete g c =
+    let answers = rw c.in-Ok-Refusal.field-0-is at c.in-Ok-Refusal.ensures.outputs in
+    refusal_complete _ _ _ _ _ _ _ Live answers.script answers.output_is.bad
+    refl answers.takes answers.output_is.refuses
+
+pub returns-clause-refused : goal.returns-clause-refused
+returns-clause-refused g c =
+    torn_refused _ _ _ _ _ _ Live refl (rw c.in-Err-Torn.field-0-is at c.in-Err-Torn.ensures.torn)

@@ -1,0 +1,11 @@
+-- The one command of `qu_alone` makes reports.
+use Rattle.qu_cli.proofs.EndFacts.{has_history}
+use Rattle.qu_cli.proofs.top.qu_alone.Goals as goal
+
+pub returns-clause-headline : goal.returns-clause-headline
+returns-clause-headline g c =
+    has_history c.read_alone_command.result c.answer.result.trace c.read_alone_command.ensures.sim
+    c.answer.ensures.known
+
+pub returns-clause-refused : goal.returns-clause-refused
+returns-clause-refused g c = rw c.read_alone_command.ensures.value at c.answer.ensures.refused
