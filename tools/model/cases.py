@@ -125,7 +125,7 @@ def points_told(world):
 def listed_words_told(data, words):
     """What qu-letters writes for a script, and its status."""
     lines = {"": ListedWorld.lines, "digests": letter_lines, "bytes": byte_lines}.get(words)
-    return told(data, lines) if lines else "usage: qu-letters [digests]\nstatus 2"
+    return told(data, lines) if lines else "usage: qu-letters [digests | bytes]\nstatus 2"
 
 
 def events_told(command, words, text, names):

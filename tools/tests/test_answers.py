@@ -104,7 +104,7 @@ class Command(unittest.TestCase):
                          run(f"{setup}\ninject r0\n".encode(), "listed"))
         status, written, _ = run(f"{setup}\ncall{call}call{call}".encode(), "events")
         self.assertEqual((0, ["Busy", "points", "serial"]), (status, written.splitlines()[-3:]))
-        self.assertEqual((0, "usage: qu-letters [digests]\nstatus 2\n", ""), run(b"", "qu-letters", "sim"))
+        self.assertEqual((0, "usage: qu-letters [digests | bytes]\nstatus 2\n", ""), run(b"", "qu-letters", "sim"))
 
     def test_the_answer_to_bytes(self):
         act = b"01 0005 03 0002 6869"

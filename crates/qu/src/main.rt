@@ -5,6 +5,7 @@ use qu_cli::qu;
 use qu_io::{StdSink, StdSource};
 use qu_live::OpenGate;
 use std::env;
+use std::io::Eprint;
 use std::process::ExitCode;
 use std::rt::Env;
 
@@ -20,7 +21,17 @@ fn main(rt: HostRuntime) -> ExitCode {
         &mut output,
         &OpenGate,
     );
+    if let Some(hint) = &report.hint {
+        tell(&rt, hint.as_str());
+    }
     ExitCode::from(report.status)
+}
+
+/// Tells this on standard error, as far as it takes it.
+fn tell(rt: &impl Eprint, words: &str) {
+    match rt.eprintln(words) {
+        Ok(()) | Err(_) => {}
+    }
 }
 
 /// The words behind the program's name. Where they cannot be had there are none, and so they are wrong.

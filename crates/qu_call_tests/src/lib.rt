@@ -5,4 +5,6 @@
 #[cfg(test)]
 mod cli;
 #[cfg(test)]
+mod hints;
+#[cfg(test)]
 mod live;

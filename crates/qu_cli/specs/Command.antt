@@ -3,7 +3,7 @@ use Rattle.std.specs.Prelude.{ℕ, Bool, false, List, [], ◌∷◌, ◌++◌, O
 use Rattle.std.specs.Str.{bytes_eq}
 use Rattle.qu_cli.specs.declared.command.Command.{Command}
 use Rattle.qu_cli.specs.declared.command.Command.TheVariants.{Sim, Live}
-use Rattle.qu_cli.specs.declared.command.Telling.TheVariants.{Operations, Events, Digests}
+use Rattle.qu_cli.specs.declared.command.Telling.TheVariants.{Operations, Events, Digests, Bytes}
 
 -- ---- of `qu`
 
@@ -30,9 +30,11 @@ usage_text = codes "usage: qu sim [--gen N] | live | gen N" ++ 10 ∷ []
 
 unfoldable pub letters_command_of : List (List ℕ) → Option Command
 letters_command_of [] = Some (Sim Events)
-letters_command_of (word ∷ []) = if bytes_eq word (codes "digests") then Some (Sim Digests) else None
+letters_command_of (word ∷ []) =
+    if bytes_eq word (codes "digests") then Some (Sim Digests)
+    else if bytes_eq word (codes "bytes") then Some (Sim Bytes) else None
 letters_command_of (word ∷ second ∷ words) = None
 
 -- the line that tells which words there are
 unfoldable pub letters_usage_text : List ℕ
-letters_usage_text = codes "usage: qu-letters [digests]" ++ 10 ∷ []
+letters_usage_text = codes "usage: qu-letters [digests | bytes]" ++ 10 ∷ []

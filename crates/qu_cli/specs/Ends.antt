@@ -14,7 +14,7 @@ use Rattle.qu_premise.specs.Answer.{IsAnswer}
 use Rattle.qu_claims.specs.Chained.{IsChained}
 use Rattle.qu_claims.specs.Order.{IsPrintedOrder}
 use Rattle.qu_print.specs.Report.{report_of}
-use Rattle.qu_listing.specs.Digests.{digests_text}
+use Rattle.qu_listing.specs.Digests.{digests_text, letter_bytes_text}
 use Rattle.qu_listing.specs.Events.{events_text}
 use Rattle.qu_language.specs.declared.bad.Bad.{Bad}
 use Rattle.qu_language.specs.declared.line.Script.{Script}
@@ -25,7 +25,7 @@ use Rattle.qu_script.specs.Events.{sim_of}
 use Rattle.qu_cli.specs.declared.command.Command.{Command}
 use Rattle.qu_cli.specs.declared.command.Command.TheVariants.{Sim, Live}
 use Rattle.qu_cli.specs.declared.command.Telling.{Telling}
-use Rattle.qu_cli.specs.declared.command.Telling.TheVariants.{Operations, Events, Digests}
+use Rattle.qu_cli.specs.declared.command.Telling.TheVariants.{Operations, Events, Digests, Bytes}
 use Rattle.qu_cli.specs.Refusal.{bad_text}
 use Rattle.qu_cli.specs.Transfer.{TakesScript, Writes, WritesShort, WritesOrFails}
 
@@ -59,6 +59,7 @@ abbrev pub TellsRun : Telling → Trace → List ℕ → Type 0
 TellsRun Operations trace text = Reports trace text
 TellsRun Events trace text = text ≡ events_text trace
 TellsRun Digests trace text = text ≡ digests_text trace
+TellsRun Bytes trace text = text ≡ letter_bytes_text trace
 
 -- the trace is that of the script's run, and the text is what is to be told of it
 pub record MakesOf (telling : Telling) (script : List ℕ) (trace : Trace) (text : List ℕ) : Type 0 where
@@ -90,6 +91,7 @@ IsPromised None trace = ⊥
 IsPromised (Some (Sim Operations)) trace = HasOneHistory trace
 IsPromised (Some (Sim Events)) trace = IsRun trace
 IsPromised (Some (Sim Digests)) trace = IsRun trace
+IsPromised (Some (Sim Bytes)) trace = IsRun trace
 IsPromised (Some Live) trace = HasOneHistory trace
 
 -- the command can make something of it: each command runs a script

@@ -29,7 +29,7 @@ pub record TellsRefusal (command : Command) (script line : List ℕ) : Type 0 wh
 -- what the command has to write of a script
 abbrev pub IsOutput : Command → List ℕ → Output → Type 0
 IsOutput command script (Report trace text) = MakesText command script (Some trace) text
-IsOutput command script (Refusal line) = TellsRefusal command script (string_bytes line)
+IsOutput command script (Refusal line hint) = TellsRefusal command script (string_bytes line)
 
 -- what the command has to write of the script that was taken
 pub record Outputs (command : Command) (before now : StreamView) (output : Output) : Type 0 where

@@ -53,9 +53,9 @@ pub fn answer_live<R: Threads + Wait + Sync, S: Source, K: Sink, G: Gate>(
             Ok(()) => Report::with_trace(End::Done, trace),
             Err(_) => Report::with_trace(End::WriteFault, trace),
         },
-        Ok(Output::Refusal(line)) => {
+        Ok(Output::Refusal(line, hint)) => {
             tell_text(output, line.as_bytes());
-            Report::from(End::BadScript)
+            Report::with_hint(hint)
         }
         Err(NoOutput::ReadFault) => Report::from(End::ReadFault),
         Err(NoOutput::NoMemory) => Report::from(End::NoMemory),

@@ -12,6 +12,8 @@ pub enum Telling {
     Events,
     /// Its letters with their digests.
     Digests,
+    /// Its letters with their bytes.
+    Bytes,
 }
 
 /// What a program is asked to do with the script on the input.
@@ -50,7 +52,7 @@ pub fn read_alone_command(words: &[String]) -> Option<Command>
 }
 
 /// The line that tells which words `qu-letters` has.
-pub const LETTERS_USAGE: &[u8] = b"usage: qu-letters [digests]\n";
+pub const LETTERS_USAGE: &[u8] = b"usage: qu-letters [digests | bytes]\n";
 
 /// The command that the words ask of `qu-letters`. `None` exactly where they are no known command.
 #[tactic(auto, unfolding(crate::specs::Command::letters_command_of))]
@@ -61,6 +63,7 @@ pub fn read_letters_command(words: &[String]) -> Option<Command>
     match words {
         [] => Some(Command::Sim(Telling::Events)),
         [word] if word.as_str() == "digests" => Some(Command::Sim(Telling::Digests)),
+        [word] if word.as_str() == "bytes" => Some(Command::Sim(Telling::Bytes)),
         _ => None,
     }
 }

@@ -12,6 +12,7 @@ use super::reading::take_script;
 use super::refusal::refusal_line;
 use super::simulation::operations_text;
 use qu_gather::LiveFail;
+use qu_hints::hint;
 use qu_io::Source;
 use qu_live::{Gate, run_live};
 use qu_script::{Script, ScriptFail, read_live_script};
@@ -57,7 +58,10 @@ fn live_output<R: Threads + Wait + Sync, G: Gate>(
             let text = operations_text(alloc, &trace)?;
             Ok(Output::Report(trace, text))
         }
-        Err(ScriptFail::Bad(bad)) => Ok(Output::Refusal(refusal_line(alloc, bad)?)),
+        Err(ScriptFail::Bad(bad)) => {
+            let line = refusal_line(alloc, bad)?;
+            Ok(Output::Refusal(line, hint(alloc, true, script, bad)?))
+        }
         Err(ScriptFail::NoMemory) => Err(LiveFail::NoMemory),
     }
 }

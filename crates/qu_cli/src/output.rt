@@ -17,8 +17,8 @@ use std::alloc::Global;
 pub enum Output {
     /// The run of a good script, and the whole text that tells of it.
     Report(Trace, List<u8>),
-    /// The line that tells why the script is refused.
-    Refusal(String),
+    /// The line that tells why the script is refused, and another one, for people, of what could stand there.
+    Refusal(String, String),
 }
 
 /// Why a command has nothing to write.

@@ -49,6 +49,8 @@ pub struct Report {
     pub trace: Option<Trace>,
     /// What of a run on threads does not fit together, where something does not.
     pub torn: Option<Torn>,
+    /// Where a script is refused, what could stand there, in words for people. No clause speaks of them.
+    pub hint: Option<String>,
 }
 
 impl Report {
@@ -62,6 +64,7 @@ impl Report {
             status: outcome.status(),
             trace: Some(trace),
             torn: None,
+            hint: None,
         }
     }
 
@@ -75,6 +78,19 @@ impl Report {
             status: End::Torn.status(),
             trace: None,
             torn: Some(torn),
+            hint: None,
+        }
+    }
+
+    /// The report of a script that is refused, with what could stand there.
+    pub fn with_hint(hint: String) -> Report
+        ensures { (result.status ≡ status_of End.BadScript) × (result.trace ≡ None) × (result.torn ≡ None) }
+    {
+        Report {
+            status: End::BadScript.status(),
+            trace: None,
+            torn: None,
+            hint: Some(hint),
         }
     }
 }
@@ -88,6 +104,7 @@ impl From<End> for Report {
             status: outcome.status(),
             trace: None,
             torn: None,
+            hint: None,
         }
     }
 }

@@ -10,7 +10,8 @@ use super::refusal::refusal_line;
 use super::script::run_script;
 use super::{Command, Telling};
 use qu_base::{List, NoMemory};
-use qu_listing::{digests_text, events_text};
+use qu_hints::hint;
+use qu_listing::{bytes_text, digests_text, events_text};
 use qu_premise::audit;
 use qu_print::report_text;
 use qu_safety::order_of;
@@ -27,7 +28,10 @@ pub fn simulate(alloc: Global, telling: Telling, script: &[u8]) -> Result<Output
             let text = told_text(alloc, telling, &trace)?;
             Ok(Output::Report(trace, text))
         }
-        Err(ScriptFail::Bad(bad)) => Ok(Output::Refusal(refusal_line(alloc, bad)?)),
+        Err(ScriptFail::Bad(bad)) => {
+            let line = refusal_line(alloc, bad)?;
+            Ok(Output::Refusal(line, hint(alloc, false, script, bad)?))
+        }
         Err(ScriptFail::NoMemory) => Err(NoMemory),
     }
 }
@@ -48,6 +52,10 @@ fn told_text(alloc: Global, telling: Telling, trace: &Trace) -> Result<List<u8>,
         }
         Telling::Digests => {
             let text = digests_text(alloc, trace)?;
+            Ok(text)
+        }
+        Telling::Bytes => {
+            let text = bytes_text(alloc, trace)?;
             Ok(text)
         }
     }

@@ -1,5 +1,5 @@
 -- Facts on the words that are left of a line.
-use Rattle.std.proofs.Common.{◌≡◌, ℕ, ◌+◌, ◌<◌, ◌≤◌, List, [], ◌∷◌, length, drop, refl, ap, ◌∙◌, zero, suc, slice_index_or, nat_eq, arith}
+use Rattle.std.proofs.Common.{◌≡◌, ℕ, ◌+◌, ◌-◌, ◌<◌, ◌≤◌, List, [], ◌∷◌, length, drop, length-drop, refl, ap, ◌∙◌, zero, suc, slice_index_or, nat_eq, arith}
 use Rattle.std.specs.Borrow.{Bor}
 use Rattle.std.proofs.lemmas.Bool.Decides.{nat_tests}
 use Rattle.std.proofs.lemmas.List.{drop_more, at_drop_all, get_or-map, length-map}
@@ -23,6 +23,11 @@ left_is_nil zero (word ∷ words) e = grind (arith, nat_tests)
 left_is_nil (suc i) [] e = absurd (omega arith)
 left_is_nil (suc i) (word ∷ words) e = grind (arith, nat_tests, left_is_nil i words (omega arith))
 
+pub left_many : (i : ℕ) (words : List (Bor (List ℕ))) → length (drop i (texts words)) ≡ length words - i
+left_many i words = length-drop i (texts words) ∙ ap (λ many. many - i) (length-map words (λ word. word.now))
+
 pub ruleset word_facts = (one_more, none_left)
 
 pub ruleset left_facts = (left_is_nil)
+
+pub ruleset left_counts = (left_many)

@@ -1,4 +1,4 @@
-ghost use Rattle.std.specs.Prelude.{◌≡◌, map, IfOk};
+ghost use Rattle.std.specs.Prelude.{◌≡◌, length, map, IfOk};
 ghost use Rattle.std.specs.Result.{result_map_both};
 ghost use Rattle.qu_language.specs.Words.{is_nil, has_bytes, words_in, is_ascii_word, next_of, end_of, next_of_part};
 
@@ -65,6 +65,14 @@ impl<'a> Words<'a> {
         ensures { result ≡ is_nil self.now }
     {
         self.taken == self.words.len()
+    }
+
+    /// How many words are left.
+    #[tactic(auto, using(crate::proofs::WordFacts::left_counts))]
+    pub fn left(&self) -> usize
+        ensures { result ≡ length self.now }
+    {
+        self.words.len() - self.taken
     }
 
     /// Takes the next word.

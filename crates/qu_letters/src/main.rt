@@ -4,6 +4,7 @@
 use qu_cli::qu_letters;
 use qu_io::{StdSink, StdSource};
 use std::env;
+use std::io::Eprint;
 use std::process::ExitCode;
 use std::rt::Env;
 
@@ -16,7 +17,17 @@ fn main(rt: HostRuntime) -> ExitCode {
         // Words that cannot be had are wrong, as the empty word is.
         None => qu_letters(alloc, &[String::new(alloc)], &mut input, &mut output),
     };
+    if let Some(hint) = &report.hint {
+        tell(&rt, hint.as_str());
+    }
     ExitCode::from(report.status)
+}
+
+/// Tells this on standard error, as far as it takes it.
+fn tell(rt: &impl Eprint, words: &str) {
+    match rt.eprintln(words) {
+        Ok(()) | Err(_) => {}
+    }
 }
 
 /// The words behind the program's name. None where they cannot be had.

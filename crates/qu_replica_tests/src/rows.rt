@@ -234,6 +234,12 @@ fn what_a_plan_needs_is_told_first(rt: HostRuntime) -> Result<(), Fail> {
     let member = ObjectId(7);
     let needs = Seen::Refuses(Refusal::Needs(member));
     wants(alloc, Remedy::Unplanned(member), 2, (4, false), &needs)?;
-    wants(alloc, Remedy::Unshown(member), 2, (4, false), &not_current())?;
+    wants(
+        alloc,
+        Remedy::Unshown(member),
+        2,
+        (4, false),
+        &not_current(),
+    )?;
     wants(alloc, Remedy::Unshown(member), 3, (4, false), &needs)
 }

@@ -37,7 +37,7 @@ returns-in-Ok-Refusal-clause-refused g c =
     let answers = rw c.in-Ok-Refusal.field-0-is at c.in-Ok-Refusal.ensures.outputs in
     refusal_refused _ _ _ _ _ _ Live answers.script _ answers.output_is.bad
     refl answers.takes answers.output_is.refuses answers.output_is.tells
-    c.from.ensures.0 (rw c.as_bytes.ensures.value at c.tell_text.ensures)
+    c.with_hint.ensures.0 (rw c.as_bytes.ensures.value at c.tell_text.ensures)
 
 pub returns-in-Ok-Refusal-clause-complete : goal.returns-in-Ok-Refusal-clause-complete
 returns-in-Ok-Refusal-clause-complete g c =
