@@ -11,7 +11,7 @@ use Rattle.qu_language.specs.declared.limits.TheConstants.{SCRIPT_LIMIT}
 use Rattle.qu_cli.specs.declared.command.Command.{Command}
 use Rattle.qu_cli.specs.declared.command.Command.TheVariants.{Sim, Live}
 use Rattle.qu_cli.specs.declared.command.Telling.{Telling}
-use Rattle.qu_cli.specs.declared.command.Telling.TheVariants.{Operations, Events, Digests}
+use Rattle.qu_cli.specs.declared.command.Telling.TheVariants.{Operations, Events, Digests, Bytes}
 use Rattle.qu_cli.specs.declared.output.Output.TheVariants.{Report}
 use Rattle.qu_cli.specs.Refusal.{bad_text}
 use Rattle.qu_cli.proofs.ScriptFacts.{too_long, sim_too_long, live_too_long}
@@ -79,6 +79,7 @@ makes_known (Sim Operations) script trace text makes = record {
 }
 makes_known (Sim Events) script trace text makes = makes.is_run
 makes_known (Sim Digests) script trace text makes = makes.is_run
+makes_known (Sim Bytes) script trace text makes = makes.is_run
 makes_known Live script trace text makes = record {
   order = makes.reports.order;
   is_run = makes.ran.is_run;
@@ -96,6 +97,7 @@ has_history None (Some trace) one known = absurd known
 has_history (Some (Sim Operations)) (Some trace) one known = known
 has_history (Some (Sim Events)) (Some trace) one known = let wrong = one (Sim Events) refl in absurd (cc)
 has_history (Some (Sim Digests)) (Some trace) one known = let wrong = one (Sim Digests) refl in absurd (cc)
+has_history (Some (Sim Bytes)) (Some trace) one known = let wrong = one (Sim Bytes) refl in absurd (cc)
 has_history (Some Live) (Some trace) one known = let wrong = one Live refl in absurd (cc)
 
 -- ---- a script is refused or not

@@ -22,7 +22,7 @@ use Rattle.qu_replay.specs.declared.kept_step.KeptStep.{KeptStep}
 use Rattle.qu_replay.specs.Replays.{IsReplay, IsReplayOf, RisesFrom, actor_at, opening_actor, opening_client, own_steps}
 use Rattle.qu_replay.specs.Standing.{StandsWell}
 use Rattle.qu_replay.specs.Told.{AreTold}
-use Rattle.qu_replay.specs.Operations.{begun_operations}
+use Rattle.qu_replay.specs.Operations.{begun_operations, ended_operations}
 use Rattle.qu_replay.proofs.Told.{told_is_run, told_from_opening}
 use Rattle.qu_replay.proofs.Operations.{told_invoked, told_sent}
 use Rattle.qu_lock.specs.Calls.{calls_by}
@@ -30,6 +30,7 @@ use Rattle.qu_lock.specs.Locked.{ClientStands}
 use Rattle.qu_gather.specs.Live.{IsCorrectClient, AreCallsOf, IsLive}
 use Rattle.qu_gather.specs.Correct.{client_at, correct_replicas, correct_clients}
 use Rattle.qu_gather.specs.Gathered.{all_steps, steps_of_replica, steps_of_client, replica_name, client_name, ReplicasStand, ClientsStand, HasEnded, HaveEnded, AreTheirOwn}
+use Rattle.qu_gather.proofs.Ended.{ends_told, ends_own, all_own, replays_end, client_balanced}
 use Rattle.qu_gather.proofs.Numbers.{AscendsFrom, replica_numbers, client_numbers, replicas_ascend, clients_ascend, is_among, has_client}
 use Rattle.qu_gather.proofs.Own.{replica_steps, client_steps, no_replica_steps, no_client_steps, own_replica, own_client}
 
@@ -273,6 +274,19 @@ all_begun setup calls held others me callable gathered =
           ∙ sym (not_called setup calls me callable (ap (is_among me.0) numbers ∙ none))
     ])
 
+all_balanced : (setup : Setup) (calls : List (ClientId × Op)) (held : List (ReplicaState × List KeptStep))
+    (others : List (ClientState × List KeptStep)) (me : ClientId) → IsGathered setup calls held others
+    → length (ended_operations (own_steps (party.Client me) (all_steps held others)))
+    ≡ length (begun_operations (own_steps (party.Client me) (all_steps held others)))
+all_balanced setup calls held others me gathered =
+    let own = own_client me held others in
+    let ascend : AscendsFrom 0 (map (λ (one : ClientState × List KeptStep). one.0.me.0) others) =
+    subst (AscendsFrom 0) (numbers_are setup others gathered.own.clients_are)
+    (clients_ascend setup setup.clients) in
+    ap (λ (it : List KeptStep). length (ended_operations it)) own
+    ∙ client_balanced setup calls me others 0 ascend gathered.clients_stand gathered.ended
+    ∙ sym (ap (λ (it : List KeptStep). length (begun_operations it)) own)
+
 -- an idle end is that of the last world
 idle_there : (world : WorldState) (me : ClientId) (last : Option Actor) → actor_at world (party.Client me) ≡ last
     → IsIdleEnd last → IfSome (correct_client world me) (λ (state : ClientState). state.work ≡ None)
@@ -314,6 +328,14 @@ gathered_live setup calls held others merged entries limits callable own replica
       invoked = λ me.
           told_invoked [] merged entries me told ∙ ap begun_operations (same (party.Client me))
           ∙ all_begun setup calls held others me callable gathered;
+      ended = λ me.
+          ends_told [] merged entries me told
+          ∙ ends_own me merged
+          (all_own merged
+          (λ who. replays_end who (opening_actor setup who) (own_steps who merged) (ends who) (replays who)))
+          ∙ ap (λ (it : List KeptStep). length (ended_operations it)) (same (party.Client me))
+          ∙ all_balanced setup calls held others me gathered
+          ∙ ap (λ (it : List Op). length it) (all_begun setup calls held others me callable gathered);
       idle = λ me.
           idle_there (run setup (events_of entries)) me (ends (party.Client me))
           ((told_from_opening setup merged entries ends replays told).ends (party.Client me))

@@ -1,9 +1,10 @@
 -- What is promised of a run on threads.
-use Rattle.std.specs.Prelude.{List, false, ◌≡◌, ◌≤◌, None, IfSome}
+use Rattle.std.specs.Prelude.{ℕ, List, [], ◌∷◌, length, false, ◌≡◌, ◌≤◌, ◌+◌, ◌==◌, if◌then◌else◌, Option, None, Some, IfSome}
 use Rattle.std.specs.List.{AllByRecursion}
 use Rattle.qu_base.specs.declared.party.ClientId.{ClientId}
 use Rattle.qu_base.specs.declared.party.Party.TheVariants as party
 use Rattle.qu_objects.specs.declared.op.Op.{Op}
+use Rattle.qu_objects.specs.declared.op.Outcome.{Outcome}
 use Rattle.qu_client.specs.declared.state.ClientState.{ClientState}
 use Rattle.qu_trace.specs.declared.trace.Entry.{Entry}
 use Rattle.qu_trace.specs.declared.trace.Setup.{Setup}
@@ -24,6 +25,16 @@ pub record IsCorrectClient (setup : Setup) (me : ClientId) : Type 0 where
 abbrev pub AreCallsOf : Setup → List (ClientId × Op) → Type 0
 AreCallsOf setup calls = AllByRecursion (λ (call : ClientId × Op). IsCorrectClient setup call.0) calls
 
+-- how many operations of a client an entry ends
+abbrev pub ends_at : ClientId → Option (ClientId × ℕ × Outcome) → ℕ
+ends_at me None = 0
+ends_at me (Some end) = if (end.0).0 == me.0 then 1 else 0
+
+-- how many operations of a client these entries end
+unfoldable pub ends_among : ClientId → List Entry → ℕ
+ends_among me [] = 0
+ends_among me (entry ∷ entries) = ends_at me entry.ended + ends_among me entries
+
 -- a trace is that of a run of this setup in which clients were called for these operations
 pub record IsLive (setup : Setup) (calls : List (ClientId × Op)) (trace : Trace) : Type 0 where
   pub is_run : IsRun trace
@@ -32,6 +43,8 @@ pub record IsLive (setup : Setup) (calls : List (ClientId × Op)) (trace : Trace
   pub no_injection : AllByRecursion (λ (entry : Entry). IsNotInjected entry.event) trace.entries
   -- each client began the operations that it was called for, in their order
   pub invoked : (me : ClientId) → invoked_by me trace.entries ≡ calls_by me calls
+  -- and as many of them ended
+  pub ended : (me : ClientId) → ends_among me trace.entries ≡ length (calls_by me calls)
   -- in the end no operation of a correct client is under way
   pub idle : (me : ClientId)
       → IfSome (correct_client (run trace.setup (events_of trace.entries)) me)

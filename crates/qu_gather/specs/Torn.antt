@@ -1,1 +1,116 @@
 -- Why what actors kept is no run.
+use Rattle.std.specs.Prelude.{ℕ, ◌==◌, ◌&&◌, List, [], ◌∷◌, ◌++◌, ◌≡◌, map, if◌then◌else◌, Option, None, Some, Result, Ok, Err}
+use Rattle.qu_base.specs.declared.party.ClientId.{ClientId}
+use Rattle.qu_base.specs.declared.party.ReplicaId.{ReplicaId}
+use Rattle.qu_base.specs.declared.party.Party.{Party}
+use Rattle.qu_base.specs.declared.party.Party.TheVariants as party
+use Rattle.qu_base.specs.Bounds.{replicas}
+use Rattle.qu_rows.specs.State.{ReplicaState}
+use Rattle.qu_client.specs.declared.state.ClientState.{ClientState}
+use Rattle.qu_trace.specs.Faulty.{is_same}
+use Rattle.qu_trace.specs.declared.trace.Setup.{Setup}
+use Rattle.qu_frames.specs.declared.input.Input.{Input}
+use Rattle.qu_frames.specs.declared.input.Input.TheVariants.{Frame, Tick, Invoke}
+use Rattle.qu_replay.specs.declared.kept_step.KeptStep.{KeptStep}
+use Rattle.qu_replay.specs.Entries.{IsFirstUnsent}
+use Rattle.qu_replay.specs.Merged.{AreByTicket, steps_of_ticket}
+use Rattle.qu_post.specs.declared.filed.Filed.{Filed}
+use Rattle.qu_gather.specs.declared.torn.LiveFail.{LiveFail}
+use Rattle.qu_gather.specs.declared.torn.LiveFail.TheVariants as fail
+use Rattle.qu_gather.specs.declared.torn.Torn.TheVariants as torn
+use Rattle.qu_gather.specs.Correct.{correct_replicas, correct_clients}
+
+-- ---- another actor behind a lock
+
+-- the first of these locks, with the party behind it, where these parties stand behind them and it is another one
+unfoldable pub first_moved : List Party → List Party → Option (Party × Party)
+first_moved [] held = None
+first_moved (lock ∷ locks) [] = None
+first_moved (lock ∷ locks) (here ∷ held) = if is_same here lock then first_moved locks held else Some (lock, here)
+
+-- the first of two answers, where it is one
+abbrev pub or_moved : Option (Party × Party) → Option (Party × Party) → Option (Party × Party)
+or_moved None later = later
+or_moved (Some moved) later = Some moved
+
+abbrev pub replica_locks : List ReplicaId → List Party
+replica_locks names = map (λ (me : ReplicaId). party.Replica me) names
+
+abbrev pub client_locks : List ClientId → List Party
+client_locks names = map (λ (me : ClientId). party.Client me) names
+
+abbrev pub replicas_behind : List (ReplicaState × List KeptStep) → List Party
+replicas_behind held = map (λ (one : ReplicaState × List KeptStep). party.Replica one.0.me) held
+
+abbrev pub clients_behind : List (ClientState × List KeptStep) → List Party
+clients_behind held = map (λ (one : ClientState × List KeptStep). party.Client one.0.me) held
+
+-- the lowest lock of a setup behind which another actor stands, with that one; replicas come before clients
+abbrev pub moved_actor : Setup → List (ReplicaState × List KeptStep) → List (ClientState × List KeptStep)
+    → Option (Party × Party)
+moved_actor setup held others =
+    first_moved
+    (replica_locks (correct_replicas setup (replicas setup.bounds))
+    ++ client_locks (correct_clients setup setup.clients))
+    (replicas_behind held ++ clients_behind others)
+
+-- where an actor moved just this is told, unless memory ends; where none did it is not
+abbrev pub TellsMoved : {X : Type 0} → Option (Party × Party) → Result X LiveFail → Type 0
+TellsMoved moved (Ok x) = moved ≡ None
+TellsMoved moved (Err (fail.Torn (torn.Moved lock held))) = moved ≡ Some (lock, held)
+TellsMoved moved (Err (fail.Torn (torn.Steps kept filed))) = moved ≡ None
+TellsMoved moved (Err fail.NoMemory) = Unit {0}
+
+-- no steps are told not to fit
+abbrev pub IsOfLocks : LiveFail → Type 0
+IsOfLocks (fail.Torn (torn.Moved lock held)) = Unit {0}
+IsOfLocks (fail.Torn (torn.Steps kept filed)) = ⊥
+IsOfLocks fail.NoMemory = Unit {0}
+
+-- ---- a step on what was not sent
+
+-- the filed step of this actor with this ticket
+unfoldable pub filed_at : Party → ℕ → List Filed → Option Filed
+filed_at me ticket [] = None
+filed_at me ticket (filed ∷ later) =
+    if is_same filed.actor me && filed.ticket == ticket then Some filed else filed_at me ticket later
+
+-- the filed step that an input names as the sender of its letter
+abbrev pub sender_of : Input → List Filed → Option Filed
+sender_of (Frame name text) journal = filed_at name.from name.ticket journal
+sender_of Tick journal = None
+sender_of (Invoke op) journal = None
+
+-- the first of these steps that takes what was not sent to its actor before, and the filed step that its letter names
+pub record TakesUnsent (merged : List (Party × KeptStep)) (journal : List Filed) (kept : Option KeptStep)
+    (filed : Option Filed) : Type 0 where
+  pub at : ℕ
+  pub first : IsFirstUnsent merged at
+  pub kept_is : kept ≡ Some first.step.1
+  pub filed_is : filed ≡ sender_of first.step.1.input journal
+
+-- why steps in the order of their tickets are not told: no actor moved, and one of them takes what was not sent
+abbrev pub IsUntold : List (Party × KeptStep) → List Filed → LiveFail → Type 0
+IsUntold merged journal (fail.Torn (torn.Moved lock held)) = ⊥
+IsUntold merged journal (fail.Torn (torn.Steps kept filed)) = TakesUnsent merged journal kept filed
+IsUntold merged journal fail.NoMemory = Unit {0}
+
+-- the same of the steps of all actors, put into the order of their tickets, those of one ticket as they stood
+pub record HasUnsent (steps : List (Party × KeptStep)) (journal : List Filed) (kept : Option KeptStep)
+    (filed : Option Filed) : Type 0 where
+  pub merged : List (Party × KeptStep)
+  pub sorted : AreByTicket 0 merged
+  pub ties : (ticket : ℕ) → steps_of_ticket ticket merged ≡ steps_of_ticket ticket steps
+  pub takes : TakesUnsent merged journal kept filed
+
+-- steps are told not to fit only where one took what was not sent
+abbrev pub TellsSteps : {X : Type 0} → List (Party × KeptStep) → List Filed → Result X LiveFail → Type 0
+TellsSteps steps journal (Ok x) = Unit {0}
+TellsSteps steps journal (Err (fail.Torn (torn.Moved lock held))) = Unit {0}
+TellsSteps steps journal (Err (fail.Torn (torn.Steps kept filed))) = HasUnsent steps journal kept filed
+TellsSteps steps journal (Err fail.NoMemory) = Unit {0}
+
+-- a kept step, if there is one, and the filed one that it names as the sender of its letter
+abbrev pub IsPairOf : Option (Party × KeptStep) → List Filed → Option KeptStep × Option Filed → Type 0
+IsPairOf None journal made = made ≡ (None, None)
+IsPairOf (Some step) journal made = (made.0 ≡ Some step.1) × (made.1 ≡ sender_of step.1.input journal)

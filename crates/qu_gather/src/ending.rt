@@ -1,17 +1,20 @@
-ghost use Rattle.std.specs.Prelude.{◌≡◌, [], length, IfOk, OnOk};
+ghost use Rattle.std.specs.Prelude.{◌≡◌, ◌==◌, ◌&&◌, [], length, slice_get, IfOk, IfErr, OnOk};
+ghost use Rattle.std.specs.Option.{option_copied};
 ghost use Rattle.qu_base.specs.Bounds.{replicas};
+ghost use Rattle.qu_trace.specs.Faulty.{is_same};
 ghost use Rattle.qu_world.specs.Run.{IsSetup};
 ghost use Rattle.qu_replay.specs.Told.{AreTold};
 ghost use Rattle.qu_gather.specs.Correct.{correct_replicas, correct_clients};
 ghost use Rattle.qu_gather.specs.Live.{IsLive, AreCallsOf};
-ghost use Rattle.qu_gather.specs.Gathered.{HaveEnded, AreTheirOwn};
+ghost use Rattle.qu_gather.specs.Gathered.{all_steps, HaveEnded, AreTheirOwn};
+ghost use Rattle.qu_gather.specs.Torn.{filed_at, sender_of, or_moved, moved_actor, TellsMoved, IsOfLocks, IsPairOf, IsUntold, TellsSteps};
 
 use crate::correct::{correct_clients, correct_replicas};
 use crate::held::{moved_client, moved_replica, put_clients, put_replicas};
 use crate::{LiveFail, Torn};
 use qu_base::{ClientId, List, NoMemory, Party};
 use qu_client::Client;
-use qu_frames::Input;
+use qu_frames::{Input, Letter};
 use qu_lock::{Kept, RunName};
 use qu_objects::Op;
 use qu_post::Filed;
@@ -36,14 +39,16 @@ pub fn gather<N: RunName>(
     requires replicas { length held.items ≡ length (correct_replicas setup (replicas setup.bounds)) }
     requires clients { length others.items ≡ length (correct_clients setup setup.clients) }
     requires ended { HaveEnded calls.now others.items }
-    ensures { IfOk result (λ trace. IsLive setup calls.now trace) }
+    ensures live { IfOk result (λ trace. IsLive setup calls.now trace) }
+    ensures moved { TellsMoved (moved_actor setup held.items others.items) result }
+    ensures steps { TellsSteps (all_steps held.items others.items) journal result }
 {
     are_their_own(alloc, &setup, &held, &others)?;
     let mut steps = List::new(alloc);
     put_replicas(&mut steps, held)?;
     put_clients(&mut steps, others)?;
     let merged = by_ticket(steps)?;
-    let entries = told(alloc, merged.as_slice(), journal)?;
+    let entries = told(alloc, merged.as_slice(), journal.as_slice())?;
     Ok(Trace { setup, entries })
 }
 
@@ -56,30 +61,46 @@ fn are_their_own<N: RunName>(
 ) -> Result<(), LiveFail>
     requires replicas { length held.now ≡ length (correct_replicas setup.now (replicas setup.now.bounds)) }
     requires clients { length others.now ≡ length (correct_clients setup.now setup.now.clients) }
-    ensures { OnOk result (AreTheirOwn setup.now held.now others.now) }
+    ensures own { OnOk result (AreTheirOwn setup.now held.now others.now) }
+    ensures moved { TellsMoved (moved_actor setup.now held.now others.now) result }
+    ensures locks { IfErr result IsOfLocks }
 {
     let replicas = correct_replicas(alloc, setup)?;
-    if let Some((lock, held)) = moved_replica(replicas.as_slice(), held) {
-        return Err(LiveFail::Torn(Torn::Moved { lock, held }));
-    }
     let clients = correct_clients(alloc, setup)?;
-    if let Some((lock, held)) = moved_client(clients.as_slice(), others) {
-        return Err(LiveFail::Torn(Torn::Moved { lock, held }));
+    match or_moved(
+        moved_replica(replicas.as_slice(), held),
+        moved_client(clients.as_slice(), others),
+    ) {
+        Some((lock, held)) => Err(LiveFail::Torn(Torn::Moved { lock, held })),
+        None => Ok(()),
     }
-    Ok(())
+}
+
+/// The first of two answers, where it is one.
+fn or_moved(first: Option<(Party, Party)>, later: Option<(Party, Party)>) -> Option<(Party, Party)>
+    ensures { result ≡ or_moved first later }
+{
+    match first {
+        Some(moved) => Some(moved),
+        None => later,
+    }
 }
 
 /// The entries that tell these steps.
 fn told(
     alloc: Global,
     merged: &[(Party, KeptStep)],
-    journal: List<Filed>,
+    journal: &[Filed],
 ) -> Result<List<Entry>, LiveFail>
-    ensures { IfOk result (λ entries. AreTold [] merged.now entries) }
+    ensures told { IfOk result (λ entries. AreTold [] merged.now entries) }
+    ensures untold { IfErr result (IsUntold merged.now journal.now) }
 {
     match entries_of(alloc, merged) {
         Ok(entries) => Ok(entries),
-        Err(EntriesFail::Unsent(at)) => Err(LiveFail::Torn(unsent(alloc, merged, at, journal)?)),
+        Err(EntriesFail::Unsent(at)) => {
+            let (kept, filed) = unsent(alloc, merged, at, journal)?;
+            Err(LiveFail::Torn(Torn::Steps { kept, filed }))
+        }
         Err(EntriesFail::NoMemory) => Err(LiveFail::NoMemory),
     }
 }
@@ -89,29 +110,64 @@ fn unsent(
     alloc: Global,
     merged: &[(Party, KeptStep)],
     at: usize,
-    journal: List<Filed>,
-) -> Result<Torn, NoMemory> {
-    let kept = match merged.get(at) {
-        Some((_, step)) => Some(step.copy(alloc)?),
-        None => None,
-    };
-    let filed = match &kept {
-        Some(step) => sender(&step.input, journal),
-        None => None,
-    };
-    Ok(Torn::Steps { kept, filed })
+    journal: &[Filed],
+) -> Result<(Option<KeptStep>, Option<Filed>), NoMemory>
+    ensures { IfOk result (λ made. IsPairOf (slice_get merged.now at) journal.now made) }
+{
+    match merged.get(at) {
+        Some((_, step)) => {
+            let filed = sender(alloc, &step.input, journal)?;
+            Ok((Some(step.copy(alloc)?), filed))
+        }
+        None => Ok((None, None)),
+    }
 }
 
-/// The filed step that sent the letter which an input names.
-fn sender(input: &Input, journal: List<Filed>) -> Option<Filed> {
-    let Input::Frame(name, _) = input else {
-        return None;
-    };
-    let name = *name;
-    for filed in journal.into_vec() {
-        if filed.actor == name.from && filed.ticket == name.ticket {
+/// The filed step that an input names as the sender of its letter.
+fn sender(alloc: Global, input: &Input, journal: &[Filed]) -> Result<Option<Filed>, NoMemory>
+    ensures { IfOk result (λ found. found ≡ sender_of input.now journal.now) }
+{
+    match input {
+        Input::Frame(name, _) => match filed_at(journal, name.from, name.ticket) {
+            Some(filed) => Ok(Some(copy_filed(alloc, filed)?)),
+            None => Ok(None),
+        },
+        Input::Tick | Input::Invoke(_) => Ok(None),
+    }
+}
+
+/// The filed step of this actor with this ticket.
+#[tactic(auto, unfolding(crate::specs::Torn::filed_at))]
+fn filed_at(journal: &[Filed], me: Party, ticket: u64) -> Option<&Filed>
+    ensures { option_copied result ≡ filed_at me ticket journal.now }
+{
+    for filed in journal {
+        if is_filed_at(filed, me, ticket) {
             return Some(filed);
         }
     }
     None
+}
+
+fn is_filed_at(filed: &Filed, me: Party, ticket: u64) -> bool
+    ensures { result ≡ (is_same filed.now.actor me && filed.now.ticket == ticket) }
+{
+    filed.actor == me && filed.ticket == ticket
+}
+
+/// An equal filed step.
+fn copy_filed(alloc: Global, filed: &Filed) -> Result<Filed, NoMemory>
+    ensures { IfOk result (λ copy. copy ≡ filed.now) }
+{
+    let ended = match &filed.ended {
+        Some((client, number, outcome)) => Some((*client, *number, outcome.copy(alloc)?)),
+        None => None,
+    };
+    Ok(Filed {
+        ticket: filed.ticket,
+        actor: filed.actor,
+        input: filed.input.copy(alloc)?,
+        letters: Letter::copy_all(alloc, filed.letters.as_slice())?,
+        ended,
+    })
 }

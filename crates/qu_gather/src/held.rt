@@ -1,9 +1,9 @@
-ghost use Rattle.std.specs.Prelude.{◌≡◌, ◌++◌, List, length, map, IfOk, OnOk, IsTrue, MatchOption, ◌↔◌};
+ghost use Rattle.std.specs.Prelude.{◌≡◌, ◌++◌, length, map, OnOk, IsTrue};
 ghost use Rattle.std.specs.List.{flat_map};
-ghost use Rattle.qu_base.specs.declared.party.Party.{Party as AParty};
 ghost use Rattle.qu_trace.specs.Faulty.{is_same};
 ghost use Rattle.qu_replay.specs.declared.kept_step.KeptStep.{KeptStep as AStep};
-ghost use Rattle.qu_gather.specs.Gathered.{HasEnded, HaveEnded, replica_name, client_name, steps_of_replica, steps_of_client, ReplicasStand, ClientsStand};
+ghost use Rattle.qu_gather.specs.Gathered.{HasEnded, HaveEnded, steps_of_replica, steps_of_client, ReplicasStand, ClientsStand};
+ghost use Rattle.qu_gather.specs.Torn.{first_moved, replica_locks, client_locks, replicas_behind, clients_behind};
 
 use qu_base::{ClientId, List, NoMemory, Party, ReplicaId};
 use qu_client::Client;
@@ -39,12 +39,13 @@ pub fn moved_replica<N: RunName>(
     held: &[Kept<Replica, N>],
 ) -> Option<(Party, Party)>
     requires { length names.now ≡ length held.now }
-    ensures { MatchOption result (map replica_name held.now ≡ names.now) (λ moved. Unit {0}) }
+    ensures { result ≡ first_moved (replica_locks names.now) (replicas_behind held.now) }
 {
     for (place, kept) in held.iter().enumerate() {
         let lock = Party::Replica(names[place]);
-        if !is_same(kept.party(), lock) {
-            return Some((lock, kept.party()));
+        let here = kept.party();
+        if !is_same(here, lock) {
+            return Some((lock, here));
         }
     }
     None
@@ -56,12 +57,13 @@ pub fn moved_client<N: RunName>(
     held: &[Kept<Client, N>],
 ) -> Option<(Party, Party)>
     requires { length names.now ≡ length held.now }
-    ensures { MatchOption result (map client_name held.now ≡ names.now) (λ moved. Unit {0}) }
+    ensures { result ≡ first_moved (client_locks names.now) (clients_behind held.now) }
 {
     for (place, kept) in held.iter().enumerate() {
         let lock = Party::Client(names[place]);
-        if !is_same(kept.party(), lock) {
-            return Some((lock, kept.party()));
+        let here = kept.party();
+        if !is_same(here, lock) {
+            return Some((lock, here));
         }
     }
     None
