@@ -1,6 +1,4 @@
 ghost use Rattle.std.specs.Prelude.{◌≡◌, ◌≤◌, length, IfOk};
-ghost use Rattle.qu_base.specs.declared.limits.TheConstants.{LAST_CLIENT, OBJECT_IDS};
-ghost use Rattle.qu_base.specs.declared.party.ReplicaId.{ReplicaId as AReplica};
 ghost use Rattle.qu_base.specs.Bounds.{replicas};
 ghost use Rattle.qu_world.specs.Run.{IsSetup};
 ghost use Rattle.qu_world.specs.State.{ring_of};

@@ -1,5 +1,5 @@
 ghost use Rattle.std.specs.Prelude.{◌≡◌, ◌≤◌, IfOk, IfSome};
-ghost use Rattle.qu_replay.specs.Steps.{IsTakenByClient, IsTakenByReplica};
+ghost use Rattle.qu_replay.specs.Steps.{IsTakenByClient};
 ghost use Rattle.qu_replay.specs.Replays.{first_free_ticket, IsAfterLetter};
 ghost use Rattle.qu_lock.specs.Calls.{calls_by, IsNextCall};
 
