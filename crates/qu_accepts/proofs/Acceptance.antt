@@ -290,6 +290,7 @@ adds state new client number round sent mac target accepted may enough made is_n
       asks = body.Mend target;
       mac = mac;
       is_request = refl;
+      group = [];
       candidates = λ object. made.candidate;
       added = λ object is. subst
           (λ (it : ObjectId). own_candidates new it ≡ own_candidates state it ++ made.candidate ∷ []) is
@@ -300,11 +301,19 @@ adds state new client number round sent mac target accepted may enough made is_n
           ap candidates_in (other_history target.0 other.0 made.candidate state.histories
           (λ same. apart (ap (λ (it : ℕ). record { 0 = it }) (sym same))));
       reasons = record {
-        enough = enough;
-        current = made.current;
-        above = made.above;
+        enough = λ object is. subst
+            (λ (it : ObjectId). quorum state.keys.bounds ≤ length (entries_of it (culled state.keys state.me sent)))
+            is enough;
+        current = λ object is. subst
+            (λ (it : ObjectId). is_below (latest_of (entries_of it (culled state.keys state.me sent)))
+            (own_latest state it) ≡ false) is made.current;
+        above = λ object is. subst
+            (λ (it : ObjectId). is_below (own_latest state it) made.candidate.stamp ≡ true) is made.above;
+        whole = λ object is. tt;
         version = made.version;
-        remedy = made.remedy;
+        remedy = λ object is. subst
+            (λ (it : ObjectId). IsRemedy state (asked_at state client number sent (body.Mend target)) it
+            made.candidate made.version) is made.remedy;
         stored = is_one.versions;
       };
     }

@@ -433,6 +433,7 @@ moves state new client number round sent mac parts accepted made is_new in_order
       asks = body.Act parts;
       mac = mac;
       is_request = refl;
+      group = [];
       candidates = fresh state asked parts;
       added = added_to state new asked parts accepted made is_new in_order may;
       others = none_added state new asked parts accepted made is_new in_order may;

@@ -1,6 +1,6 @@
 -- Where a candidate with grounds stands: above all that its replica holds, and upon a base that the replica
 -- has nothing above.
-use Rattle.std.proofs.Common.{◌≡◌, ◌≤◌, ℕ, true, false, ◌&&◌, List, Option, None, Some, refl, sym, ap, ◌∙◌, inl, inr, unwrap_or, is_some, ◌⊎◌, subst}
+use Rattle.std.proofs.Common.{◌≡◌, ◌≤◌, ℕ, true, false, ◌&&◌, List, [], ◌∷◌, Option, None, Some, refl, sym, ap, ◌∙◌, inl, inr, unwrap_or, is_some, ◌⊎◌, arith, length}
 use Rattle.std.specs.Prelude.{nat_le}
 use Rattle.std.proofs.lemmas.Bool.{false≢true, cases_Bool, and_parts, leb-true}
 use Rattle.std.proofs.lemmas.Option.{none-some, cond_some}
@@ -16,7 +16,7 @@ use Rattle.qu_history.proofs.Stamps.{not_below_latest}
 use Rattle.qu_rows.specs.Rows.{Asked, fresh_stamp, asked_of, act_asked}
 use Rattle.qu_class.specs.Repairable.{object_base}
 use Rattle.qu_rows.specs.State.{ReplicaState, own_candidates, own_latest}
-use Rattle.qu_claims.specs.Grounds.{IsGround, Reasons, AddsTo, IsMade, IsFound, made_stamp, Performs, IsRemedy}
+use Rattle.qu_claims.specs.Grounds.{IsGround, Reasons, AddsTo, IsMade, IsFound, made_stamp, Performs, IsRemedy, Mends, MendsOn, IsOfGroup}
 use Rattle.qu_rows.proofs.Allowed.{fresh_later}
 use Rattle.qu_frames.specs.declared.frame.Body.{Body}
 use Rattle.qu_base.specs.declared.party.ClientId.{ClientId}
@@ -118,25 +118,28 @@ module _ {state : ReplicaState} {asked : Asked} {object : ObjectId} {candidate b
 
 -- ---- what a request makes a replica accept
 
-module _ (old new : ReplicaState) (asked : Asked) (candidates : ObjectId → Candidate) where
+cons-nil : {X : Type 0} (item : X) (items : List X) → item ∷ items ≡ [] → ⊥
+cons-nil item items same = omega (arith, ap length same)
+
+module _ (old new : ReplicaState) (asked : Asked) (group : List (ObjectId × ℕ)) (candidates : ObjectId → Candidate)
+    where
   -- it is above all that the replica has
-  pub above_added : (asks : Body) → Reasons old new asked asks candidates → (object : ObjectId)
-      → AddsTo asks object → is_below (own_latest old object) (candidates object).stamp ≡ true
+  pub above_added : (asks : Body) → Reasons old new asked asks group candidates → (object : ObjectId)
+      → AddsTo asks group object → is_below (own_latest old object) (candidates object).stamp ≡ true
   above_added (body.Act parts) reasons object names = above_own (reasons.grounds object names)
   above_added (body.Ask parts) reasons object never = absurd never
-  above_added (body.Mend target) reasons object is =
-      subst (λ (it : ObjectId). is_below (own_latest old it) (candidates it).stamp ≡ true) is reasons.above
+  above_added (body.Mend target) reasons object mended = reasons.above object mended
 
-  pub added_above : (asks : Body) → Reasons old new asked asks candidates → (object : ObjectId) → AddsTo asks object
-      → (held : Candidate) → holds held (own_candidates old object) ≡ true
+  pub added_above : (asks : Body) → Reasons old new asked asks group candidates → (object : ObjectId)
+      → AddsTo asks group object → (held : Candidate) → holds held (own_candidates old object) ≡ true
       → is_below held.stamp (candidates object).stamp ≡ true
   added_above asks reasons object adds held holding =
       below_by_latest held.stamp (own_latest old object) (candidates object).stamp
       (not_below_latest (own_candidates old object) held holding) (above_added asks reasons object adds)
 
   -- the replica made it, or was shown it
-  pub made_or_found : (asks : Body) → Reasons old new asked asks candidates → (object : ObjectId) → AddsTo asks object
-      → IsMade old.keys.bounds asked object (candidates object)
+  pub made_or_found : (asks : Body) → Reasons old new asked asks group candidates → (object : ObjectId)
+      → AddsTo asks group object → IsMade old.keys.bounds asked object (candidates object)
       ⊎ IsFound old.keys.bounds asked object (candidates object)
   made_or_found (body.Act parts) reasons object names =
       let grounds : IsGround old asked object (candidates object) (reasons.bases object) =
@@ -150,9 +153,8 @@ module _ (old new : ReplicaState) (asked : Asked) (candidates : ObjectId → Can
         group = grounds.group;
       })
   made_or_found (body.Ask parts) reasons object never = absurd never
-  made_or_found (body.Mend target) reasons object is =
-      subst (λ (it : ObjectId). IsMade old.keys.bounds asked it (candidates it)
-      ⊎ IsFound old.keys.bounds asked it (candidates it)) is (by_remedy target (candidates target) _ reasons.remedy)
+  made_or_found (body.Mend target) reasons object mended =
+      by_remedy object (candidates object) reasons.version (reasons.remedy object mended)
     where
       by_remedy : (target : ObjectId) (candidate : Candidate) (version : Option ObjState)
           → IsRemedy old asked target candidate version
@@ -163,6 +165,34 @@ module _ (old new : ReplicaState) (asked : Asked) (candidates : ObjectId → Can
       by_remedy target candidate version (IsRemedy.copy latest state plain made barrier is_latest full stored) = inl
           made
 
+  -- what has no group is added alone, or for an act
+  pub added_alone : (asks : Body) → Reasons old new asked asks group candidates → (object : ObjectId)
+      → AddsTo asks group object → (candidates object).group ≡ [] → AddsTo asks [] object
+  added_alone (body.Act parts) reasons object names alone = names
+  added_alone (body.Ask parts) reasons object never alone = never
+  added_alone (body.Mend target) reasons object mended alone =
+      by_group group mended (reasons.whole object mended)
+    where
+      by_group : (members : List (ObjectId × ℕ)) → MendsOn target members object
+          → IsOfGroup members (candidates object) → target ≡ object
+      by_group [] is whole = is
+      by_group (member ∷ later) named whole = absurd (cons-nil member later (sym whole ∙ alone))
+
+-- with the objects of a group no version is stored
+pub group_stores_none : (old new : ReplicaState) (asked : Asked) (target : ObjectId) (member : ObjectId × ℕ)
+    (later : List (ObjectId × ℕ)) (candidates : ObjectId → Candidate)
+    (mends : Mends old new asked target (member ∷ later) candidates) → mends.version ≡ None
+group_stores_none old new asked target member later candidates mends =
+    by_remedy (candidates member.0) mends.version (mends.whole member.0 (inl refl)) (mends.remedy member.0 (inl refl))
+  where
+    by_remedy : (candidate : Candidate) (version : Option ObjState) → candidate.group ≡ member ∷ later
+        → IsRemedy old asked member.0 candidate version → version ≡ None
+    by_remedy candidate version whole (IsRemedy.inline_barrier barrier found) = refl
+    by_remedy candidate version whole (IsRemedy.inline_method state plain found stored) = refl
+    by_remedy candidate version whole (IsRemedy.barrier barrier made) = refl
+    by_remedy candidate version whole (IsRemedy.copy latest state plain made barrier is_latest full stored) =
+        absurd (cons-nil member later (sym whole ∙ made.group))
+
 -- what has an act's digest was made for an act
 pub record IsOfAct (old new : ReplicaState) (asked : Asked) (asks : Body) (candidates : ObjectId → Candidate)
     (object : ObjectId) : Type 0 where
@@ -172,11 +202,12 @@ pub record IsOfAct (old new : ReplicaState) (asked : Asked) (asks : Body) (candi
   pub performs : Performs old new asked parts candidates
 
 pub act_added : (old new : ReplicaState) (client : ClientId) (number : ℕ) (sets : List SetOf) (asks : Body)
-    (candidates : ObjectId → Candidate) (object : ObjectId)
-    → Reasons old new (asked_of client number sets asks) asks candidates → AddsTo asks object
+    (group : List (ObjectId × ℕ)) (candidates : ObjectId → Candidate) (object : ObjectId)
+    → Reasons old new (asked_of client number sets asks) asks group candidates → AddsTo asks group object
     → is_some (act_asked client number asks) ≡ true
     → IsOfAct old new (asked_of client number sets asks) asks candidates object
-act_added old new client number sets (body.Act parts) candidates object reasons names some =
+act_added old new client number sets (body.Act parts) group candidates object reasons names some =
     record { parts = parts; is_act = refl; names = names; performs = reasons }
-act_added old new client number sets (body.Ask parts) candidates object reasons never some = absurd never
-act_added old new client number sets (body.Mend target) candidates object reasons is none = absurd (false≢true none)
+act_added old new client number sets (body.Ask parts) group candidates object reasons never some = absurd never
+act_added old new client number sets (body.Mend target) group candidates object reasons mended none =
+    absurd (false≢true none)

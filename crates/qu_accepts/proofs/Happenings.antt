@@ -62,14 +62,16 @@ accepts_alike mid other new carried alike it = record {
   asks = it.asks;
   mac = it.mac;
   is_request = it.is_request;
+  group = it.group;
   candidates = it.candidates;
   added = λ object adds. alike_candidates new other alike object ∙ it.added object adds;
   others = λ object not_added. alike_candidates new other alike object ∙ it.others object not_added;
   reasons = reasons_alike it.asks it.reasons;
 }
   where
-    reasons_alike : (asks : Body) → Reasons mid other (asked_of it.client it.number it.sets asks) asks it.candidates
-        → Reasons mid new (asked_of it.client it.number it.sets asks) asks it.candidates
+    reasons_alike : (asks : Body)
+        → Reasons mid other (asked_of it.client it.number it.sets asks) asks it.group it.candidates
+        → Reasons mid new (asked_of it.client it.number it.sets asks) asks it.group it.candidates
     reasons_alike (body.Act parts) performs = record {
       bases = performs.bases;
       grounds = performs.grounds;
@@ -82,6 +84,7 @@ accepts_alike mid other new carried alike it = record {
       enough = mends.enough;
       current = mends.current;
       above = mends.above;
+      whole = mends.whole;
       version = mends.version;
       remedy = mends.remedy;
       stored = alike.versions ∙ mends.stored;
@@ -285,7 +288,7 @@ accepts_at trace is_run have at below place old new is_old is_new object =
     elim (moves_at trace is_run have at below place old new is_old is_new) [
       | inl alone ↦ inl (alike_candidates new alone.mid alone.alike object
           ∙ mid_candidates trace at old alone.mid alone.learns object)
-      | inr moved ↦ elim (adds_or_not (moved.accepts).asks object) [
+      | inr moved ↦ elim (adds_or_not (moved.accepts).asks (moved.accepts).group object) [
         | inr not_added ↦ inl ((moved.accepts).others object not_added
             ∙ mid_candidates trace at old (moved.handles).mid (moved.handles).learns object)
         | inl adds ↦ inr (record { handles = moved.handles; accepts = moved.accepts; adds = adds })

@@ -124,7 +124,8 @@ step_had state client number round sets asks mac object candidate added =
     ]
 
 had_by : (mid new : ReplicaState) (taken : Frame) (object : ObjectId) (accepts : Accepts mid new taken)
-    → AddsTo accepts.asks object → HoldsAlike new (replica_on_frame mid taken).0 → are_had mid accepts.sent ≡ true
+    → AddsTo accepts.asks accepts.group object → HoldsAlike new (replica_on_frame mid taken).0
+    → are_had mid accepts.sent ≡ true
 had_by mid new taken object accepts adds made =
     step_had mid accepts.client accepts.number accepts.round accepts.sent accepts.asks
     accepts.mac object (accepts.candidates object)

@@ -5,7 +5,7 @@ use Rattle.qu_base.specs.declared.party.ObjectId.{ObjectId}
 use Rattle.qu_objects.specs.Parts.{are_parts}
 use Rattle.qu_claims.specs.Parts.{Names}
 use Rattle.qu_frames.specs.declared.frame.Body.{Body}
-use Rattle.qu_claims.specs.Grounds.{AddsTo}
+use Rattle.qu_claims.specs.Grounds.{AddsTo, MendsOn}
 use Rattle.qu_rows.specs.Allowed.{has_parts}
 use Rattle.qu_frames.specs.declared.frame.Body.TheVariants as body
 
@@ -40,18 +40,24 @@ same_named (first ∷ second ∷ later) object other one names also = absurd (fa
 
 -- ---- what a request adds to
 
-pub adds_or_not : (asks : Body) (object : ObjectId) → AddsTo asks object ⊎ (AddsTo asks object → ⊥)
-adds_or_not (body.Act parts) object = named_or_not parts object
-adds_or_not (body.Ask parts) object = inr (λ never. never)
-adds_or_not (body.Mend target) object =
+mends_or_not : (target : ObjectId) (group : List (ObjectId × ℕ)) (object : ObjectId)
+    → MendsOn target group object ⊎ (MendsOn target group object → ⊥)
+mends_or_not target (member ∷ later) object = named_or_not (member ∷ later) object
+mends_or_not target [] object =
     elim (cases_eq target.0 object.0) [
       | inl same ↦ inl (ap (λ (it : ℕ). record { 0 = it }) same)
       | inr apart ↦ inr (λ is. apart (ap (λ (it : ObjectId). it.0) is))
     ]
 
--- it is one object
-pub same_added : (asks : Body) (object other : ObjectId) → has_parts asks ≡ true → AddsTo asks object
-    → AddsTo asks other → object ≡ other
+pub adds_or_not : (asks : Body) (group : List (ObjectId × ℕ)) (object : ObjectId)
+    → AddsTo asks group object ⊎ (AddsTo asks group object → ⊥)
+adds_or_not (body.Act parts) group object = named_or_not parts object
+adds_or_not (body.Ask parts) group object = inr (λ never. never)
+adds_or_not (body.Mend target) group object = mends_or_not target group object
+
+-- it is one object, unless a group is mended
+pub same_added : (asks : Body) (object other : ObjectId) → has_parts asks ≡ true → AddsTo asks [] object
+    → AddsTo asks [] other → object ≡ other
 same_added (body.Act parts) object other some names besides = same_named parts object other some names besides
 same_added (body.Ask parts) object other some never besides = absurd never
 same_added (body.Mend target) object other some is besides = sym is ∙ besides

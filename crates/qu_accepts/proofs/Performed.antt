@@ -16,6 +16,7 @@ use Rattle.qu_versions.specs.Versions.{is_stored, version_at}
 use Rattle.qu_claims.specs.Parts.{Names}
 use Rattle.qu_claims.specs.Grounds.{stored_of, Performs, Reasons, AddsTo, IsRemedy}
 use Rattle.qu_rows.specs.Rows.{Asked}
+use Rattle.qu_accepts.proofs.Grounds.{group_stores_none}
 use Rattle.qu_frames.specs.declared.frame.Body.{Body}
 use Rattle.qu_frames.specs.declared.frame.Body.TheVariants as body
 
@@ -179,18 +180,19 @@ remedy_plain state asked target candidate stored (IsRemedy.copy latest its plain
     under version found = plain
 
 -- a candidate without barrier, with this stamp, that a request adds to the object
-pub record IsAddedUnder (asks : Body) (candidates : ObjectId → Candidate) (object : ObjectId) (stamp : Stamp)
-    : Type 0 where
-  pub adds : AddsTo asks object
+pub record IsAddedUnder (asks : Body) (group : List (ObjectId × ℕ)) (candidates : ObjectId → Candidate)
+    (object : ObjectId) (stamp : Stamp) : Type 0 where
+  pub adds : AddsTo asks group object
   pub under : (candidates object).stamp ≡ stamp
   pub plain : (candidates object).stamp.barrier ≡ false
 
 -- what a replica finds after a request it found before, or it is of what the request adds
-pub stored_before : (old new : ReplicaState) (asked : Asked) (asks : Body) (candidates : ObjectId → Candidate)
-    → Reasons old new asked asks candidates → (object : ObjectId) (stamp : Stamp) (version : ObjState)
-    → version_at object stamp new.versions ≡ Some version
-    → (version_at object stamp old.versions ≡ Some version) ⊎ IsAddedUnder asks candidates object stamp
-stored_before old new asked (body.Act parts) candidates reasons object stamp version found =
+pub stored_before : (old new : ReplicaState) (asked : Asked) (asks : Body) (group : List (ObjectId × ℕ))
+    (candidates : ObjectId → Candidate) → Reasons old new asked asks group candidates → (object : ObjectId)
+    (stamp : Stamp) (version : ObjState) → version_at object stamp new.versions ≡ Some version
+    → (version_at object stamp old.versions ≡ Some version) ⊎ IsAddedUnder asks group candidates object stamp
+unfolding version_at
+stored_before old new asked (body.Act parts) group candidates reasons object stamp version found =
     elim (stored_cases object stamp old.versions _ version
     (ap (version_at object stamp) (sym reasons.stored) ∙ found)) [
       | inl before ↦ inl before
@@ -203,8 +205,17 @@ stored_before old new asked (body.Act parts) candidates reasons object stamp ver
             plain = ap (λ (it : Stamp). it.barrier) (reasons.grounds object both.0).stamp;
           })
     ]
-stored_before old new asked (body.Ask parts) candidates reasons object stamp version found = absurd reasons
-stored_before old new asked (body.Mend target) candidates reasons object stamp version found =
+stored_before old new asked (body.Ask parts) group candidates reasons object stamp version found = absurd reasons
+stored_before old new asked (body.Mend target) (member ∷ later) candidates reasons object stamp version found =
+    elim (stored_cases object stamp old.versions _ version
+    (ap (version_at object stamp) (sym reasons.stored) ∙ found)) [
+      | inl before ↦ inl before
+      | inr newest ↦ absurd (none-some version
+          (sym (ap (λ (it : Option ObjState). version_at object stamp
+          (stored_if target (candidates target).stamp it))
+          (group_stores_none old new asked target member later candidates reasons)) ∙ newest))
+    ]
+stored_before old new asked (body.Mend target) [] candidates reasons object stamp version found =
     elim (stored_cases object stamp old.versions _ version
     (ap (version_at object stamp) (sym reasons.stored) ∙ found)) [
       | inl before ↦ inl before
@@ -212,7 +223,8 @@ stored_before old new asked (body.Mend target) candidates reasons object stamp v
           let both : (target ≡ object) × ((candidates target).stamp ≡ stamp) =
           among_mended target object (candidates target).stamp stamp reasons.version version newest in
           let plain : (candidates target).stamp.barrier ≡ false =
-          remedy_plain old asked target (candidates target) reasons.version reasons.remedy object stamp version newest
+          remedy_plain old asked target (candidates target) reasons.version (reasons.remedy target refl) object stamp
+          version newest
           in
           inr (record {
             adds = both.0;

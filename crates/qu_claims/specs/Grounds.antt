@@ -120,28 +120,45 @@ pub data IsRemedy (state : ReplicaState) (asked : Asked) (target : ObjectId) (ca
       → version_at target candidate.prior state.versions ≡ Some version
       → IsRemedy state asked target candidate (Some version)
 
--- it adds a candidate to the target, above all that it has
-pub record Mends (old new : ReplicaState) (asked : Asked) (target : ObjectId) (candidate : Candidate) : Type 0 where
-  -- the sets have a quorum of entries of the target
-  pub enough : quorum old.keys.bounds ≤ length (entries_of target asked.sets)
-  pub current : is_below (latest_of (entries_of target asked.sets)) (own_latest old target) ≡ false
-  pub above : is_below (own_latest old target) candidate.stamp ≡ true
+-- the objects that are mended: those of a group together, or the target where there is none
+abbrev pub MendsOn : ObjectId → List (ObjectId × ℕ) → ObjectId → Type 0
+MendsOn target [] object = target ≡ object
+MendsOn target (member ∷ later) object = Names (member ∷ later) object
+
+-- what is added on the objects of a group has this whole group
+abbrev pub IsOfGroup : List (ObjectId × ℕ) → Candidate → Type 0
+IsOfGroup [] candidate = Unit {0}
+IsOfGroup (member ∷ later) candidate = candidate.group ≡ member ∷ later
+
+-- it adds a candidate to each object that is mended, above all that it has there
+pub record Mends (old new : ReplicaState) (asked : Asked) (target : ObjectId) (group : List (ObjectId × ℕ))
+    (candidates : ObjectId → Candidate) : Type 0 where
+  -- the sets have a quorum of entries of the object
+  pub enough : (object : ObjectId) → MendsOn target group object
+      → quorum old.keys.bounds ≤ length (entries_of object asked.sets)
+  pub current : (object : ObjectId) → MendsOn target group object
+      → is_below (latest_of (entries_of object asked.sets)) (own_latest old object) ≡ false
+  pub above : (object : ObjectId) → MendsOn target group object
+      → is_below (own_latest old object) (candidates object).stamp ≡ true
+  pub whole : (object : ObjectId) → MendsOn target group object → IsOfGroup group (candidates object)
   pub version : Option ObjState
-  pub remedy : IsRemedy old asked target candidate version
-  pub stored : new.versions ≡ old.versions ++ stored_if target candidate.stamp version
+  pub remedy : (object : ObjectId) → MendsOn target group object
+      → IsRemedy old asked object (candidates object) version
+  pub stored : new.versions ≡ old.versions ++ stored_if target (candidates target).stamp version
 
 -- ---- what a request makes a replica accept
 
 -- the objects on which candidates are accepted
-abbrev pub AddsTo : Body → ObjectId → Type 0
-AddsTo (body.Act parts) object = Names parts object
-AddsTo (body.Ask parts) object = ⊥
-AddsTo (body.Mend target) object = target ≡ object
+abbrev pub AddsTo : Body → List (ObjectId × ℕ) → ObjectId → Type 0
+AddsTo (body.Act parts) group object = Names parts object
+AddsTo (body.Ask parts) group object = ⊥
+AddsTo (body.Mend target) group object = MendsOn target group object
 
-abbrev pub Reasons : ReplicaState → ReplicaState → Asked → Body → (ObjectId → Candidate) → Type 0
-Reasons old new asked (body.Act parts) candidates = Performs old new asked parts candidates
-Reasons old new asked (body.Ask parts) candidates = ⊥
-Reasons old new asked (body.Mend target) candidates = Mends old new asked target (candidates target)
+abbrev pub Reasons : ReplicaState → ReplicaState → Asked → Body → List (ObjectId × ℕ) → (ObjectId → Candidate)
+    → Type 0
+Reasons old new asked (body.Act parts) group candidates = Performs old new asked parts candidates
+Reasons old new asked (body.Ask parts) group candidates = ⊥
+Reasons old new asked (body.Mend target) group candidates = Mends old new asked target group candidates
 
 -- upon a request, one candidate more on each object to which it adds, and the other objects as they were
 pub record Accepts (old new : ReplicaState) (received : Frame) : Type 0 where
@@ -155,11 +172,14 @@ pub record Accepts (old new : ReplicaState) (received : Frame) : Type 0 where
   pub asks : Body
   pub mac : List ℕ
   pub is_request : received ≡ frame.Request client number round sent asks mac
+  -- the group whose objects are mended together, if there is one
+  pub group : List (ObjectId × ℕ)
   pub candidates : ObjectId → Candidate
-  pub added : (object : ObjectId) → AddsTo asks object
+  pub added : (object : ObjectId) → AddsTo asks group object
       → own_candidates new object ≡ own_candidates old object ++ candidates object ∷ []
-  pub others : (object : ObjectId) → (AddsTo asks object → ⊥) → own_candidates new object ≡ own_candidates old object
-  pub reasons : Reasons old new (asked_of client number sets asks) asks candidates
+  pub others : (object : ObjectId) → (AddsTo asks group object → ⊥)
+      → own_candidates new object ≡ own_candidates old object
+  pub reasons : Reasons old new (asked_of client number sets asks) asks group candidates
 
 -- at this event the replica at this place handles a request, upon which it accepts candidates
 pub record IsMoved (trace : Trace) (at place : ℕ) (old new : ReplicaState) : Type 0 where
@@ -170,4 +190,4 @@ pub record IsMoved (trace : Trace) (at place : ℕ) (old new : ReplicaState) : T
 pub record IsDelivered (trace : Trace) (at place : ℕ) (old new : ReplicaState) (object : ObjectId) : Type 0 where
   pub handles : Handles trace at place old new
   pub accepts : Accepts handles.mid new handles.carried
-  pub adds : AddsTo accepts.asks object
+  pub adds : AddsTo accepts.asks accepts.group object

@@ -1,6 +1,6 @@
 -- What a replica answers shows all that its step added to its histories: a reply shows the histories of all objects
 -- that may have changed, and the histories of a replica that sends none stay as they were.
-use Rattle.std.proofs.Common.{◌≡◌, ◌⊎◌, ℕ, ◌≤◌, List, [], ◌∷◌, map, Option, None, Some, inl, inr, refl, sym, ap, subst, ◌∙◌, arith, true, false, Result, Ok}
+use Rattle.std.proofs.Common.{◌≡◌, ◌⊎◌, ℕ, ◌≤◌, List, [], ◌∷◌, map, Option, None, Some, inl, inr, refl, sym, ap, subst, ◌∙◌, arith, true, false, Result, Ok, Bool, cond, length, ◌||◌, ◌==◌}
 use Rattle.std.proofs.lemmas.Bool.{false≢true}
 use Rattle.qu_base.specs.declared.party.ClientId.{ClientId}
 use Rattle.qu_base.specs.declared.party.ObjectId.{ObjectId}
@@ -25,7 +25,7 @@ use Rattle.qu_rows.specs.declared.decision.Decision.{Decision}
 use Rattle.qu_rows.specs.declared.decision.Decision.TheVariants.{Answers, Waits}
 use Rattle.qu_rows.specs.State.{ReplicaState, candidates_in, own_candidates}
 use Rattle.qu_fitting.specs.Holding.{accept_all}
-use Rattle.qu_rows.specs.Rows.{asked_at, decision_on}
+use Rattle.qu_rows.specs.Rows.{Asked, asked_at, asked_of, decision_on}
 use Rattle.qu_known.specs.Known.{Seen, see_letters, see_from, see_shown}
 use Rattle.qu_known.proofs.Happened.{none_tells}
 use Rattle.qu_runs.proofs.Fits.StepLetters.{CarriesOther, if_handled_each, on_frame_each}
@@ -47,7 +47,13 @@ use Rattle.qu_accepts.proofs.Acceptance.{step_moves}
 use Rattle.qu_accepts.proofs.Parts.{one_named}
 use Rattle.qu_claims.specs.Handled.{shown_in}
 use Rattle.qu_known.proofs.Lengths.{reply-short}
-use Rattle.qu_claims.specs.Grounds.{AddsTo}
+use Rattle.qu_claims.specs.Grounds.{Accepts, AddsTo, Reasons}
+use Rattle.qu_base.specs.Bounds.{quorum, AreThresholds}
+use Rattle.qu_base.specs.declared.party.ReplicaId.{ReplicaId}
+use Rattle.qu_seal.specs.Keys.{Ring}
+use Rattle.qu_stamp.specs.declared.candidate.Candidate.{Candidate}
+use Rattle.qu_history.specs.Culling.{culled, culled_set}
+use Rattle.qu_history.specs.Sets.{entries_of, histories}
 use Rattle.qu_accepts.proofs.Happenings.{formed_by}
 use Rattle.qu_base.proofs.ThresholdFacts.{are_thresholds, count_has_faults}
 use Rattle.qu_base.specs.declared.party.Party.{Party}
@@ -84,14 +90,35 @@ part_in_sets sets (part ∷ []) fits object names =
     ap (is_one_of (objects_in_sets sets)) (sym (one_named part object names)) ∙ fits.1.1.1.0.0.0.1
 part_in_sets sets (first ∷ second ∷ later) fits object names = absurd (omega (arith, ((fits.1).0).1))
 
+-- sets that show an entry of an object are of it, also where they were culled
+shown_in_sets : (keys : Ring) (me : ReplicaId) (sets : List SetOf) (object : ObjectId)
+    → 1 ≤ length (entries_of object (culled keys me sets)) → is_one_of (objects_in_sets sets) object ≡ true
+unfolding entries_of culled
+shown_in_sets keys me [] object some = absurd (omega (arith, some))
+shown_in_sets keys me (set ∷ later) object some =
+    elim ((set.object).0 == object.0)
+    as (λ (test : Bool). 1 ≤ length (cond test (histories (culled_set keys me set).entries)
+    (entries_of object (culled keys me later)))
+    → (test || is_one_of (objects_in_sets later) object) ≡ true) [
+      | true ↦ λ here. refl
+      | false ↦ λ there. shown_in_sets keys me later object there
+    ] some
+
 -- and so is what the request adds to
-added_in_sets : (sets : List SetOf) (asks : Body) → (body_form (objects_in_sets sets)).Fits asks → (object : ObjectId)
-    → AddsTo asks object → is_one_of (objects_in_sets sets) object ≡ true
+added_in_sets : (old new : ReplicaState) (asked : Asked) (sets : List SetOf) (asks : Body)
+    (group : List (ObjectId × ℕ)) (candidates : ObjectId → Candidate) → 1 ≤ quorum old.keys.bounds
+    → culled old.keys old.me sets ≡ asked.sets → (body_form (objects_in_sets sets)).Fits asks
+    → Reasons old new asked asks group candidates → (object : ObjectId) → AddsTo asks group object
+    → is_one_of (objects_in_sets sets) object ≡ true
 unfolding body_form
-added_in_sets sets (body.Act parts) fits object names = part_in_sets sets parts fits object names
-added_in_sets sets (body.Ask parts) fits object never = absurd never
-added_in_sets sets (body.Mend target) fits object is =
-    ap (is_one_of (objects_in_sets sets)) (sym is) ∙ (fits.1).1
+added_in_sets old new asked sets (body.Act parts) group candidates some culls fits reasons object names =
+    part_in_sets sets parts fits object names
+added_in_sets old new asked sets (body.Ask parts) group candidates some culls fits reasons object never = absurd never
+added_in_sets old new asked sets (body.Mend target) group candidates some culls fits reasons object mended =
+    let enough : quorum old.keys.bounds ≤ length (entries_of object (culled old.keys old.me sets)) =
+    subst (λ (them : List SetOf). quorum old.keys.bounds ≤ length (entries_of object them)) (sym culls)
+    (reasons.enough object mended) in
+    shown_in_sets old.keys old.me sets object (omega (arith, some, enough))
 
 -- ---- a reply
 
@@ -193,17 +220,29 @@ module _ (old : ReplicaState) (fits : StateFits old) (request : TakenRequest)
       (formed_by old asked (are_thresholds old.keys.bounds (count_has_faults old.keys.bounds fits.bounds)) within)) [
         | inl alike ↦ ap (λ (them : List ObjectHistory). candidates_in (slice_get them object.0)) alike.histories
         | inr accepts ↦ accepts.others object (λ adds. false≢true (sym apart
-            ∙ in_sets accepts.client accepts.number accepts.round accepts.sent accepts.asks accepts.mac
-            accepts.is_request object adds))
+            ∙ in_sets accepts accepts.is_request object adds))
       ]
     where
-      in_sets : (other : ClientId) (again turn : ℕ) (sent : List SetOf) (these : Body) (seal : List ℕ)
-          → request_frame_of request ≡ frame.Request other again turn sent these seal
-          → (object : ObjectId) → AddsTo these object → is_one_of (objects_in_sets request.sets) object ≡ true
-      in_sets other again turn sent these seal same object adds =
-          let is : request.body ≡ these = cc in
-          added_in_sets request.sets these
-          (subst (λ (it : Body). (body_form (objects_in_sets request.sets)).Fits it) is fields.asked) object adds
+      some : 1 ≤ quorum old.keys.bounds
+      some = let thresholds : AreThresholds old.keys.bounds =
+          are_thresholds old.keys.bounds (count_has_faults old.keys.bounds fits.bounds) in
+          let meets = thresholds.quorum_meets_repair in let most = thresholds.correct_make_quorum in
+          let outnumbers = thresholds.repair_outnumbers in let shares = thresholds.quorums_share_repair in
+          omega (arith, meets, most, outnumbers, shares)
+
+      in_sets : (accepts : Accepts old (decided old request).0 (request_frame_of request))
+          → request_frame_of request
+          ≡ frame.Request accepts.client accepts.number accepts.round accepts.sent accepts.asks accepts.mac
+          → (object : ObjectId) → AddsTo accepts.asks accepts.group object
+          → is_one_of (objects_in_sets request.sets) object ≡ true
+      in_sets accepts same object adds =
+          let is : request.body ≡ accepts.asks = cc in
+          let sent : request.sets ≡ accepts.sent = cc in
+          added_in_sets old (decided old request).0
+          (asked_of accepts.client accepts.number accepts.sets accepts.asks) request.sets accepts.asks accepts.group
+          accepts.candidates some (ap (culled old.keys old.me) sent ∙ accepts.culls)
+          (subst (λ (it : Body). (body_form (objects_in_sets request.sets)).Fits it) is fields.asked) accepts.reasons
+          object adds
 
   decided_shows : IsSilent old (decided old request) ⊎ Shows old (decided old request)
   decided_shows = answered (decision_of old request) refl others_stay

@@ -1,7 +1,7 @@
 -- A run of the world meets the laws of the theory of what is decided.
 use Rattle.std.proofs.Common.{[], ◌≡◌, List, Some, ap, arith, false, inl, inr, length, not, refl, subst, suc, sym, true, zero, ℕ, ◌⊎◌, ◌<◌, ◌≤◌, ◌∙◌, ◌+◌, Option, None, add-one}
 use Rattle.qu_accepts.proofs.Accepting.{StepAt, step_at, Acceptance}
-use Rattle.qu_claims.specs.Grounds.{IsGround, Accepts, IsDelivered, AddsTo, Performs, IsFound, Mends, Reasons, IsMade, IsRemedy, made_stamp}
+use Rattle.qu_claims.specs.Grounds.{IsGround, Accepts, IsDelivered, AddsTo, Performs, IsFound, Mends, MendsOn, Reasons, IsMade, IsRemedy, made_stamp}
 use Rattle.qu_runs.specs.Plain.{ArePlain}
 use Rattle.qu_base.specs.Bounds.{AreThresholds, quorum, replicas, repair}
 use Rattle.qu_stamp.specs.declared.candidate.Candidate.{Candidate}
@@ -9,14 +9,14 @@ use Rattle.qu_chain.proofs.Counting.{test_at-here}
 use Rattle.qu_chain.specs.Laws.{Given, IsLinked, Laws, Sizes}
 use Rattle.qu_chain.proofs.Ancestry.{acceptor}
 use Rattle.qu_stamp.proofs.Groups.{alone_has_no_member}
-use Rattle.qu_laws.proofs.Origins.{no_member_yet}
+use Rattle.qu_laws.proofs.Origins.{no_member_yet, no_group_yet}
 use Rattle.qu_claims.specs.Setting.{IsNew, acceptors, IsAttested, IsAccepted}
 use Rattle.qu_world.specs.Run.{IsRun}
 use Rattle.qu_base.specs.declared.party.ObjectId.{ObjectId}
 use Rattle.qu_rows.specs.State.{ReplicaState, own_candidates, own_latest}
 use Rattle.qu_stamp.specs.declared.stamp.Stamp.{Stamp}
 use Rattle.qu_trace.specs.declared.trace.Trace.{Trace}
-use Rattle.qu_accepts.proofs.Grounds.{above_base, base_not_below, added_above, IsBase, is_base}
+use Rattle.qu_accepts.proofs.Grounds.{above_base, base_not_below, added_above, added_alone, IsBase, is_base}
 use Rattle.qu_runs.proofs.Worlds.Objects.{accepted_known}
 use Rattle.qu_claims.specs.Accepted.{accepts}
 use Rattle.qu_runs.proofs.Worlds.OpeningReplicas.{acceptor_is_good, all_begin, all_replicas}
@@ -24,6 +24,7 @@ use Rattle.qu_base.proofs.ThresholdFacts.{are_thresholds}
 use Rattle.qu_rows.specs.Rows.{asked_of, Asked}
 use Rattle.std.proofs.lemmas.Bool.{cases_Bool, cases_lt, false≢true, lt-ltb, ltb-true, not-true}
 use Rattle.qu_claims.specs.Count.{test_at}
+use Rattle.qu_runs.proofs.Worlds.Settings.{somewhere_accepted}
 use Rattle.std.specs.Prelude.{is_some, slice_get}
 use Rattle.qu_history.specs.Sets.{entries_of, order_of, latest_of, candidates_of}
 use Rattle.qu_history.proofs.Rising.{holds_pushed}
@@ -216,17 +217,13 @@ module _ (trace : Trace) (is_run : IsRun trace) (have : ArePlain trace) where
               | inr not_below ↦ not_below
             ]
 
-    mended_based : (asked : Asked) (target : ObjectId) → asked.sets ≡ upon.sets → asked.act ≡ None
-        → Mends mid accepted.new asked target (upon.candidates target) → target ≡ object
+    mended_based : (asked : Asked) (target : ObjectId) (group : List (ObjectId × ℕ)) → asked.sets ≡ upon.sets
+        → asked.act ≡ None → Mends mid accepted.new asked target group upon.candidates → MendsOn target group object
         → (setting trace).plain (upon.candidates object) ≡ true → IsBased time object place (upon.candidates object)
     unfolding setting
-    mended_based asked target sets no_act mends is plain =
-        by_remedy (upon.candidates object) _
-        (subst (λ (on : ObjectId). IsRemedy mid asked on (upon.candidates on) mends.version) is mends.remedy)
-        plain
-        (subst (λ (on : ObjectId). quorum old_bounds ≤ length (entries_of on asked.sets)) is mends.enough)
-        (subst (λ (on : ObjectId). is_below (latest_of (entries_of on asked.sets)) (own_latest mid on) ≡ false)
-        is mends.current)
+    mended_based asked target group sets no_act mends mended plain =
+        by_remedy (upon.candidates object) mends.version (mends.remedy object mended) plain
+        (mends.enough object mended) (mends.current object mended)
       where
         no_barrier : (it : Candidate) → it.stamp.barrier ≡ true → not it.stamp.barrier ≡ true → ⊥
         no_barrier it barrier plain_it = false≢true (ap not (sym barrier) ∙ plain_it)
@@ -246,36 +243,36 @@ module _ (trace : Trace) (is_run : IsRun trace) (have : ArePlain trace) where
             inr (copy_linked asked latest it sets enough current no_act made barrier is_latest full, made.group)
 
     -- whatever the request asks for
-    based_by : (client : ClientId) (number : ℕ) (asks : Body)
-        → Reasons mid accepted.new (asked_of client number upon.sets asks) asks upon.candidates
-        → AddsTo asks object → (setting trace).plain (upon.candidates object) ≡ true
+    based_by : (client : ClientId) (number : ℕ) (asks : Body) (group : List (ObjectId × ℕ))
+        → Reasons mid accepted.new (asked_of client number upon.sets asks) asks group upon.candidates
+        → AddsTo asks group object → (setting trace).plain (upon.candidates object) ≡ true
         → IsBased time object place (upon.candidates object)
-    based_by client number (body.Act parts) reasons names plain =
+    based_by client number (body.Act parts) group reasons names plain =
         inr (
           act_linked (asked_of client number upon.sets (body.Act parts)) parts refl reasons names,
           (reasons.grounds object names).group,
         )
-    based_by client number (body.Ask parts) reasons never plain = absurd never
-    based_by client number (body.Mend target) reasons is plain =
-        mended_based (asked_of client number upon.sets (body.Mend target)) target refl refl reasons is plain
+    based_by client number (body.Ask parts) group reasons never plain = absurd never
+    based_by client number (body.Mend target) group reasons mended plain =
+        mended_based (asked_of client number upon.sets (body.Mend target)) target group refl refl reasons mended plain
 
     is_based : (setting trace).plain candidate ≡ true → IsBased time object place candidate
     is_based plain =
         subst (IsBased time object place) accepted.candidate_is
-        (based_by upon.client upon.number upon.asks upon.reasons (accepted.delivered).adds
+        (based_by upon.client upon.number upon.asks upon.group upon.reasons (accepted.delivered).adds
         (ap (setting trace).plain accepted.candidate_is ∙ plain))
 
     -- ---- what a copy copies
 
-    copied_by : (client : ClientId) (number : ℕ) (asks : Body)
-        → Reasons mid accepted.new (asked_of client number upon.sets asks) asks upon.candidates
-        → AddsTo asks object → (setting trace).plain (upon.candidates object) ≡ true
+    copied_by : (client : ClientId) (number : ℕ) (asks : Body) (group : List (ObjectId × ℕ))
+        → Reasons mid accepted.new (asked_of client number upon.sets asks) asks group upon.candidates
+        → AddsTo asks group object → (setting trace).plain (upon.candidates object) ≡ true
         → (setting trace).is_act (upon.candidates object) ≡ false
         → IsAttested (setting trace) time object (upon.candidates object)
         ⊎ IsCopied (setting trace) time object place (upon.candidates object)
     unfolding setting
-    copied_by client number asks reasons adds plain no_act =
-        elim (based_by client number asks reasons adds plain) [
+    copied_by client number asks group reasons adds plain no_act =
+        elim (based_by client number asks group reasons adds plain) [
           | inl attested ↦ inl attested
           | inr linked ↦ inr (record {
             base = linked.0.base;
@@ -293,7 +290,7 @@ module _ (trace : Trace) (is_run : IsRun trace) (have : ArePlain trace) where
     is_copied plain no_act =
         subst (λ (it : Candidate). IsAttested (setting trace) time object it
         ⊎ IsCopied (setting trace) time object place it) accepted.candidate_is
-        (copied_by upon.client upon.number upon.asks upon.reasons (accepted.delivered).adds
+        (copied_by upon.client upon.number upon.asks upon.group upon.reasons (accepted.delivered).adds
         (ap (setting trace).plain accepted.candidate_is ∙ plain)
         (ap (setting trace).is_act accepted.candidate_is ∙ no_act))
 
@@ -349,8 +346,8 @@ module _ (trace : Trace) (is_run : IsRun trace) (have : ArePlain trace) where
               | inr not_held ↦ not_held
               | inl held ↦
                   absurd (false≢true (sym (is_below-self candidate.stamp)
-                  ∙ added_above handles.mid new (asked_of upon.client upon.number upon.sets upon.asks) upon.candidates
-                  upon.asks upon.reasons object delivered.adds candidate held))
+                  ∙ added_above handles.mid new (asked_of upon.client upon.number upon.sets upon.asks) upon.group
+                  upon.candidates upon.asks upon.reasons object delivered.adds candidate held))
             ];
       }
 
@@ -421,6 +418,21 @@ module _ (trace : Trace) (is_run : IsRun trace) (have : ArePlain trace) where
     pub objects : object ≡ other
     pub candidates : first ≡ second
 
+  -- what is accepted has no group, so a request to mend adds to its target alone
+  adds_alone : (time : ℕ) → time < length trace.entries → (object : ObjectId) (place : ℕ) (candidate : Candidate)
+      (accepted : Acceptance trace time object place candidate) → IsNew (setting trace) time object place candidate
+      → AddsTo ((accepted.delivered).accepts).asks [] object
+  unfolding setting
+  adds_alone time within object place candidate accepted new =
+      let upon : Accepts ((accepted.delivered).handles).mid accepted.new ((accepted.delivered).handles).carried =
+      (accepted.delivered).accepts in
+      let no_group : candidate.group ≡ [] =
+      no_group_yet trace is_run have (suc time) (omega (arith, within)) object candidate
+      (somewhere_accepted object candidate (world_after trace (suc time)).replicas place new.after) in
+      added_alone ((accepted.delivered).handles).mid accepted.new
+      (asked_of upon.client upon.number upon.sets upon.asks) upon.group upon.candidates upon.asks upon.reasons object
+      (accepted.delivered).adds (ap (λ (it : Candidate). it.group) accepted.candidate_is ∙ no_group)
+
   pub one_accepted : (time : ℕ) (object other : ObjectId) (place elsewhere : ℕ) (first second : Candidate)
       → IsNew (setting trace) time object place first → IsNew (setting trace) time other elsewhere second
       → AreOne object other place elsewhere first second
@@ -442,8 +454,10 @@ module _ (trace : Trace) (is_run : IsRun trace) (have : ArePlain trace) where
       let some : HasParts here.carried =
       fits_parts here.carried (handled_fits trace is_run have time within place one.old one.new here) in
       let objects : object ≡ other =
-      same_added upon.asks object other (subst HasParts upon.is_request some) (one.delivered).adds
-      (subst (λ (it : Body). AddsTo it other) (sym bodies) (two.delivered).adds) in
+      same_added upon.asks object other (subst HasParts upon.is_request some)
+      (adds_alone time within object place first one new)
+      (subst (λ (it : Body). AddsTo it [] other) (sym bodies)
+      (adds_alone time within other elsewhere second two again)) in
       record {
         places = same.0;
         objects = objects;

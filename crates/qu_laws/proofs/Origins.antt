@@ -140,8 +140,8 @@ module _ (trace : Trace) (is_run : IsRun trace) (have : ArePlain trace) where
       origin_added : ComesFrom trace count
           → (one.candidates object ≡ opening) ⊎ Origin trace (count + 1) object (one.candidates object)
       origin_added before =
-          elim (made_or_found handles.mid new (asked_of one.client one.number one.sets one.asks) one.candidates one.asks
-          one.reasons object delivered.adds) [
+          elim (made_or_found handles.mid new (asked_of one.client one.number one.sets one.asks) one.group
+          one.candidates one.asks one.reasons object delivered.adds) [
             | inl made ↦ inr (record {
               past = count;
               earlier = omega arith;

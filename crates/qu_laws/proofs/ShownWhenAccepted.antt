@@ -167,7 +167,7 @@ module _ (trace : Trace) (is_run : IsRun trace) (have : ArePlain trace) where
       let accepted : Acceptance trace time object place candidate = acceptance_of time object place candidate new in
       subst (λ (it : Candidate). is_below earlier.stamp it.stamp ≡ true) accepted.candidate_is
       (added_above ((accepted.delivered).handles).mid accepted.new (asked_for accepted)
-      ((accepted.delivered).accepts).candidates
+      ((accepted.delivered).accepts).group ((accepted.delivered).accepts).candidates
       ((accepted.delivered).accepts).asks ((accepted.delivered).accepts).reasons object (accepted.delivered).adds
       earlier (held_before time object place candidate earlier accepted before))
 

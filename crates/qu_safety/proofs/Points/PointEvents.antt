@@ -103,10 +103,11 @@ module _ (trace : Trace) (is_run : IsRun trace) (have : ArePlain trace) (clients
   abbrev IsNoQuery : Body → Type 0
   IsNoQuery asks = (query : List (ObjectId × Ask)) → asks ≡ body.Ask query → ⊥
 
-  adds_no_query : (asks : Body) (object : ObjectId) → AddsTo asks object → IsNoQuery asks
-  adds_no_query (body.Act parts) object names query same = absurd (cc)
-  adds_no_query (body.Ask parts) object never query same = never
-  adds_no_query (body.Mend target) object is query same = absurd (cc)
+  adds_no_query : (asks : Body) (group : List (ObjectId × ℕ)) (object : ObjectId) → AddsTo asks group object
+      → IsNoQuery asks
+  adds_no_query (body.Act parts) group object names query same = absurd (cc)
+  adds_no_query (body.Ask parts) group object never query same = never
+  adds_no_query (body.Mend target) group object mended query same = absurd (cc)
 
   -- where a replica accepts a candidate it is handed the request of an act or of a repair
   record TakesRequest (time : ℕ) : Type 0 where
@@ -138,7 +139,7 @@ module _ (trace : Trace) (is_run : IsRun trace) (have : ArePlain trace) (clients
           mac = one.mac;
           is_request = one.is_request;
         };
-        no_query = adds_no_query one.asks object delivered.adds;
+        no_query = adds_no_query one.asks one.group object delivered.adds;
       }
 
   module _ (one_act : ActsAreOne trace) (laws : Laws (setting trace)) (joint : Joint (setting trace))

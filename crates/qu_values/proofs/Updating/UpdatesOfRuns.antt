@@ -81,7 +81,7 @@ module _ (trace : Trace) (is_run : IsRun trace) (have : ArePlain trace) where
         → IsOfAct mid came.new (asked_of one.client one.number one.sets one.asks) one.asks one.candidates object
     unfolding setting
     act_of_origin is_act =
-        act_added mid came.new one.client one.number one.sets one.asks one.candidates object one.reasons
+        act_added mid came.new one.client one.number one.sets one.asks one.group one.candidates object one.reasons
         (came.delivered).adds
         (ap (λ (act : Option Digest). is_some act) (sym (ap (λ (it : Stamp). it.act) (came.made).stamp)) ∙ is_act)
 

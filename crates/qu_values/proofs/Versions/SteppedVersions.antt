@@ -25,14 +25,14 @@ use Rattle.qu_stamp.specs.declared.stamp.Stamp.{Stamp}
 use Rattle.qu_accepts.proofs.Handled.{made_for}
 use Rattle.qu_claims.specs.Handled.{IsHandled}
 use Rattle.qu_claims.specs.Parts.{Names}
-use Rattle.qu_claims.specs.Grounds.{IsGround, Accepts, Performs, IsRemedy, IsMade}
+use Rattle.qu_claims.specs.Grounds.{IsGround, Accepts, Performs, IsRemedy, IsMade, Mends, MendsOn}
 use Rattle.qu_claims.specs.Times.{world_after}
 use Rattle.qu_claims.specs.Updates.{IsEverAccepted}
 use Rattle.qu_claims.specs.Values.{HasVersion}
 use Rattle.qu_claims.specs.RunSetting.{setting}
 use Rattle.qu_runs.specs.Plain.{ArePlain}
 use Rattle.qu_laws.proofs.KeptEntries.{base_accepted as accepted_of_base}
-use Rattle.qu_accepts.proofs.Grounds.{above_base}
+use Rattle.qu_accepts.proofs.Grounds.{above_base, group_stores_none}
 use Rattle.qu_claims.specs.Truth.{IsVersionOf}
 use Rattle.qu_values.proofs.Updating.Updates.{same_accepted}
 use Rattle.qu_values.proofs.Versions.EverAccepted.{once_accepted, quorum_ever}
@@ -121,26 +121,28 @@ module _ (trace : Trace) (laws : Laws (setting trace)) (joint : Joint (setting t
   within : count ≤ length trace.entries
   within = omega (arith, below)
 
-  abbrev delivered_on : (object : ObjectId) → AddsTo one.asks object → IsDelivered trace count place old new object
+  abbrev delivered_on : (object : ObjectId) → AddsTo one.asks one.group object
+      → IsDelivered trace count place old new object
   delivered_on object adds = record { handles = handles; accepts = one; adds = adds }
 
-  now_new : (object : ObjectId) → AddsTo one.asks object
+  now_new : (object : ObjectId) → AddsTo one.asks one.group object
       → IsNew (setting trace) count object place (one.candidates object)
   now_new object adds = new_accepted trace is_run have count below place old new object (delivered_on object adds)
 
-  now_held : (object : ObjectId) → AddsTo one.asks object
+  now_held : (object : ObjectId) → AddsTo one.asks one.group object
       → holds (one.candidates object) (own_candidates new object) ≡ true
   now_held object adds =
       ap (holds (one.candidates object)) (one.added object adds)
       ∙ holds_pushed (one.candidates object) (own_candidates mid object)
 
-  now_accepted : (object : ObjectId) → AddsTo one.asks object → IsEverAccepted trace object (one.candidates object)
+  now_accepted : (object : ObjectId) → AddsTo one.asks one.group object
+      → IsEverAccepted trace object (one.candidates object)
   now_accepted object adds =
       held_ever trace laws (count + 1) (omega (arith, below)) place new handles.is_new object (one.candidates object)
       (now_held object adds)
 
   -- what one event adds is one act
-  companions : (object other : ObjectId) → AddsTo one.asks object → AddsTo one.asks other
+  companions : (object other : ObjectId) → AddsTo one.asks one.group object → AddsTo one.asks one.group other
       → IsOneAct (setting trace) object other (one.candidates object) (one.candidates other)
   companions object other adds besides =
       elim (cases_eq object.0 other.0) [
@@ -158,7 +160,8 @@ module _ (trace : Trace) (laws : Laws (setting trace)) (joint : Joint (setting t
   new_bounds = bounds_are trace (count + 1) place new handles.is_new
 
   -- what it found it still finds
-  grown : (asks : Body) → Reasons mid new (asked_of one.client one.number one.sets asks) asks one.candidates
+  grown : (asks : Body)
+      → Reasons mid new (asked_of one.client one.number one.sets asks) asks one.group one.candidates
       → (more : List Stored) × (new.versions ≡ mid.versions ++ more)
   grown (body.Act parts) performs = (_, performs.stored)
   grown (body.Ask parts) never = absurd never
@@ -197,8 +200,8 @@ module _ (trace : Trace) (laws : Laws (setting trace)) (joint : Joint (setting t
   module _ (parts : List (ObjectId × Method)) (is : one.asks ≡ body.Act parts)
       (performs : Performs mid new (asked_of one.client one.number one.sets (body.Act parts)) parts one.candidates)
     where
-      adds_part : (object : ObjectId) → Names parts object → AddsTo one.asks object
-      adds_part object names = subst (λ (asks : Body). AddsTo asks object) (sym is) names
+      adds_part : (object : ObjectId) → Names parts object → AddsTo one.asks one.group object
+      adds_part object names = subst (λ (asks : Body). AddsTo asks one.group object) (sym is) names
 
       was_handled : (object : ObjectId) → Names parts object → IsHandled trace one.client one.number parts
       was_handled object names =
@@ -207,7 +210,7 @@ module _ (trace : Trace) (laws : Laws (setting trace)) (joint : Joint (setting t
       -- a quorum showed the base, so it was accepted
       base_accepted : (object : ObjectId) → Names parts object → IsEverAccepted trace object (performs.bases object)
       base_accepted object names =
-          let adds : AddsTo one.asks object = adds_part object names in
+          let adds : AddsTo one.asks one.group object = adds_part object names in
           quorum_ever trace laws handles.since (omega (arith, within, handles.came)) object (performs.bases object)
           (accepted_of_base trace is_run have handles.since (omega (arith, below, handles.came)) handles.entry place
           handles.receiver handles.is_receiver handles.text
@@ -338,8 +341,8 @@ module _ (trace : Trace) (laws : Laws (setting trace)) (joint : Joint (setting t
       (version_at target candidate.stamp mid.versions) refl
 
   -- the version of a candidate without barrier that the request adds is that of its stamp
-  fresh_of_stamp : (object : ObjectId) → AddsTo one.asks object → (one.candidates object).stamp.barrier ≡ false
-      → (version : ObjState) → HasVersion trace object (one.candidates object) version
+  fresh_of_stamp : (object : ObjectId) → AddsTo one.asks one.group object
+      → (one.candidates object).stamp.barrier ≡ false → (version : ObjState) → HasVersion trace object (one.candidates object) version
       → IsVersionOf trace (count + 1) object (one.candidates object).stamp version
   unfolding setting
   fresh_of_stamp object adds plain version has =
@@ -354,20 +357,33 @@ module _ (trace : Trace) (laws : Laws (setting trace)) (joint : Joint (setting t
 
   -- what the request adds is stored with its version
   added_stores : (asks : Body) → one.asks ≡ asks
-      → Reasons mid new (asked_of one.client one.number one.sets asks) asks one.candidates
-      → (object : ObjectId) → AddsTo asks object → (setting trace).plain (one.candidates object) ≡ true
+      → Reasons mid new (asked_of one.client one.number one.sets asks) asks one.group one.candidates
+      → (object : ObjectId) → AddsTo asks one.group object → (setting trace).plain (one.candidates object) ≡ true
       → Stores trace object new (one.candidates object)
   added_stores (body.Act parts) is reasons object names plain = act_stores parts is reasons object names
   added_stores (body.Ask parts) is reasons object never plain = absurd never
-  added_stores (body.Mend target) is reasons object is_target plain =
-      let adds : AddsTo one.asks target = subst (λ (asks : Body). AddsTo asks target) (sym is) refl in
-      subst (λ (it : ObjectId). Stores trace it new (one.candidates it)) is_target
-      (mended_stores (asked_of one.client one.number one.sets (body.Mend target)) target
-      (one.candidates target) reasons.version refl reasons.remedy reasons.stored
-      (ap (λ (it : ObjectId). (setting trace).plain (one.candidates it)) is_target ∙ plain)
-      (now_accepted target adds))
+  added_stores (body.Mend target) is reasons object mended plain =
+      let asked : Asked = asked_of one.client one.number one.sets (body.Mend target) in
+      let ever : IsEverAccepted trace object (one.candidates object) =
+      now_accepted object (subst (λ (asks : Body). AddsTo asks one.group object) (sym is) mended) in
+      by_group one.group asked refl reasons mended plain ever
+    where
+      by_group : (group : List (ObjectId × ℕ)) (asked : Asked) → asked.act ≡ None
+          → (mends : Mends mid new asked target group one.candidates) → MendsOn target group object
+          → (setting trace).plain (one.candidates object) ≡ true
+          → IsEverAccepted trace object (one.candidates object) → Stores trace object new (one.candidates object)
+      by_group [] asked no_act mends is_target plain ever =
+          mended_stores asked object (one.candidates object) mends.version no_act (mends.remedy object is_target)
+          (mends.stored ∙ ap (λ (it : ObjectId). mid.versions ++ stored_if it (one.candidates it).stamp mends.version)
+          is_target) plain ever
+      by_group (member ∷ later) asked no_act mends named plain ever =
+          let none : mends.version ≡ None = group_stores_none mid new asked target member later one.candidates mends in
+          mended_stores asked object (one.candidates object) None no_act
+          (subst (IsRemedy mid asked object (one.candidates object)) none (mends.remedy object named))
+          (mends.stored ∙ ap (λ (it : Option ObjState). mid.versions
+          ++ stored_if target (one.candidates target).stamp it) none) plain ever
 
-  one_stores : (object : ObjectId) → AddsTo one.asks object
+  one_stores : (object : ObjectId) → AddsTo one.asks one.group object
       → (candidate : Candidate) → (setting trace).plain candidate ≡ true
       → holds candidate (own_candidates new object) ≡ true → Stores trace object new candidate
   one_stores object adds candidate plain held =
@@ -388,7 +404,7 @@ module _ (trace : Trace) (laws : Laws (setting trace)) (joint : Joint (setting t
   moved_stores : (object : ObjectId) (candidate : Candidate) → (setting trace).plain candidate ≡ true
       → holds candidate (own_candidates new object) ≡ true → Stores trace object new candidate
   moved_stores object candidate plain held =
-      elim (adds_or_not one.asks object) [
+      elim (adds_or_not one.asks one.group object) [
         | inr not_added ↦ still_stores object candidate
             (before.stores object candidate plain (ap (holds candidate) (sym (one.others object not_added)) ∙ held))
         | inl adds ↦ one_stores object adds candidate plain held
@@ -399,8 +415,8 @@ module _ (trace : Trace) (laws : Laws (setting trace)) (joint : Joint (setting t
       → version_at object stamp new.versions ≡ Some version → IsVersionOf trace (count + 1) object stamp version
   unfolding setting
   moved_of_stamp object stamp version found =
-      elim (stored_before mid new (asked_of one.client one.number one.sets one.asks) one.asks one.candidates
-      one.reasons object stamp version found) [
+      elim (stored_before mid new (asked_of one.client one.number one.sets one.asks) one.asks one.group
+      one.candidates one.reasons object stamp version found) [
         | inl earlier ↦
             later_of_stamp trace laws count (count + 1) (omega arith) object stamp version
             (before.of_stamps object stamp version earlier)
@@ -433,15 +449,15 @@ module _ (trace : Trace) (laws : Laws (setting trace)) (joint : Joint (setting t
         act_adds parts is performs later (λ object named. among object (inr named)),
       )
 
-  mend_adds : (target : ObjectId) → one.asks ≡ body.Mend target → (stored : Option ObjState)
+  mend_adds : (target : ObjectId) → AddsTo one.asks one.group target → (stored : Option ObjState)
       → IsRemedy mid (asked_of one.client one.number one.sets (body.Mend target)) target (one.candidates target) stored
       → AllByRecursion IsTrue (stored_if target (one.candidates target).stamp stored)
   unfolding setting
-  mend_adds target is stored (IsRemedy.inline_barrier barrier found) = tt
-  mend_adds target is stored (IsRemedy.inline_method its plain found found_so) = tt
-  mend_adds target is stored (IsRemedy.barrier barrier made) = tt
-  mend_adds target is stored (IsRemedy.copy latest its plain made barrier is_latest full found) =
-      let adds : AddsTo one.asks target = subst (λ (asks : Body). AddsTo asks target) (sym is) refl in (
+  mend_adds target adds stored (IsRemedy.inline_barrier barrier found) = tt
+  mend_adds target adds stored (IsRemedy.inline_method its plain found found_so) = tt
+  mend_adds target adds stored (IsRemedy.barrier barrier made) = tt
+  mend_adds target adds stored (IsRemedy.copy latest its plain made barrier is_latest full found) =
+      (
         fresh_of_stamp target adds plain its
             (copied_has (asked_of one.client one.number one.sets (body.Mend target)) target (one.candidates target) its
             refl (ap not plain) made (now_accepted target adds) found),
@@ -449,7 +465,7 @@ module _ (trace : Trace) (laws : Laws (setting trace)) (joint : Joint (setting t
       )
 
   pub request_adds : (asks : Body) → one.asks ≡ asks
-      → Reasons mid new (asked_of one.client one.number one.sets asks) asks one.candidates
+      → Reasons mid new (asked_of one.client one.number one.sets asks) asks one.group one.candidates
       → (more : List Stored) → new.versions ≡ mid.versions ++ more → AllByRecursion IsTrue more
   request_adds (body.Act parts) is reasons more adds =
       subst (AllByRecursion IsTrue) (same_behind mid.versions _ more (sym reasons.stored ∙ adds))
@@ -457,7 +473,19 @@ module _ (trace : Trace) (laws : Laws (setting trace)) (joint : Joint (setting t
   request_adds (body.Ask parts) is reasons more adds = absurd reasons
   request_adds (body.Mend target) is reasons more adds =
       subst (AllByRecursion IsTrue) (same_behind mid.versions _ more (sym reasons.stored ∙ adds))
-      (mend_adds target is reasons.version reasons.remedy)
+      (by_group one.group refl reasons)
+    where
+      by_group : (group : List (ObjectId × ℕ)) → one.group ≡ group
+          → (mends : Mends mid new (asked_of one.client one.number one.sets (body.Mend target)) target group
+          one.candidates) → AllByRecursion IsTrue (stored_if target (one.candidates target).stamp mends.version)
+      by_group [] none mends =
+          mend_adds target (subst (λ (asks : Body). AddsTo asks one.group target) (sym is)
+          (subst (λ (group : List (ObjectId × ℕ)). MendsOn target group target) (sym none) refl)) mends.version
+          (mends.remedy target refl)
+      by_group (member ∷ later) group mends =
+          subst (λ (it : Option ObjState). AllByRecursion IsTrue (stored_if target (one.candidates target).stamp it))
+          (sym (group_stores_none mid new (asked_of one.client one.number one.sets (body.Mend target)) target member
+          later one.candidates mends)) tt
 
   pub moved-versioned : IsVersioned trace (count + 1) new
   moved-versioned = record {
