@@ -31,11 +31,11 @@ use Rattle.qu_runs.specs.Plain.{ArePlain}
 use Rattle.qu_runs.proofs.Fits.Carrying.{brings_decoded}
 use Rattle.qu_runs.proofs.Fits.FitParts.{fits_parts}
 use Rattle.qu_runs.proofs.Fits.Fitting.{handed_fits}
-use Rattle.qu_accepts.proofs.Acceptance.{step_moves, IsFormed}
-use Rattle.qu_accepts.proofs.ActAcceptance.{alike_candidates}
-use Rattle.qu_accepts.proofs.Formed.{sets_formed}
+use Rattle.qu_grounds.proofs.Acceptance.{step_moves, IsFormed}
+use Rattle.qu_grounds.proofs.ActAcceptance.{alike_candidates}
+use Rattle.qu_grounds.proofs.Formed.{sets_formed}
 use Rattle.qu_accepts.proofs.Handling.{mid_bounds, learns_nothing, holds_alike, mid_candidates}
-use Rattle.qu_accepts.proofs.Parts.{adds_or_not}
+use Rattle.qu_grounds.proofs.Parts.{adds_or_not}
 use Rattle.qu_accepts.proofs.Takings.{Takes, event_takes}
 use Rattle.qu_accepts.proofs.Voting.{learns_true}
 use Rattle.qu_accepts.proofs.Waiting.{Came, came_later, handled_waits, waiting_came}

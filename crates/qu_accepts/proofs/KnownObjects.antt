@@ -19,7 +19,7 @@ use Rattle.qu_rows.specs.declared.decision.Decision.{Decision}
 use Rattle.qu_rows.specs.State.{ReplicaState, own_candidates}
 use Rattle.qu_rows.specs.Rows.{Asked, asked_at, refuse, row_unknown, decide_act, decide_ask, decide_repair, decision_on}
 use Rattle.qu_rows.specs.declared.decision.Decision.TheVariants.{Waits}
-use Rattle.qu_rows.specs.Table.{first_given}
+use Rattle.qu_mends.specs.Table.{first_given}
 use Rattle.qu_replica.specs.Step.{carried_out, replica_on_frame}
 use Rattle.std.proofs.lemmas.Bool.{and_parts, and_from}
 use Rattle.std.proofs.lemmas.Bool.Decides.{nat_tests}
@@ -30,7 +30,7 @@ use Rattle.qu_claims.specs.Handled.{is_of_setup}
 use Rattle.qu_claims.specs.Handling.{Learns, Handles}
 use Rattle.qu_claims.specs.Times.{world_after}
 use Rattle.qu_runs.proofs.Worlds.Objects.{run_has, found_within}
-use Rattle.qu_accepts.proofs.ActAcceptance.{accepted_in, AcceptsNothing, unknown, carried, stays, alike_candidates}
+use Rattle.qu_grounds.proofs.ActAcceptance.{accepted_in, AcceptsNothing, unknown, carried, stays, alike_candidates}
 use Rattle.qu_frames.specs.declared.frame.Body.{Body}
 use Rattle.qu_replica.specs.Growth.{HoldsAlike}
 use Rattle.qu_rows.specs.Waiting.{TakenRequest}

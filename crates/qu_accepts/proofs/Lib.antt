@@ -1,8 +1,3 @@
-pub mod Parts
-pub mod Formed
-pub mod Grounds
-pub mod ActAcceptance
-pub mod Acceptance
 pub mod Handling
 pub mod Takings
 pub mod Waiting
@@ -12,7 +7,6 @@ pub mod ToldVersions
 pub mod TrueVotes
 pub mod Voting
 pub mod Happenings
-pub mod Performed
 pub mod Accepting
 pub mod KnownObjects
 pub mod Handled

@@ -19,7 +19,7 @@ use Rattle.qu_objects.specs.States.{state_form}
 use Rattle.qu_versions.specs.Versions.{is_same_key}
 use Rattle.qu_frames.specs.declared.frame.Frame.{Frame}
 use Rattle.qu_frames.specs.declared.frame.Frame.TheVariants as frame
-use Rattle.qu_rows.specs.declared.decision.Accepted.{Accepted}
+use Rattle.qu_mends.specs.declared.accepted.Accepted.{Accepted}
 use Rattle.qu_rows.specs.declared.decision.Decision.{Decision}
 use Rattle.qu_rows.specs.declared.decision.Decision.TheVariants as decision
 use Rattle.qu_rows.specs.Rows.{asked_at, decision_on}

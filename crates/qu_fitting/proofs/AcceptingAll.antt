@@ -10,8 +10,9 @@ use Rattle.qu_stamp.specs.declared.candidate.Candidate.{Candidate}
 use Rattle.qu_stamp.specs.Stamp.{is_below}
 use Rattle.qu_history.specs.declared.limits.TheConstants.{HISTORY_LIMIT}
 use Rattle.qu_history.specs.History.{ObjectHistory, latest}
-use Rattle.qu_rows.specs.declared.decision.Accepted.{Accepted}
-use Rattle.qu_rows.specs.State.{ReplicaState, AreHistories, candidates_in}
+use Rattle.qu_mends.specs.declared.accepted.Accepted.{Accepted}
+use Rattle.qu_rows.specs.State.{ReplicaState, AreHistories}
+use Rattle.qu_mends.specs.Table.{candidates_in}
 use Rattle.qu_rows.specs.Allowed.{MayAccept, MayAcceptAll}
 use Rattle.qu_fitting.specs.Holding.{with_candidate, stored_with, stored_all, accepted_of, accept, accept_all}
 use Rattle.qu_fitting.specs.Holding.{with_histories}

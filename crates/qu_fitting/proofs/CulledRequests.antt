@@ -15,7 +15,7 @@ use Rattle.qu_rows.specs.declared.decision.Decision.{Decision}
 use Rattle.qu_rows.specs.State.{ReplicaState}
 use Rattle.qu_rows.specs.Rows.{Asked, asked_at, refuse, unknown_in, unknown_refused, row_unknown, decide_act, decide_ask, decide_repair, decision_on}
 use Rattle.qu_rows.specs.declared.decision.Decision.TheVariants.{Waits}
-use Rattle.qu_rows.specs.Table.{first_given}
+use Rattle.qu_mends.specs.Table.{first_given}
 use Rattle.qu_rows.specs.Allowed.{MayDecide}
 
 find_culled : (ring : Ring) (me : ReplicaId) (known : ℕ) (sets : List SetOf)

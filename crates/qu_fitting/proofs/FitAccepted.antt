@@ -9,7 +9,7 @@ use Rattle.qu_stamp.specs.Formats.{stamp_form, prior_form, group_form}
 use Rattle.qu_objects.specs.declared.state.ObjState.{ObjState}
 use Rattle.qu_versions.specs.declared.stored.Stored.{Stored}
 use Rattle.qu_versions.specs.Versions.{is_stored, version_at}
-use Rattle.qu_rows.specs.declared.decision.Accepted.{Accepted}
+use Rattle.qu_mends.specs.declared.accepted.Accepted.{Accepted}
 use Rattle.qu_fitting.specs.Fits.{VersionFits, VersionsFit}
 
 pub record AcceptFits (accepted : Accepted) : Type 0 where

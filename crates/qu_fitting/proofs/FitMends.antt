@@ -1,144 +1,241 @@
 -- What a replica decides upon a request to mend an object that fits, fits.
-use Rattle.std.proofs.Common.{◌≡◌, ◌-◌, ◌≤◌, Bool, true, false, cond, Option, None, Some, inl, inr, refl, sym, subst}
-use Rattle.std.specs.Prelude.{IfSome, option_and_then}
+use Rattle.std.proofs.Common.{◌≡◌, ℕ, ◌+◌, ◌-◌, ◌<◌, ◌≤◌, Bool, true, false, cond, List, [], ◌∷◌, map, length, Option, None, Some, inl, inr, refl, sym, subst, arith}
+use Rattle.std.specs.Prelude.{IfSome, is_none, nat_le, nat_lt, option_and_then, option_map}
+use Rattle.std.specs.List.{AllByRecursion, cons_option}
+use Rattle.std.proofs.lemmas.Bool.{and_parts, ltb-true}
 use Rattle.std.proofs.lemmas.Option.{none-some, same_Some}
 use Rattle.qu_base.specs.declared.limits.TheConstants.{OBJECT_IDS}
 use Rattle.qu_base.specs.declared.party.ObjectId.{ObjectId}
 use Rattle.qu_stamp.specs.declared.stamp.Stamp.{Stamp}
-use Rattle.qu_stamp.specs.declared.candidate.Candidate.{Candidate}
-use Rattle.qu_stamp.specs.Formats.{stamp_form}
+use Rattle.qu_stamp.specs.Group.{is_group_size, is_member_from, are_members_from, is_group}
+use Rattle.qu_stamp.specs.Formats.{stamp_form, plain_stamp_form, group_form}
+use Rattle.qu_history.specs.History.{latest}
+use Rattle.qu_history.specs.Sets.{entries_of, latest_of}
 use Rattle.qu_objects.specs.declared.state.ObjState.{ObjState}
 use Rattle.qu_frames.specs.declared.verdict.Refusal.{Refusal}
 use Rattle.qu_frames.specs.declared.verdict.Refusal.TheVariants.{UnknownObject, Thin, Needs, Stale, NotCurrent, NotMethod, TimeSpent, HistoryFull, Sound}
 use Rattle.qu_frames.specs.declared.verdict.Refusal.TheVariants as refusal
 use Rattle.qu_frames.specs.declared.verdict.Verdict.TheVariants.{Refused}
 use Rattle.qu_frames.specs.Formats.{verdict_form}
-use Rattle.qu_rows.specs.declared.mend.Mend.{Mend}
-use Rattle.qu_rows.specs.declared.mending.Mending.{Mending}
-use Rattle.qu_rows.specs.declared.mending.Mending.TheVariants.{Mends, Holds, Refuses}
-use Rattle.qu_rows.specs.declared.mending.Mending.TheVariants as mending
-use Rattle.qu_rows.specs.Remedy.{wanted_by, unless_barrier}
-use Rattle.qu_rows.specs.Causes.{MakesCandidate, RefusesFor, HasCause}
-use Rattle.qu_rows.proofs.Decided.{decided_has_cause}
-use Rattle.qu_rows.specs.State.{ReplicaState, own_candidates}
-use Rattle.qu_rows.specs.Rows.{Asked, refuse, row_few, mend_asked, wanted_version, mending_on, decision_by, decide_repair, keys_at}
+use Rattle.qu_class.specs.Class.{class_in}
+use Rattle.qu_mends.specs.declared.accepted.Accepted.{Accepted}
+use Rattle.qu_mends.specs.declared.remedy.Remedy.{Remedy}
+use Rattle.qu_mends.specs.declared.remedy.Remedy.TheVariants.{Nothing, Shown, Fresh, Unshown, Unplanned}
+use Rattle.qu_mends.specs.declared.mend.Mend.{Mend}
+use Rattle.qu_mends.specs.declared.mending.Mending.{Mending}
+use Rattle.qu_mends.specs.declared.mending.Mending.TheVariants.{Mends, Holds, Refuses, Waits}
+use Rattle.qu_mends.specs.Remedy.{MendPart, wanted_by, unless_barrier, member_remedy, remedies_by, remedies_of}
+use Rattle.qu_mends.specs.Mending.{missing_in}
+use Rattle.qu_mends.specs.Causes.{RefusesFor, IsPartAdded, ArePartsAdded, IsToldOf, HasCause}
+use Rattle.qu_mends.proofs.Members.{group_is_whole}
+use Rattle.qu_rows.specs.State.{ReplicaState}
+use Rattle.qu_rows.specs.Rows.{Asked, refuse, shown_of, row_few, mend_asked, part_of, mending_on, decision_by, decide_repair}
+use Rattle.qu_rows.proofs.MendedObjects.{mending_has_cause}
 use Rattle.qu_versions.specs.Versions.{version_at}
 use Rattle.qu_fitting.specs.Fits.{VersionFits, StateFits}
 use Rattle.qu_fitting.proofs.FitStamps.{CandidateFits, shown_fit, plain_fits}
 use Rattle.qu_fitting.proofs.FitVerdicts.{thin_fits, needs_fits, time_fits, full_fits, current_fits, sound_fits, mended_fits}
-use Rattle.qu_fitting.proofs.FitRepairs.{remedy_fits, made_fits, stored_version_fits, RemedyFits}
-use Rattle.qu_fitting.proofs.FitAccepted.{version_fits}
-use Rattle.qu_fitting.proofs.FitDecisions.{AskedFits, DecisionFits, Gives, past, no_row, own_fits, unknown, thin, KeyFits}
-use Rattle.std.specs.List.{AllByRecursion}
-use Rattle.qu_rows.specs.declared.remedy.Remedy.{Remedy}
-use Rattle.qu_rows.specs.declared.remedy.Remedy.TheVariants.{Nothing, Shown, Fresh, Unshown, Unplanned}
+use Rattle.qu_fitting.proofs.FitRepairs.{base_fits, remedy_fits, made_fits, stored_version_fits, RemedyFits}
+use Rattle.qu_fitting.proofs.FitAccepted.{version_fits, AcceptFits, AcceptAllFit}
+use Rattle.qu_fitting.proofs.FitDecisions.{AskedFits, DecisionFits, Gives, past, no_row, found_has, own_fits, unknown, thin, KeyFits}
 
-module _ (state : ReplicaState) (asked : Asked) (fits : StateFits state) (asks : AskedFits asked)
-    (object : ObjectId) (within : object.0 ≤ OBJECT_IDS - 1) where
-  refused_if : (why : Refusal) (test : Bool) → verdict_form.Fits (Refused why)
-      → Gives (cond test (Some (refuse why)) None)
-  refused_if why false fits decision given = absurd (none-some decision given)
-  refused_if why true fits decision given =
-      subst DecisionFits (same_Some (refuse why) decision given) (fits, tt)
+-- the version that a remedy wants can be fetched
+unless : (barrier : Bool) (stamp : Stamp) → stamp.barrier ≡ barrier → stamp_form.Fits stamp
+    → IfSome (unless_barrier barrier stamp) (λ it. plain_stamp_form.Fits it)
+unless true stamp is fits = tt
+unless false stamp is fits = plain_fits stamp is fits
 
-  few : Gives (row_few state asked object)
-  unfolding row_few
-  few = refused_if (Thin object) _ (thin_fits object within)
+wanted_fits : (object : ObjectId) (latest : Stamp) (remedy : Remedy) → RemedyFits object latest remedy
+    → IfSome (wanted_by remedy) (λ stamp. plain_stamp_form.Fits stamp)
+unfolding wanted_by
+wanted_fits object latest Nothing fits = tt
+wanted_fits object latest (Unshown member) fits = tt
+wanted_fits object latest (Unplanned other) fits = tt
+wanted_fits object latest (Shown candidate) fits = unless (candidate.stamp.barrier) candidate.stamp refl fits.stamp
+wanted_fits object latest (Fresh true prior) fits = tt
+wanted_fits object latest (Fresh false prior) fits = plain_fits prior fits.plain fits.fits
 
-  abbrev mend : Mend
-  mend = mend_asked state asked object
+numbered_member : (least : ℕ) (member : ObjectId × ℕ) → is_member_from least member ≡ true
+    → (member.0).0 ≤ OBJECT_IDS - 1
+numbered_member least member is =
+    let rest = (and_parts (nat_le least (member.0).0) _ is).1 in
+    let below : (member.0).0 < OBJECT_IDS =
+    ltb-true (member.0).0 OBJECT_IDS (and_parts (nat_lt (member.0).0 OBJECT_IDS) _ rest).0 in
+    omega (arith, below)
 
-  mend_fits : RemedyFits object mend.latest mend.remedy
-  mend_fits = remedy_fits state.keys.bounds asked.sets object (shown_fit asked.sets asks.sets object)
+module _ (state : ReplicaState) (asked : Asked) (fits : StateFits state) (asks : AskedFits asked) where
+  -- an object has a number, and what mends it fits
+  abbrev MendedFits : ObjectId × Remedy → Type 0
+  MendedFits mended =
+      ((mended.0).0 ≤ OBJECT_IDS - 1) × RemedyFits mended.0 (latest_of (shown_of asked mended.0)) mended.1
 
-  added_fits : (candidate : Candidate) → MakesCandidate mend mend.remedy candidate
-      → CandidateFits object candidate
-  added_fits candidate made =
-      made_fits mend object asks.low asks.high asks.set mend.remedy candidate
-      mend_fits made
+  abbrev AllMendedFit : List (ObjectId × Remedy) → Type 0
+  AllMendedFit remedies = AllByRecursion MendedFits remedies
 
-  found_fits : (wanted : Option Stamp)
+  members_fit_from : (bounds least : ℕ) (group : List (ObjectId × ℕ)) → are_members_from least group ≡ true
+      → AllMendedFit (map (member_remedy bounds asked.sets) group)
+  unfolding are_members_from
+  members_fit_from bounds least [] rise = tt
+  members_fit_from bounds least (member ∷ later) rise =
+      let both = and_parts (is_member_from least member) (are_members_from ((member.0).0 + 1) later) rise in (
+        (
+          numbered_member least member both.0,
+          (base_fits bounds member.0 (entries_of member.0 asked.sets)
+              (shown_fit asked.sets asks.sets member.0)).candidate,
+        ),
+        members_fit_from bounds ((member.0).0 + 1) later both.1,
+      )
+
+  remedies_fit : (bounds : ℕ) (target : ObjectId) (remedy : Remedy) (group : List (ObjectId × ℕ))
+      → is_group group ≡ true → MendedFits (target, remedy)
+      → AllMendedFit (remedies_by bounds asked.sets target remedy group)
+  unfolding remedies_by is_group
+  remedies_fit bounds target remedy [] is fit = (fit, tt)
+  remedies_fit bounds target remedy (member ∷ later) is fit =
+      members_fit_from bounds 0 (member ∷ later)
+      (and_parts (is_group_size (length (member ∷ later))) (are_members_from 0 (member ∷ later)) is).1
+
+  -- ---- what the replica has of each
+
+  abbrev parts_by : List (ObjectId × Remedy) → List MendPart
+  parts_by remedies = map (part_of state asked) remedies
+
+  abbrev HasFit : MendPart → Type 0
+  HasFit part = ((part.object).0 ≤ OBJECT_IDS - 1) × stamp_form.Fits (latest part.own)
+
+  parts_fit : (remedies : List (ObjectId × Remedy)) → AllMendedFit remedies
+      → AllByRecursion HasFit (parts_by remedies)
+  parts_fit [] all = tt
+  parts_fit (mended ∷ later) all =
+      (((all.0).0, own_fits state asked fits asks mended.0), parts_fit later all.1)
+
+  found_fits : (object : ObjectId) (wanted : Option Stamp)
       → IfSome (option_and_then (λ (stamp : Stamp). version_at object stamp state.versions) wanted) VersionFits
-  found_fits None = tt
-  found_fits (Some stamp) = by_found (version_at object stamp state.versions) refl
+  found_fits object None = tt
+  found_fits object (Some stamp) = by_found (version_at object stamp state.versions) refl
     where
       by_found : (found : Option ObjState) → version_at object stamp state.versions ≡ found
           → IfSome found VersionFits
       by_found None is = tt
       by_found (Some version) is = version_fits object stamp state.versions version fits.versions is
 
-  why_fits : (why : Refusal) → RefusesFor mend (own_candidates state object) why → verdict_form.Fits (Refused why)
-  why_fits (NotCurrent on stamp) cause =
-      subst (λ (it : ObjectId). verdict_form.Fits (Refused (NotCurrent it stamp))) (sym cause.0)
-      (current_fits object within stamp (subst (λ (it : Stamp). stamp_form.Fits it) (sym cause.1)
-      (own_fits state asked fits asks object)))
-  why_fits (Sound on) cause =
-      subst (λ (it : ObjectId). verdict_form.Fits (Refused (Sound it))) (sym cause.0) (sound_fits object within)
-  why_fits (TimeSpent on) cause =
-      subst (λ (it : ObjectId). verdict_form.Fits (Refused (TimeSpent it))) (sym cause.0) (time_fits object within)
-  why_fits (HistoryFull on) cause =
-      subst (λ (it : ObjectId). verdict_form.Fits (Refused (HistoryFull it))) (sym cause.0) (full_fits object within)
-  why_fits (Thin on) cause = absurd cause
-  why_fits (Needs on) cause = elim cause [
-    | inl unshown ↦ needs_fits on (subst (RemedyFits object mend.latest) unshown mend_fits)
-    | inr unplanned ↦ needs_fits on (subst (RemedyFits object mend.latest) unplanned mend_fits)
-  ]
-  why_fits (Stale on) cause = absurd cause
-  why_fits (NotMethod on class) cause = absurd cause
-  why_fits (refusal.Spent on number) cause = absurd cause
-  why_fits (UnknownObject on) cause = absurd cause
+  by_key : (object : ObjectId) → object.0 ≤ OBJECT_IDS - 1 → (found : Option ObjState) (wanted : Option Stamp)
+      → IfSome wanted (λ stamp. plain_stamp_form.Fits stamp) → (rest : List (ObjectId × Stamp))
+      → AllByRecursion KeyFits rest
+      → AllByRecursion KeyFits
+      (cons_option (cond (is_none found) (option_map (λ (it : Stamp). (object, it)) wanted) None) rest)
+  by_key object within (Some version) wanted fit rest so_far = so_far
+  by_key object within None None fit rest so_far = so_far
+  by_key object within None (Some stamp) fit rest so_far = (record { object = within; stamp = fit }, so_far)
 
-  unless : (barrier : Bool) (stamp : Stamp) → stamp.barrier ≡ barrier → stamp_form.Fits stamp
-      → AllByRecursion KeyFits (keys_at object (unless_barrier barrier stamp))
-  unless true stamp is fits = tt
-  unless false stamp is fits = (record { object = within; stamp = plain_fits stamp is fits }, tt)
+  missing_fit : (remedies : List (ObjectId × Remedy)) → AllMendedFit remedies
+      → AllByRecursion KeyFits (missing_in (parts_by remedies))
+  missing_fit [] all = tt
+  missing_fit (mended ∷ later) all =
+      by_key mended.0 (all.0).0 (part_of state asked mended).version (wanted_by mended.1)
+      (wanted_fits mended.0 (part_of state asked mended).latest mended.1 (all.0).1)
+      (missing_in (parts_by later)) (missing_fit later all.1)
 
-  -- the version that the remedy wants, where it wants one, can be fetched
-  wanted_keys : (remedy : Remedy) → RemedyFits object mend.latest remedy
-      → AllByRecursion KeyFits (keys_at object (wanted_by remedy))
-  unfolding wanted_by
-  wanted_keys Nothing fits = tt
-  wanted_keys (Unshown member) fits = tt
-  wanted_keys (Unplanned other) fits = tt
-  wanted_keys (Shown candidate) fits = unless (candidate.stamp.barrier) candidate.stamp refl fits.stamp
-  wanted_keys (Fresh true prior) fits = tt
-  wanted_keys (Fresh false prior) fits =
-      (record { object = within; stamp = plain_fits prior fits.plain fits.fits }, tt)
+  -- ---- what is decided
 
-  caused_fits : (made : Mending)
-      → HasCause mend (own_candidates state object) (wanted_version state object mend.remedy) made
-      → DecisionFits (decision_by object mend.remedy made)
-  caused_fits (Mends candidate stored) cause =
-      let added : CandidateFits object candidate = added_fits candidate cause.0 in (
-        mended_fits object within candidate.stamp added.stamp,
-        (
-          record {
-            stamp = added.stamp;
-            prior = added.prior;
-            group = added.group;
-            version = stored_version_fits mend.remedy (wanted_version state object mend.remedy) stored
-                (found_fits (wanted_by mend.remedy)) cause.2;
-          },
-          tt,
-        ),
-      )
-  caused_fits (Holds stamp) cause = (
-    mended_fits object within stamp
-        (subst (λ (it : Stamp). stamp_form.Fits it) cause.3 (added_fits cause.0 cause.1).stamp),
-    tt,
-  )
-  caused_fits (Refuses why) cause = (why_fits why cause, tt)
-  caused_fits mending.Waits cause =
-      wanted_keys mend.remedy mend_fits
+  module _ (object : ObjectId) (within : object.0 ≤ OBJECT_IDS - 1) where
+    refused_if : (why : Refusal) (test : Bool) → verdict_form.Fits (Refused why)
+        → Gives (cond test (Some (refuse why)) None)
+    refused_if why false fit decision given = absurd (none-some decision given)
+    refused_if why true fit decision given =
+        subst DecisionFits (same_Some (refuse why) decision given) (fit, tt)
 
-  mended : Gives (Some (decision_by object mend.remedy (mending_on state asked object)))
-  mended decision given =
-      subst DecisionFits (same_Some (decision_by object mend.remedy (mending_on state asked object)) decision given)
-      (caused_fits (mending_on state asked object)
-      (decided_has_cause mend (own_candidates state object) (wanted_version state object mend.remedy)))
+    few : Gives (row_few state asked object)
+    unfolding row_few
+    few = refused_if (Thin object) _ (thin_fits object within)
 
-  pub mend_decision-fits : DecisionFits (decide_repair state asked object)
-  unfolding decide_repair
-  mend_decision-fits =
-      past _ _ (unknown state asked fits asks) (λ _.
-      past _ _ (thin state asked fits asks) (λ _. past _ _ few (λ _. past _ _ mended (λ _. no_row))))
+    abbrev mend : Mend
+    mend = mend_asked state asked object
+
+    mend_fits : RemedyFits object mend.latest mend.remedy
+    mend_fits = remedy_fits state.keys.bounds asked.sets object (shown_fit asked.sets asks.sets object)
+
+    abbrev remedies : List (ObjectId × Remedy)
+    remedies = remedies_of state.keys.bounds asked.sets mend
+
+    all_fit : AllMendedFit remedies
+    all_fit =
+        remedies_fit state.keys.bounds object mend.remedy mend.group
+        (group_is_whole (class_in state.keys.bounds asked.sets object)) (within, mend_fits)
+
+    why_fits : (why : Refusal) → RefusesFor mend (parts_by remedies) why → verdict_form.Fits (Refused why)
+    why_fits (NotCurrent on stamp) cause =
+        let fit : HasFit cause.0 =
+        found_has HasFit _ (parts_by remedies) (parts_fit remedies all_fit) cause.0 cause.1 in
+        subst (λ (it : ObjectId). verdict_form.Fits (Refused (NotCurrent it stamp))) (sym cause.2)
+        (current_fits (cause.0).object fit.0 stamp (subst (λ (it : Stamp). stamp_form.Fits it) (sym cause.3) fit.1))
+    why_fits (Sound on) cause =
+        subst (λ (it : ObjectId). verdict_form.Fits (Refused (Sound it))) (sym cause.0) (sound_fits object within)
+    why_fits (TimeSpent on) (inl cause) =
+        let fit : HasFit cause.0 =
+        found_has HasFit _ (parts_by remedies) (parts_fit remedies all_fit) cause.0 cause.1 in
+        subst (λ (it : ObjectId). verdict_form.Fits (Refused (TimeSpent it))) (sym cause.2)
+        (time_fits (cause.0).object fit.0)
+    why_fits (TimeSpent on) (inr cause) =
+        subst (λ (it : ObjectId). verdict_form.Fits (Refused (TimeSpent it))) (sym cause.0) (time_fits object within)
+    why_fits (HistoryFull on) cause =
+        let fit : HasFit cause.0 =
+        found_has HasFit _ (parts_by remedies) (parts_fit remedies all_fit) cause.0 cause.1 in
+        subst (λ (it : ObjectId). verdict_form.Fits (Refused (HistoryFull it))) (sym cause.2)
+        (full_fits (cause.0).object fit.0)
+    why_fits (Thin on) cause = absurd cause
+    why_fits (Needs on) cause = elim cause [
+      | inl unshown ↦ needs_fits on (subst (RemedyFits object mend.latest) unshown mend_fits)
+      | inr unplanned ↦ needs_fits on (subst (RemedyFits object mend.latest) unplanned mend_fits)
+    ]
+    why_fits (Stale on) cause = absurd cause
+    why_fits (NotMethod on class) cause = absurd cause
+    why_fits (refusal.Spent on number) cause = absurd cause
+    why_fits (UnknownObject on) cause = absurd cause
+
+    told_fits : (stamp : Stamp) → IsToldOf mend stamp → stamp_form.Fits stamp
+    told_fits stamp told =
+        subst (λ (it : Stamp). stamp_form.Fits it) told.2
+        (made_fits mend object asks.low asks.high asks.set mend.latest mend.remedy told.0 mend_fits told.1).stamp
+
+    added_fits : (mended : ObjectId × Remedy) (one : Accepted) → MendedFits mended
+        → IsPartAdded mend (part_of state asked mended) one → AcceptFits one
+    added_fits mended one fit added =
+        let part : MendPart = part_of state asked mended in
+        let made : CandidateFits mended.0 one.candidate =
+        made_fits mend mended.0 asks.low asks.high asks.set part.latest mended.1 one.candidate fit.1 added.makes in
+        record {
+          stamp = made.stamp;
+          prior = made.prior;
+          group = subst (λ (it : ObjectId). (group_form it one.candidate.stamp).Fits one.candidate.group)
+              (sym added.object) made.group;
+          version = stored_version_fits mended.1 part.version one.state (found_fits mended.0 (wanted_by mended.1))
+              added.version;
+        }
+
+    all_added_fit : (some : List (ObjectId × Remedy)) (accepted : List Accepted) → AllMendedFit some
+        → ArePartsAdded mend (parts_by some) accepted → AcceptAllFit accepted
+    all_added_fit [] [] all added = tt
+    all_added_fit [] (one ∷ more) all added = absurd added
+    all_added_fit (mended ∷ later) [] all added = absurd added
+    all_added_fit (mended ∷ later) (one ∷ more) all added =
+        (added_fits mended one all.0 added.0, all_added_fit later more all.1 added.1)
+
+    caused_fits : (made : Mending) → HasCause mend (parts_by remedies) made → DecisionFits (decision_by object made)
+    caused_fits (Mends stamp accepted) cause =
+        (mended_fits object within stamp (told_fits stamp cause.0), all_added_fit remedies accepted all_fit cause.1)
+    caused_fits (Holds stamp) cause = (mended_fits object within stamp (told_fits stamp cause.0), tt)
+    caused_fits (Refuses why) cause = (why_fits why cause, tt)
+    caused_fits (Waits missing) cause =
+        subst (AllByRecursion KeyFits) (sym cause.0) (missing_fit remedies all_fit)
+
+    mended : Gives (Some (decision_by object (mending_on state asked object)))
+    mended decision given =
+        subst DecisionFits (same_Some (decision_by object (mending_on state asked object)) decision given)
+        (caused_fits (mending_on state asked object) (mending_has_cause state asked object))
+
+    pub mend_decision-fits : DecisionFits (decide_repair state asked object)
+    unfolding decide_repair
+    mend_decision-fits =
+        past _ _ (unknown state asked fits asks) (λ _.
+        past _ _ (thin state asked fits asks) (λ _. past _ _ few (λ _. past _ _ mended (λ _. no_row))))

@@ -25,11 +25,11 @@ use Rattle.qu_class.specs.Repairable.{barrier_candidate, object_base}
 use Rattle.qu_class.specs.Class.{is_latest, is_full, barrier_class, class_of, is_in_sets, with_members, class_in}
 use Rattle.qu_class.specs.Plan.{lowest_other}
 use Rattle.qu_class.proofs.GroupRule.{inline_by}
-use Rattle.qu_rows.specs.declared.remedy.Remedy.{Remedy}
-use Rattle.qu_rows.specs.declared.remedy.Remedy.TheVariants.{Nothing, Shown, Fresh, Unshown, Unplanned}
-use Rattle.qu_rows.specs.declared.mend.Mend.{Mend}
-use Rattle.qu_rows.specs.Remedy.{copy_by, remedy_by, remedy_of, fresh_repair}
-use Rattle.qu_rows.specs.Causes.{MakesCandidate, AddsVersion}
+use Rattle.qu_mends.specs.declared.remedy.Remedy.{Remedy}
+use Rattle.qu_mends.specs.declared.remedy.Remedy.TheVariants.{Nothing, Shown, Fresh, Unshown, Unplanned}
+use Rattle.qu_mends.specs.declared.mend.Mend.{Mend}
+use Rattle.qu_mends.specs.Remedy.{copy_by, remedy_by, remedy_of, fresh_repair}
+use Rattle.qu_mends.specs.Causes.{MakesCandidate, AddsVersion}
 use Rattle.qu_fitting.specs.Fits.{VersionFits}
 use Rattle.qu_fitting.proofs.FitStamps.{CandidateFits, CandidatesFit, opening_candidate_fits, object_candidate_shown, barrier_candidate_shown, actless_stamp_fits, prior_fits, not_opening, later_time}
 
@@ -98,7 +98,7 @@ module _ (bounds : ℕ) (object : ObjectId) (entries : List ObjectHistory)
     pub candidate : CandidateFits object base
     pub rests : RestsWell (latest_of entries) base.stamp
 
-  base_fits : BaseFits (object_base bounds entries)
+  pub base_fits : BaseFits (object_base bounds entries)
   unfolding object_base
   base_fits = by_found (object_candidate bounds entries) refl
     where
@@ -192,11 +192,11 @@ remedy_fits bounds sets object fits =
 
 module _ (mend : Mend) (object : ObjectId) (low : 1 ≤ (mend.client).0) (high : (mend.client).0 ≤ LAST_CLIENT)
     (sized : length (mend.set).0 ≡ 32) where
-  fresh_fits : (barrier : Bool) (prior : Stamp) → RestsWell mend.latest prior → mend.latest.time < LAST_TIME
-      → CandidateFits object (fresh_repair mend barrier prior)
-  fresh_fits barrier prior rests in_time =
-      let fresh : Stamp = (fresh_repair mend barrier prior).stamp in
-      let above : (fresh.time == 0) ≡ false = later_time mend.latest.time in
+  fresh_fits : (latest : Stamp) (barrier : Bool) (prior : Stamp) → RestsWell latest prior → latest.time < LAST_TIME
+      → CandidateFits object (fresh_repair mend latest barrier prior)
+  fresh_fits latest barrier prior rests in_time =
+      let fresh : Stamp = (fresh_repair mend latest barrier prior).stamp in
+      let above : (fresh.time == 0) ≡ false = later_time latest.time in
       let below : is_below prior fresh ≡ true = is_below_by_time prior fresh (omega (arith, rests.in_time)) in
       record {
         stamp = actless_stamp_fits fresh.time barrier mend.client mend.set above (omega (arith, in_time)) low high
@@ -205,14 +205,14 @@ module _ (mend : Mend) (object : ObjectId) (low : 1 ≤ (mend.client).0) (high :
         group = alone_fits object fresh;
       }
 
-  pub made_fits : (remedy : Remedy) (candidate : Candidate) → RemedyFits object mend.latest remedy
-      → MakesCandidate mend remedy candidate → CandidateFits object candidate
-  made_fits Nothing candidate fits made = absurd made
-  made_fits (Unshown member) candidate fits made = absurd made
-  made_fits (Unplanned other) candidate fits made = absurd made
-  made_fits (Shown shown) candidate fits made = subst (CandidateFits object) (sym made.0) fits
-  made_fits (Fresh barrier prior) candidate fits made =
-      subst (CandidateFits object) (sym made.0) (fresh_fits barrier prior fits made.1)
+  pub made_fits : (latest : Stamp) (remedy : Remedy) (candidate : Candidate) → RemedyFits object latest remedy
+      → MakesCandidate mend latest remedy candidate → CandidateFits object candidate
+  made_fits latest Nothing candidate fits made = absurd made
+  made_fits latest (Unshown member) candidate fits made = absurd made
+  made_fits latest (Unplanned other) candidate fits made = absurd made
+  made_fits latest (Shown shown) candidate fits made = subst (CandidateFits object) (sym made.0) fits
+  made_fits latest (Fresh barrier prior) candidate fits made =
+      subst (CandidateFits object) (sym made.0) (fresh_fits latest barrier prior fits made.1)
 
 -- the version that is stored is the one that was found, if any
 pub stored_version_fits : (remedy : Remedy) (version stored : Option ObjState) → IfSome version VersionFits

@@ -20,9 +20,10 @@ use Rattle.qu_history.specs.Formats.{next_candidate, candidates_form}
 use Rattle.qu_history.proofs.Rising.{latest_is_last}
 use Rattle.qu_objects.specs.declared.kind.KindName.{KindName}
 use Rattle.qu_objects.specs.declared.state.ObjState.{ObjState}
-use Rattle.qu_rows.specs.declared.decision.Accepted.{Accepted}
+use Rattle.qu_mends.specs.declared.accepted.Accepted.{Accepted}
 use Rattle.qu_versions.specs.declared.stored.Stored.{Stored}
-use Rattle.qu_rows.specs.State.{ReplicaState, candidates_in}
+use Rattle.qu_rows.specs.State.{ReplicaState}
+use Rattle.qu_mends.specs.Table.{candidates_in}
 use Rattle.qu_fitting.specs.Holding.{with_candidate, stored_if, accept, accept_all, opening_histories, replica_at_start}
 use Rattle.qu_rows.specs.Allowed.{MayAccept, MayAcceptAll}
 use Rattle.qu_fitting.proofs.AcceptingAll.{all_after}

@@ -13,8 +13,9 @@ use Rattle.qu_stamp.proofs.Order.{is_below-self}
 use Rattle.qu_history.specs.History.{ObjectHistory, is_history, latest, greatest_stamp}
 use Rattle.qu_history.proofs.Rising.{is_history_opening, is_history_push, latest_push}
 use Rattle.qu_objects.specs.declared.kind.KindName.{KindName}
-use Rattle.qu_rows.specs.declared.decision.Accepted.{Accepted}
-use Rattle.qu_rows.specs.State.{ReplicaState, candidates_in, is_own, are_own, AreHistories}
+use Rattle.qu_mends.specs.declared.accepted.Accepted.{Accepted}
+use Rattle.qu_rows.specs.State.{ReplicaState, is_own, are_own, AreHistories}
+use Rattle.qu_mends.specs.Table.{candidates_in}
 use Rattle.qu_fitting.specs.Holding.{with_candidate, opening_histories, replica_at_start, accept}
 use Rattle.qu_rows.specs.Allowed.{MayAccept}
 

@@ -9,7 +9,8 @@ use Rattle.qu_base.specs.declared.party.ObjectId.{ObjectId}
 use Rattle.qu_stamp.specs.declared.candidate.Candidate.{Candidate}
 use Rattle.qu_stamp.specs.Candidate.{same}
 use Rattle.qu_history.specs.History.{ObjectHistory, holds}
-use Rattle.qu_rows.specs.State.{ReplicaState, candidates_in}
+use Rattle.qu_rows.specs.State.{ReplicaState}
+use Rattle.qu_mends.specs.Table.{candidates_in}
 use Rattle.qu_claims.specs.Accepted.{accepts}
 use Rattle.qu_runs.proofs.Worlds.Objects.{EachHas}
 use Rattle.qu_known.specs.declared.tracked.Tracked.{Tracked}

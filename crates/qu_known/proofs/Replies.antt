@@ -23,7 +23,8 @@ use Rattle.qu_frames.proofs.Decoded.{decoded_is_spelled, spelled_is_decoded}
 use Rattle.qu_frames.proofs.Signed.{brought_is_decoded, signed_is_spelled}
 use Rattle.qu_rows.specs.declared.decision.Decision.{Decision}
 use Rattle.qu_rows.specs.declared.decision.Decision.TheVariants.{Answers, Waits}
-use Rattle.qu_rows.specs.State.{ReplicaState, candidates_in, own_candidates}
+use Rattle.qu_rows.specs.State.{ReplicaState, own_candidates}
+use Rattle.qu_mends.specs.Table.{candidates_in}
 use Rattle.qu_fitting.specs.Holding.{accept_all}
 use Rattle.qu_rows.specs.Rows.{Asked, asked_at, asked_of, decision_on}
 use Rattle.qu_known.specs.Known.{Seen, see_letters, see_from, see_shown}
@@ -35,7 +36,7 @@ use Rattle.qu_replica.proofs.Fits.FitSteps.{learned-fits, handled-fits}
 use Rattle.qu_fitting.proofs.FitRequests.{RequestFits, request-fits}
 use Rattle.qu_replica.proofs.States.Learning.{Learned, is_learned}
 use Rattle.qu_rows.specs.Waiting.{TakenRequest, request_frame_of}
-use Rattle.qu_rows.specs.declared.decision.Accepted.{Accepted}
+use Rattle.qu_mends.specs.declared.accepted.Accepted.{Accepted}
 use Rattle.qu_stamp.specs.declared.stamp.Stamp.{Stamp}
 use Rattle.qu_history.specs.History.{ObjectHistory}
 use Rattle.std.specs.Prelude.{slice_get}
@@ -43,8 +44,8 @@ use Rattle.std.proofs.lemmas.Option.{none-some, same_Some}
 use Rattle.qu_runs.proofs.Fits.FitParts.{fits_parts}
 use Rattle.qu_runs.proofs.Fits.Fitting.{answers_fit}
 use Rattle.qu_claims.specs.Parts.{Names}
-use Rattle.qu_accepts.proofs.Acceptance.{step_moves}
-use Rattle.qu_accepts.proofs.Parts.{one_named}
+use Rattle.qu_grounds.proofs.Acceptance.{step_moves}
+use Rattle.qu_grounds.proofs.Parts.{one_named}
 use Rattle.qu_claims.specs.Handled.{shown_in}
 use Rattle.qu_known.proofs.Lengths.{reply-short}
 use Rattle.qu_claims.specs.Grounds.{Accepts, AddsTo, Reasons}

@@ -7,7 +7,7 @@ use Rattle.qu_base.specs.Bounds.{replicas}
 use Rattle.qu_seal.specs.Keys.{Ring}
 use Rattle.qu_stamp.specs.Candidate.{opening}
 use Rattle.qu_objects.specs.declared.kind.KindName.{KindName}
-use Rattle.qu_rows.specs.State.{candidates_in}
+use Rattle.qu_mends.specs.Table.{candidates_in}
 use Rattle.qu_fitting.specs.Holding.{opening_histories}
 use Rattle.qu_fitting.proofs.FitState.{opening_number}
 use Rattle.qu_trace.specs.declared.trace.Trace.{Trace}

@@ -19,7 +19,8 @@ use Rattle.qu_history.specs.Sealing.{sealed_by}
 use Rattle.qu_frames.specs.declared.frame.Letter.{Letter}
 use Rattle.qu_frames.specs.Formats.{objects_in_sets}
 use Rattle.qu_objects.specs.Formats.{is_one_of}
-use Rattle.qu_rows.specs.State.{ReplicaState, candidates_in, own_candidates}
+use Rattle.qu_rows.specs.State.{ReplicaState, own_candidates}
+use Rattle.qu_mends.specs.Table.{candidates_in}
 use Rattle.qu_replica.specs.Step.{shown, replica_step}
 use Rattle.qu_replica.specs.Growth.{Grows}
 use Rattle.qu_fitting.specs.Fits.{StateFits}

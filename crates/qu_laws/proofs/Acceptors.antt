@@ -13,14 +13,15 @@ use Rattle.qu_stamp.specs.declared.candidate.Candidate.{Candidate}
 use Rattle.qu_history.specs.declared.sets.SetOf.{SetOf}
 use Rattle.qu_history.specs.History.{ObjectHistory, holds}
 use Rattle.qu_history.specs.Sets.{histories, entries_of, order_of, method_at}
-use Rattle.qu_rows.specs.State.{ReplicaState, candidates_in}
+use Rattle.qu_rows.specs.State.{ReplicaState}
+use Rattle.qu_mends.specs.Table.{candidates_in}
 use Rattle.qu_trace.specs.declared.trace.Trace.{Trace}
 use Rattle.qu_world.specs.State.{WorldState, history_at}
 use Rattle.qu_claims.specs.Accepted.{accepts}
 use Rattle.qu_claims.specs.Times.{world_after}
 use Rattle.qu_shown.specs.Views.{WasHeld, HeldIfCorrect, EachEntry, AreHeld}
 use Rattle.qu_runs.proofs.Worlds.WorldGrowth.{AcceptsMore, has_more, world_after-grows}
-use Rattle.qu_accepts.proofs.Grounds.{is_base}
+use Rattle.qu_grounds.proofs.Grounds.{is_base}
 use Rattle.qu_runs.proofs.Small.{same_object}
 use Rattle.qu_history.specs.declared.sealed.Sealed.{Sealed}
 use Rattle.qu_claims.specs.Count.{count, test_at}

@@ -16,7 +16,7 @@ use Rattle.qu_base.specs.declared.party.ObjectId.{ObjectId}
 use Rattle.qu_rows.specs.State.{ReplicaState, own_candidates, own_latest}
 use Rattle.qu_stamp.specs.declared.stamp.Stamp.{Stamp}
 use Rattle.qu_trace.specs.declared.trace.Trace.{Trace}
-use Rattle.qu_accepts.proofs.Grounds.{above_base, base_not_below, added_above, added_alone, IsBase, is_base}
+use Rattle.qu_grounds.proofs.Grounds.{above_base, base_not_below, added_above, added_alone, IsBase, is_base}
 use Rattle.qu_runs.proofs.Worlds.Objects.{accepted_known}
 use Rattle.qu_claims.specs.Accepted.{accepts}
 use Rattle.qu_runs.proofs.Worlds.OpeningReplicas.{acceptor_is_good, all_begin, all_replicas}
@@ -36,7 +36,7 @@ use Rattle.qu_history.specs.History.{holds, ObjectHistory}
 use Rattle.qu_claims.specs.RunSetting.{setting}
 use Rattle.std.proofs.lemmas.Option.{same_Some, slice_get_cases, slice_get_within, none-some}
 use Rattle.qu_claims.specs.Parts.{Names}
-use Rattle.qu_accepts.proofs.Parts.{same_added}
+use Rattle.qu_grounds.proofs.Parts.{same_added}
 use Rattle.qu_rows.specs.Allowed.{HasParts}
 use Rattle.qu_objects.specs.declared.act.Method.{Method}
 use Rattle.qu_claims.specs.Times.{world_after}

@@ -43,7 +43,7 @@ use Rattle.qu_frames.specs.declared.frame.Frame.{Frame}
 use Rattle.qu_runs.proofs.Worlds.FewFaults.{few_faulty}
 use Rattle.qu_accepts.proofs.KnownObjects.{delivered_known}
 use Rattle.qu_accepts.proofs.Accepting.{some_entry, delivered_adds}
-use Rattle.qu_accepts.proofs.Grounds.{made_or_found}
+use Rattle.qu_grounds.proofs.Grounds.{made_or_found}
 use Rattle.std.proofs.lemmas.Option.{get_or_from_slice_get}
 use Rattle.qu_base.proofs.ThresholdFacts.{are_thresholds}
 use Rattle.qu_claims.specs.Handling.{Handles}

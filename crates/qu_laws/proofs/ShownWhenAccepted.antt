@@ -13,10 +13,10 @@ use Rattle.qu_claims.specs.Setting.{IsNew, acceptors, IsEstablished}
 use Rattle.qu_world.specs.Run.{IsRun}
 use Rattle.qu_base.specs.declared.party.ObjectId.{ObjectId}
 use Rattle.qu_base.specs.declared.party.Party.{Party}
-use Rattle.qu_rows.specs.State.{candidates_in}
+use Rattle.qu_mends.specs.Table.{candidates_in}
 use Rattle.qu_trace.specs.declared.trace.Trace.{Trace}
 use Rattle.qu_chain.proofs.Arrival.{Turn, turn_between}
-use Rattle.qu_accepts.proofs.Grounds.{added_above}
+use Rattle.qu_grounds.proofs.Grounds.{added_above}
 use Rattle.qu_claims.specs.Accepted.{accepts}
 use Rattle.qu_runs.proofs.Worlds.FewFaults.{few_faulty}
 use Rattle.qu_runs.proofs.Worlds.OpeningReplicas.{bounds_are}
@@ -43,7 +43,7 @@ use Rattle.qu_frames.specs.declared.frame.Frame.TheVariants as frame
 use Rattle.qu_class.specs.Rows.{AreWellFormed}
 use Rattle.qu_trace.specs.Faulty.{is_good}
 use Rattle.qu_frames.specs.declared.frame.Body.{Body}
-use Rattle.qu_accepts.proofs.Acceptance.{IsFormed}
+use Rattle.qu_grounds.proofs.Acceptance.{IsFormed}
 use Rattle.qu_shown.specs.Views.{WasHeld, HeldIfCorrect}
 use Rattle.qu_laws.proofs.Acceptors.{StandsAt, stands_at}
 use Rattle.qu_history.proofs.Stamps.{not_below_latest}

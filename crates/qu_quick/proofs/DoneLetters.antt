@@ -25,7 +25,7 @@ use Rattle.qu_frames.specs.declared.verdict.Verdict.{Verdict}
 use Rattle.qu_frames.specs.Formats.{frame_form}
 use Rattle.qu_frames.specs.Signing.{brought, signature, sender, is_signed}
 use Rattle.qu_frames.proofs.Signed.{brought_is_signed, signed_is_spelled, signed_is_brought}
-use Rattle.qu_rows.specs.declared.decision.Accepted.{Accepted}
+use Rattle.qu_mends.specs.declared.accepted.Accepted.{Accepted}
 use Rattle.qu_rows.specs.State.{ReplicaState}
 use Rattle.qu_fitting.specs.Holding.{accept_all}
 use Rattle.qu_rows.specs.Rows.{unknown_in}

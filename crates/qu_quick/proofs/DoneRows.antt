@@ -28,15 +28,15 @@ use Rattle.qu_kept.specs.Standing.{standing_of}
 use Rattle.qu_kept.proofs.StandingLaws.{fresh_where}
 use Rattle.qu_frames.specs.declared.verdict.Refusal.{Refusal}
 use Rattle.qu_frames.specs.declared.verdict.Refusal.TheVariants as refusal
-use Rattle.qu_rows.specs.declared.decision.Accepted.{Accepted}
+use Rattle.qu_mends.specs.declared.accepted.Accepted.{Accepted}
 use Rattle.qu_rows.specs.declared.decision.Decision.{Decision}
 use Rattle.qu_rows.specs.declared.decision.Decision.TheVariants.{Answers, Waits}
 use Rattle.qu_rows.specs.State.{ReplicaState, own_candidates, own_latest}
 use Rattle.qu_rows.specs.Rows.{Asked, asked_of, asked_at, refuse, shown_of, base_version, fresh_stamp, fresh_act, is_held, repeated, row_unknown, row_thin, row_retry, row_current, row_method, row_version, row_kept, row_time, row_full, row_done, decide_act, decision_on}
 use Rattle.qu_fitting.proofs.CarriedEach.{accepted_each, fresh_candidates, versions_made, versions_each, done_each}
-use Rattle.qu_rows.specs.Table.{first_given}
+use Rattle.qu_mends.specs.Table.{first_given}
 use Rattle.qu_claims.specs.Grounds.{IsGround}
-use Rattle.qu_accepts.proofs.Grounds.{IsBase, is_base, above_held}
+use Rattle.qu_grounds.proofs.Grounds.{IsBase, is_base, above_held}
 use Rattle.qu_quick.specs.Done.{parts_on, act_on, done_verdict, IsReady}
 
 -- ---- small ones

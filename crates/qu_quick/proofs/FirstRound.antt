@@ -29,7 +29,7 @@ use Rattle.qu_objects.specs.Parts.{are_parts}
 use Rattle.qu_frames.specs.Body.{body_of}
 use Rattle.qu_frames.specs.declared.frame.Body.TheVariants as body
 use Rattle.qu_frames.specs.declared.frame.Letter.{Letter}
-use Rattle.qu_accepts.proofs.Grounds.{IsBase, is_base}
+use Rattle.qu_grounds.proofs.Grounds.{IsBase, is_base}
 use Rattle.qu_client.specs.declared.whom.Whom.{Whom}
 use Rattle.qu_client.specs.declared.whom.Whom.TheVariants.{Preferred}
 use Rattle.qu_client.specs.declared.work.Work.{Work}

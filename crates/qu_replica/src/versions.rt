@@ -2,7 +2,7 @@ ghost use Rattle.std.specs.Prelude.{◌≡◌, IfOk};
 ghost use Rattle.qu_fitting.specs.Holding.{stored_all};
 
 use qu_base::NoMemory;
-use qu_rows::Accepted;
+use qu_mends::Accepted;
 use qu_versions::{Prepared, Stored};
 use std::alloc::Global;
 

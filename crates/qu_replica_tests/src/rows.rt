@@ -4,8 +4,8 @@ use kind_counter::Counter;
 use qu_base::{ClientId, Digest, List, ObjectId, ReplicaId};
 use qu_frames::Refusal;
 use qu_history::{HISTORY_LIMIT, History};
+use qu_mends::{Accepted, Mend, Mending, Part, Remedy};
 use qu_objects::{ObjState, Value};
-use qu_rows::{Mend, Mending, Remedy};
 use qu_stamp::{Candidate, Group, LAST_TIME, Stamp};
 use std::alloc::Global;
 use std::test::Fail;
@@ -56,6 +56,7 @@ fn mend(remedy: Remedy, latest: u64) -> Mend {
             at(latest).stamp
         },
         remedy,
+        group: Group::none(),
     }
 }
 
@@ -94,13 +95,28 @@ fn outcome(alloc: Global, mend: &Mend, own: &History, found: bool) -> Result<See
         kept: List::new(alloc),
         links: List::new(alloc),
     };
-    let version = if found { Some(&version) } else { None };
-    Ok(match mend.decide(alloc, own, version)? {
-        Mending::Mends { candidate, version } => Seen::Adds(candidate, number_of(&version)),
-        Mending::Holds { stamp } => Seen::Holds(stamp),
-        Mending::Refuses(why) => Seen::Refuses(why),
-        Mending::Waits => Seen::Waits,
-    })
+    let part = Part {
+        object: OBJECT,
+        latest: mend.latest,
+        remedy: mend.remedy,
+        own: Some(own),
+        version: if found { Some(&version) } else { None },
+    };
+    let parts = List::one(alloc, part)?;
+    match mend.decide(alloc, parts.as_slice())? {
+        Mending::Mends { accepted, .. } => adds(accepted.as_slice()),
+        Mending::Holds { stamp } => Ok(Seen::Holds(stamp)),
+        Mending::Refuses(why) => Ok(Seen::Refuses(why)),
+        Mending::Waits { .. } => Ok(Seen::Waits),
+    }
+}
+
+/// What is added to one object.
+fn adds(accepted: &[Accepted]) -> Result<Seen, Fail> {
+    match accepted {
+        [one] => Ok(Seen::Adds(one.candidate, number_of(&one.state))),
+        _ => Err("not one object".into()),
+    }
 }
 
 fn number_of(version: &Option<ObjState>) -> Option<u64> {
@@ -242,4 +258,77 @@ fn what_a_plan_needs_is_told_first(rt: HostRuntime) -> Result<(), Fail> {
         &not_current(),
     )?;
     wants(alloc, Remedy::Unshown(member), 3, (4, false), &needs)
+}
+
+const OTHER: ObjectId = ObjectId(7);
+
+/// The candidate of this time on both objects, of one group.
+fn joined(time: u64) -> Result<Candidate, Fail> {
+    let Some(group) = Group::new(&[(OBJECT, time), (OTHER, time)]) else {
+        return Err("no group".into());
+    };
+    Ok(Candidate {
+        group,
+        ..at(time)
+    })
+}
+
+/// What a replica makes of a request to add the candidate of time 3 to both objects. Of each it has so many candidates,
+/// and the version or not.
+fn of_two(
+    alloc: Global,
+    (first, first_found): (usize, bool),
+    (second, second_found): (usize, bool),
+) -> Result<Mending, Fail> {
+    let version = ObjState {
+        value: Value::Counter(Counter::new(7)),
+        kept: List::new(alloc),
+        links: List::new(alloc),
+    };
+    let candidate = joined(3)?;
+    let remedy = Remedy::Shown(candidate);
+    let mend = Mend {
+        group: candidate.group,
+        ..mend(remedy, 3)
+    };
+    let mut parts = List::new(alloc);
+    let (lower, higher) = (own(alloc, first)?, own(alloc, second)?);
+    for (object, own, found) in [(OBJECT, &lower, first_found), (OTHER, &higher, second_found)] {
+        parts.push(Part {
+            object,
+            latest: candidate.stamp,
+            remedy,
+            own: Some(own),
+            version: if found { Some(&version) } else { None },
+        })?;
+    }
+    Ok(mend.decide(alloc, parts.as_slice())?)
+}
+
+#[test]
+fn a_group_is_mended_whole(rt: HostRuntime) -> Result<(), Fail> {
+    let alloc = rt.alloc();
+    let objects = match of_two(alloc, (2, true), (3, true))? {
+        Mending::Mends { accepted, .. } => (accepted[0].object, accepted[1].object),
+        _ => return Err("not mended".into()),
+    };
+    if objects != (OBJECT, OTHER) {
+        return Err("other objects".into());
+    }
+    match of_two(alloc, (2, true), (3, false))? {
+        Mending::Waits { missing } if missing.as_slice() == [(OTHER, at(3).stamp)] => Ok(()),
+        _ => Err("does not wait for the version of the second".into()),
+    }
+}
+
+#[test]
+fn the_lowest_object_is_named(rt: HostRuntime) -> Result<(), Fail> {
+    let alloc = rt.alloc();
+    for (first, second, named) in [(5, 5, OBJECT), (2, 5, OTHER), (5, 2, OBJECT)] {
+        match of_two(alloc, (first, true), (second, true))? {
+            Mending::Refuses(Refusal::NotCurrent(object, _)) if object == named => {}
+            _ => return Err("another answer".into()),
+        }
+    }
+    Ok(())
 }

@@ -24,19 +24,18 @@ use Rattle.qu_frames.specs.declared.verdict.Refusal.{Refusal}
 use Rattle.qu_frames.specs.declared.verdict.Refusal.TheVariants as refusal
 use Rattle.qu_frames.specs.declared.verdict.Verdict.{Verdict}
 use Rattle.qu_frames.specs.declared.verdict.Verdict.TheVariants as verdict
-use Rattle.qu_rows.specs.declared.decision.Accepted.{Accepted}
+use Rattle.qu_mends.specs.declared.accepted.Accepted.{Accepted}
 use Rattle.qu_rows.specs.declared.decision.Decision.{Decision}
 use Rattle.qu_rows.specs.declared.decision.Decision.TheVariants.{Answers, Waits}
-use Rattle.qu_rows.specs.declared.mending.Mending.{Mending}
-use Rattle.qu_rows.specs.declared.mending.Mending.TheVariants as mending
-use Rattle.qu_rows.specs.declared.remedy.Remedy.{Remedy}
+use Rattle.qu_mends.specs.declared.mending.Mending.{Mending}
+use Rattle.qu_mends.specs.declared.mending.Mending.TheVariants as mending
 use Rattle.qu_rows.specs.State.{ReplicaState, own_candidates, own_latest}
-use Rattle.qu_rows.specs.Rows.{asked_of, Asked, refuse, shown_of, method_base, base_version, row_unknown, row_thin, row_retry, row_current, row_method, row_version, row_kept, row_time, row_full, row_done, row_told, decide_act, decide_ask, decision_on, row_few, decision_by, mending_on, decide_repair, mend_asked}
-use Rattle.qu_rows.specs.Table.{first_given}
+use Rattle.qu_rows.specs.Rows.{asked_of, Asked, refuse, shown_of, method_base, base_version, row_unknown, row_thin, row_retry, row_current, row_method, row_version, row_kept, row_time, row_full, row_done, row_told, decide_act, decide_ask, decision_on, row_few, decision_by, mending_on, decide_repair}
+use Rattle.qu_mends.specs.Table.{first_given}
 use Rattle.qu_versions.specs.Versions.{version_at}
 use Rattle.qu_fitting.proofs.CarriedEach.{with_stamps, AreBases, AreBefores, told_each}
 use Rattle.qu_fitting.proofs.PassedRows.{base_of, before_of, passed_current, passed_method, passed_version}
-use Rattle.qu_accepts.proofs.Grounds.{is_base}
+use Rattle.qu_grounds.proofs.Grounds.{is_base}
 use Rattle.qu_replies.specs.Replies.{HasTold, TellsQuery, IsOfUpdate}
 
 -- ---- the rows
@@ -142,7 +141,7 @@ module _ (P : Decision → Type 0) (refused : (why : Refusal) → P (refuse why)
   last_row decision is = is
 
   mend_cases : (target : ObjectId)
-      → P (decision_by target (mend_asked state asked target).remedy (mending_on state asked target))
+      → P (decision_by target (mending_on state asked target))
       → P (decide_repair state asked target)
   unfolding decide_repair
   mend_cases target mended =
@@ -270,11 +269,11 @@ IsNoAnswer (Waits missing) = Unit {0}
 
 module _ (state : ReplicaState) (client : ClientId) (number : ℕ) (sets : List SetOf) (target : ObjectId)
     (accepted : List Accepted) where
-  by_mending : (remedy : Remedy) (made : Mending) → IsNoAnswer (decision_by target remedy made)
-  by_mending remedy (mending.Mends candidate version) = tt
-  by_mending remedy (mending.Holds stamp) = tt
-  by_mending remedy (mending.Refuses why) = tt
-  by_mending remedy mending.Waits = tt
+  by_mending : (made : Mending) → IsNoAnswer (decision_by target made)
+  by_mending (mending.Mends stamp added) = tt
+  by_mending (mending.Holds stamp) = tt
+  by_mending (mending.Refuses why) = tt
+  by_mending (mending.Waits missing) = tt
 
   mend_answers_none : (given : Verdict)
       → decision_on state (asked_of client number sets (body.Mend target)) (body.Mend target)
@@ -282,7 +281,7 @@ module _ (state : ReplicaState) (client : ClientId) (number : ℕ) (sets : List 
   mend_answers_none given decided =
       subst IsNoAnswer decided
       (mend_cases IsNoAnswer (λ why. tt) (λ missing. tt) state (asked_of client number sets (body.Mend target)) target
-      (by_mending _ (mending_on state (asked_of client number sets (body.Mend target)) target)))
+      (by_mending (mending_on state (asked_of client number sets (body.Mend target)) target)))
 
   -- what is told of an operation is not told of a repair
   pub mend_is_not_told : (stamps : List (ObjectId × Stamp)) (answer : Answer)

@@ -13,7 +13,7 @@ use Rattle.qu_frames.specs.declared.frame.Body.{Body}
 use Rattle.qu_frames.specs.declared.frame.Body.TheVariants as body
 use Rattle.qu_frames.specs.declared.verdict.Verdict.{Verdict}
 use Rattle.qu_frames.specs.declared.verdict.Verdict.TheVariants as verdict
-use Rattle.qu_rows.specs.declared.decision.Accepted.{Accepted}
+use Rattle.qu_mends.specs.declared.accepted.Accepted.{Accepted}
 use Rattle.qu_rows.specs.declared.decision.Decision.{Decision}
 use Rattle.qu_rows.specs.declared.decision.Decision.TheVariants.{Answers}
 use Rattle.qu_rows.specs.State.{ReplicaState}
@@ -37,7 +37,7 @@ use Rattle.qu_replies.proofs.TrueReplies.{done_is_true, already_is_true, act_is_
 use Rattle.qu_claims.specs.Carried.{Brings}
 use Rattle.qu_claims.specs.Handled.{is_of_setup}
 use Rattle.qu_claims.specs.Handling.{Handles}
-use Rattle.qu_accepts.proofs.ActAcceptance.{alike_candidates}
+use Rattle.qu_grounds.proofs.ActAcceptance.{alike_candidates}
 use Rattle.std.specs.List.{list_all}
 use Rattle.std.proofs.lemmas.List.Elements.{All-weaker}
 use Rattle.qu_base.specs.declared.party.Digest.{Digest}

@@ -19,7 +19,7 @@ use Rattle.qu_frames.specs.declared.frame.Frame.TheVariants as frame
 use Rattle.qu_frames.specs.declared.frame.Letter.{Letter}
 use Rattle.qu_frames.specs.declared.verdict.Verdict.{Verdict}
 use Rattle.qu_history.specs.Sealing.{sealed_by}
-use Rattle.qu_rows.specs.declared.decision.Accepted.{Accepted}
+use Rattle.qu_mends.specs.declared.accepted.Accepted.{Accepted}
 use Rattle.qu_rows.specs.declared.decision.Decision.TheVariants.{Answers}
 use Rattle.qu_rows.specs.State.{ReplicaState}
 use Rattle.qu_fitting.specs.Holding.{accept_all}

@@ -25,7 +25,7 @@ use Rattle.qu_kept.proofs.KeyedLaws.{all_both}
 use Rattle.qu_frames.specs.declared.verdict.Verdict.TheVariants as verdict
 use Rattle.qu_versions.specs.declared.stored.Stored.{Stored}
 use Rattle.qu_versions.specs.Versions.{version_at}
-use Rattle.qu_rows.specs.declared.decision.Accepted.{Accepted}
+use Rattle.qu_mends.specs.declared.accepted.Accepted.{Accepted}
 use Rattle.qu_rows.specs.declared.decision.Decision.{Decision}
 use Rattle.qu_rows.specs.declared.decision.Decision.TheVariants.{Answers, Waits}
 use Rattle.qu_rows.specs.Allowed.{MayAcceptAll}

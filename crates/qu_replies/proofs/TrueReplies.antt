@@ -32,13 +32,13 @@ use Rattle.qu_frames.specs.declared.verdict.Verdict.TheVariants as verdict
 use Rattle.qu_versions.specs.declared.stored.Stored.{Stored}
 use Rattle.qu_versions.specs.Versions.{version_at}
 use Rattle.qu_versions.proofs.Lookup.{version_at-append, append_grows}
-use Rattle.qu_rows.specs.declared.decision.Accepted.{Accepted}
+use Rattle.qu_mends.specs.declared.accepted.Accepted.{Accepted}
 use Rattle.qu_rows.specs.declared.decision.Decision.{Decision}
 use Rattle.qu_rows.specs.declared.decision.Decision.TheVariants.{Answers, Waits}
 use Rattle.qu_rows.specs.Allowed.{MayAcceptAll, MayDecide}
 use Rattle.qu_rows.specs.State.{ReplicaState, own_candidates}
 use Rattle.qu_rows.specs.Rows.{asked_of, Asked, method_base, base_version, fresh_stamp, standing_in, repeated, row_unknown, row_current, row_method, row_version, row_kept, row_done, decide_act, decision_on}
-use Rattle.qu_rows.specs.Table.{first_given}
+use Rattle.qu_mends.specs.Table.{first_given}
 use Rattle.qu_rows.proofs.Allowed.{decision_on-may}
 use Rattle.qu_fitting.specs.Holding.{accept_all}
 use Rattle.qu_fitting.proofs.AcceptingAll.{accept_all-is}
@@ -46,8 +46,8 @@ use Rattle.qu_fitting.proofs.CarriedEach.{with_stamps, accepted_each, AreBases, 
 use Rattle.qu_fitting.proofs.PassedRows.{base_of, before_of, passed_method, passed_version}
 use Rattle.qu_claims.specs.Grounds.{stored_of}
 use Rattle.qu_claims.specs.Parts.{Names}
-use Rattle.qu_accepts.proofs.ActAcceptance.{MakesAll, makes_all, fresh, afters, stored_each, added_to}
-use Rattle.qu_accepts.proofs.Performed.{named_stored}
+use Rattle.qu_grounds.proofs.ActAcceptance.{MakesAll, makes_all, fresh, afters, stored_each, added_to}
+use Rattle.qu_grounds.proofs.Performed.{named_stored}
 use Rattle.qu_replies.specs.Replies.{Keeps, HasDone, TellsDone, HasKept, TellsAlready, IsOfUpdate}
 use Rattle.qu_replies.proofs.EachOf.{each_of_made, first_of_made, first_also, all_first, all_named}
 use Rattle.qu_replies.proofs.KeptActs.{kept_where}

@@ -1,6 +1,6 @@
 -- What a replica decides upon a request, it may accept.
-use Rattle.std.proofs.Common.{◌≡◌, ℕ, zero, suc, ◌+◌, ◌<◌, ◌≤◌, Bool, true, false, cond, IsTrue, List, [], ◌∷◌, ◌++◌, length, Option, None, Some, inl, inr, refl, sym, subst, ap, ◌∙◌, arith}
-use Rattle.std.specs.Prelude.{◌==◌, nat_le, find, option_map, slice_get}
+use Rattle.std.proofs.Common.{◌≡◌, ℕ, ◌+◌, ◌<◌, ◌≤◌, Bool, true, false, cond, IsTrue, List, [], ◌∷◌, ◌++◌, length, Option, None, Some, inl, inr, refl, sym, subst, ap, ◌∙◌, arith}
+use Rattle.std.specs.Prelude.{◌==◌, nat_le, find, option_map}
 use Rattle.std.specs.List.{AllByRecursion}
 use Rattle.std.proofs.lemmas.Bool.{false≢true, leb-false, ltb-false, cases_Bool, cases_lt, eqb-true}
 use Rattle.std.proofs.lemmas.Option.{none-some, same_Some}
@@ -29,20 +29,13 @@ use Rattle.qu_frames.specs.declared.verdict.Refusal.TheVariants.{UnknownObject, 
 use Rattle.qu_frames.specs.declared.verdict.Refusal.TheVariants as refusal
 use Rattle.qu_frames.specs.declared.verdict.Verdict.TheVariants.{Done}
 use Rattle.qu_frames.specs.declared.verdict.Verdict.TheVariants as verdict
-use Rattle.qu_rows.specs.declared.remedy.Remedy.{Remedy}
-use Rattle.qu_rows.specs.declared.remedy.Remedy.TheVariants.{Nothing, Shown, Fresh, Unshown, Unplanned}
-use Rattle.qu_rows.specs.declared.mend.Mend.{Mend}
-use Rattle.qu_rows.specs.declared.mending.Mending.{Mending}
-use Rattle.qu_rows.specs.declared.mending.Mending.TheVariants.{Mends, Holds, Refuses}
-use Rattle.qu_rows.specs.declared.mending.Mending.TheVariants as mending
-use Rattle.qu_rows.specs.Causes.{MakesCandidate, HasCause}
-use Rattle.qu_rows.proofs.Decided.{decided_has_cause}
-use Rattle.qu_rows.specs.declared.decision.Accepted.{Accepted}
+use Rattle.qu_rows.proofs.MendedObjects.{mending_may}
+use Rattle.qu_mends.specs.declared.accepted.Accepted.{Accepted}
 use Rattle.qu_rows.specs.declared.decision.Decision.{Decision}
 use Rattle.qu_rows.specs.declared.decision.Decision.TheVariants.{Answers, Waits}
 use Rattle.qu_rows.specs.State.{ReplicaState, own_candidates, own_latest}
-use Rattle.qu_rows.specs.Rows.{Asked, refuse, refuse_first, objects_of, method_base, shown_of, fresh_stamp, fresh_act, accepted_by, done_again, repeated, row_unknown, row_thin, row_retry, row_current, row_method, row_version, row_kept, row_time, row_full, row_done, row_told, row_few, mend_asked, wanted_version, mending_on, decision_by, decide_act, decide_ask, decide_repair, decision_on}
-use Rattle.qu_rows.specs.Table.{first_given, has_no_room}
+use Rattle.qu_rows.specs.Rows.{Asked, refuse, refuse_first, objects_of, method_base, shown_of, fresh_stamp, fresh_act, accepted_by, done_again, repeated, row_unknown, row_thin, row_retry, row_current, row_method, row_version, row_kept, row_time, row_full, row_done, row_told, row_few, mending_on, decision_by, decide_act, decide_ask, decide_repair, decision_on}
+use Rattle.qu_mends.specs.Table.{first_given, has_no_room}
 use Rattle.qu_rows.specs.Allowed.{MayAccept, MayAcceptAll, MayDecide, has_parts}
 use Rattle.qu_rows.proofs.Accepting.{accepted_of, accepted_cons, accepted_none, accepted_empty}
 
@@ -350,57 +343,13 @@ known_target state asked target known enough =
     (λ empty. let none : length (shown_of asked target) ≡ 0 = ap length empty
     in absurd (omega (arith, none, some_quorum state.keys.bounds)))
 
-pub target_found : (state : ReplicaState) (asked : Asked) (target : ObjectId) → row_unknown state asked ≡ None
-    → quorum state.keys.bounds ≤ length (shown_of asked target)
-    → (slice_get state.histories target.0 ≡ None → ⊥)
-target_found state asked target known enough =
-    none_within state.histories target.0 (known_target state asked target known enough)
-  where
-    none_within : (histories : List ObjectHistory) (place : ℕ) → place < length histories
-        → slice_get histories place ≡ None → ⊥
-    none_within [] place within none = absurd (omega arith)
-    none_within (first ∷ later) zero within none = none-some first (sym none)
-    none_within (first ∷ later) (suc place) within none = none_within later place (omega arith) none
-
--- what mends an object has no time after the last
-made_in_time : (mend : Mend) (remedy : Remedy) (candidate : Candidate) → MakesCandidate mend remedy candidate
-    → candidate.stamp.time ≤ LAST_TIME
-made_in_time mend Nothing candidate made = absurd made
-made_in_time mend (Unshown member) candidate made = absurd made
-made_in_time mend (Unplanned other) candidate made = absurd made
-made_in_time mend (Shown shown) candidate made =
-    subst (λ (it : Candidate). it.stamp.time ≤ LAST_TIME) (sym made.0) made.1
-made_in_time mend (Fresh barrier prior) candidate made =
-    let time : candidate.stamp.time ≡ mend.latest.time + 1 = ap (λ (it : Candidate). it.stamp.time) made.0 in
-    omega (arith, time, made.1)
-
--- what is made of a request to mend a known object, and has its cause
-caused_may : (state : ReplicaState) (target : ObjectId) (mend : Mend) (version : Option ObjState) (made : Mending)
-    → target.0 < length state.histories → HasCause mend (own_candidates state target) version made
-    → MayDecide state (decision_by target mend.remedy made)
-caused_may state target mend version (Mends candidate stored) known cause = (
-  record {
-    known = known;
-    later = (cause.1).above;
-    room = (cause.1).room;
-    in_time = made_in_time mend mend.remedy candidate cause.0;
-  },
-  tt,
-  tt,
-)
-caused_may state target mend version (Holds stamp) known cause = tt
-caused_may state target mend version (Refuses why) known cause = tt
-caused_may state target mend version mending.Waits known cause = tt
-
 mended : (state : ReplicaState) (asked : Asked) (target : ObjectId) → row_unknown state asked ≡ None
     → row_few state asked target ≡ None
-    → MayGive state (Some (decision_by target (mend_asked state asked target).remedy (mending_on state asked target)))
+    → MayGive state (Some (decision_by target (mending_on state asked target)))
 mended state asked target known enough decision given =
-    let mend : Mend = mend_asked state asked target in
-    subst (MayDecide state) (same_Some (decision_by target mend.remedy (mending_on state asked target)) decision given)
-    (caused_may state target mend (wanted_version state target mend.remedy) (mending_on state asked target)
-    (known_target state asked target known (enough_shown state asked target enough))
-    (decided_has_cause mend (own_candidates state target) (wanted_version state target mend.remedy)))
+    subst (MayDecide state) (same_Some (decision_by target (mending_on state asked target)) decision given)
+    (mending_may state asked target (no_unknown state asked known)
+    (known_target state asked target known (enough_shown state asked target enough)))
 
 pub may_repair : (state : ReplicaState) (asked : Asked) (target : ObjectId)
     → MayDecide state (decide_repair state asked target)

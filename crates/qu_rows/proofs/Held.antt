@@ -8,8 +8,9 @@ use Rattle.qu_stamp.specs.declared.candidate.Candidate.{Candidate}
 use Rattle.qu_stamp.proofs.Order.{is_below_by_time}
 use Rattle.qu_history.specs.History.{ObjectHistory, latest, holds}
 use Rattle.qu_history.proofs.Stamps.{not_below_latest}
-use Rattle.qu_rows.specs.State.{ReplicaState, candidates_in, own_candidates}
-use Rattle.qu_rows.specs.declared.seen.Seen.{Seen}
+use Rattle.qu_rows.specs.State.{ReplicaState, own_candidates}
+use Rattle.qu_mends.specs.Table.{candidates_in}
+use Rattle.qu_mends.specs.declared.seen.Seen.{Seen}
 use Rattle.qu_rows.specs.Rows.{Asked}
 use Rattle.qu_rows.specs.SeenRows.{stamp_seen, held_on}
 use Rattle.qu_rows.specs.State.{AreHistories}

@@ -1,6 +1,5 @@
-pub mod Decided
-pub mod Seeing
 pub mod Own
+pub mod MendedObjects
 pub mod Allowed
 pub mod Held
 pub mod Carried

@@ -8,10 +8,10 @@ use Rattle.qu_objects.specs.declared.state.ObjState.{ObjState}
 use Rattle.qu_objects.specs.Performing.{performed_answer}
 use Rattle.qu_kept.specs.Performing.{values_of, performed_states}
 use Rattle.qu_frames.specs.declared.verdict.Verdict.TheVariants.{Done}
-use Rattle.qu_rows.specs.declared.decision.Accepted.{Accepted}
+use Rattle.qu_mends.specs.declared.accepted.Accepted.{Accepted}
 use Rattle.qu_rows.specs.declared.decision.Decision.{Decision}
 use Rattle.qu_rows.specs.declared.decision.Decision.TheVariants.{Answers}
-use Rattle.qu_rows.specs.declared.seen.Seen.{Seen}
+use Rattle.qu_mends.specs.declared.seen.Seen.{Seen}
 use Rattle.qu_rows.specs.Rows.{Asked}
 use Rattle.qu_rows.specs.SeenRows.{stamp_seen, fresh_keys, accepted_on, done_by}
 

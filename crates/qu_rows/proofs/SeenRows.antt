@@ -19,12 +19,12 @@ use Rattle.qu_frames.specs.declared.verdict.ClassCode.TheVariants.{Barrier}
 use Rattle.qu_frames.specs.declared.verdict.Refusal.{Refusal}
 use Rattle.qu_frames.specs.declared.verdict.Refusal.TheVariants.{NotCurrent, NotMethod, TimeSpent, HistoryFull}
 use Rattle.qu_frames.specs.declared.verdict.Verdict.TheVariants.{Done, Told}
-use Rattle.qu_rows.specs.declared.seen.Seen.{Seen}
-use Rattle.qu_rows.specs.declared.decision.Accepted.{Accepted}
+use Rattle.qu_mends.specs.declared.seen.Seen.{Seen}
+use Rattle.qu_mends.specs.declared.accepted.Accepted.{Accepted}
 use Rattle.qu_rows.specs.declared.decision.Decision.{Decision}
 use Rattle.qu_rows.specs.declared.decision.Decision.TheVariants.{Answers, Waits}
 use Rattle.qu_rows.specs.State.{ReplicaState, own_candidates, own_latest}
-use Rattle.qu_rows.specs.Table.{first_given, has_no_room}
+use Rattle.qu_mends.specs.Table.{first_given, has_no_room}
 use Rattle.qu_rows.specs.Rows.{Asked, seen_of, class_code, refuse, refuse_first, missing_of, method_base, base_version, base_versions, base_stamps, fresh_stamp, fresh_act, fresh_stamps, fresh_versions, is_held, standing_in, done_again, repeated, accepted_by, row_unknown, row_thin, row_retry, row_current, row_method, row_version, row_kept, row_time, row_full, row_done, row_told, decide_act, decide_ask, objects_of}
 use Rattle.qu_rows.specs.SeenRows.{version_seen, stamp_seen, base_key, fresh_key, held_on, versions_under, base_keys, fresh_keys, again_by, retry_on, current_on, method_on, version_on, kept_by, time_on, full_on, accepted_on, done_by, told_on, act_upon, ask_upon}
 use Rattle.qu_rows.proofs.Carried.{fresh_on-stamp}

@@ -11,7 +11,7 @@ use Rattle.qu_stamp.specs.declared.stamp.Stamp.{Stamp}
 use Rattle.qu_stamp.specs.declared.candidate.Candidate.{Candidate}
 use Rattle.qu_objects.specs.declared.state.ObjState.{ObjState}
 use Rattle.qu_versions.specs.Versions.{version_at}
-use Rattle.qu_rows.specs.declared.seen.Seen.{Seen}
+use Rattle.qu_mends.specs.declared.seen.Seen.{Seen}
 use Rattle.qu_rows.specs.State.{ReplicaState}
 use Rattle.qu_rows.specs.SeenRows.{version_seen, versions_under, base_keys}
 

@@ -1,8 +1,3 @@
-pub mod Table
-pub mod Seen
-pub mod Remedy
-pub mod Mending
-pub mod Causes
 pub mod Waiting
 pub mod State
 pub mod Rows

@@ -33,18 +33,18 @@ use Rattle.qu_frames.specs.declared.verdict.ClassCode.TheVariants.{InlineMethod,
 use Rattle.qu_frames.specs.declared.verdict.Refusal.{Refusal}
 use Rattle.qu_frames.specs.declared.verdict.Refusal.TheVariants as refusal
 use Rattle.qu_frames.specs.declared.verdict.Verdict.TheVariants as verdict
-use Rattle.qu_rows.specs.declared.remedy.Remedy.{Remedy}
-use Rattle.qu_rows.specs.declared.mend.Mend.{Mend}
-use Rattle.qu_rows.specs.declared.mending.Mending.{Mending}
-use Rattle.qu_rows.specs.declared.mending.Mending.TheVariants as mending
-use Rattle.qu_rows.specs.Remedy.{mend_of, wanted_by}
-use Rattle.qu_rows.specs.Mending.{decide_mend}
-use Rattle.qu_rows.specs.declared.seen.Seen.{Seen}
-use Rattle.qu_rows.specs.declared.decision.Accepted.{Accepted}
+use Rattle.qu_mends.specs.declared.remedy.Remedy.{Remedy}
+use Rattle.qu_mends.specs.declared.mend.Mend.{Mend}
+use Rattle.qu_mends.specs.declared.mending.Mending.{Mending}
+use Rattle.qu_mends.specs.declared.mending.Mending.TheVariants as mending
+use Rattle.qu_mends.specs.Remedy.{MendPart, mend_of, remedies_of, wanted_by}
+use Rattle.qu_mends.specs.Mending.{decide_mend}
+use Rattle.qu_mends.specs.declared.seen.Seen.{Seen}
+use Rattle.qu_mends.specs.declared.accepted.Accepted.{Accepted}
 use Rattle.qu_rows.specs.declared.decision.Decision.{Decision}
 use Rattle.qu_rows.specs.declared.decision.Decision.TheVariants.{Answers, Waits}
-use Rattle.qu_rows.specs.Seen.{seen_in}
-use Rattle.qu_rows.specs.Table.{first_given, has_no_room}
+use Rattle.qu_mends.specs.Seen.{seen_in}
+use Rattle.qu_mends.specs.Table.{first_given, has_no_room}
 use Rattle.qu_rows.specs.State.{ReplicaState, own_candidates, own_latest}
 use Rattle.qu_versions.specs.Versions.{version_at, has_version}
 
@@ -303,32 +303,39 @@ abbrev pub wanted_version : ReplicaState → ObjectId → Remedy → Option ObjS
 wanted_version state target remedy =
     option_and_then (λ stamp. version_at target stamp state.versions) (wanted_by remedy)
 
+-- an object that is mended so, with what the replica has of it
+abbrev pub part_of : ReplicaState → Asked → ObjectId × Remedy → MendPart
+part_of state asked mended =
+    record {
+      object = mended.0;
+      latest = latest_of (shown_of asked mended.0);
+      remedy = mended.1;
+      own = own_candidates state mended.0;
+      version = wanted_version state mended.0 mended.1;
+    }
+
+-- those that are mended with the target
+abbrev pub parts_of : ReplicaState → Asked → ObjectId → List MendPart
+parts_of state asked target =
+    map (part_of state asked) (remedies_of state.keys.bounds asked.sets (mend_asked state asked target))
+
 -- what the replica makes of it
 abbrev pub mending_on : ReplicaState → Asked → ObjectId → Mending
-mending_on state asked target =
-    decide_mend (mend_asked state asked target) (own_candidates state target)
-    (wanted_version state target (mend_asked state asked target).remedy)
+mending_on state asked target = decide_mend (mend_asked state asked target) (parts_of state asked target)
 
--- the version of the object under this stamp, where there is one, as a key
-abbrev pub keys_at : ObjectId → Option Stamp → List (ObjectId × Stamp)
-keys_at object None = []
-keys_at object (Some stamp) = (object, stamp) ∷ []
-
--- what is added is accepted, with the version that is stored with it
-abbrev pub decision_by : ObjectId → Remedy → Mending → Decision
-decision_by target remedy (mending.Mends candidate version) =
-    Answers (verdict.Mended target candidate.stamp)
-    (record { object = target; candidate = candidate; state = version } ∷ [])
-decision_by target remedy (mending.Holds stamp) = Answers (verdict.Mended target stamp) []
-decision_by target remedy (mending.Refuses why) = refuse why
-decision_by target remedy mending.Waits = Waits (keys_at target (wanted_by remedy))
+-- what is added is accepted, with the versions that are stored with it
+abbrev pub decision_by : ObjectId → Mending → Decision
+decision_by target (mending.Mends stamp accepted) = Answers (verdict.Mended target stamp) accepted
+decision_by target (mending.Holds stamp) = Answers (verdict.Mended target stamp) []
+decision_by target (mending.Refuses why) = refuse why
+decision_by target (mending.Waits missing) = Waits missing
 
 unfoldable pub decide_repair : ReplicaState → Asked → ObjectId → Decision
 decide_repair state asked target = first_given (Waits []) (
     row_unknown state asked
     ∷ row_thin state asked
     ∷ row_few state asked target
-    ∷ Some (decision_by target (mend_asked state asked target).remedy (mending_on state asked target))
+    ∷ Some (decision_by target (mending_on state asked target))
     ∷ [])
 
 abbrev pub decision_on : ReplicaState → Asked → Body → Decision

@@ -16,12 +16,12 @@ use Rattle.qu_versions.specs.Versions.{version_at}
 use Rattle.qu_frames.specs.declared.verdict.ClassCode.TheVariants.{Barrier}
 use Rattle.qu_frames.specs.declared.verdict.Refusal.TheVariants.{NotCurrent, NotMethod, TimeSpent, HistoryFull}
 use Rattle.qu_frames.specs.declared.verdict.Verdict.TheVariants.{Done, Told}
-use Rattle.qu_rows.specs.declared.seen.Seen.{Seen}
-use Rattle.qu_rows.specs.declared.decision.Accepted.{Accepted}
+use Rattle.qu_mends.specs.declared.seen.Seen.{Seen}
+use Rattle.qu_mends.specs.declared.accepted.Accepted.{Accepted}
 use Rattle.qu_rows.specs.declared.decision.Decision.{Decision}
 use Rattle.qu_rows.specs.declared.decision.Decision.TheVariants.{Answers, Waits}
 use Rattle.qu_rows.specs.State.{ReplicaState, own_candidates, own_latest}
-use Rattle.qu_rows.specs.Table.{first_given, has_no_room}
+use Rattle.qu_mends.specs.Table.{first_given, has_no_room}
 use Rattle.qu_rows.specs.Rows.{Asked, class_code, refuse, missing_of, standing_in, done_again, repeated, row_unknown, row_thin}
 
 -- ---- of one object

@@ -9,6 +9,7 @@ use Rattle.qu_stamp.specs.declared.candidate.Candidate.{Candidate}
 use Rattle.qu_history.specs.History.{ObjectHistory, is_history, latest}
 use Rattle.qu_objects.specs.declared.kind.KindName.{KindName}
 use Rattle.qu_versions.specs.declared.stored.Stored.{Stored}
+use Rattle.qu_mends.specs.Table.{candidates_in}
 use Rattle.qu_rows.specs.Waiting.{Waiting, Running}
 
 pub record ReplicaState : Type 0 where
@@ -25,11 +26,6 @@ pub record ReplicaState : Type 0 where
 -- the same without what the replica does to get versions: all that its rows look at
 abbrev pub without_waiting : ReplicaState → ReplicaState
 without_waiting state = record state { kinds = []; waiting = []; fetching = [] }
-
--- the candidates of an object, none where the replica does not have it
-abbrev pub candidates_in : Option ObjectHistory → List Candidate
-candidates_in None = []
-candidates_in (Some history) = history.candidates
 
 abbrev pub own_candidates : ReplicaState → ObjectId → List Candidate
 own_candidates state object = candidates_in (slice_get state.histories object.0)

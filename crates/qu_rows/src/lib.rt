@@ -4,17 +4,9 @@
 
 mod asked;
 mod decision;
-mod mend;
-mod mending;
-mod remedy;
 mod rows;
-mod seen;
 mod versions;
 
 pub use asked::Asked;
-pub use decision::{Accepted, Decision};
-pub use mend::Mend;
-pub use mending::Mending;
-pub use remedy::Remedy;
+pub use decision::Decision;
 pub use rows::Rows;
-pub use seen::Seen;

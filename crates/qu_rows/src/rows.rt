@@ -5,9 +5,10 @@ ghost use Rattle.qu_history.specs.History.{latest};
 ghost use Rattle.qu_objects.specs.Parts.{are_parts};
 ghost use Rattle.qu_rows.specs.State.{AreHistories, are_own, own_latest, one_more};
 ghost use Rattle.qu_versions.specs.Versions.{version_at};
+ghost use Rattle.qu_frames.specs.declared.verdict.Verdict.TheVariants.{Mended};
+ghost use Rattle.qu_rows.specs.declared.decision.Decision.TheVariants.{Answers};
 ghost use Rattle.qu_rows.specs.Allowed.{MayDecide};
-ghost use Rattle.qu_rows.specs.Table.{has_no_room};
-ghost use Rattle.qu_rows.specs.Rows.{shown_of, seen_of, row_few, mend_asked, mending_on, keys_at, decision_by, decide_repair, row_unknown, decide_act, decide_ask, decision_on, objects_of};
+ghost use Rattle.qu_rows.specs.Rows.{shown_of, seen_of, row_few, wanted_version, part_of, mending_on, decision_by, decide_repair, row_unknown, decide_act, decide_ask, decision_on, objects_of};
 ghost use Rattle.qu_rows.specs.SeenRows.{versions_under, base_keys, current_on, method_on, version_on, act_upon, ask_upon};
 
 mod acting;
@@ -16,17 +17,14 @@ mod making;
 mod retrying;
 
 use crate::asked::Asked;
-use crate::decision::{Accepted, Decision, refuse};
-use crate::mend::Mend;
-use crate::mending::Mending;
-use crate::remedy::Remedy;
-use crate::seen::Seen;
+use crate::decision::{Decision, refuse};
 use crate::versions::version_of;
 use acting::{row_kept, row_method, row_time};
 use making::row_done;
 use qu_base::{List, NoMemory, ObjectId, ReplicaId};
 use qu_frames::{Body, Refusal, Verdict};
-use qu_history::{HISTORY_LIMIT, History};
+use qu_history::History;
+use qu_mends::{Accepted, Mend, Mending, Part, Remedy, Seen};
 use qu_objects::{Act, ObjState, Query};
 use qu_seal::KeyRing;
 use qu_stamp::Stamp;
@@ -124,7 +122,7 @@ impl<'a> Rows<'a> {
     }
 
     /// What it makes of an act on objects that its sets show so.
-    #[tactic(auto, unfolding(crate::specs::SeenRows::act_upon, crate::specs::Table::first_given))]
+    #[tactic(auto, unfolding(crate::specs::SeenRows::act_upon, qu_mends::specs::Table::first_given))]
     fn decide_act_on(&self, asked: &Asked, act: &Act, seen: &[Seen]) -> Result<Decision, NoMemory>
         requires known { row_unknown self.now asked.now ≡ None }
         requires one_each { length seen.now ≡ length act.now }
@@ -164,7 +162,7 @@ impl<'a> Rows<'a> {
     }
 
     /// What it makes of a query of objects that its sets show so.
-    #[tactic(auto, unfolding(crate::specs::SeenRows::ask_upon, crate::specs::Table::first_given))]
+    #[tactic(auto, unfolding(crate::specs::SeenRows::ask_upon, qu_mends::specs::Table::first_given))]
     fn decide_ask_on(
         &self,
         asked: &Asked,
@@ -185,7 +183,7 @@ impl<'a> Rows<'a> {
     }
 
     /// What it makes of a request to mend an object.
-    #[tactic(auto, unfolding(crate::specs::Rows::decide_repair, crate::specs::Table::first_given))]
+    #[tactic(auto, unfolding(crate::specs::Rows::decide_repair, qu_mends::specs::Table::first_given))]
     fn decide_repair(&self, asked: &Asked, target: ObjectId) -> Result<Decision, NoMemory>
         requires { row_unknown self.now asked.now ≡ None }
         ensures { IfOk result (λ decision. decision ≡ decide_repair self.now asked.now target) }
@@ -196,8 +194,8 @@ impl<'a> Rows<'a> {
         if let Some(refusal) = self.row_few(asked, target) {
             return Ok(refusal);
         }
-        let (remedy, mending) = self.mending(asked, target)?;
-        decision_by(self.alloc, target, remedy, mending)
+        let mending = self.mending(asked, target)?;
+        Ok(decision_by(self.alloc, target, mending))
     }
 
     /// Refuses to mend an object of which the sets show fewer entries than a quorum.
@@ -214,28 +212,53 @@ impl<'a> Rows<'a> {
     }
 
     /// What it makes of a request to mend an object that has a quorum of entries.
-    /// The remedy stands beside it.
-    fn mending(&self, asked: &Asked, target: ObjectId) -> Result<(Remedy, Mending), NoMemory>
-        requires known { row_unknown self.now asked.now ≡ None }
-        requires enough { quorum self.now.keys.bounds ≤ length (shown_of asked.now target) }
-        ensures remedy { IfOk result (λ made. made.0 ≡ (mend_asked self.now asked.now target).remedy) }
-        ensures mending { IfOk result (λ made. made.1 ≡ mending_on self.now asked.now target) }
+    fn mending(&self, asked: &Asked, target: ObjectId) -> Result<Mending, NoMemory>
+        requires { quorum self.now.keys.bounds ≤ length (shown_of asked.now target) }
+        ensures { IfOk result (λ made. made ≡ mending_on self.now asked.now target) }
     {
-        let Some(own) = self.history(target) else {
-            unreachable!()
-        };
-        let mend = Mend::of(
-            asked.sets,
-            asked.set,
-            target,
-            asked.client,
-            &self.keys.bounds(),
-        );
-        let version = match mend.remedy.wanted() {
-            Some(stamp) => self.version(target, &stamp),
+        let bounds = self.keys.bounds();
+        let mend = Mend::of(asked.sets, asked.set, target, asked.client, &bounds);
+        let remedies = mend.remedies(self.alloc, asked.sets, &bounds)?;
+        let parts = self.parts(asked, remedies.as_slice())?;
+        mend.decide(self.alloc, parts.as_slice())
+    }
+
+    /// The objects that are mended so, each with what the replica has of it.
+    fn parts(
+        &self,
+        asked: &Asked,
+        remedies: &[(ObjectId, Remedy)],
+    ) -> Result<List<Part<'a>>, NoMemory>
+        ensures { IfOk result (λ parts. parts ≡ map (part_of self.now asked.now) remedies.now) }
+    {
+        let mut parts = List::new(self.alloc);
+        for mended in remedies {
+            parts.push(self.part(asked, mended.0, mended.1))?;
+        }
+        Ok(parts)
+    }
+
+    #[tactic(auto, using(qu_history::proofs::Method::latest_of_none))]
+    fn part(&self, asked: &Asked, object: ObjectId, remedy: Remedy) -> Part<'a>
+        ensures { result ≡ part_of self.now asked.now (object, remedy) }
+    {
+        Part {
+            object,
+            latest: asked.sets.latest(object).unwrap_or(Stamp::opening()),
+            remedy,
+            own: self.history(object),
+            version: self.wanted_version(object, &remedy),
+        }
+    }
+
+    /// The version that the remedy wants, where the replica has it.
+    fn wanted_version(&self, object: ObjectId, remedy: &Remedy) -> Option<&'a ObjState>
+        ensures { option_copied result ≡ wanted_version self.now object remedy.now }
+    {
+        match remedy.wanted() {
+            Some(stamp) => self.version(object, &stamp),
             None => None,
-        };
-        Ok((mend.remedy, mend.decide(self.alloc, own, version)?))
+        }
     }
 
     /// The rows that look for the versions upon which an operation on these objects may rest.
@@ -296,55 +319,24 @@ impl<'a> Rows<'a> {
     }
 }
 
-/// Whether the history has no room for a candidate more.
-pub(crate) fn has_no_room(own: &History) -> bool
-    ensures { result ≡ has_no_room own.now.candidates }
+/// The decision of a replica that makes this of a request to mend the target.
+fn decision_by(alloc: Global, target: ObjectId, mending: Mending) -> Decision
+    ensures { result ≡ decision_by target mending }
 {
-    HISTORY_LIMIT <= own.len()
-}
-
-/// The version of the object under this stamp, where there is one, as a key.
-fn keys_at(
-    alloc: Global,
-    object: ObjectId,
-    stamp: Option<Stamp>,
-) -> Result<List<(ObjectId, Stamp)>, NoMemory>
-    ensures { IfOk result (λ keys. keys ≡ keys_at object stamp) }
-{
-    match stamp {
-        Some(stamp) => List::one(alloc, (object, stamp)),
-        None => Ok(List::new(alloc)),
+    match mending {
+        Mending::Mends { stamp, accepted } => mended(target, stamp, accepted),
+        Mending::Holds { stamp } => mended(target, stamp, List::new(alloc)),
+        Mending::Refuses(why) => refuse(alloc, why),
+        Mending::Waits { missing } => Decision::Waits { missing },
     }
 }
 
-/// The decision of a replica that makes this of a request to mend the target.
-fn decision_by(
-    alloc: Global,
-    target: ObjectId,
-    remedy: Remedy,
-    mending: Mending,
-) -> Result<Decision, NoMemory>
-    ensures { IfOk result (λ decision. decision ≡ decision_by target remedy mending) }
+/// The decision to accept these candidates, and to tell the stamp of that of the target.
+fn mended(target: ObjectId, stamp: Stamp, accepted: List<Accepted>) -> Decision
+    ensures { result ≡ Answers (Mended target stamp) accepted }
 {
-    Ok(match mending {
-        Mending::Mends { candidate, version } => {
-            let accepted = Accepted {
-                object: target,
-                candidate,
-                state: version,
-            };
-            Decision::Answers {
-                verdict: Verdict::Mended(target, candidate.stamp),
-                accepted: List::one(alloc, accepted)?,
-            }
-        }
-        Mending::Holds { stamp } => Decision::Answers {
-            verdict: Verdict::Mended(target, stamp),
-            accepted: List::new(alloc),
-        },
-        Mending::Refuses(why) => refuse(alloc, why),
-        Mending::Waits => Decision::Waits {
-            missing: keys_at(alloc, target, remedy.wanted())?,
-        },
-    })
+    Decision::Answers {
+        verdict: Verdict::Mended(target, stamp),
+        accepted,
+    }
 }

@@ -17,7 +17,7 @@ use crate::versions;
 use qu_base::{List, NoMemory, ObjectId, Party, ReplicaId};
 use qu_frames::{Frame, Letter, Reading, Verdict, blank_mac};
 use qu_history::{AddFail, History, Sealed, Sets};
-use qu_rows::Accepted;
+use qu_mends::Accepted;
 
 impl Replica {
     /// What it will make to answer a request, upon the state with what it gained before.

@@ -4,8 +4,8 @@ ghost use Rattle.qu_rows.specs.Rows.{missing_of};
 ghost use Rattle.qu_rows.specs.SeenRows.{base_keys, versions_under};
 
 use super::Rows;
-use crate::seen::Seen;
 use qu_base::{List, NoMemory, ObjectId};
+use qu_mends::Seen;
 use qu_objects::{ObjState, Value};
 use qu_stamp::Stamp;
 use std::alloc::Global;

@@ -4,11 +4,11 @@ ghost use Rattle.qu_stamp.specs.declared.limits.TheConstants.{LAST_TIME};
 ghost use Rattle.qu_rows.specs.SeenRows.{stamp_seen, fresh_seen, fresh_keys, accepted_on, done_by};
 
 use crate::asked::Asked;
-use crate::decision::{Accepted, Decision};
-use crate::seen::Seen;
+use crate::decision::Decision;
 use qu_base::{List, NoMemory, ObjectId};
 use qu_frames::Verdict;
 use qu_kept::{Performed, perform};
+use qu_mends::{Accepted, Seen};
 use qu_objects::{Act, ObjState};
 use qu_stamp::{Candidate, Group, Stamp};
 use std::alloc::Global;

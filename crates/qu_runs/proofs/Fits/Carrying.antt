@@ -26,7 +26,7 @@ use Rattle.qu_frames.specs.Decoding.{decoded}
 use Rattle.qu_frames.specs.Signing.{mac_of, with_mac, signature, signed}
 use Rattle.qu_frames.proofs.Decoded.{decoded_is_read, one_frame}
 use Rattle.qu_frames.proofs.Signed.{text_with, signed_is_spelled, brought_is_decoded}
-use Rattle.qu_rows.specs.declared.decision.Accepted.{Accepted}
+use Rattle.qu_mends.specs.declared.accepted.Accepted.{Accepted}
 use Rattle.qu_rows.specs.declared.decision.Decision.TheVariants.{Answers}
 use Rattle.qu_rows.specs.Rows.{asked_at, decision_on}
 use Rattle.qu_rows.specs.State.{ReplicaState}

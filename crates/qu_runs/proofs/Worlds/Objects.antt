@@ -3,7 +3,8 @@ use Rattle.std.proofs.Common.{Bool, false, ◌≡◌, ℕ, zero, suc, ◌+◌, �
 use Rattle.std.specs.List.{AllZip}
 use Rattle.qu_base.specs.Bounds.{replicas}
 use Rattle.qu_objects.specs.declared.kind.KindName.{KindName}
-use Rattle.qu_rows.specs.State.{ReplicaState, candidates_in}
+use Rattle.qu_rows.specs.State.{ReplicaState}
+use Rattle.qu_mends.specs.Table.{candidates_in}
 use Rattle.qu_fitting.specs.Holding.{opening_histories}
 use Rattle.qu_replica.specs.Growth.{Grows}
 use Rattle.qu_trace.specs.declared.trace.Setup.{Setup}

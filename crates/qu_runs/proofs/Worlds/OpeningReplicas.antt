@@ -17,7 +17,8 @@ use Rattle.qu_stamp.specs.Candidate.{opening, same}
 use Rattle.qu_stamp.proofs.Order.{equal_by_same, same-self}
 use Rattle.qu_history.specs.History.{holds}
 use Rattle.qu_objects.specs.declared.kind.KindName.{KindName}
-use Rattle.qu_rows.specs.State.{ReplicaState, candidates_in, own_candidates}
+use Rattle.qu_rows.specs.State.{ReplicaState, own_candidates}
+use Rattle.qu_mends.specs.Table.{candidates_in}
 use Rattle.qu_fitting.specs.Holding.{opening_histories, replica_at_start}
 use Rattle.qu_trace.specs.declared.trace.Trace.{Trace}
 use Rattle.qu_world.specs.State.{WorldState, kinds_at, opening_replicas, ring_of}

@@ -29,7 +29,7 @@ use Rattle.qu_rows.specs.Rows.{asked_of}
 use Rattle.qu_claims.specs.Origins.{Origin}
 use Rattle.qu_rows.specs.State.{ReplicaState}
 use Rattle.qu_runs.proofs.Worlds.Settings.{AcceptedAt, accepted_somewhere, is_accepted_by}
-use Rattle.qu_accepts.proofs.Grounds.{IsOfAct, act_added}
+use Rattle.qu_grounds.proofs.Grounds.{IsOfAct, act_added}
 use Rattle.qu_claims.specs.Updates.{Update, IsOf, IsEverAccepted, NumbersRise}
 use Rattle.qu_claims.specs.Values.{HasVersion}
 use Rattle.qu_accepts.proofs.Handled.{handled, made_for}
@@ -42,7 +42,7 @@ use Rattle.qu_values.proofs.Versions.SteppedVersions.{plain_of_method}
 use Rattle.qu_values.proofs.Updating.Updates.{opening_no_act, same_accepted}
 use Rattle.qu_values.proofs.Updating.UpdateFacts.{HasValue, MadeFor, UpdateFacts, NoneIsRepeated}
 use Rattle.qu_values.proofs.Versions.Values.{one_version}
-use Rattle.qu_accepts.proofs.Parts.{same_named}
+use Rattle.qu_grounds.proofs.Parts.{same_named}
 use Rattle.qu_chain.proofs.Parents.{parent}
 use Rattle.qu_frames.specs.declared.frame.Body.{Body}
 

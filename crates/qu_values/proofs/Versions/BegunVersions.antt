@@ -12,7 +12,8 @@ use Rattle.qu_stamp.proofs.Order.{same_stamp-self, same-self, equal_by_same, equ
 use Rattle.qu_history.specs.History.{holds}
 use Rattle.qu_objects.specs.declared.kind.KindName.{KindName}
 use Rattle.qu_objects.specs.declared.state.ObjState.{ObjState}
-use Rattle.qu_rows.specs.State.{ReplicaState, candidates_in, own_candidates}
+use Rattle.qu_rows.specs.State.{ReplicaState, own_candidates}
+use Rattle.qu_mends.specs.Table.{candidates_in}
 use Rattle.qu_fitting.specs.Holding.{opening_histories, replica_at_start}
 use Rattle.qu_objects.specs.Kind.{opening_version}
 use Rattle.qu_versions.specs.Versions.{version_at, opening_store}

@@ -32,14 +32,14 @@ use Rattle.qu_claims.specs.Values.{HasVersion}
 use Rattle.qu_claims.specs.RunSetting.{setting}
 use Rattle.qu_runs.specs.Plain.{ArePlain}
 use Rattle.qu_laws.proofs.KeptEntries.{base_accepted as accepted_of_base}
-use Rattle.qu_accepts.proofs.Grounds.{above_base, group_stores_none}
+use Rattle.qu_grounds.proofs.Grounds.{above_base, group_stores_none}
 use Rattle.qu_claims.specs.Truth.{IsVersionOf}
 use Rattle.qu_values.proofs.Updating.Updates.{same_accepted}
 use Rattle.qu_values.proofs.Versions.EverAccepted.{once_accepted, quorum_ever}
 use Rattle.qu_history.specs.declared.sets.SetOf.{SetOf}
 use Rattle.qu_claims.specs.Carried.{handed}
 use Rattle.qu_frames.specs.declared.frame.Frame.{Frame}
-use Rattle.qu_accepts.proofs.Performed.{version_of_performed, version_of_mended}
+use Rattle.qu_grounds.proofs.Performed.{version_of_performed, version_of_mended}
 use Rattle.qu_chain.proofs.Parents.{parent}
 use Rattle.qu_history.proofs.Method.{method_at_plain}
 use Rattle.qu_objects.specs.declared.act.Method.{Method}
@@ -57,10 +57,10 @@ use Rattle.qu_rows.specs.State.{own_candidates}
 use Rattle.qu_claims.specs.Setting.{IsNew}
 use Rattle.qu_accepts.proofs.Handled.{handled}
 use Rattle.qu_claims.specs.Grounds.{Reasons, AddsTo, IsDelivered}
-use Rattle.qu_accepts.proofs.Parts.{adds_or_not}
+use Rattle.qu_grounds.proofs.Parts.{adds_or_not}
 use Rattle.qu_laws.proofs.Laws.{new_accepted}
 use Rattle.qu_values.proofs.Versions.EverAccepted.{held_accepted, held_ever}
-use Rattle.qu_accepts.proofs.Performed.{stored_before}
+use Rattle.qu_grounds.proofs.Performed.{stored_before}
 use Rattle.qu_frames.specs.declared.frame.Body.{Body}
 use Rattle.qu_versions.specs.declared.stored.Stored.{Stored}
 use Rattle.std.proofs.lemmas.List.{drop_at}

@@ -40,10 +40,10 @@ use Rattle.std.proofs.lemmas.List.{append-nil}
 use Rattle.qu_claims.specs.Handling.{WasFound, Learns, Handles}
 use Rattle.qu_versions.proofs.Lookup.{append_grows}
 use Rattle.qu_versions.specs.Versions.{is_stored}
-use Rattle.qu_accepts.proofs.ActAcceptance.{alike_candidates}
+use Rattle.qu_grounds.proofs.ActAcceptance.{alike_candidates}
 use Rattle.qu_accepts.proofs.Handling.{mid_candidates}
 use Rattle.qu_accepts.proofs.Happenings.{moves_at, handled_moves}
-use Rattle.qu_accepts.proofs.Performed.{stored_cases}
+use Rattle.qu_grounds.proofs.Performed.{stored_cases}
 use Rattle.qu_values.proofs.Versions.SteppedVersions.{later_of_stamp, version_of_stamp, moved-versioned, request_adds, same_behind}
 use Rattle.qu_stamp.specs.Stamp.{same_stamp}
 use Rattle.qu_stamp.proofs.Order.{equal_by_same_stamp}

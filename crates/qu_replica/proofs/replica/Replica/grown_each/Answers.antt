@@ -3,7 +3,7 @@ use Rattle.std.proofs.Common.{rules, ◌≡◌, ◌<◌, List, [], ◌∷◌, �
 use Rattle.std.specs.List.{AllByRecursion}
 use Rattle.std.proofs.lemmas.List.{take_more, take_all}
 use Rattle.qu_history.specs.History.{ObjectHistory}
-use Rattle.qu_rows.specs.declared.decision.Accepted.{Accepted}
+use Rattle.qu_mends.specs.declared.accepted.Accepted.{Accepted}
 use Rattle.qu_rows.specs.Allowed.{MayAccept}
 use Rattle.qu_rows.specs.State.{ReplicaState, AreHistories}
 use Rattle.qu_fitting.specs.Holding.{with_histories}

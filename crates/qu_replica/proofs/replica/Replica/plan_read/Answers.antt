@@ -9,7 +9,7 @@ use Rattle.qu_frames.specs.declared.frame.Letter.{Letter}
 use Rattle.qu_rows.specs.Waiting.{TakenRequest, taken_by}
 use Rattle.qu_rows.specs.State.{ReplicaState}
 use Rattle.qu_rows.specs.declared.decision.Decision.TheVariants.{Answers, Waits}
-use Rattle.qu_rows.specs.declared.decision.Accepted.{Accepted}
+use Rattle.qu_mends.specs.declared.accepted.Accepted.{Accepted}
 use Rattle.qu_replica.specs.declared.planned.Planned.{Planned}
 use Rattle.qu_fitting.specs.Holding.{accept_all}
 use Rattle.qu_replica.specs.State.{with_gain}

@@ -7,7 +7,7 @@ use Rattle.qu_base.specs.declared.party.ClientId.{ClientId}
 use Rattle.qu_frames.specs.declared.frame.Letter.{Letter}
 use Rattle.qu_rows.specs.Waiting.{TakenRequest, Waiting, Running, taken_by}
 use Rattle.qu_rows.specs.State.{ReplicaState, AreHistories}
-use Rattle.qu_rows.specs.declared.decision.Accepted.{Accepted}
+use Rattle.qu_mends.specs.declared.accepted.Accepted.{Accepted}
 use Rattle.qu_rows.specs.declared.decision.Decision.TheVariants as decision
 use Rattle.qu_replica.specs.declared.planned.Gain.{Gain}
 use Rattle.qu_waiting.specs.declared.next.Next.TheVariants.{Nothing, Lacks}

@@ -1,0 +1,234 @@
+-- The versions of accepted candidates are the parts of the act performed upon the versions of their bases.
+use Rattle.std.proofs.Common.{◌≡◌, ◌==◌, ◌⊎◌, ℕ, Bool, true, false, cond, List, [], ◌∷◌, ◌++◌, None, Some, inl, inr, refl, sym, ap, subst, ◌∙◌, Option}
+use Rattle.std.proofs.lemmas.Bool.{cases_Bool, and_from, and_parts, eq-eqb, eqb-true}
+use Rattle.std.proofs.lemmas.Option.{none-some}
+use Rattle.qu_base.specs.declared.party.ObjectId.{ObjectId}
+use Rattle.qu_stamp.specs.declared.stamp.Stamp.{Stamp}
+use Rattle.qu_stamp.specs.declared.candidate.Candidate.{Candidate}
+use Rattle.qu_stamp.specs.Stamp.{same_stamp}
+use Rattle.qu_stamp.proofs.Order.{same_stamp-self, equal_by_same_stamp}
+use Rattle.qu_objects.specs.declared.act.Method.{Method}
+use Rattle.qu_objects.specs.declared.state.ObjState.{ObjState}
+use Rattle.qu_versions.specs.declared.stored.Stored.{Stored}
+use Rattle.qu_rows.specs.State.{ReplicaState}
+use Rattle.qu_fitting.specs.Holding.{stored_if}
+use Rattle.qu_versions.specs.Versions.{is_stored, version_at}
+use Rattle.qu_claims.specs.Parts.{Names}
+use Rattle.qu_claims.specs.Grounds.{stored_of, Performs, Reasons, AddsTo, IsRemedy}
+use Rattle.qu_rows.specs.Rows.{Asked}
+use Rattle.qu_grounds.proofs.Grounds.{group_stores_none}
+use Rattle.qu_frames.specs.declared.frame.Body.{Body}
+use Rattle.qu_frames.specs.declared.frame.Body.TheVariants as body
+
+-- what is found with more versions was found before, or is among these
+pub stored_cases : (object : ObjectId) (stamp : Stamp) (versions more : List Stored) (version : ObjState)
+    → version_at object stamp (versions ++ more) ≡ Some version
+    → (version_at object stamp versions ≡ Some version) ⊎ (version_at object stamp more ≡ Some version)
+unfolding version_at
+stored_cases object stamp [] more version found = inr found
+stored_cases object stamp (held ∷ later) more version found =
+    elim (is_stored object stamp held)
+    as (λ (test : Bool). cond test (Some held.state) (version_at object stamp (later ++ more)) ≡ Some version
+    → (cond test (Some held.state) (version_at object stamp later) ≡ Some version)
+    ⊎ (version_at object stamp more ≡ Some version)) [
+      | true ↦ λ here. inl here
+      | false ↦ λ there. stored_cases object stamp later more version there
+    ] found
+
+-- where none was held under its stamp before, a version is found among these
+version_at-later : (object : ObjectId) (stamp : Stamp) (versions more : List Stored)
+    → version_at object stamp versions ≡ None
+    → version_at object stamp (versions ++ more) ≡ version_at object stamp more
+unfolding version_at
+version_at-later object stamp [] more none = refl
+version_at-later object stamp (held ∷ later) more none =
+    elim (is_stored object stamp held)
+    as (λ (test : Bool). cond test (Some held.state) (version_at object stamp later) ≡ None
+    → cond test (Some held.state) (version_at object stamp (later ++ more)) ≡ version_at object stamp more) [
+      | true ↦ λ here. absurd (none-some held.state (sym here))
+      | false ↦ λ there. version_at-later object stamp later more there
+    ] none
+
+-- and so a version that is stored alone
+pub version_at-push : (object : ObjectId) (stamp : Stamp) (versions : List Stored) (version : ObjState)
+    → version_at object stamp versions ≡ None
+    → version_at object stamp (versions ++ (record { object = object; stamp = stamp; state = version }) ∷ [])
+    ≡ Some version
+unfolding version_at
+version_at-push object stamp versions version none =
+    version_at-later object stamp versions _ none
+    ∙ ap (λ (test : Bool). cond test (Some version) None)
+    (and_from _ _ (eq-eqb object.0 object.0 refl) (same_stamp-self stamp))
+
+module _ (candidates : ObjectId → Candidate) (versions : ObjectId → ObjState) where
+  abbrev stored : List (ObjectId × Method) → List Stored
+  stored parts = stored_of candidates versions parts
+
+  -- the part is on the object whose version is found
+  abbrev IsAmong : List (ObjectId × Method) → ObjectId → Stamp → Type 0
+  IsAmong parts object stamp = Names parts object × ((candidates object).stamp ≡ stamp)
+
+  same_object : (part : ObjectId × Method) (object : ObjectId) (stamp : Stamp)
+      → is_stored object stamp (record {
+        object = part.0;
+        stamp = (candidates part.0).stamp;
+        state = versions part.0;
+      }) ≡ true → (part.0 ≡ object) × ((candidates part.0).stamp ≡ stamp)
+  same_object part object stamp found =
+      let tests : (((part.0).0 == object.0) ≡ true) × (same_stamp (candidates part.0).stamp stamp ≡ true) =
+      and_parts _ _ found in
+      let numbered : ℕ → ObjectId = λ it. record { 0 = it } in
+      (ap numbered (eqb-true _ _ tests.0), equal_by_same_stamp (candidates part.0).stamp stamp tests.1)
+
+  -- a version that is found among those of the parts is that of one of their candidates
+  pub among_stored : (parts : List (ObjectId × Method)) (object : ObjectId) (stamp : Stamp) (version : ObjState)
+      → version_at object stamp (stored parts) ≡ Some version → IsAmong parts object stamp
+  unfolding version_at
+  among_stored [] object stamp version found = absurd (none-some version found)
+  among_stored (part ∷ later) object stamp version found =
+      let head : Stored = record { object = part.0; stamp = (candidates part.0).stamp; state = versions part.0 } in
+      elim (cases_Bool (is_stored object stamp head)) [
+        | inl here ↦
+            let same = same_object part object stamp here in (
+              inl same.0,
+              subst (λ (it : ObjectId). (candidates it).stamp ≡ stamp) same.0 same.1,
+            )
+        | inr there ↦
+            let inner : IsAmong later object stamp =
+            among_stored later object stamp version
+            (ap (λ (test : Bool). cond test (Some (versions part.0)) (version_at object stamp (stored later)))
+            (sym there) ∙ found) in
+            (inr inner.0, inner.1)
+      ]
+
+  head_stored : (part : ObjectId × Method) (later : List (ObjectId × Method))
+      → version_at part.0 (candidates part.0).stamp (stored (part ∷ later)) ≡ Some (versions part.0)
+  unfolding version_at
+  head_stored part later =
+      ap (λ (test : Bool). cond test (Some (versions part.0))
+      (version_at part.0 (candidates part.0).stamp (stored later)))
+      (and_from _ _ (eq-eqb (part.0).0 (part.0).0 refl) (same_stamp-self (candidates part.0).stamp))
+
+  -- the version of each candidate of the parts is found
+  pub named_stored : (parts : List (ObjectId × Method)) (object : ObjectId) → Names parts object
+      → version_at object (candidates object).stamp (stored parts) ≡ Some (versions object)
+  unfolding version_at
+  named_stored [] object names = absurd names
+  named_stored (part ∷ later) object (inl same) =
+      subst (λ (it : ObjectId). version_at it (candidates it).stamp (stored (part ∷ later)) ≡ Some (versions it)) same
+      (head_stored part later)
+  named_stored (part ∷ later) object (inr names) =
+      let stamp : Stamp = (candidates object).stamp in
+      let head : Stored = record { object = part.0; stamp = (candidates part.0).stamp; state = versions part.0 } in
+      elim (cases_Bool (is_stored object stamp head)) [
+        | inl here ↦
+            subst (λ (it : ObjectId). version_at it (candidates it).stamp (stored (part ∷ later)) ≡ Some (versions it))
+            (same_object part object stamp here).0 (head_stored part later)
+        | inr there ↦
+            ap (λ (test : Bool). cond test (Some (versions part.0)) (version_at object stamp (stored later))) there
+            ∙ named_stored later object names
+      ]
+
+-- the version of what an act makes, where the replica held none under its stamp
+pub version_of_performed : (old new : ReplicaState) (asked : Asked) (parts : List (ObjectId × Method))
+    (candidates : ObjectId → Candidate) (performs : Performs old new asked parts candidates) (object : ObjectId)
+    → Names parts object → version_at object (candidates object).stamp old.versions ≡ None
+    → version_at object (candidates object).stamp new.versions ≡ Some (performs.versions object)
+version_of_performed old new asked parts candidates performs object names none =
+    ap (version_at object (candidates object).stamp) performs.stored
+    ∙ version_at-later object (candidates object).stamp old.versions _ none
+    ∙ named_stored candidates performs.versions parts object names
+
+-- and of what is added to mend an object
+pub version_of_mended : (old new : ReplicaState) (target : ObjectId) (stamp : Stamp) (version : ObjState)
+    → new.versions ≡ old.versions ++ stored_if target stamp (Some version)
+    → version_at target stamp old.versions ≡ None → version_at target stamp new.versions ≡ Some version
+version_of_mended old new target stamp version stored none =
+    ap (version_at target stamp) stored ∙ version_at-push target stamp old.versions version none
+
+-- ---- what is stored anew
+
+-- a version that is found among those that are stored is of what is added
+among_mended : (target object : ObjectId) (stamp under : Stamp) (stored : Option ObjState) (version : ObjState)
+    → version_at object under (stored_if target stamp stored) ≡ Some version → (target ≡ object) × (stamp ≡ under)
+unfolding version_at
+among_mended target object stamp under None version found = absurd (none-some version found)
+among_mended target object stamp under (Some state) version found =
+    elim (cases_Bool (is_stored object under (record { object = target; stamp = stamp; state = state }))) [
+      | inl here ↦
+          let tests : ((target.0 == object.0) ≡ true) × (same_stamp stamp under ≡ true) = and_parts _ _ here in
+          let numbered : ℕ → ObjectId = λ it. record { 0 = it } in
+          (ap numbered (eqb-true _ _ tests.0), equal_by_same_stamp stamp under tests.1)
+      | inr there ↦
+          absurd (none-some version
+          (sym (ap (λ (test : Bool). cond test (Some state) None) there) ∙ found))
+    ]
+
+-- a version comes with a remedy to a candidate without barrier alone
+remedy_plain : (state : ReplicaState) (asked : Asked) (target : ObjectId) (candidate : Candidate)
+    (stored : Option ObjState) → IsRemedy state asked target candidate stored → (object : ObjectId) (under : Stamp)
+    (version : ObjState) → version_at object under (stored_if target candidate.stamp stored) ≡ Some version
+    → candidate.stamp.barrier ≡ false
+unfolding version_at
+remedy_plain state asked target candidate stored (IsRemedy.inline_barrier barrier is_found) object under version found =
+    absurd (none-some version found)
+remedy_plain state asked target candidate stored (IsRemedy.inline_method its plain is_found is) object under version
+    found = plain
+remedy_plain state asked target candidate stored (IsRemedy.barrier barrier made) object under version found =
+    absurd (none-some version found)
+remedy_plain state asked target candidate stored (IsRemedy.copy latest its plain made barrier is_latest full is) object
+    under version found = plain
+
+-- a candidate without barrier, with this stamp, that a request adds to the object
+pub record IsAddedUnder (asks : Body) (group : List (ObjectId × ℕ)) (candidates : ObjectId → Candidate)
+    (object : ObjectId) (stamp : Stamp) : Type 0 where
+  pub adds : AddsTo asks group object
+  pub under : (candidates object).stamp ≡ stamp
+  pub plain : (candidates object).stamp.barrier ≡ false
+
+-- what a replica finds after a request it found before, or it is of what the request adds
+pub stored_before : (old new : ReplicaState) (asked : Asked) (asks : Body) (group : List (ObjectId × ℕ))
+    (candidates : ObjectId → Candidate) → Reasons old new asked asks group candidates → (object : ObjectId)
+    (stamp : Stamp) (version : ObjState) → version_at object stamp new.versions ≡ Some version
+    → (version_at object stamp old.versions ≡ Some version) ⊎ IsAddedUnder asks group candidates object stamp
+unfolding version_at
+stored_before old new asked (body.Act parts) group candidates reasons object stamp version found =
+    elim (stored_cases object stamp old.versions _ version
+    (ap (version_at object stamp) (sym reasons.stored) ∙ found)) [
+      | inl before ↦ inl before
+      | inr newest ↦
+          let both : Names parts object × ((candidates object).stamp ≡ stamp) =
+          among_stored candidates reasons.versions parts object stamp version newest in
+          inr (record {
+            adds = both.0;
+            under = both.1;
+            plain = ap (λ (it : Stamp). it.barrier) (reasons.grounds object both.0).stamp;
+          })
+    ]
+stored_before old new asked (body.Ask parts) group candidates reasons object stamp version found = absurd reasons
+stored_before old new asked (body.Mend target) (member ∷ later) candidates reasons object stamp version found =
+    elim (stored_cases object stamp old.versions _ version
+    (ap (version_at object stamp) (sym reasons.stored) ∙ found)) [
+      | inl before ↦ inl before
+      | inr newest ↦ absurd (none-some version
+          (sym (ap (λ (it : Option ObjState). version_at object stamp
+          (stored_if target (candidates target).stamp it))
+          (group_stores_none old new asked target member later candidates reasons)) ∙ newest))
+    ]
+stored_before old new asked (body.Mend target) [] candidates reasons object stamp version found =
+    elim (stored_cases object stamp old.versions _ version
+    (ap (version_at object stamp) (sym reasons.stored) ∙ found)) [
+      | inl before ↦ inl before
+      | inr newest ↦
+          let both : (target ≡ object) × ((candidates target).stamp ≡ stamp) =
+          among_mended target object (candidates target).stamp stamp reasons.version version newest in
+          let plain : (candidates target).stamp.barrier ≡ false =
+          remedy_plain old asked target (candidates target) reasons.version (reasons.remedy target refl) object stamp
+          version newest
+          in
+          inr (record {
+            adds = both.0;
+            under = ap (λ (it : ObjectId). (candidates it).stamp) (sym both.0) ∙ both.1;
+            plain = ap (λ (it : ObjectId). (candidates it).stamp.barrier) (sym both.0) ∙ plain;
+          })
+    ]

@@ -1,0 +1,392 @@
+ghost use Rattle.std.specs.Prelude.{◌≡◌, ◌≤◌, find, is_some, length, map, IfOk};
+ghost use Rattle.std.specs.List.{list_all, list_any};
+ghost use Rattle.std.specs.Option.{option_copied};
+ghost use Rattle.qu_base.specs.Bounds.{quorum};
+ghost use Rattle.qu_history.specs.Sets.{entries_of};
+ghost use Rattle.qu_mends.specs.Table.{has_no_room};
+ghost use Rattle.qu_mends.specs.Remedy.{mend_of, group_of, whole_group, remedies_of, member_remedy, addition_by, missing_key, stored_by, IsGrounded};
+ghost use Rattle.qu_mends.specs.Causes.{ArePartsOf, HasCause};
+ghost use Rattle.qu_mends.specs.Mending.{is_held_part, is_passed, is_late, is_spent, missing_in, accepted_part, accepted_parts, mend_row_plan, mend_row_held, mend_row_current, mend_row_sound, mend_row_version, mend_row_time, mend_row_full, mend_row_mended, decide_mend};
+
+use super::{Accepted, Mending, Part, Remedy, Seen};
+use qu_base::{Bounds, ClientId, Digest, List, NoMemory, ObjectId};
+use qu_class::{Class, object_base};
+use qu_frames::Refusal;
+use qu_history::Sets;
+use qu_objects::ObjState;
+use qu_stamp::{Candidate, Group, LAST_TIME, Stamp};
+use std::alloc::Global;
+
+/// A request to mend an object, with what its culled sets say of it.
+#[derive(Clone, Copy, Debug, PartialEq, Eq)]
+pub struct Mend {
+    pub target: ObjectId,
+    /// Who asks for it.
+    pub client: ClientId,
+    /// The digest of the culled sets.
+    pub set: Digest,
+    /// The latest stamp that they show of the target.
+    pub latest: Stamp,
+    /// What mends the target, by its class.
+    pub remedy: Remedy,
+    /// The objects that are mended with it, the target among them; none where it is mended alone.
+    pub group: Group,
+}
+
+// The replica's table for a request to mend an object: its rows in the order in which they are tried, below the order
+// itself. Before them stand that all objects are known and that each has a quorum of histories.
+impl Mend {
+    /// The request with these culled sets, which have this digest and a quorum of histories of the target.
+    #[tactic(auto, unfolding(crate::specs::Remedy::remedy_of))]
+    pub fn of(sets: &Sets, set: Digest, target: ObjectId, client: ClientId, bounds: &Bounds) -> Mend
+        requires quorum { quorum bounds.now ≤ length (entries_of target sets.now) }
+        ensures value { result ≡ mend_of bounds.now sets.now set target client }
+        ensures grounds { IsGrounded bounds.now (entries_of target sets.now) result.remedy }
+    {
+        let seen = Seen::of(sets, target, bounds);
+        Mend {
+            target,
+            client,
+            set,
+            latest: seen.latest,
+            remedy: Remedy::of(&seen),
+            group: group_of(&seen.class),
+        }
+    }
+
+    /// The objects that are mended, each with what mends it: those of the group, or the target.
+    #[tactic(auto, unfolding(crate::specs::Remedy::remedies_by))]
+    pub fn remedies(
+        &self,
+        alloc: Global,
+        sets: &Sets,
+        bounds: &Bounds,
+    ) -> Result<List<(ObjectId, Remedy)>, NoMemory>
+        ensures { IfOk result (λ remedies. remedies ≡ remedies_of bounds.now sets.now self.now) }
+    {
+        match self.group.pairs() {
+            [] => List::one(alloc, (self.target, self.remedy)),
+            members => member_remedies(alloc, sets, members, bounds),
+        }
+    }
+
+    /// What a replica makes of it that has this of the objects that are mended.
+    pub fn decide(&self, alloc: Global, parts: &[Part<'_>]) -> Result<Mending, NoMemory>
+        ensures value { IfOk result (λ mending. mending ≡ decide_mend self.now parts.now) }
+        ensures cause { ArePartsOf self.now parts.now → IfOk result (λ mending. HasCause self.now parts.now mending) }
+    {
+        self.first_row(alloc, parts)
+    }
+
+    /// What the first row says that fits.
+    #[tactic(auto, unfolding(crate::specs::Mending::decide_mend, crate::specs::Table::first_given))]
+    fn first_row(&self, alloc: Global, parts: &[Part<'_>]) -> Result<Mending, NoMemory>
+        ensures { IfOk result (λ mending. mending ≡ decide_mend self.now parts.now) }
+    {
+        if let Some(refused) = self.row_plan() {
+            return Ok(refused);
+        }
+        if let Some(held) = self.row_held(parts) {
+            return Ok(held);
+        }
+        if let Some(refused) = self.row_current(parts) {
+            return Ok(refused);
+        }
+        if let Some(refused) = self.row_sound() {
+            return Ok(refused);
+        }
+        if let Some(waits) = row_version(alloc, parts)? {
+            return Ok(waits);
+        }
+        if let Some(refused) = self.row_time(parts) {
+            return Ok(refused);
+        }
+        if let Some(refused) = row_full(parts) {
+            return Ok(refused);
+        }
+        match self.row_mended(alloc, parts)? {
+            Some(mended) => Ok(mended),
+            None => Ok(Mending::Refuses(Refusal::TimeSpent(self.target))),
+        }
+    }
+
+    /// Refuses a copy that has no plan.
+    #[tactic(auto, unfolding(crate::specs::Mending::mend_row_plan))]
+    fn row_plan(&self) -> Option<Mending>
+        ensures { result ≡ mend_row_plan self.now }
+    {
+        match self.remedy {
+            Remedy::Unplanned(object) => Some(Mending::Refuses(Refusal::Needs(object))),
+            _ => None,
+        }
+    }
+
+    /// Is content where all that it would add is held already.
+    #[tactic(auto, unfolding(crate::specs::Mending::mend_row_held))]
+    fn row_held(&self, parts: &[Part<'_>]) -> Option<Mending>
+        ensures { result ≡ mend_row_held self.now parts.now }
+    {
+        if !self.holds_all(parts) {
+            return None;
+        }
+        match self.addition(&self.latest, &self.remedy) {
+            Some(candidate) => Some(Mending::Holds {
+                stamp: candidate.stamp,
+            }),
+            None => None,
+        }
+    }
+
+    fn holds_all(&self, parts: &[Part<'_>]) -> bool
+        ensures { result ≡ list_all (is_held_part self.now) parts.now }
+    {
+        parts.iter().all(|part| self.is_held(part))
+    }
+
+    fn is_held(&self, part: &Part<'_>) -> bool
+        ensures { result ≡ is_held_part self.now part.now }
+    {
+        match self.addition(&part.latest, &part.remedy) {
+            Some(candidate) => part.holds(&candidate),
+            None => false,
+        }
+    }
+
+    /// Refuses sets that do not show the replica's own latest candidate of each object, and what is not above it.
+    #[tactic(auto, unfolding(crate::specs::Mending::mend_row_current))]
+    fn row_current(&self, parts: &[Part<'_>]) -> Option<Mending>
+        ensures { result ≡ mend_row_current self.now parts.now }
+    {
+        let late = self.first_late(parts)?;
+        Some(Mending::Refuses(Refusal::NotCurrent(
+            late.object,
+            late.own_latest(),
+        )))
+    }
+
+    fn first_late<'s, 'p>(&self, parts: &'s [Part<'p>]) -> Option<&'s Part<'p>>
+        ensures { option_copied result ≡ find (is_late self.now) parts.now }
+    {
+        parts.iter().find(|part| self.is_late(part))
+    }
+
+    fn is_late(&self, part: &Part<'_>) -> bool
+        ensures { result ≡ is_late self.now part.now }
+    {
+        part.latest.is_below(&part.own_latest())
+            || is_passed(part, self.addition(&part.latest, &part.remedy))
+    }
+
+    /// Refuses where there is nothing to mend, or the sets have to show an object more.
+    #[tactic(auto, unfolding(crate::specs::Mending::mend_row_sound))]
+    fn row_sound(&self) -> Option<Mending>
+        ensures { result ≡ mend_row_sound self.now }
+    {
+        match self.remedy {
+            Remedy::Nothing => Some(Mending::Refuses(Refusal::Sound(self.target))),
+            Remedy::Unshown(object) => Some(Mending::Refuses(Refusal::Needs(object))),
+            _ => None,
+        }
+    }
+
+    /// Refuses to add what would have a time after the last.
+    #[tactic(auto, unfolding(crate::specs::Mending::mend_row_time))]
+    fn row_time(&self, parts: &[Part<'_>]) -> Option<Mending>
+        ensures { result ≡ mend_row_time self.now parts.now }
+    {
+        let spent = self.first_spent(parts)?;
+        Some(Mending::Refuses(Refusal::TimeSpent(spent.object)))
+    }
+
+    fn first_spent<'s, 'p>(&self, parts: &'s [Part<'p>]) -> Option<&'s Part<'p>>
+        ensures { option_copied result ≡ find (is_spent self.now) parts.now }
+    {
+        parts
+            .iter()
+            .find(|part| self.addition(&part.latest, &part.remedy).is_none())
+    }
+
+    /// Adds the candidates on all objects.
+    #[tactic(auto, unfolding(crate::specs::Mending::mend_row_mended))]
+    fn row_mended(&self, alloc: Global, parts: &[Part<'_>]) -> Result<Option<Mending>, NoMemory>
+        ensures { IfOk result (λ row. row ≡ mend_row_mended self.now parts.now) }
+    {
+        match self.addition(&self.latest, &self.remedy) {
+            Some(candidate) => Ok(Some(Mending::Mends {
+                stamp: candidate.stamp,
+                accepted: self.accept(alloc, parts)?,
+            })),
+            None => Ok(None),
+        }
+    }
+
+    /// What is added on each object.
+    #[tactic(auto, using(crate::proofs::Parts::keeping_parts))]
+    fn accept(&self, alloc: Global, parts: &[Part<'_>]) -> Result<List<Accepted>, NoMemory>
+        ensures { IfOk result (λ accepted. accepted ≡ accepted_parts self.now parts.now) }
+    {
+        let mut accepted = List::new(alloc);
+        for part in parts {
+            if let Some(one) = self.accept_on(alloc, part)? {
+                accepted.push(one)?;
+            }
+        }
+        Ok(accepted)
+    }
+
+    fn accept_on(&self, alloc: Global, part: &Part<'_>) -> Result<Option<Accepted>, NoMemory>
+        ensures { IfOk result (λ one. one ≡ accepted_part self.now part.now) }
+    {
+        match self.addition(&part.latest, &part.remedy) {
+            Some(candidate) => Ok(Some(Accepted {
+                object: part.object,
+                candidate,
+                state: stored(alloc, part)?,
+            })),
+            None => Ok(None),
+        }
+    }
+
+    /// The candidate that would be added to an object with this remedy, of which the sets show this latest stamp. None
+    /// has a time after the last.
+    #[tactic(auto, unfolding(crate::specs::Remedy::addition_by))]
+    fn addition(&self, latest: &Stamp, remedy: &Remedy) -> Option<Candidate>
+        ensures { result ≡ addition_by self.now latest.now remedy.now }
+    {
+        match remedy {
+            Remedy::Shown(candidate) if candidate.stamp.time <= LAST_TIME => Some(*candidate),
+            Remedy::Fresh { barrier, prior } => self.fresh(latest, *barrier, *prior),
+            _ => None,
+        }
+    }
+
+    /// The candidate above all that the sets show, a barrier or a copy, which rests upon this stamp.
+    #[tactic(auto, unfolding(crate::specs::Remedy::addition_by))]
+    fn fresh(&self, latest: &Stamp, barrier: bool, prior: Stamp) -> Option<Candidate>
+        ensures { result ≡ addition_by self.now latest.now (Remedy.Fresh barrier prior) }
+    {
+        if latest.time >= LAST_TIME {
+            return None;
+        }
+        let stamp = Stamp {
+            time: latest.time + 1,
+            barrier,
+            client: self.client,
+            act: None,
+            set: self.set,
+        };
+        Some(Candidate {
+            stamp,
+            prior,
+            group: Group::none(),
+        })
+    }
+}
+
+/// What is added as it is, without barrier, is added with all members of its group.
+fn group_of(class: &Class) -> Group
+    ensures { result ≡ group_of class.now }
+{
+    match class {
+        Class::InlineMethod(candidate) => whole_group(&candidate.group),
+        _ => Group::none(),
+    }
+}
+
+/// The group, which is well formed by its type.
+fn whole_group(group: &Group) -> Group
+    ensures { result ≡ whole_group group.now }
+{
+    match group.pairs() {
+        [] => Group::none(),
+        _ => *group,
+    }
+}
+
+/// The members, each with its object candidate, which is added as it is.
+fn member_remedies(
+    alloc: Global,
+    sets: &Sets,
+    members: &[(ObjectId, u64)],
+    bounds: &Bounds,
+) -> Result<List<(ObjectId, Remedy)>, NoMemory>
+    ensures { IfOk result (λ remedies. remedies ≡ map (member_remedy bounds.now sets.now) members.now) }
+{
+    let mut remedies = List::new(alloc);
+    for member in members {
+        remedies.push((
+            member.0,
+            Remedy::Shown(object_base(sets, member.0, bounds)),
+        ))?;
+    }
+    Ok(remedies)
+}
+
+/// Waits where versions are missing upon which the mend rests.
+#[tactic(auto, unfolding(crate::specs::Mending::mend_row_version))]
+fn row_version(alloc: Global, parts: &[Part<'_>]) -> Result<Option<Mending>, NoMemory>
+    ensures { IfOk result (λ row. row ≡ mend_row_version parts.now) }
+{
+    if !lacks_version(parts) {
+        return Ok(None);
+    }
+    Ok(Some(Mending::Waits {
+        missing: missing(alloc, parts)?,
+    }))
+}
+
+fn lacks_version(parts: &[Part<'_>]) -> bool
+    ensures { result ≡ list_any (λ part. is_some (missing_key part)) parts.now }
+{
+    parts.iter().any(|part| part.missing().is_some())
+}
+
+/// The versions that are missing, as keys.
+#[tactic(auto, using(crate::proofs::Parts::keeping_parts))]
+fn missing(alloc: Global, parts: &[Part<'_>]) -> Result<List<(ObjectId, Stamp)>, NoMemory>
+    ensures { IfOk result (λ missing. missing ≡ missing_in parts.now) }
+{
+    let mut missing = List::new(alloc);
+    for part in parts {
+        if let Some(key) = part.missing() {
+            missing.push(key)?;
+        }
+    }
+    Ok(missing)
+}
+
+/// Refuses objects whose history is full.
+#[tactic(auto, unfolding(crate::specs::Mending::mend_row_full))]
+fn row_full(parts: &[Part<'_>]) -> Option<Mending>
+    ensures { result ≡ mend_row_full parts.now }
+{
+    let full = first_full(parts)?;
+    Some(Mending::Refuses(Refusal::HistoryFull(full.object)))
+}
+
+fn first_full<'s, 'p>(parts: &'s [Part<'p>]) -> Option<&'s Part<'p>>
+    ensures { option_copied result ≡ find (λ part. has_no_room part.own) parts.now }
+{
+    parts.iter().find(|part| part.is_full())
+}
+
+/// What is stored under the stamp of what is added: a copy of the version that is copied.
+#[tactic(auto, unfolding(crate::specs::Remedy::stored_by))]
+fn stored(alloc: Global, part: &Part<'_>) -> Result<Option<ObjState>, NoMemory>
+    ensures { IfOk result (λ stored. stored ≡ stored_by part.now.remedy part.now.version) }
+{
+    match (&part.remedy, part.version) {
+        (Remedy::Fresh { barrier: false, .. }, Some(version)) => Ok(Some(version.copy(alloc)?)),
+        _ => Ok(None),
+    }
+}
+
+/// Whether what would be added is not above what is held.
+fn is_passed(part: &Part<'_>, addition: Option<Candidate>) -> bool
+    ensures { result ≡ is_passed part.now.own addition }
+{
+    match addition {
+        Some(candidate) => !part.own_latest().is_below(&candidate.stamp),
+        None => false,
+    }
+}
