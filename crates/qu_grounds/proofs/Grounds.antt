@@ -122,61 +122,61 @@ cons-nil : {X : Type 0} (item : X) (items : List X) → item ∷ items ≡ [] �
 cons-nil item items same = omega (arith, ap length same)
 
 module _ (old new : ReplicaState) (asked : Asked) (group : List (ObjectId × ℕ)) (candidates : ObjectId → Candidate)
-    where
-  -- it is above all that the replica has
-  pub above_added : (asks : Body) → Reasons old new asked asks group candidates → (object : ObjectId)
-      → AddsTo asks group object → is_below (own_latest old object) (candidates object).stamp ≡ true
-  above_added (body.Act parts) reasons object names = above_own (reasons.grounds object names)
-  above_added (body.Ask parts) reasons object never = absurd never
-  above_added (body.Mend target) reasons object mended = reasons.above object mended
+  where
+    -- it is above all that the replica has
+    pub above_added : (asks : Body) → Reasons old new asked asks group candidates → (object : ObjectId)
+        → AddsTo asks group object → is_below (own_latest old object) (candidates object).stamp ≡ true
+    above_added (body.Act parts) reasons object names = above_own (reasons.grounds object names)
+    above_added (body.Ask parts) reasons object never = absurd never
+    above_added (body.Mend target) reasons object mended = reasons.above object mended
 
-  pub added_above : (asks : Body) → Reasons old new asked asks group candidates → (object : ObjectId)
-      → AddsTo asks group object → (held : Candidate) → holds held (own_candidates old object) ≡ true
-      → is_below held.stamp (candidates object).stamp ≡ true
-  added_above asks reasons object adds held holding =
-      below_by_latest held.stamp (own_latest old object) (candidates object).stamp
-      (not_below_latest (own_candidates old object) held holding) (above_added asks reasons object adds)
+    pub added_above : (asks : Body) → Reasons old new asked asks group candidates → (object : ObjectId)
+        → AddsTo asks group object → (held : Candidate) → holds held (own_candidates old object) ≡ true
+        → is_below held.stamp (candidates object).stamp ≡ true
+    added_above asks reasons object adds held holding =
+        below_by_latest held.stamp (own_latest old object) (candidates object).stamp
+        (not_below_latest (own_candidates old object) held holding) (above_added asks reasons object adds)
 
-  -- the replica made it, or was shown it
-  pub made_or_found : (asks : Body) → Reasons old new asked asks group candidates → (object : ObjectId)
-      → AddsTo asks group object → IsMade old.keys.bounds asked object (candidates object)
-      ⊎ IsFound old.keys.bounds asked object (candidates object)
-  made_or_found (body.Act parts) reasons object names =
-      let grounds : IsGround old asked object (candidates object) (reasons.bases object) =
-      reasons.grounds object names in
-      inl (record {
-        stamp = grounds.stamp
-            ∙ ap (made_stamp asked object) (sym (ap (λ (it : Stamp). it.barrier) grounds.stamp));
-        prior = grounds.prior
-            ∙ ap (λ (it : Candidate). it.stamp)
-            (sym (base_of_method old.keys.bounds (entries_of object asked.sets) (reasons.bases object) grounds.method));
-        group = grounds.group;
-      })
-  made_or_found (body.Ask parts) reasons object never = absurd never
-  made_or_found (body.Mend target) reasons object mended =
-      by_remedy object (candidates object) reasons.version (reasons.remedy object mended)
-    where
-      by_remedy : (target : ObjectId) (candidate : Candidate) (version : Option ObjState)
-          → IsRemedy old asked target candidate version
-          → IsMade old.keys.bounds asked target candidate ⊎ IsFound old.keys.bounds asked target candidate
-      by_remedy target candidate version (IsRemedy.inline_barrier barrier found) = inr found
-      by_remedy target candidate version (IsRemedy.inline_method state plain found stored) = inr found
-      by_remedy target candidate version (IsRemedy.barrier barrier made) = inl made
-      by_remedy target candidate version (IsRemedy.copy latest state plain made barrier is_latest full stored) = inl
-          made
+    -- the replica made it, or was shown it
+    pub made_or_found : (asks : Body) → Reasons old new asked asks group candidates → (object : ObjectId)
+        → AddsTo asks group object → IsMade old.keys.bounds asked object (candidates object)
+        ⊎ IsFound old.keys.bounds asked object (candidates object)
+    made_or_found (body.Act parts) reasons object names =
+        let grounds : IsGround old asked object (candidates object) (reasons.bases object) =
+        reasons.grounds object names in
+        inl (record {
+          stamp = grounds.stamp
+              ∙ ap (made_stamp asked object) (sym (ap (λ (it : Stamp). it.barrier) grounds.stamp));
+          prior = grounds.prior
+              ∙ ap (λ (it : Candidate). it.stamp)
+              (sym (base_of_method old.keys.bounds (entries_of object asked.sets) (reasons.bases object) grounds.method));
+          group = grounds.group;
+        })
+    made_or_found (body.Ask parts) reasons object never = absurd never
+    made_or_found (body.Mend target) reasons object mended =
+        by_remedy object (candidates object) reasons.version (reasons.remedy object mended)
+      where
+        by_remedy : (target : ObjectId) (candidate : Candidate) (version : Option ObjState)
+            → IsRemedy old asked target candidate version
+            → IsMade old.keys.bounds asked target candidate ⊎ IsFound old.keys.bounds asked target candidate
+        by_remedy target candidate version (IsRemedy.inline_barrier barrier found) = inr found
+        by_remedy target candidate version (IsRemedy.inline_method state plain found stored) = inr found
+        by_remedy target candidate version (IsRemedy.barrier barrier made) = inl made
+        by_remedy target candidate version (IsRemedy.copy latest state plain made barrier is_latest full stored) = inl
+            made
 
-  -- what has no group is added alone, or for an act
-  pub added_alone : (asks : Body) → Reasons old new asked asks group candidates → (object : ObjectId)
-      → AddsTo asks group object → (candidates object).group ≡ [] → AddsTo asks [] object
-  added_alone (body.Act parts) reasons object names alone = names
-  added_alone (body.Ask parts) reasons object never alone = never
-  added_alone (body.Mend target) reasons object mended alone =
-      by_group group mended (reasons.whole object mended)
-    where
-      by_group : (members : List (ObjectId × ℕ)) → MendsOn target members object
-          → IsOfGroup members (candidates object) → target ≡ object
-      by_group [] is whole = is
-      by_group (member ∷ later) named whole = absurd (cons-nil member later (sym whole ∙ alone))
+    -- what has no group is added alone, or for an act
+    pub added_alone : (asks : Body) → Reasons old new asked asks group candidates → (object : ObjectId)
+        → AddsTo asks group object → (candidates object).group ≡ [] → AddsTo asks [] object
+    added_alone (body.Act parts) reasons object names alone = names
+    added_alone (body.Ask parts) reasons object never alone = never
+    added_alone (body.Mend target) reasons object mended alone =
+        by_group group mended (reasons.whole object mended)
+      where
+        by_group : (members : List (ObjectId × ℕ)) → MendsOn target members object
+            → IsOfGroup members (candidates object) → target ≡ object
+        by_group [] is whole = is
+        by_group (member ∷ later) named whole = absurd (cons-nil member later (sym whole ∙ alone))
 
 -- with the objects of a group no version is stored
 pub group_stores_none : (old new : ReplicaState) (asked : Asked) (target : ObjectId) (member : ObjectId × ℕ)

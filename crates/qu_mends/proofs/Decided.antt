@@ -250,9 +250,10 @@ module _ (mend : Mend) where
       → ArePartsAdded mend (part ∷ later)
       (cons_option (option_map (λ (it : Candidate). accepted_as part it) addition) rest)
   with_part part later rest None candidate is one more = absurd (none-some candidate is)
-  with_part part later rest (Some found) candidate is one more =
-      (subst (λ (it : Candidate). IsPartAdded mend part (accepted_as part it)) (sym (same_Some found candidate is)) one,
-      more)
+  with_part part later rest (Some found) candidate is one more = (
+    subst (λ (it : Candidate). IsPartAdded mend part (accepted_as part it)) (sym (same_Some found candidate is)) one,
+    more,
+  )
 
   all_added : (parts : List MendPart) → AllByRecursion (λ part. is_late mend part ≡ false) parts
       → AllByRecursion (λ part. is_some (missing_key part) ≡ false) parts
@@ -300,8 +301,13 @@ module _ (mend : Mend) (parts : List MendPart) where
       (λ candidate is test.
       ((candidate, made mend mend.latest mend.remedy candidate is, refl), all_held mend parts test))
       (row_by_given Fact last (λ part. NotCurrent part.object (latest part.own)) (find (is_late mend) parts) _
-      (λ part found. (part, found, refl, refl,
-      behind mend part (found_part (is_late mend) (IsLike mend) parts part are found).0))
+      (λ part found. (
+        part,
+        found,
+        refl,
+        refl,
+        behind mend part (found_part (is_late mend) (IsLike mend) parts part are found).0,
+      ))
       (λ current. row_by_given Fact last (λ why. why) (unmended_by mend.target mend.remedy) _
       (λ why is. unmended_cause mend parts mend.remedy why refl is)
       (λ unsound. row_by_test Fact last _ (Waits (missing_in parts)) _ (λ test. (refl, test))
@@ -310,8 +316,13 @@ module _ (mend : Mend) (parts : List MendPart) where
       let both = found_part (is_spent mend) (IsLike mend) parts part are found in
       inl (part, found, refl, part_spent mend part both.1 planned unsound both.0))
       (λ in_time. row_by_given Fact last (λ part. HistoryFull part.object) (find (λ part. has_no_room part.own) parts) _
-      (λ part found. (part, found, refl, leb-true HISTORY_LIMIT (length part.own)
-      (found_part (λ it. has_no_room it.own) (IsLike mend) parts part are found).0))
+      (λ part found. (
+        part,
+        found,
+        refl,
+        leb-true HISTORY_LIMIT (length part.own)
+            (found_part (λ it. has_no_room it.own) (IsLike mend) parts part are found).0,
+      ))
       (λ room. mended planned unsound current ready in_time room)))))))
 
 pub ok_has_cause : {E : Type 0} (mend : Mend) (parts : List MendPart) → ArePartsOf mend parts

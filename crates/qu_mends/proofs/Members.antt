@@ -43,7 +43,7 @@ module _ (bounds : ℕ) (sets : List SetOf) where
       let both = and_parts (is_member_from least member) (are_members_from ((member.0).0 + 1) later) rise in
       let from : least ≤ (member.0).0 = at_least least member both.0 in (
         (λ same. let equal : (member.0).0 ≡ object.0 = ap (λ (it : ObjectId). it.0) same
-        in omega (arith, equal, from, below)),
+            in omega (arith, equal, from, below)),
         members_are_others ((member.0).0 + 1) later both.1 object (omega (arith, from, below)),
       )
 

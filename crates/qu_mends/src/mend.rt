@@ -158,10 +158,7 @@ impl Mend {
         ensures { result ≡ mend_row_current self.now parts.now }
     {
         let late = self.first_late(parts)?;
-        Some(Mending::Refuses(Refusal::NotCurrent(
-            late.object,
-            late.own_latest(),
-        )))
+        Some(Mending::Refuses(Refusal::NotCurrent(late.object, late.own_latest())))
     }
 
     fn first_late<'s, 'p>(&self, parts: &'s [Part<'p>]) -> Option<&'s Part<'p>>
@@ -314,10 +311,7 @@ fn member_remedies(
 {
     let mut remedies = List::new(alloc);
     for member in members {
-        remedies.push((
-            member.0,
-            Remedy::Shown(object_base(sets, member.0, bounds)),
-        ))?;
+        remedies.push((member.0, Remedy::Shown(object_base(sets, member.0, bounds))))?;
     }
     Ok(remedies)
 }

@@ -267,10 +267,7 @@ fn joined(time: u64) -> Result<Candidate, Fail> {
     let Some(group) = Group::new(&[(OBJECT, time), (OTHER, time)]) else {
         return Err("no group".into());
     };
-    Ok(Candidate {
-        group,
-        ..at(time)
-    })
+    Ok(Candidate { group, ..at(time) })
 }
 
 /// What a replica makes of a request to add the candidate of time 3 to both objects. Of each it has so many candidates,
@@ -293,7 +290,10 @@ fn of_two(
     };
     let mut parts = List::new(alloc);
     let (lower, higher) = (own(alloc, first)?, own(alloc, second)?);
-    for (object, own, found) in [(OBJECT, &lower, first_found), (OTHER, &higher, second_found)] {
+    for (object, own, found) in [
+        (OBJECT, &lower, first_found),
+        (OTHER, &higher, second_found),
+    ] {
         parts.push(Part {
             object,
             latest: candidate.stamp,

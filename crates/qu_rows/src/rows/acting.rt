@@ -8,8 +8,8 @@ ghost use Rattle.qu_mends.specs.Table.{has_no_room};
 ghost use Rattle.qu_rows.specs.Rows.{class_code, unknown_in, unknown_refused, row_thin, standing_in, repeated};
 ghost use Rattle.qu_rows.specs.SeenRows.{version_seen, versions_under, base_keys, current_on, method_on, version_on, kept_by, time_on, full_on, told_on};
 
-use super::bases::base_keys;
 use super::Rows;
+use super::bases::base_keys;
 use crate::asked::Asked;
 use crate::decision::{Decision, refuse};
 use qu_base::{List, NoMemory, ObjectId};

@@ -456,13 +456,12 @@ module _ (trace : Trace) (laws : Laws (setting trace)) (joint : Joint (setting t
   mend_adds target adds stored (IsRemedy.inline_barrier barrier found) = tt
   mend_adds target adds stored (IsRemedy.inline_method its plain found found_so) = tt
   mend_adds target adds stored (IsRemedy.barrier barrier made) = tt
-  mend_adds target adds stored (IsRemedy.copy latest its plain made barrier is_latest full found) =
-      (
-        fresh_of_stamp target adds plain its
-            (copied_has (asked_of one.client one.number one.sets (body.Mend target)) target (one.candidates target) its
-            refl (ap not plain) made (now_accepted target adds) found),
-        tt,
-      )
+  mend_adds target adds stored (IsRemedy.copy latest its plain made barrier is_latest full found) = (
+    fresh_of_stamp target adds plain its
+        (copied_has (asked_of one.client one.number one.sets (body.Mend target)) target (one.candidates target) its
+        refl (ap not plain) made (now_accepted target adds) found),
+    tt,
+  )
 
   pub request_adds : (asks : Body) → one.asks ≡ asks
       → Reasons mid new (asked_of one.client one.number one.sets asks) asks one.group one.candidates
