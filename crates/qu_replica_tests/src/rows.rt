@@ -7,6 +7,7 @@ use qu_history::{HISTORY_LIMIT, History};
 use qu_mends::{Accepted, Mend, Mending, Part, Remedy};
 use qu_objects::{ObjState, Value};
 use qu_stamp::{Candidate, Group, LAST_TIME, Stamp};
+use qu_testing::holds;
 use std::alloc::Global;
 use std::test::Fail;
 
@@ -288,8 +289,8 @@ fn of_two(
         group: candidate.group,
         ..mend(remedy, 3)
     };
-    let mut parts = List::new(alloc);
     let (lower, higher) = (own(alloc, first)?, own(alloc, second)?);
+    let mut parts = List::new(alloc);
     for (object, own, found) in [
         (OBJECT, &lower, first_found),
         (OTHER, &higher, second_found),
@@ -308,16 +309,33 @@ fn of_two(
 #[test]
 fn a_group_is_mended_whole(rt: HostRuntime) -> Result<(), Fail> {
     let alloc = rt.alloc();
-    let objects = match of_two(alloc, (2, true), (3, true))? {
-        Mending::Mends { accepted, .. } => (accepted[0].object, accepted[1].object),
-        _ => return Err("not mended".into()),
-    };
-    if objects != (OBJECT, OTHER) {
-        return Err("other objects".into());
+    holds(
+        adds_to_both(&of_two(alloc, (2, true), (3, true))?),
+        "the candidate on both objects",
+    )?;
+    holds(
+        waits_for_the_other(&of_two(alloc, (2, true), (3, false))?),
+        "it waits for the version of the second",
+    )
+}
+
+fn adds_to_both(mending: &Mending) -> bool {
+    match mending {
+        Mending::Mends { accepted, .. } => match accepted.as_slice() {
+            [lower, higher] => lower.object == OBJECT && higher.object == OTHER,
+            _ => false,
+        },
+        _ => false,
     }
-    match of_two(alloc, (2, true), (3, false))? {
-        Mending::Waits { missing } if missing.as_slice() == [(OTHER, at(3).stamp)] => Ok(()),
-        _ => Err("does not wait for the version of the second".into()),
+}
+
+fn waits_for_the_other(mending: &Mending) -> bool {
+    match mending {
+        Mending::Waits { missing } => match missing.as_slice() {
+            [key] => key.0 == OTHER && key.1 == at(3).stamp,
+            _ => false,
+        },
+        _ => false,
     }
 }
 
