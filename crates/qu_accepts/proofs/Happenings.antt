@@ -95,7 +95,7 @@ module _ (trace : Trace) (is_run : IsRun trace) (have : ArePlain trace) (at : â„
   -- what is handled fits its format
   pub handled_fits : frame_form.Fits handles.carried
   handled_fits =
-      handed_fits trace is_run have handles.since handles.entry (omega (arith, below, handles.came))
+      handed_fits trace is_run have.typed handles.since handles.entry (omega (arith, below, handles.came))
       (party.Replica (record { 0 = place })) handles.text
       (ap (Î» (it : Entry). handed (world_after trace handles.since) it.event)
       (get_or_from_slice_get trace.entries handles.since handles.entry handles.entry handles.is_entry)

@@ -53,7 +53,7 @@ module _ (trace : Trace) (is_run : IsRun trace) (plain : ArePlain trace) where
       → HasEventParts event
   event_parts entry among event is =
       subst HasEventParts (ap (λ (it : Entry). it.event) among.2 ∙ sym is)
-      (each_at (λ (it : Entry). HasEventParts it.event) trace.entries among.0 entry plain.parts among.1)
+      (each_at (λ (it : Entry). HasEventParts it.event) trace.entries among.0 entry (plain.typed).parts among.1)
 
   sets_fit : (object : ObjectId) (candidate : Candidate)
       (it : Origin trace (length trace.entries) object candidate) → sets_form.Fits (sets_upon object candidate it)
@@ -61,7 +61,8 @@ module _ (trace : Trace) (is_run : IsRun trace) (plain : ArePlain trace) where
       let handles : Handles trace it.past it.place it.old it.new = (it.delivered).handles in
       let one : Accepts handles.mid it.new handles.carried = (it.delivered).accepts in
       let fits : frame_form.Fits handles.carried =
-      offered_fits trace is_run plain handles.since (omega (arith, it.earlier, handles.came)) (handles.entry).event
+      offered_fits trace is_run plain.typed handles.since (omega (arith, it.earlier, handles.came))
+      (handles.entry).event
       (event_parts handles.entry (contains_at trace.entries handles.since handles.entry handles.is_entry)
       (handles.entry).event refl)
       (party.Replica (record { 0 = it.place })) handles.text

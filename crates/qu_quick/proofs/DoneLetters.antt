@@ -146,7 +146,7 @@ module _ (trace : Trace) (is_run : IsRun trace) (have : ArePlain trace) (at : â„
 
     request_fits : frame_form.Fits asking
     request_fits =
-        handed_fits trace is_run have at entry below (party.Replica (record { 0 = place })) text
+        handed_fits trace is_run have.typed at entry below (party.Replica (record { 0 = place })) text
         (ap (handed (world_after trace at)) event_is âˆ™ is_handed) asking (brings_decoded old text asking brings)
 
     pub act_parts : IsTrue (are_parts (parts_on set method))
@@ -176,7 +176,7 @@ module _ (trace : Trace) (is_run : IsRun trace) (have : ArePlain trace) (at : â„
       answer_fits : frame_form.Fits (answer_frame new client number round (set âˆ· []) verdict_is)
       unfolding new accepted_here
       answer_fits =
-          (fit_step trace is_run have at below).answers (record { 0 = place }) old is_old asking request_fits asking_so
+          (fit_step trace is_run have.typed at below).answers (record { 0 = place }) old is_old asking request_fits asking_so
           refl verdict_is
           accepted_here (done_forward old client number set method base version act_parts ready)
 

@@ -130,7 +130,7 @@ module _ (trace : Trace) (is_run : IsRun trace) (have : ArePlain trace) (operati
       let all : HasEventParts first_entry.event =
       subst (λ (it : Entry). HasEventParts it.event)
       (get_or_from_slice_get trace.entries begin first_entry first_entry is_first)
-      (each_at (λ (entry : Entry). HasEventParts entry.event) trace.entries begin first_entry have.parts below) in
+      (each_at (λ (entry : Entry). HasEventParts entry.event) trace.entries begin first_entry (have.typed).parts below) in
       (subst HasEventParts (began.event_is ∙ ap (Invoke client) is_act) all).1.0
 
   module _ (object : ObjectId) (method : Method) (is_act : operation.op ≡ op.Act ((object, method) ∷ []))
@@ -233,7 +233,7 @@ module _ (trace : Trace) (is_run : IsRun trace) (have : ArePlain trace) (operati
       only =
           All-contains (CarriesOnly state.keys (request_of state.me work)) _ request
           (requests_carry state.keys state.me work (Preferred (first_object (act state object method)))
-          ((fit_step trace is_run have begin below).asks client.0 first_step.state after_first work refl))
+          ((fit_step trace is_run have.typed begin below).asks client.0 first_step.state after_first work refl))
           (subst (λ (letters : List Letter). Contains letters request) letters_are among_letters)
 
       -- so that the operation has the number that its client gave it

@@ -33,7 +33,7 @@ use Rattle.qu_chain.specs.Laws.{Laws}
 use Rattle.qu_runs.specs.Plain.{ArePlain}
 use Rattle.qu_runs.proofs.Small.{quorum_outnumbers}
 use Rattle.qu_values.proofs.Requests.ClientFacts.{ClientFacts}
-use Rattle.qu_values.proofs.Updating.OneAct.{ActsAreOne}
+use Rattle.qu_runs.proofs.Acts.OneAct.{ActsAreOne}
 use Rattle.qu_values.proofs.Updating.UpdateFacts.{UpdateFacts}
 use Rattle.qu_claims.specs.Quick.{SendsAt, first_sets, RoundTurn, IsQuickTurn, HearsNext, last_heard, IsQuick, EndsInOneRound, QuickIsOneRound}
 use Rattle.qu_points.proofs.Operations.Began.{IsBegunIn}

@@ -63,7 +63,7 @@ use Rattle.qu_runs.proofs.Small.{only_one}
 use Rattle.qu_runs.proofs.Worlds.Objects.{held_within}
 use Rattle.qu_runs.proofs.Worlds.OpeningReplicas.{all_replicas, bounds_are}
 use Rattle.qu_values.proofs.Requests.ClientFacts.{IsAskedBy, ClientFacts}
-use Rattle.qu_values.proofs.Updating.OneAct.{ActsAreOne}
+use Rattle.qu_runs.proofs.Acts.OneAct.{ActsAreOne}
 use Rattle.qu_values.proofs.Updating.UpdateFacts.{UpdateFacts}
 use Rattle.qu_quick.specs.Done.{act_on, done_verdict, IsReady, IsDoneAt}
 use Rattle.qu_claims.specs.Quick.{first_sets, IsReadyOn, RoundTurn, IsQuickTurn}
@@ -155,7 +155,7 @@ module _ (trace : Trace) (is_run : IsRun trace) (have : ArePlain trace) (clients
     sets_fit : sets_form.Fits (shown_set ∷ [])
     sets_fit =
         let fits : frame_form.Fits asking =
-        handed_fits trace is_run have at entry below (party.Replica (record { 0 = turn.replica })) text
+        handed_fits trace is_run have.typed at entry below (party.Replica (record { 0 = turn.replica })) text
         (ap (λ (it : Entry). handed (world_after trace at) it.event)
         (get_or_from_slice_get trace.entries at entry entry (quick.reaches).is_entry) ∙ (quick.reaches).hands) asking
         (brings_decoded old text asking brings) in

@@ -33,8 +33,8 @@ use Rattle.qu_grounds.proofs.Grounds.{IsOfAct, act_added}
 use Rattle.qu_claims.specs.Updates.{Update, IsOf, IsEverAccepted, NumbersRise}
 use Rattle.qu_claims.specs.Values.{HasVersion}
 use Rattle.qu_accepts.proofs.Handled.{handled, made_for}
-use Rattle.qu_values.proofs.Updating.OneAct.{ActsAreOne}
-use Rattle.qu_values.proofs.Requests.FitActs.{fit}
+use Rattle.qu_runs.proofs.Acts.OneAct.{ActsAreOne}
+use Rattle.qu_runs.proofs.Acts.FitActs.{fit}
 use Rattle.qu_laws.proofs.Origins.{accepted_from}
 use Rattle.qu_values.proofs.Updating.RisingNumbers.{numbers_rise as rising, none_repeated, rows_are_true}
 use Rattle.qu_values.proofs.Versions.StoredValues.{version_held}
