@@ -100,7 +100,7 @@ module _ (state : ReplicaState) (client : ClientId) (number : ℕ) (set : SetOf)
   is_current =
       ap (λ (stamp : Stamp). is_below stamp (own_latest state object)) (sym based.latest) ∙ ready.current
 
-  grounds : IsGround state asked object fresh base
+  grounds : IsGround state asked (object ∷ []) object fresh base
   grounds = record { method = ready.method; prior = refl; group = refl; stamp = refl; current = is_current }
 
   fresh_is : fresh_act state asked object ≡ Some fresh
