@@ -112,12 +112,6 @@ module _ {state : ReplicaState} {asked : Asked} {objects : List ObjectId} {objec
       fresh_later (latest_of (entries_of object asked.sets)) (own_latest state object) (fresh_stamp asked object)
       refl grounds.current
 
-  pub above_held : (held : Candidate) → holds held (own_candidates state object) ≡ true
-      → is_below held.stamp candidate.stamp ≡ true
-  above_held held holding =
-      below_by_latest held.stamp (own_latest state object) candidate.stamp
-      (not_below_latest (own_candidates state object) held holding) above_own
-
   -- the replica holds nothing above the base
   pub base_not_below : (held : Candidate) → holds held (own_candidates state object) ≡ true
       → is_below base.stamp held.stamp ≡ false
